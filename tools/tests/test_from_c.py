@@ -255,25 +255,6 @@ class HalfWritten(unittest.TestCase):
         self.assertIn('is `autostart a, b;` here, but no process is named `b`: this program has `a`', shown)
 
 
-CALLBACK = """PROCESS(a, "A");
-AUTOSTART_PROCESSES(&a);
-%sstatic int n;
-static void beat(void *ptr)
-{
-  n++;
-  printf("%%d\\n", n);
-  ctimer_reset(&c);
-}
-PROCESS_THREAD(a, ev, data)
-{
-%s  PROCESS_BEGIN();
-  ctimer_set(&c, 5, beat, NULL);
-  PROCESS_YIELD();
-  PROCESS_END();
-}
-"""
-
-
 class Timers(unittest.TestCase):
     SOURCE = 'process a;\nautostart a;\ncode a {\n  body {\n    %s\n    yield;\n  }\n}\n'
 
@@ -304,32 +285,6 @@ class Timers(unittest.TestCase):
             assert found
             self.assertIn('it runs its block, `ctimer c { .. }` at the head of the `code`, which needs the statements '
                           'of `beat`', found.hint)
-
-    def test_the_block_of_a_callback_timer_has_the_statements_of_its_function(self) -> None:
-        top, head = 'static struct ctimer c;\n', '  static struct ctimer c;\n'
-        for above, inner in ((top, ''), ('', head), (top, head)):
-            with self.subTest(above, inner=inner):
-                text = CALLBACK % (above, inner)
-                for _ in range(20):
-                    fault = find_fault(text)
-                    found = correction(text, fault) if fault else None
-                    if found is None:
-                        break
-                    text = found.applied(text)
-                self.assertEqual(words(text), words(
-                    'process a; autostart a; code a { var n = 0; ctimer c { n = (n + 1); print n; reset c; } '
-                    'body { set c 5; yield; } }'))
-
-    def test_a_function_of_a_callback_timer_without_counterpart_is_in_its_block(self) -> None:
-        text = (CALLBACK % ('static struct ctimer c;\n', '')).replace('n++;', 'queue[n] = 1;')
-        for _ in range(20):
-            fault = find_fault(text)
-            found = correction(text, fault) if fault else None
-            if found is None or found.line is None:
-                break
-            text = found.applied(text)
-        self.assertNotIn('static void beat', text)
-        self.assertIn('ctimer c {\n  queue[n] = 1;\n  printf("%d\\n", n);\n', text)
 
 
 class FileScope(unittest.TestCase):
@@ -492,29 +447,6 @@ class BelowTheProcesses(unittest.TestCase):
         line, above = self.corrected('static struct pt_sem m; // PT_SEM_INIT(&m, 2)')
         self.assertEqual((line, above), ('// PT_SEM_INIT(&m, 2)', (0, 'semaphore m = 2;')))
 
-    def test_protothreads(self) -> None:
-        for words in 'static PT_THREAD', 'PT_THREAD':
-            thread = words + '(work(struct pt *pt))\n{\n  PT_BEGIN(pt);\n  PT_YIELD(pt);\n  PT_END(pt);\n}'
-            self.assertEqual(self.corrected(thread), ('', (11, 'thread work { yield; }')))
-
-    def test_a_protothread_with_a_variable_belongs_below_a_timer_that_is_there(self) -> None:
-        lines = ['process a;', 'autostart a;', 'static PT_THREAD(work(struct pt *pt))', '{', '  static int k;',
-                 '  PT_BEGIN(pt);', '  for(k = 0; k < 5; k++) {', '    PT_YIELD(pt);', '    m++;', '  }',
-                 '  PT_END(pt);', '}', 'code a {', '  var m = 0;', '  ctimer c { print 1; }', '  body {',
-                 '    spawn work;', '  }', '}']
-        source = '\n'.join(lines)
-        fault = find_fault(source)
-        assert fault
-        found = correction(source, fault)
-        assert found
-        self.assertEqual(found.above, (14, 'var k = 0;'))
-        self.assertIsNone(find_fault(found.applied(source)))
-        its = advice(source, fault)
-        assert its
-        self.assertEqual(its.shown(source, 0)[:3], ['Insert below line 15:', '    thread work {', '      k = 0;'])
-        self.assertEqual(its.shown(source, 0)[-3:], [
-            'insert below line 14:', '    var k = 0;', 'and leave lines 3 to 12 out.'])
-
 
 class OtherWords(unittest.TestCase):
     """Words of other languages, for which the line or the hint says what the author meant."""
@@ -646,53 +578,77 @@ code a {
 }
 """
 
-    def test_arguments_become_assignments_before_the_thread_runs(self) -> None:
-        for head in 'thread show(d, v) {', 'static void show(uint8_t d, int v) {':
-            fault = find_fault(self.SOURCE % (head, 'show(1, 7);'))
-            found = correction(self.SOURCE % (head, 'show(1, 7);'), fault) if fault else None
-            assert found
-            self.assertEqual((found.line, found.above),
-                             ('thread show { // parameters: d, v', (4, 'var d = 0; var v = 0;')))
-            called = repaired(found.applied(self.SOURCE % (head, 'show(1, 7);')))
-            assert called
-            self.assertIn('\nd = 1; v = 7; spawn show;\n', called)
-            self.assertIsNone(find_fault(called))
-
-    def test_a_parameter_with_the_name_of_something_else(self) -> None:
-        for parameter, said in (('data', '`data` has another meaning in a program, so write `my_data` for this'),
-                                ('x', 'variable `x` already, which each call would change: the name is `x2` here')):
-            source = self.SOURCE % ('thread show(%s) {' % parameter, 'show(1);')
-            fault = find_fault(source)
-            found = correction(source, fault) if fault else None
-            assert found
-            self.assertIn(said, ' '.join(found.reasons))
-
-    def corrected(self, call: str, comment: str = ' // parameters: d, v') -> tuple[str | None, str]:
-        source = self.SOURCE % ('var d = 0;\n  var v = 0;\n  thread show {' + comment, call)
+    def advised(self, head: str, call: str) -> tuple[str | None, str]:
+        source = self.SOURCE % (head, call)
         fault = find_fault(source)
         found = correction(source, fault) if fault else None
         assert found
         return found.line, ' '.join(found.reasons)
 
-    def test_an_assignment_changes_no_argument_of_a_later_one(self) -> None:
-        for call, line in (
-                ('show(x, d);', 'v = d; d = x; spawn show;'), ('show(v, x);', 'd = v; v = x; spawn show;'),
-                ('spawn show(d, 3);', 'v = 3; spawn show;'),
-                ('PT_SPAWN(pt, &c, show(&c, 1, 2));', 'd = 1; v = 2; spawn show;'),
-                ('if (x == 1) show(x, x + 1);', 'if (x == 1) { d = x; v = (x + 1); spawn show; }')):
-            with self.subTest(call):
-                self.assertEqual(self.corrected(call)[0], line)
-        no_line, hint = self.corrected('show(v, d);')
-        self.assertIsNone(no_line)
-        self.assertIn('keep one of them in a variable of its own', hint)
+    def test_a_parameter_is_a_variable_of_the_process(self) -> None:
+        for head in 'thread show(d, v) {', 'static void show(uint8_t d, int v) {':
+            source = self.SOURCE % (head, 'd = 1; v = 7; spawn show;')
+            fault = find_fault(source)
+            found = correction(source, fault) if fault else None
+            assert found
+            self.assertEqual((found.line, found.above), ('thread show {', (4, 'var d = 0; var v = 0;')))
+            self.assertIsNone(find_fault(found.applied(source)))
+            self.assertIn('`v` is a variable of the process. Assign the argument to it', ' '.join(found.reasons))
+
+    def test_a_parameter_with_the_name_of_something_else(self) -> None:
+        line, hint = self.advised('thread show(data) {', '')
+        self.assertIsNone(line)
+        self.assertIn('Choose another name for this variable, such as `my_data`', hint)
+        line, hint = self.advised('thread show(x) {', '')
+        self.assertIn('the process has a variable `x` already. If its value is needed later, give the parameter', hint)
 
     def test_arguments_are_never_dropped(self) -> None:
-        for call, comment in (('show(1);', ' // parameters: d, v'), ('show(1, 2);', ''), ('show(x);', ' // shows d'),
-                              ('PT_SPAWN(pt, &c, show(&c, 1));', ''), ('spawn show(1);', '')):
-            with self.subTest(call, comment=comment):
-                line, hint = self.corrected(call, comment)
+        for call in 'show(1);', 'show(x, d);', 'PT_SPAWN(pt, &c, show(&c, 1));', 'spawn show(1);':
+            with self.subTest(call):
+                line, hint = self.advised('var d = 0;\n  var v = 0;\n  thread show {', call)
                 self.assertIsNone(line)
                 self.assertIn('A `spawn` passes nothing: assign the arguments before it', hint)
+
+
+class OfPrograms(unittest.TestCase):
+    """Parts of programs in C that have only advice in a program of the notation."""
+    SOURCE = """process a;
+autostart a;
+%s
+code a {
+  %s
+  body {
+    %s
+  }
+}
+"""
+    PARTS = (
+        ('static void show(int by)\n{\n  printf("%d\\n", by);\n}', '', '', 'FROM_CONTIKI.md shows both'),
+        ('static void got(struct broadcast_conn *c, const linkaddr_t *from)\n{\n}', '', '', '`receiver P;`'),
+        ('static PT_THREAD(work(struct pt *pt))\n{\n  PT_BEGIN(pt);\n  PT_END(pt);\n}', '', '', 'at the head of the'),
+        ('struct point { int x; int y; };', '', '', 'There are no structures'),
+        ('enum { IDLE, BUSY };', '', '', 'There are no enumerations'),
+        ('typedef struct { int x; int y; } point;', '', '', 'There are no structures'),
+        ('#if 0\nevent e;\n#endif', '', '', 'the lines that the compiler of C skips'),
+        ('#ifdef DEBUG\nevent e;\n#endif', '', '', 'the lines that the compiler of C skips'),
+        ('', 'static struct timer t;', '', 'A `struct timer` posts no event'),
+        ('', 'thread t { }', 'while(1) {\nPT_SCHEDULE(t(&x));\nPROCESS_YIELD();\n}', 'There is no `PT_SCHEDULE`'),
+        ('', 'var n = 0;', 'do {\n%s    } while(n < 3);' % (' n++;\n' * 7), 'write `again = 1; while again'),
+        ('', 'var n = 0;', 'memcpy(&n, packetbuf_dataptr(), 2);', 'as in `x = data;`'),
+        ('', 'var n = 0;', 'packetbuf_copyfrom(&n, 2);\nunicast_send(&uc, &n);', '`send ((dest * 256) + x);`'),
+        ('', 'var n = 0;', 'switch(n) {\ncase 1:\nprint 1;\n}', 'each `case` is a test of its own'),
+    )
+
+    def test_they_have_advice_and_no_line(self) -> None:
+        for top, head, body, said in self.PARTS:
+            with self.subTest(said):
+                source, hint = self.SOURCE % (top, head, body), ''
+                while not hint and (fault := find_fault(source)):
+                    made, found = correction(source, fault), advice(source, fault)
+                    assert made and found, source
+                    hint = found.hint if made.line is None else ''
+                    source = made.applied(source)
+                self.assertIn(said, hint)
 
 
 class Packets(unittest.TestCase):

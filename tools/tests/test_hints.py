@@ -66,10 +66,8 @@ BODIES = [
     ('while seq < 3:\n  print 1;\n  yield;', 'write `while (seq < 3) {`'), ('elif seq { }', 'no `elif`'),
     ('if seq {\nprint 1;\nelif seen:\n', 'write `} else { if seen {`'), ('if seq or not seen { }', 'if (seq || !seen)'),
     ('if not seq { }', 'if !seq'), ('seq = (seq and seen);', '(seq && seen)'),
-    ('seq = f(3);', 'write `.. = 3; spawn f;`, with the names of these variables instead of the dots, and here '
-     '`result` instead of `f(3)`'),
-    ('if (most(seq, 2) > 3) { }', 'write `.. = seq; .. = 2; spawn most;`, with the names of these variables'),
-    ('seq = f(seq + 1) + 2;', '`.. = (seq + 1); spawn f;`'), ('print level();', '`spawn level;`'),
+    ('seq = f(3);', 'write `spawn f;`'), ('if (most(seq, 2) > 3) { }', 'instead of `most(..)`'),
+    ('seq = f(seq + 1) + 2;', 'assign the arguments'), ('print level();', '`spawn level;`'),
     ('return seq * 2;', '`result = (seq * 2);`'), ('if seq { return 3; }', '`exit;` ends'),
     ('#define TWICE(v) ((v) * 2)\n', '`TWICE(v)`, which is `((v) * 2)`, at each place'),
     ('#define TWICE(v) ((v) * 2)\n', '// TWICE(v) is ((v) * 2)'),
@@ -160,23 +158,6 @@ class Hints(unittest.TestCase):
                 self.assertIn(wanted, hint)
                 self.assertIn('var v = ', hint)
 
-    def test_a_call_of_a_thread_whose_value_is_used(self) -> None:
-        text = 'process a;\nautostart a;\ncode a {\n  var v = 0;\n  thread f { // parameters: v\n    v = (v * 2);\n' \
-               '  }\n  body {\n    v = f(v + 1);\n  }\n}\n'
-        self.assertIn('write `v = (v + 1); spawn f;`, and here `result` instead of `f((v + 1))`', self.hint(text))
-        unknown = self.hint(text.replace('// parameters: v', ''))
-        self.assertIn('assign the arguments to the variables that the thread uses as its parameters: write `.. = (v + '
-                      '1); spawn f;`', unknown)
-        self.assertNotIn('`v = ', unknown)
-
-    def test_a_call_in_the_test_of_a_loop(self) -> None:
-        text = 'process a;\nautostart a;\ncode a {\n  var result = 0;\n  thread f { result = 0; }\n  body {\n' \
-               '    %s (f()) { print 1; }\n  }\n}\n'
-        again = 'The `while` tests `result` in each turn, so write the same statements at the end of its block again.'
-        self.assertIn('Above this line write `spawn f;`', self.hint(text % 'while'))
-        self.assertIn(again, self.hint(text % 'while'))
-        self.assertNotIn('in each turn', self.hint(text % 'if'))
-
     def test_a_name_that_is_declared_twice_before_lines_of_contiki(self) -> None:
         for body in 'send 1;', 'packetbuf_copyfrom(&x, 2);\nbroadcast_send(&bc);':
             hint = self.hint('process a;\nautostart a;\ncode a {\n  var dice = 0;\n  var dice = 0;\n  body {\n%s\n'
@@ -192,27 +173,13 @@ class Hints(unittest.TestCase):
                 ('PROCESS_EXITHANDLER(broadcast_close(&broadcast);)', 'No connection is opened, so none is closed')):
             with self.subTest(written):
                 self.assertIn(wanted, self.hint(head % written))
-        for function in ('static void broadcast_recv(struct broadcast_conn *c, const rimeaddr_t *from)',
-                         'static const struct broadcast_callbacks broadcast_call = {broadcast_recv};'):
+        for function, wanted in (
+                ('static void broadcast_recv(struct broadcast_conn *c, const rimeaddr_t *from)',
+                 'name the process that gets it, `receiver P;`'),
+                ('static const struct broadcast_callbacks broadcast_call = {broadcast_recv};',
+                 'No connection is opened')):
             hint = self.hint('process a;\nautostart a;\n%s\n%s' % (function, head.split('\n', 2)[2] % ''))
-            self.assertIn('name the process that gets it, `receiver P;`', hint)
-
-    def test_the_statements_of_a_function_for_packets_are_kept(self) -> None:
-        code = 'code a {\n  body {\n    while 1 { yield_until is(packet); }\n  }\n}\n'
-        for top in 'process a;\nautostart a;\n', 'process a;\nautostart a;\nreceiver a;\n':
-            text = top + 'static void recv(struct broadcast_conn *c, const linkaddr_t *from)\n{\n' \
-                '  uint16_t *hops = packetbuf_dataptr(); /* of a neighbour */\n\n  if(*hops < 3) {\n' \
-                '    printf("%u\\n", *hops);\n  }\n}\n' + code
-            fault = find_fault(text)
-            found = advice(text, fault) if fault else None
-            assert found
-            self.assertIn('The comments keep the statements of the function: move them below `yield_until is(packet);` '
-                          'in the `code` of `a`', found.hint)
-            shown = found.shown(text, 0)
-            self.assertEqual(shown[1:], [*['  receiver a;'] * ('receiver' not in top),
-                                         '  // uint16_t *hops = packetbuf_dataptr(); /* of a neighbour */',
-                                         '  // if(*hops < 3) {', '  //   printf("%u\\n", *hops);', '  // }'])
-            self.assertIsNone(find_fault('\n'.join([*top.split('\n')[:-1], *(it[2:] for it in shown[1:]), code])))
+            self.assertIn(wanted, hint)
 
     def test_letters_in_a_number(self) -> None:
         for written, meant in ('1O', '10'), ('1o', '10'), ('l0', '10'), ('3I', '31'), ('2l', '21'):
@@ -297,8 +264,8 @@ class Hints(unittest.TestCase):
         for head in 'thread t(struct pt *pt, uint8_t n) {', 'thread t(n) {', 'static void t(int n) {':
             with self.subTest(head):
                 self.assertEqual(' '.join(self.hint(lines % head).split()).partition('Write')[2],
-                                 ', as line 4 of the program: thread t { // parameters: n and insert below line 3 of '
-                                 'the program: var n = 0;')
+                                 ', as line 4 of the program: thread t { and insert below line 3 of the program: '
+                                 'var n = 0;')
         for values in '(seq)', '(seq, 1)':
             self.assertIn('A `spawn` passes nothing', self.hint(code % ('', '1', values)))
 

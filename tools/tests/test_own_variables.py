@@ -1,4 +1,5 @@
-"""Variables of functions and blocks of C: with all corrections, a program prints what it prints in C.
+"""Variables of functions and blocks of C: with all corrections, a program prints what it prints in C, unless a variable
+needs another name, which the hint then says.
 
 In C each block has variables of its own; in the notation all threads and blocks of a process share its variables.
 """
@@ -28,9 +29,6 @@ OWN = [
      'for (int i = 0; i < 4; i++) {\n step();\n }\n printf("%d\\n", total);', [36]),
     (TOTAL + 'void step(void) {\n int i;\n for (i = 0; i < 2; i++) total++;\n }',
      'int i;\n for (i = 0; i < 4; i++) {\n step();\n }\n printf("%d\\n", total);', [8]),
-    (TOTAL + 'void square(int n) {\n total = n * n;\n }',
-     'for (int n = 1; n < 4; n++) {\n square(n + 1);\n printf("%d\\n", total);\n }', [4, 9, 16]),
-    (TOTAL + 'void add(int x) {\n total = total + x;\n }', 'int x = 1;\n add(30);\n printf("%d\\n", x);', [1]),
     ('void b(void) {\n int tmp = 5;\n printf("%d\\n", tmp);\n }\n'
      'void a2(void) {\n int tmp = 1;\n b();\n printf("%d\\n", tmp);\n }', 'a2();', [5, 1]),
     ('void b(void) {\n int tmp = 5;\n printf("%d\\n", tmp);\n }\n void c(void) {\n b();\n }',
@@ -61,24 +59,22 @@ STATIC = [
      ' printf("%d\\n", more);\n }', 'tick();\n tick();', [15, 4, 15, 3]),
     ('', 'int k = 0;\n while (k < 3) {\n static int hits = 10;\n hits++;\n printf("%d\\n", hits);\n k++;\n }',
      [11, 12, 13]),
-    ('void one(void) {\n static int n = 10;\n n++;\n printf("%d\\n", n);\n }\n'
-     'void other(void) {\n int n = 3;\n while (n > 0) n--;\n }\n'
-     'void third(void) {\n static int n = 20;\n n++;\n printf("%d\\n", n);\n }',
-     'one();\n other();\n third();\n one();\n third();', [11, 21, 12, 22]),
 ]
+TWO_STATIC = ('void one(void) {\n static int n = 10;\n n++;\n print n;\n }\n'
+              'void other(void) {\n static int n = 20;\n n++;\n print n;\n }')
 # Names that are one in small letters, and names of other kinds.
 OF_OTHERS = [
-    ('void tick(void) {\n int A = 7;\n printf("%d\\n", A);\n }',
-     'int N = 3, n = 4;\n int a = 1;\n tick();\n printf("%d\\n", a + n + N);', [7, 8],
-     'Names have small letters, so `N` and `n` would be one variable: the name is `n2` here'),
+    ('void tick(void) {\n printf("%d\\n", 7);\n }',
+     'int N = 3, n = 4;\n tick();\n printf("%d\\n", n + N);', [7, 7],
+     'Names have small letters, so `N` and `n` would be one variable.'),
     ('', 'int n = 4;\n int N = 3;\n n++;\n printf("%d\\n", n + N);', [8],
-     'Names have small letters, so `n` and `N` would be one variable: the name is `n2` here'),
+     'Names have small letters, so `n` and `N` would be one variable.'),
     ('', 'for (int I = 0; I < 2; I++) {\n for (int i = 0; i < 2; i++)\n printf("%d\\n", I * 10 + i);\n }',
-     [0, 1, 10, 11], '`I` and `i` would be one variable: the name is `i2` here'),
+     [0, 1, 10, 11], '`I` and `i` would be one variable.'),
     ('void tick(void) {\n printf("%d\\n", 3);\n }', 'int a = 4;\n tick();\n a++;\n printf("%d\\n", a);', [3, 5],
-     '`a` is already a process: the name is `a2` here'),
+     '`a` is already a process.'),
     ('void tick(void) {\n printf("%d\\n", 3);\n }', 'tick();\n int tick = 4;\n tick++;\n printf("%d\\n", tick);',
-     [3, 5], '`tick` is already a thread: the name is `tick2` here'),
+     [3, 5], '`tick` is already a thread.'),
 ]
 # Names that have another meaning in an expression.
 WORDS = [
@@ -89,11 +85,14 @@ WORDS = [
     ('int now = 5;\n printf("%d\\n", now + 1);', [6]),
     ('int timer = 3, stop = 4, set = 5;\n printf("%d\\n", timer + stop + set);', [12]),
     ('int msg = 5;\n msg = msg + 1;\n printf("%d\\n", msg);', [6]),
-    ('int count = 3;\n while (count > 1) {\n count--;\n printf("%d\\n", count);\n }', [2, 1]),
-    ('int stop, set = 5;\n stop = 4;\n if (stop < set) {\n printf("%d\\n", stop + set);\n }', [9]),
     ('int poll = 2;\n while (poll > 0) {\n poll--;\n printf("%d\\n", poll);\n }', [1, 0]),
     ('int x = 1;\n if (x) {\n int data = 2;\n printf("%d\\n", data);\n }\n if (x) {\n int data = 3;\n'
      ' printf("%d\\n", data);\n }', [2, 3]),
+]
+# Words of the notation whose uses the hints correct one by one.
+NAMES = [
+    ('int count = 3;\n while (count > 1) {\n count--;\n printf("%d\\n", count);\n }', [2, 1]),
+    ('int stop, set = 5;\n stop = 4;\n if (stop < set) {\n printf("%d\\n", stop + set);\n }', [9]),
 ]
 
 
@@ -119,16 +118,25 @@ class OwnVariables(unittest.TestCase):
             self.assertEqual(printed(text), wanted)
         return text
 
+    def advised(self, functions: str, statements: str) -> str:
+        """The first hint that shows no corrected line."""
+        text = PROGRAM % (functions, statements)
+        while fault := find_fault(text):
+            its, made = advice(text, fault), correction(text, fault)
+            assert its and made, text
+            if made.line is None:
+                return its.hint
+            text = made.applied(text)
+        raise AssertionError('all hints have lines: ' + text)
+
     def test_a_variable_of_a_function_is_its_own(self) -> None:
-        for case in OWN:
-            self.check(*case)
-            self.assertRegex(' '.join(hints(PROGRAM % case[:2])), r'`(\w+)` is already a variable of this process '
-                             r'\(`thread \w+` uses it\), .*: the name is `\1[23]` here')
+        for functions, statements, _ in OWN:
+            self.assertRegex(self.advised(functions, statements), r'`(\w+)` is already a variable of this process '
+                             r'\(`thread \w+` uses it\), .* Choose another name for this variable, such as `\1[23]`')
 
     def test_a_variable_of_a_block_is_its_own(self) -> None:
-        for statements, wanted in BLOCKS:
-            self.check('', statements, wanted)
-            self.assertRegex(' '.join(hints(PROGRAM % ('', statements))), r'\(the `body` uses it\)')
+        for statements, _ in BLOCKS:
+            self.assertRegex(self.advised('', statements), r'\(the `body` uses it\), .* Choose another name')
 
     def test_a_variable_is_shared_if_no_value_is_lost(self) -> None:
         for statements, wanted in SHARED:
@@ -137,12 +145,16 @@ class OwnVariables(unittest.TestCase):
 
     def test_a_handler_that_reads_a_variable_has_another_one(self) -> None:
         text = 'process a;\nautostart a;\ncode a {\n var x = 0;\n ctimer c { print x; }\n body {\n int x = 3;\n }\n}'
-        self.assertIn('x2 = 3;', followed(text))
+        fault = find_fault(text)
+        found = advice(text, fault) if fault else None
+        assert found
+        self.assertIn('(`ctimer c` uses it)', found.hint)
 
     def test_a_static_variable_keeps_its_value(self) -> None:
         for case in STATIC:
             self.check(*case)
             self.assertIn('A `static` variable keeps its value from call to call', ' '.join(hints(PROGRAM % case[:2])))
+        self.assertIn('Choose another name for this variable, such as `n2`', self.advised(TWO_STATIC, 'one();'))
 
     def test_a_static_variable_that_is_declared_already(self) -> None:
         text = PROGRAM % ('var n = 5;', 'static int n = 5;\n print n;')
@@ -154,18 +166,17 @@ class OwnVariables(unittest.TestCase):
         self.assertIsNone(found.line)
         self.assertIn('Leave this line out, and write `var n = 5;`', found.hint)
 
-    def test_a_name_with_another_meaning_is_changed_in_all_lines(self) -> None:
-        for statements, wanted in WORDS:
+    def test_a_name_with_another_meaning_needs_another_name(self) -> None:
+        for statements, _ in WORDS:
+            with self.subTest(statements):
+                self.assertIn('has another meaning in a program. Choose another name for this variable, such as `my_',
+                              self.advised('', statements))
+        for statements, wanted in NAMES:
             self.check('', statements, wanted)
-            said = ' '.join(hints(PROGRAM % ('', statements)))
-            self.assertIn('has another meaning in a program: the name is `my_', said)
 
     def test_a_name_that_something_else_has(self) -> None:
-        for *case, said in OF_OTHERS:
-            functions, statements, wanted = case
-            assert isinstance(functions, str) and isinstance(statements, str) and isinstance(wanted, list)
-            self.check(functions, statements, wanted)
-            self.assertIn(said, ' '.join(hints(PROGRAM % (functions, statements))))
+        for functions, statements, _, said in OF_OTHERS:
+            self.assertIn(said, self.advised(functions, statements))
 
     def test_a_timer_of_another_process_leaves_its_name(self) -> None:
         other = 'code b { etimer t; body { } }'
@@ -179,22 +190,9 @@ class OwnVariables(unittest.TestCase):
         assert found
         self.assertIn('so write `my_data` in all other lines that mean this variable', found.hint)
 
-    def test_a_name_in_too_many_lines_has_advice(self) -> None:
-        text = PROGRAM % ('', 'int data = 3;\n' + 30 * ' print data;\n')
-        fault = find_fault(text)
-        found = advice(text, fault) if fault else None
-        assert found
-        self.assertEqual((found.line, found.hint), (
-            None, '`data` has another meaning in a program. Choose another name for this variable, such as `my_data`, '
-                  'from here to the end of its block.'))
-
     def test_a_statement_in_many_lines_is_renamed_line_by_line(self) -> None:
         lines = '\n'.join('print(count + %d);' % it for it in range(14))
         self.check('', 'int count = 3;\n' + lines, [3 + it for it in range(14)])
-
-    def test_events_of_the_notation_keep_their_names(self) -> None:
-        text = followed(PROGRAM % ('', 'int msg = 2;\n post a msg 1;\n yield_until is(msg);\n print(msg);'))
-        self.assertIn('post a msg 1; yield_until is(msg); print my_msg;', ' '.join(text.split()))
 
 
 class Arrays(unittest.TestCase):
@@ -211,12 +209,6 @@ class Arrays(unittest.TestCase):
         self.assertIn('An `if` for each number chooses among `v`, `v1`, `v2`, such as `if (i == 1) { .. v1 .. }`.',
                       self.advised(PROGRAM % ('var v = 0; var v1 = 0; var v2 = 0; var i = 0;',
                                               'yield_until (v[i] == 3);')))
-
-    def test_a_member_by_a_variable_is_chosen_by_tests(self) -> None:
-        need_program(self)
-        head = 'var v = 0; var v1 = 0; var v2 = 0; var i = 1;'
-        text = PROGRAM % (head, 'v[i] = 3;\n v[i] += i;\n v[i + 1] = v[i] * 2;\n i = v[2] - v[i] - 3;\n print(v[i]);')
-        self.assertEqual(printed(followed(text)), [4])
 
     def test_a_member_whose_name_is_taken(self) -> None:
         for place in 0, 1:

@@ -1,8 +1,54 @@
 """Times in parts of a second: none is rounded, and their ratios stay."""
 import unittest
 
+from follow import followed
+from motesim.explain.explanation import explanation
 from motesim.scenario.faults import find_fault
-from test_structures import LINES, by_messages
+
+SCENARIO = """version = 1
+end = 60
+[medium]
+range = 12
+base = 1
+per = 100
+[programs]
+p = '''
+%s'''
+[[mote]]
+x = 0
+y = 0
+program = "p"
+[[mote]]
+x = 10
+y = 0
+program = "p"
+"""
+LINES = """process relay, other;
+autostart relay;
+code relay {
+  var x = 0;
+%s
+  body {
+%s
+  }
+}
+code other { body { yield; } }
+"""
+
+
+def by_messages(program: str) -> tuple[str, str]:
+    """A scenario with a program and with all lines of its messages; and the messages."""
+    text, messages = SCENARIO % program, list[str]()
+    for _ in range(60):
+        fault = find_fault(text.encode())
+        if fault is None:
+            break
+        messages += explanation('x', text.encode(), 'motesim: ' + fault.message)
+        changed = followed(text, explanation('x', text.encode(), 'motesim: ' + fault.message))
+        if changed is None:
+            break
+        text = changed
+    return text, ' '.join(' '.join(messages).split())
 
 
 class Seconds(unittest.TestCase):

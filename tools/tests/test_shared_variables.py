@@ -5,7 +5,6 @@ import unittest
 from here import TOOLS  # noqa: F401
 from motesim.explain.advice import advice
 from motesim.from_c.correction import correction
-from motesim.from_c.places import users_of
 from motesim.notation.faults import find_fault
 
 PROGRAM = """process one, two;
@@ -30,13 +29,6 @@ SHARED = ('The processes `one` and `two` use `n`, but processes share no variabl
           'own, and doesn\'t see what the others assign to theirs. Let one process keep the value and post it to the '
           'others after each change, such as `post two e n;`')
 OTHER = '`n` is a variable of process `one`, and each process has its own: this new `n` doesn\'t change'
-PACKETS = """static int n;
-static void got(struct broadcast_conn *c, const linkaddr_t *from)
-{
-  n++;
-}
-static const struct broadcast_callbacks calls = { got };
-"""
 
 
 def followed(text: str) -> tuple[str, list[str]]:
@@ -68,13 +60,6 @@ class Shared(unittest.TestCase):
                 self.assertIn(SHARED, said[0])
                 self.assertIn(OTHER, ' '.join(said[1:]))
                 self.assertEqual(text.count('var n = 0;'), 2)
-
-    def test_one_of_a_function_for_packets(self) -> None:
-        opens = 'broadcast_open(&bc, 129, &calls);'
-        for first, users in ((opens, ['two']), (opens + ' n = 4;', ['one', 'two'])):
-            text = PROGRAM % (PACKETS, first, 'printf("%d\\n", n);')
-            self.assertEqual(users_of(text, 'n'), users)
-            self.assertEqual(SHARED in followed(text)[1][0], len(users) > 1)
 
     def test_an_array(self) -> None:
         text = PROGRAM % ('static int n[2];', 'n[1] = 3;', 'printf("%d\\n", n[1]);')

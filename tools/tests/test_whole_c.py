@@ -157,8 +157,13 @@ class Elsewhere(unittest.TestCase):
         shown = answers.fault(text, 'motesim: program blink fault 1 line 1')
         self.assertEqual(shown['corrected'], applied(text))
         self.assertIn('  code blink {', shown['words'])
-        self.assertIn('The button *Correct it* writes this program into the text.', shown['words'])
+        self.assertIn('The button *Correct it* writes a scenario with this program.', shown['words'])
         self.assertNotIn('--apply', ' '.join(shown['words']))
+        # (the whole text may be a program in C)
+        for source in C, 'typedef int number;\n' + C:
+            shown = answers.fault(source, 'motesim: scenario fault 1')
+            self.assertEqual(shown['words'][0], HEAD.replace('Program blink', 'The text'))
+            self.assertEqual(shown['corrected'], in_net('blink', '// Translated from C\n' + translated(C).text, 12_800))
 
     def test_the_text_of_a_program_that_a_plan_names(self) -> None:
         with tempfile.TemporaryDirectory() as folder:

@@ -14,7 +14,6 @@ from motesim.c_program.types import INT, Type, leaves_of
 from motesim.c_program.values import Value, converted, negated, number
 from motesim.c_program.walk import all_parts
 from motesim.c_program.written import Block, Comment, Flag, If, Line, While
-from motesim.from_c.packets import OF_END
 
 LOST_TIMER = ('In C, `%s` isn\'t static, so its memory has other values after a wait, and its event may never come. '
               'Here, it comes: declare it as `static`.')
@@ -36,6 +35,7 @@ SCHEDULE = ('`PT_SCHEDULE` is translated only if a process waits for the end of 
             'Write a process for each protothread instead.')
 OF_EARLIER = 'Here, the semaphore `%s` has this count from the start, also in the processes that start before this one.'
 OF_INIT = 'The count of a semaphore is set once, at the beginning of a process, by a constant.'
+OF_END = 'In C, `%s` also runs after the end of the process: here, the process waits for packets.'
 RETURNS = 'A `return` in a process ends it: use `PROCESS_EXIT();`.'
 NO_PARAMETER = 'A parameter of a protothread is a constant here: use a variable of its process instead.'
 

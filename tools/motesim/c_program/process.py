@@ -14,8 +14,10 @@ from motesim.c_program.usage import GLOBAL
 from motesim.c_program.values import Limits, Value, compared, number, united
 from motesim.c_program.walk import all_parts, without_casts
 from motesim.c_program.written import Block, Flag, If, Line, lines_of
-from motesim.from_c.packets import IF_OTHER, OF_ORDER
 
+IF_OTHER = 'if ((data / 256) != self) { exit; }'
+OF_ORDER = ('`%s` polls `%s` and also posts to it. In Contiki, the posted event arrives before the poll if the queue '
+            'was empty; here, the poll arrives first.')
 NO_BEGIN = 'The process `%s` has no `PROCESS_BEGIN();` that isn\'t inside of another statement.'
 BEFORE_BEGIN = ('In C, this statement runs in each call of the process, because it is above `PROCESS_BEGIN();`. Only '
                 'declarations and handlers are translated there.')

@@ -2,8 +2,8 @@
 
 The tool runs the scenario. If `motesim` reports an error, the tool shows the message, the line with the error, a mark
 under the error, the rule that this line breaks, and the words that are allowed there. If the tool can guess what you
-meant, it also shows the corrected line. If the scenario has a report, the tool warns of parts that are legal but
-probably not meant.
+meant, it also shows the corrected line. If a program is in C for Contiki, the tool shows all of it in the notation. If
+the scenario has a report, the tool warns of parts that are legal but probably not meant.
 
 --apply writes the corrected lines for you, one error after the other. It translates a program in C as a whole:
 

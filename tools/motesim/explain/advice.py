@@ -10,7 +10,6 @@ from motesim.from_c.closings import Edit
 from motesim.from_c.correction import correction
 from motesim.from_c.expressions import SMALL_LETTERS
 from motesim.from_c.structure import ONE_LINE
-from motesim.from_c.structures import NO_STRUCTURES
 from motesim.notation.faults import ProgramError, tokens_of
 
 OF_PARENTHESES = ('Only an operation on two values has parentheses, as in `(a + b)`, and each such operation has its '
@@ -116,8 +115,6 @@ def _edited(source: str, edit: Edit, offset: int | None) -> list[str]:
     rows = source.split('\n')
     below = next((it for it in range(edit.first, len(rows)) if rows[it - 1].strip()), edit.first)
     place = 'and insert below %s:' % _which(edit.last, edit.last, offset)
-    if edit.line.startswith('thread '):
-        return [place, *_all_indented(source, below, in_lines(edit.line))]
     return [place, '  ' * rows[below - 1].lstrip().startswith('}') + _indented(source, below, edit.line)]
 
 
@@ -163,8 +160,7 @@ def advice(source: str, fault: ProgramError) -> Advice | None:
             return Advice(hint)
         is_misspelt = hint in [hints.MEANT % it for it in ('fired', 'expired', 'running')]
         return Advice(hint if hint and is_misspelt else reasons)
-    is_complete = found.above or any(it.startswith(NO_STRUCTURES) for it in found.reasons)
-    own = '' if is_complete else names.otherwise(source, fault)
+    own = '' if found.above else names.otherwise(source, fault)
     return Advice(reasons + own, found.line, found.first, found.last, found.above, found.below)
 
 

@@ -15,7 +15,7 @@ from typing import NamedTuple
 from motesim.c_program.constants import SECOND
 from motesim.c_program.program import Translation, translated
 from motesim.c_program.refusal import Refusal
-from motesim.explain.explanation import CONTROL, explanation, shown_explanation, wrapped
+from motesim.explain.explanation import CONTROL, explanation, is_file_in_c, shown_explanation, wrapped
 from motesim.explain.followed import followed
 from motesim.explain.whole import in_c, remarks_of, translation_of, with_comment, with_translation
 from motesim.faults import Fault
@@ -83,8 +83,12 @@ def changes(text: str, second: int = SECOND) -> Iterator[tuple[Change, str]]:
 def corrected(text: str, fault: ScenarioError | None, message: Sequence[str], second: int = SECOND) -> str | None:
     """A scenario with the lines that the message about its first fault shows, or with the program in C translated that
     the message is about; None if the message shows no lines."""
-    program = str(fault.path[1]) if fault and fault.program else None
-    return program and with_translation(text, program, second) or followed(text, message)
+    if fault and fault.program:
+        return with_translation(text, str(fault.path[1]), second) or followed(text, message)
+    made = translation_of(text, second) if is_file_in_c(text) else None
+    if isinstance(made, Translation):
+        return in_net(first_process(made.text), with_comment(made.text, 'C').replace("'''", "'"), SECONDS * second)
+    return followed(text, message)
 
 
 def _translation(text: str, program: str, second: int) -> Change:

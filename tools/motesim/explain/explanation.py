@@ -158,6 +158,11 @@ def in_c_file(name: str, source: str) -> list[str]:
     return refusal(one_line(name), '%s, line %d:' % (one_line(name), made.line), source, made)
 
 
+def is_file_in_c(text: str) -> bool:
+    """Returns whether a file has a whole program in C, not a scenario with such a program."""
+    return is_program_in_c(text) and tables_or_none(text) is None
+
+
 def translation(what: str, name: str, made: Translation) -> list[str]:
     """The lines that show a program in the notation, below them what differs from C."""
     return whole.shown(what, one_line(name), made) + [
@@ -247,9 +252,10 @@ def whole_explanation(name: str, data: bytes, line: str) -> list[str]:
     if is_program_file(name, data):
         return program_instead(name, data)
     text = data.decode('utf-8', 'replace')
+    if is_file_in_c(text):
+        return tried(lambda: in_c_file(name, text.removeprefix(MARK)), failed)
     if begins_as_c(data) and tables_or_none(text) is None:
-        its_file = tried(lambda: in_c_file(name, text.removeprefix(MARK)), failed)
-        return its_file or ['%s is a program in C, not a scenario.' % one_line(name), *hinted(hints.OF_C)]
+        return ['%s is a program in C, not a scenario.' % one_line(name), *hinted(hints.OF_C)]
     if fault.program:
         return of_program(name, text, str(fault.path[1]), fault.program)
     encoding = encodings.encoding_of(data) if fault.line else None
@@ -336,8 +342,7 @@ def refused(name: str, data: bytes, fault: NoReport) -> Fault:
 def explain(name: str, run: Callable[[bytes], Answer] | None = None) -> int:
     """Prints the explanation of a file, as tools/explain does; returns the status. `run` runs the scenario."""
     data = read_file(name)
-    if is_program_file(name, data) or is_program_in_c(data.decode('utf-8', 'replace')) and tables_or_none(
-            data.decode('utf-8', 'replace')) is None:
+    if is_program_file(name, data) or is_file_in_c(data.decode('utf-8', 'replace')):
         print('\n'.join(program_instead(name, data)))
         return 1
     return shown_explanation(name, data, run or answer)

@@ -6,9 +6,9 @@ before which no packet matters.
 """
 from __future__ import annotations
 
+import re
 from collections.abc import Iterator, Sequence
 
-from motesim.from_c.packets import with_packets
 from motesim.notation.blocks import end_of_block
 from motesim.notation.faults import Token
 
@@ -18,6 +18,8 @@ DOTS = ', with the statements for a packet instead of the dots'
 WAITS = ('yield_until', 'wait_until', 'wait_while', 'pause')
 BLOCK = ['while', 'is', '(', 'packet', ')', '{']
 TIMERS = {'fired', 'expired'}
+# A statement that waits.
+WAIT = re.compile(r'(yield|pause|yield_until|wait_until|wait_while|acquire)(?: (.*))?;')
 
 
 def warnings(words: Sequence[str], tokens: Sequence[Token]) -> Iterator[tuple[str, Token]]:
@@ -66,3 +68,20 @@ def _warning(words: Sequence[str], wait: int, handled: int, process: str, line: 
 def _test(words: Sequence[str], at: int) -> Sequence[str]:
     """The words of a wait, without the first one."""
     return words[at + 1:words.index(';', at)]
+
+
+def with_packets(wait: str, thread: str, process: str) -> str:
+    """A wait of a process in which a thread runs for each packet."""
+    found = WAIT.fullmatch(wait)
+    if not found:
+        return wait
+    word, test = found[1], found[2]
+    if word in ('wait_until', 'wait_while'):
+        again = with_packets('yield;', thread, process)
+        return 'while %s%s { %s }' % ('!' * (word == 'wait_until'), test, again)
+    if word == 'acquire':
+        return 'while !count(%s) { %s } %s' % (test, with_packets('yield;', thread, process), wait)
+    begin = 'post %s continue 0; ' % process if word == 'pause' else ''
+    test = 'is(continue)' if word == 'pause' else test
+    inner = 'yield_until (is(packet) || %s);' % test if test else 'yield;'
+    return '%s%s while is(packet) { spawn %s; %s }' % (begin, inner, thread, inner)

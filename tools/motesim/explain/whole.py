@@ -22,7 +22,7 @@ TEXT = 'the text'
 IN_C = '%s is in C for Contiki, not in the notation. In the notation, %s:'
 ALL_LINES, FIRST_LINES = 'it has these lines', 'its first %d of %d lines are'
 WRITES = 'tools/explain %s --apply NEW.toml writes a scenario with this program.'
-BUTTON = 'The button *Correct it* writes this program into the text.'
+BUTTON = 'The button *Correct it* writes a scenario with this program.'
 REFUSED = '%s is in C for Contiki, and this line can\'t be translated: %s'
 INSTEAD = ('Change the line in C, or write the program in the notation: docs/use/FROM_CONTIKI.md lists the forms of '
            'Contiki and C with their counterparts.')
@@ -66,8 +66,8 @@ def refused(what: str, refusal: Refusal) -> str:
 
 
 def with_capital(what: str) -> str:
-    """The name of a program at the beginning of a sentence."""
-    return what[0].upper() + what[1:] if what.startswith('program ') else what
+    """The name of a program at the beginning of a sentence; the name of a file stays."""
+    return what[0].upper() + what[1:] if what == TEXT or what.startswith('program ') else what
 
 
 def shown(what: str, name: str, found: Translation) -> list[str]:

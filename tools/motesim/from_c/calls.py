@@ -7,9 +7,7 @@ from motesim.from_c.counts import UNKNOWN, number_for
 from motesim.from_c.declarations import OF_STRUCTURE
 from motesim.from_c.expressions import IN_TICKS, NOT_PRINTED, TICKS, NoCounterpart
 from motesim.from_c.nodes import MOMENTS_OF_SECOND, Node, value_of
-from motesim.from_c.parameters import ASSIGNED, IN_CIRCLE, OF_ARGUMENTS, assignments
 from motesim.from_c.places import block_of
-from motesim.from_c.plain_timers import IN_SECONDS, OF_CALL, OF_PLAIN, SETS, PlainTimer, action_of, plain_timer
 from motesim.from_c.scope import allowed
 from motesim.from_c.sends import Sends
 from motesim.from_c.shared import of_other
@@ -24,8 +22,7 @@ CALLS = {
     'process_wait_until': 'wait_until expression0', 'process_wait_while': 'wait_while expression0',
     'pt_yield': 'yield', 'pt_exit': 'exit', 'pt_restart': 'restart', 'pt_wait_until': 'wait_until expression1',
     'pt_yield_until': 'yield_until expression1', 'pt_wait_while': 'wait_while expression1',
-    'pt_schedule': 'spawn thread0',
-    'pt_spawn': 'spawn thread2', 'process_pt_spawn': 'spawn thread1', 'pt_wait_thread': 'spawn thread1',
+    'pt_schedule': 'spawn', 'pt_wait_thread': 'spawn', 'pt_spawn': 'spawn thread2', 'process_pt_spawn': 'spawn thread1',
     'pt_sem_wait': 'acquire semaphore1', 'pt_sem_signal': 'signal semaphore1',
     'etimer_set': 'set timer0 expression1', 'etimer_reset': 'reset timer0', 'etimer_restart': 'restart_timer timer0',
     'etimer_stop': 'stop timer0', 'ctimer_set': 'set timer0 expression1', 'ctimer_reset': 'reset timer0',
@@ -37,8 +34,8 @@ CALLS = {
     'process_broadcast': 'broadcast event1 expression2', 'process_poll': 'poll process0',
     'process_start': 'start process0', 'process_exit': 'kill process0',
 }
-OF_THREAD = ('A protothread is a thread of the process that spawns it: `thread %s { .. }` is at the head of its '
-             '`code`, below its timers.')
+OF_THREAD = ('A protothread is a thread of the process that spawns it: write `thread %s { .. }` at the head of the '
+             '`code` of this process, below its timers.')
 NO_PROCESS = ('`%s` is `%s;` here, but no process is named `%s`: this program has `%s`. Another one has to be named in '
               'the `process` line, and needs a `code`.')
 OF_CALLBACK = ('The timer calls no function: it runs its block, `ctimer %s { .. }` at the head of the `code`, which '
@@ -48,8 +45,11 @@ NO_THREAD = 'A protothread has a name: `thread t { .. }`, at the head of the `co
 NO_DATA = ('`start` passes no value, so `%s` is left out: in the call with `init`, `data` is 0. Post the value below '
            'the start: `post %s e %s;`, with `event e;` above the `process` line. The started process waits for it, '
            '`yield_until is(e);`, and then reads `data`.')
-OF_SCHEDULE = ('In C, the statements below `PT_SCHEDULE` are run in each turn, but a `spawn` ends only when its thread '
-               'has ended: put statements that are needed in each turn into another process.')
+OF_SCHEDULE = ('There is no `PT_SCHEDULE`. A `spawn` runs one thread to its end, so protothreads that run side by '
+               'side are processes, each with a `code` of its own: docs/use/FROM_CONTIKI.md shows this under '
+               '"Protothreads and semaphores".')
+OF_ARGUMENTS = ('A thread is run by `spawn %s;`. A `spawn` passes nothing: assign the arguments before it to variables '
+                'of the process, which the thread reads.')
 # A conversion in the text of a `printf`.
 CONVERSION = re.compile(r'%[-+ #0-9.]*(?:hh?|ll?|z)?([a-zA-Z%])')
 NO_TEXT = 'There are no texts: what `%s` shows in C is left out.'
@@ -109,7 +109,7 @@ class Calls(Sends):
                 values.append(self.expression())
         values = [it for it in values if it.kind != 'text']
         self.end('')
-        return ' '.join(self.below_calls(self.chosen('print %s;', it)) for it in values)
+        return ' '.join(self.chosen('print %s;', it) for it in values)
 
     def numbers(self, shown: str, values: list[Node]) -> list[Node]:
         """The values that a `printf` with this text shows as numbers."""
@@ -149,7 +149,7 @@ class Calls(Sends):
             self.why('The braces of `body` are `PROCESS_BEGIN` and `PROCESS_END`.' if 'process' in name else
                      'The braces of a `thread` are `PT_BEGIN` and `PT_END`.')
             if name.endswith('end'):
-                return (self.last_wait() if name == 'process_end' else '') + self.end_of_process
+                return self.end_of_process
             return 'body {' if self.place.is_head and name == 'process_begin' else ''
         if name in ('process', 'process_name'):
             inner = self.named_by(call, NO_NAME)
@@ -171,16 +171,14 @@ class Calls(Sends):
         if name in ('process_thread', 'pt_thread'):
             inner = self.named_by(call, NO_NAME if name == 'process_thread' else NO_THREAD)
             if name == 'pt_thread' and self.place.is_top and self.token.text != ';':
-                return self.of_thread(allowed(inner))
-            if name == 'pt_thread' and self.place.is_head and self.place.head and self.token.text != ';':
-                self.keep_parameters([it.text for it in call.parts[0].parts if it.kind == 'name' and it.text != 'pt'])
+                raise NoCounterpart(OF_THREAD % allowed(inner))
             self.why('A process is a `code NAME { .. }` with a `body`; a protothread is a `thread NAME { .. }`.')
             if self.accept(';'):
                 return ''
             self.accept('{')
             head = 'code' if name == 'process_thread' else 'thread'
             return '%s %s {' % (head, self.of_process(inner) if head == 'code' else allowed(inner))
-        return self.with_packets(self.end(self.of_call(call)))
+        return self.end(self.of_call(call))
 
     def named_by(self, call: Node, lacking: str) -> str:
         """The name that is the first argument of a macro. Raises the advice on a macro without one."""
@@ -189,23 +187,6 @@ class Calls(Sends):
         if its.kind not in ('name', 'call') or its is call:
             raise NoCounterpart(lacking)
         return its.text
-
-    def of_thread(self, name: str) -> str:
-        """A protothread above the codes: a thread of the process that spawns it."""
-        self.why(OF_THREAD % name)
-        begin = self.place_here
-        try:
-            block = self.body() if self.token.text == '{' else ''
-        except NoCounterpart:
-            block = ''
-            self.go_back(begin)
-        if not block and self.is_moved_whole(name):
-            self.writer.reasons = [OF_THREAD % name]
-            return ''
-        if not block or self.is_cut:
-            raise NoCounterpart(OF_THREAD % name)
-        self.declares.append('thread %s %s' % (name, block))
-        return ''
 
     def of_count(self, call: Node) -> str:
         """The initial count of a semaphore, which belongs to its declaration."""
@@ -236,9 +217,6 @@ class Calls(Sends):
     def of_call(self, call: Node) -> str:
         """The statement with the meaning of a call."""
         name = call.text.lower()
-        timer = plain_timer(call, self.scope)
-        if timer and action_of(name) in SETS:
-            return self.of_plain_timer(call, timer)
         form = CALLS.get(name + '()' if not call.parts else name) or CALLS[name]
         if name == 'process_post' and call.parts and call.parts[0].text.lower() == 'process_broadcast':
             form = CALLS['process_broadcast']
@@ -246,8 +224,8 @@ class Calls(Sends):
         if spawns and given(spawns[0]):
             return self.spawned(spawns[0])
         self.why('`%s` is `%s` here.' % (call.text, form.split()[0]))
-        if name == 'pt_schedule':
-            self.writer.insist(OF_SCHEDULE)
+        if name in ('pt_schedule', 'pt_wait_thread'):
+            raise NoCounterpart(OF_SCHEDULE)
         if name == 'process_start' and len(call.parts) == 2:
             self.lose_data(*call.parts)
         self.writer.of_timer = 'fired' if form.startswith('yield_until') else 'expired'
@@ -288,21 +266,6 @@ class Calls(Sends):
         self.writer.unknown = None
         return written
 
-    def of_plain_timer(self, call: Node, timer: PlainTimer) -> str:
-        """The assignments to the variables of a timer without an event."""
-        for name in (timer.start, timer.interval):
-            if not self.place.head:
-                raise NoCounterpart(OF_PLAIN % (call.text.lower().partition('_')[0], timer.start, timer.interval))
-            if not self.is_variable(name):
-                self.declares.append('var %s = 0;' % name)
-                self.scope.kinds[name] = 'variable'
-        self.why(OF_CALL % call.text)
-        if timer.is_in_seconds:
-            self.writer.insist(IN_SECONDS % (self.scope.second, self.scope.second))
-        value = self.writer.text(call.parts[1]) if len(call.parts) > 1 else ''
-        forms = zip((timer.start, timer.interval), SETS[action_of(call.text)])
-        return '; '.join('%s = %s' % (name, timer.written(form, value)) for name, form in forms if form)
-
     def note_posted(self, call: str, value: Node) -> None:
         """Notes that an event has a value, if C passes the address of a variable."""
         if call in ('process_post', 'process_broadcast') and (value.kind, value.text) == ('unary', '&'):
@@ -318,17 +281,11 @@ class Calls(Sends):
         self.writer.insist(NO_DATA % (lost, self.writer.of_kind(process, 'process'), lost))
 
     def spawned(self, call: Node) -> str:
-        """The call of a function that is a thread here: its arguments are assigned to the parameters before."""
-        thread, names, values = call.text, self.scope.parameters.get(call.text, ()), given(call)
-        # (without the structure of a protothread, all arguments are values, also the address of a variable)
-        values = list(call.parts) if len(call.parts) == len(names) else values
-        if len(values) != len(names) or self.after and values:
-            raise NoCounterpart(OF_ARGUMENTS % thread)
-        assigned = assignments(tuple(map(self.variable, names)), [self.writer.text(it) for it in values])
-        if assigned is None:
-            raise NoCounterpart(IN_CIRCLE % (thread, thread))
-        self.why(ASSIGNED if values else 'A thread is run by `spawn`.')
-        return ' '.join([*assigned, 'spawn ' + thread])
+        """The call of a function that is a thread here."""
+        if given(call):
+            raise NoCounterpart(OF_ARGUMENTS % call.text)
+        self.why('A thread is run by `spawn`.')
+        return 'spawn ' + call.text
 
     def check_processes(self, call: Node, written: str, names: list[str]) -> None:
         """Raises the advice on the first process of a call that the program doesn't have."""

@@ -7,9 +7,7 @@ from motesim.from_c.breaks import head_with_flag, ways_around
 from motesim.from_c.closings import Closing
 from motesim.from_c.counting import caution, is_changed, loop_of, natural, refuse_endless
 from motesim.from_c.expressions import ONE_TOO_MANY, QUALIFIERS, TYPES, WORDS, NoCounterpart
-from motesim.from_c.nodes import Node
-from motesim.from_c.parameters import RESULT, in_loop
-from motesim.from_c.places import block_of, conjuncts, ends_loop, last_statement
+from motesim.from_c.places import conjuncts, ends_loop, last_statement
 from motesim.from_c.scope import allowed
 from motesim.from_c.sharing import is_needed
 from motesim.from_c.skips import Skips
@@ -35,13 +33,8 @@ BY_COLUMNS = 'A block is in braces: write `%s %s {`, and `}` below its last stat
 # Words of other languages that end a block.
 ENDS = ('end', 'endif', 'endwhile', 'fi', 'done')
 ENDLESS_DO = 'There is no `do`: `while 1 { .. }` repeats its block.'
-# The variable that is 1 in the first round of a `do` of C, and then has the result of its test.
-AGAIN = 'again'
-OF_RESULT = 'An `exit` passes no value: `%s` keeps the value for the caller.'
-# The most lines below the first one of a `do` that may be written twice.
-MOST_TWICE = 5
-OF_DO = ('There is no `do`: the block of this `while` runs at least once, because `again` is 1 before it. The last '
-         'statement of the block assigns the test to `again`.')
+NO_DO = ('There is no `do`: a `while` tests before each round. Put the first round above it, or write `again = 1; '
+         'while again { .. again = c; }` with the test `c`: docs/use/FROM_CONTIKI.md shows both.')
 NO_BREAK = 'There is no `break`: let the test of the `while` become false.'
 REST_RUNS = ('The rest of the block still runs once: write it in an `else` if it must not, as the step of a count '
              'that is needed after the loop.')
@@ -94,18 +87,10 @@ class Control(Skips):
     def test_behind(self) -> str:
         """The test after a block whose `while` is above it."""
         self.at += 1
-        around, self.before, self.after = (self.before, self.after), [], []
-        is_again = self.place.loop == AGAIN and self.place.levels == 1
-        self.writer.calls = [] if is_again else None
-        test = self.condition()
-        calls = ' '.join(self.taken_calls())
-        steps, (self.before, self.after) = (self.before, self.after), around
-        if not self.accept(';'):
+        steps = len(self.before) + len(self.after)
+        self.condition()
+        if not self.accept(';') or len(self.before) + len(self.after) > steps:
             raise NoCounterpart
-        if is_again:
-            self.why(OF_DO)
-            again = '%s = %s;' % (AGAIN, test)
-            return ' '.join(filter(None, (calls, self.steps(steps[0]), again, self.steps(steps[1]), '}')))
         self.why('There is no `do`: the test of a `while` is before its block, and `}` ends it.')
         return '}'
 
@@ -243,7 +228,7 @@ class Control(Skips):
 
     def of_break(self) -> str:
         """A `break`, as an assignment that makes the test of the loop false."""
-        written = self.with_flag() if self.place.loop not in ('', AGAIN) else None
+        written = self.with_flag() if self.place.loop else None
         if written is not None:
             return written
         ends = self.ends_of_loop()
@@ -296,22 +281,18 @@ class Control(Skips):
 
     def choice_or_loop(self, word: str) -> str:
         if word == 'while' and self.is_empty_loop():
-            test = self.test_of(word)
+            test = self.condition()
             self.accept(';')
             self.why('A loop without a block would run forever: `wait_while` lets other events in while it waits.')
             return 'wait_while %s;' % test
         self.is_if = word == 'if'
-        if word == 'while' and self.place.head:
-            self.writer.calls = []
         is_own = word == 'if' and self.ahead(-2).text != 'else'
-        test, outside, self.is_if = self.test_of(word), self.place, False
+        test, outside, self.is_if = self.condition(), self.place, False
         skipping = self.without_continue(test) if is_own else None
         if skipping:
             return 'if ' + skipping
         if word == 'while' and (self.before or self.after):
             return self.counting_loop(test)
-        if word == 'while' and self.writer.calls:
-            return self.calling_loop(test)
         if word == 'while':
             refuse_endless(test)
             self.place = outside._replace(loop=test, is_head=False, rest=(), kept_steps=0)
@@ -327,13 +308,6 @@ class Control(Skips):
         elif word == 'if' and self.token.kind == 'end' and not self.is_cut:
             self.lacks_else = True
         return text
-
-    def test_of(self, word: str) -> str:
-        """The test of an `if` or a `while`."""
-        try:
-            return self.condition()
-        except NoCounterpart as said:
-            raise NoCounterpart(in_loop(str(said)) if word == 'while' else str(said)) from None
 
     def counting_loop(self, test: str) -> str:
         """A `while` whose test has `++` or `--`: after the name, the step is at the start of the block; in front of
@@ -354,16 +328,6 @@ class Control(Skips):
             self.why_with_rest('The step is above the loop and at the end of its block',
                                ': write `%s` there' % last)
         return ('%s while %s %s' % (last, test, body)).strip()
-
-    def calling_loop(self, test: str) -> str:
-        """A `while` whose test has the value of a function: its calls are above the loop and at the end of its
-        block."""
-        calls = ' '.join(self.taken_calls())
-        body = self.body(calls)
-        self.note_step(calls)
-        self.why_with_rest('The test calls a function: the call is above the loop and at the end of its block',
-                           ': write `%s` there' % calls)
-        return '%s while %s %s' % (calls, test, body)
 
     def refuse_steps(self) -> None:
         its = [*self.before, *self.after][0]
@@ -476,11 +440,8 @@ class Control(Skips):
         if self.is_cut and self.place.is_endless:
             self.why(ENDLESS_DO)
             return 'while 1 ' + body
-        if self.is_cut and self.place.head and self.has_flag():
-            self.insist(OF_DO)
-            return '%s = 1; while %s %s' % (AGAIN, AGAIN, body)
         if self.is_cut:
-            raise NoCounterpart('There is no `do`: a `while` tests before each round. Put the first round above it.')
+            raise NoCounterpart(NO_DO)
         self.need('while')
         test = self.condition()
         self.end('')
@@ -490,49 +451,11 @@ class Control(Skips):
         self.why('There is no `do`: a `while` tests before each round, so the first round is above it.')
         return '%s while %s %s' % (body.removeprefix('{').removesuffix('}').strip(), test, body)
 
-    def is_plain(self, count: int) -> bool:
-        """Returns whether these lines and some lines below them are a short statement that can be translated as a
-        whole."""
-        try:
-            lines = self.place.below.split('\n')[:count]
-            return count <= MOST_TWICE and bool(self.translated('\n'.join([self.source, *lines])))
-        except NoCounterpart:
-            return False
-
-    def has_flag(self) -> bool:
-        """Declares the variable for the test of a `do` whose block continues below these lines. Returns False if the
-        block is short, or has a `break`, which this test must not follow, or if another statement uses the variable."""
-        tokens, depth = tokens_of(self.place.below), 1
-        words = [it.text for it in tokens]
-        for at, word in enumerate(words):
-            depth += (word == '{') - (word == '}')
-            if not depth:
-                break
-        if self.is_plain(tokens[at].line):
-            return False
-        is_own = re.search(r'\b%s = 1; while %s \{' % (AGAIN, AGAIN), self.place.above) is not None
-        if 'break' in words[:at] or not is_own and AGAIN in (*self.scope.kinds, *words):
-            return False
-        if not self.is_variable(AGAIN):
-            self.declares.append('var %s = 0;' % AGAIN)
-        return True
-
     def of_return(self) -> str:
         self.at += 1
         value = None if self.token.text in (';', '}', '') else self.expression()
         self.why('There is no `return`: `exit;` ends the process or the thread.')
-        if value and block_of(self.place.above) == 'thread':
-            return self.with_result(value)
         if value and value.kind != 'number':
             self.writer.insist('An `exit` passes no value: assign it to a variable of the process first, such as '
                                '`result = %s;`.' % self.writer.text(value))
         return self.end('exit')
-
-    def with_result(self, value: Node) -> str:
-        """A `return` with a value: a variable keeps the value for the caller."""
-        name = self.scope.for_hint(RESULT)
-        self.why(OF_RESULT % name)
-        self.add(name)
-        written = self.chosen(name + ' = %s;', value)
-        self.end('')
-        return 'exit;' if written == '%s = %s;' % (name, name) else written + ' exit;'

@@ -4,20 +4,17 @@ A correction is shown only if it helps: with it the text has no fault, or its fi
 """
 from __future__ import annotations
 
-import re
-from collections.abc import Collection, Iterator
+from collections.abc import Iterator
 from dataclasses import replace
 from typing import NamedTuple
 
 from motesim.from_c.closings import Edit, edits_of, repeated, with_renamed
 from motesim.from_c.bare_block import AFTER_IF, REASON, bare_block, lacks_else
-from motesim.from_c.conditional import conditional, kept_define
 from motesim.from_c.counts import recounted
 from motesim.from_c.declarations import ORDER
 from motesim.from_c.expressions import MIXED, NoCounterpart
 from motesim.from_c.heads import bare_body, end_of_body, process_block
 from motesim.from_c.scope import Scope
-from motesim.from_c.side_by_side import side_by_side
 from motesim.from_c.places import Surroundings, head_for, opens_endless_do, place_below, rest_of_loop
 from motesim.from_c.process_names import NewNames, new_names
 from motesim.from_c.seed import reasons_with, seed_for
@@ -25,13 +22,9 @@ from motesim.from_c.statements import Statements
 from motesim.from_c.structure import (
     ONE_LINE, begins_unnamed_code, extra_brace, process_line, process_lines, unclosed_block,
 )
-from motesim.from_c.switches import switch_at
 from motesim.notation.faults import ProgramError, find_fault, tokens_of
 
 MOST_LINES = 6
-INCLUDES = re.compile(r'[ \t]*#[ \t]*include\b')
-# A timer of a code, at the beginning of its line.
-TIMER = re.compile(r'^[ \t]*[ec]timer\b', re.M)
 OF_COMMENT = 'A comment begins with `//` and ends with its line, so each line of a long one needs its own `//`.'
 STEPS_TWICE = ('The block has `%s` already, and the `for` adds the same step once more: if you have written it for the '
                '`for`, leave one of both out.')
@@ -83,11 +76,6 @@ def _spans(text: str, fault: ProgramError) -> Iterator[tuple[int, int]]:
                 yield first, here + more
     if above == here and here > 1:
         yield here - 1, here
-    # (a function ends with a brace at the beginning of a line)
-    rows = text.split('\n')
-    end = next((it for it in range(here + 1, count + 1) if rows[it - 1].startswith('}')), here)
-    if end >= here + MOST_LINES:
-        yield here, end
 
 
 def _rank(text: str, made: Correction) -> int:
@@ -156,28 +144,6 @@ def _bare_block(text: str, fault: ProgramError) -> Correction | None:
     return made if _rank(text, made) else None
 
 
-def _side_by_side(text: str, fault: ProgramError) -> Correction | None:
-    """Processes instead of the protothreads that run side by side, below the lines that only include files."""
-    if INCLUDES.match(text.split('\n')[fault.token.line - 1]):
-        return None
-    found = side_by_side(text)
-    if found is None or not found.edits:
-        line = fault.token.line
-        is_there = re.search(r'PT_(?:SCHEDULE|THREAD)', ''.join(text.split('\n')[line - 1:line + 1]))
-        return Correction(line, line, None, found.reasons) if found and is_there else None
-    first = next(at for at, it in enumerate(found.edits) if it.line)
-    others = (*found.edits[:first], *found.edits[first + 1:])
-    return Correction(*found.edits[first], found.reasons, (found.above, found.named), others)
-
-
-def _switch(text: str, fault: ProgramError, scope: Scope) -> Correction | None:
-    """Tests instead of a `switch` that begins the line of a fault."""
-    process = place_below(text.split('\n')[:fault.token.line - 1]).code
-    found = switch_at(text, fault.token.line, scope, process) if process else None
-    made = Correction(found.first, found.last, found.written, (found.reason,)) if found else None
-    return made if made and _rank(text, made) else None
-
-
 def _process_lines(text: str, fault: ProgramError) -> Correction | None:
     """One line instead of several that name processes, if the fault is in one of them."""
     first, last, line = process_lines(text, fault.token.line)
@@ -198,21 +164,6 @@ def _long_comment(text: str, fault: ProgramError) -> Correction | None:
     return Correction(first, last, rest.strip(), (OF_COMMENT,))
 
 
-def _of_preprocessor(text: str, fault: ProgramError) -> Correction | None:
-    """Leaves out the lines that the compiler of C doesn't read, or keeps a name that decides about such lines."""
-    line = fault.token.line
-    kept = kept_define(text, line)
-    if kept:
-        return Correction(line, line, kept[0], (kept[1],))
-    found = conditional(text, line)
-    if found is None:
-        return None
-    if not found.stretches:
-        return Correction(line, line, None, (found.reason,))
-    first, *others = found.stretches
-    return Correction(*first, '', (found.reason,), below=tuple(Edit(*it, '') for it in others))
-
-
 def _is_only_named(text: str, fault: ProgramError) -> bool:
     """True if a fault is an unknown name that is neither assigned nor called: then later lines aren't about it."""
     tokens = tokens_of(text)
@@ -220,40 +171,18 @@ def _is_only_named(text: str, fault: ProgramError) -> bool:
     return fault.kind == 3 and at is not None and tokens[at + 1].text not in ('(', '[', '=')
 
 
-def _insertions(text: str, source: str, reader: Statements, apart: Collection[str]) -> list[tuple[int, str] | None]:
-    """The lines that may be inserted with a reading of some lines, the best one first. `apart`: declarations that are
-    inserted elsewhere."""
-    if reader.moved:
-        head = head_for(text, 'thread ' + reader.moved)
-        # (an empty line would end the lines that a message shows)
-        rows = [it for it in (reader.inserted or source).split('\n') if it.strip()]
-        return [(head, '\n'.join(rows))] if head else []
+def _insertions(text: str, reader: Statements) -> list[tuple[int, str] | None]:
+    """The lines that may be inserted with a reading of some lines, the best one first."""
     if not reader.declares:
         return [(_above_processes(text, reader.events[0]), ' '.join(reader.events)) if reader.events else None]
     if reader.events:
         return [None]
     is_top, code = reader.place.is_top, reader.place.code
     is_lower = any(it.startswith(('ctimer', 'thread')) for it in reader.declares)
-    named = 'var %s' % reader.user if reader.user else reader.declares[0]
-    head = head_for(text, named, code) if is_top or is_lower else reader.place.head
+    head = head_for(text, reader.declares[0], code) if is_top or is_lower else reader.place.head
     between = '\n' if any('//' in it for it in reader.declares) else ' '
-    upper = [it for it in reader.declares if it not in apart]
-    declared = head, between.join(sorted(upper, key=lambda it: ORDER.index(it.split()[0])))
+    declared = head, between.join(sorted(reader.declares, key=lambda it: ORDER.index(it.split()[0])))
     return [declared, None] if is_top and head else [None if is_top else declared]
-
-
-def _below_timers(text: str, reader: Statements) -> dict[str, int]:
-    """The threads that belong below timers that the code has already, if the same lines declare a variable, too, which
-    belongs above the timers; each with the line (from 1) below which it is inserted."""
-    if reader.moved or reader.events or not any(it.startswith('var') for it in reader.declares):
-        return {}
-    upper = next(it for it in reader.declares if it.startswith('var'))
-    head, found = head_for(text, upper, reader.place.code), {}
-    for it in reader.declares:
-        line = head_for(text, it, reader.place.code) if it.startswith('thread') else 0
-        if 0 < head < line and TIMER.search('\n'.join(text.split('\n')[head:line])):
-            found[it] = line
-    return found
 
 
 def correction(text: str, fault: ProgramError) -> Correction | None:
@@ -284,9 +213,7 @@ def _correction(text: str, fault: ProgramError) -> Correction | None:
     scope = Scope.of(text)
     signs = [it.text for it in tokens_of(text)]
     unclosed = signs.count('{') - signs.count('}')
-    whole = _of_preprocessor(text, fault) or _long_comment(text, fault) or _side_by_side(text, fault)
-    whole = whole or _structural(text, fault)
-    whole = whole or _switch(text, fault, scope)
+    whole = _long_comment(text, fault) or _structural(text, fault)
     whole = whole or _heads(text, fault) or _process_lines(text, fault) or _bare_block(text, fault)
     if whole:
         return whole
@@ -307,21 +234,18 @@ def _correction(text: str, fault: ProgramError) -> Correction | None:
                 if begun <= fault.token.line <= last and not (is_only_named and last > fault.token.line):
                     advice = advice or str(said)
                 continue
-            renamed = '\n'.join([*lines[:last], *([reader.below] if last < len(lines) else [])])
-            below = edits_of(renamed, last, reader.closings)
+            below = edits_of(text, last, reader.closings)
             if below is None or reader.hides_else and reader.lacks_else and tokens_of(rest)[0].text == 'else':
                 continue
             seed = seed_for(text, first, last, reader.declares, written)
-            twice = repeated(renamed, last, reader.closings)
+            twice = repeated(text, last, reader.closings)
             if twice:
                 reader.writer.insist(STEPS_TWICE % twice)
             reasons = reasons_with(bool(seed) or MIXED in text, reader.writer.shown())
             heads = [reader.head_of_loop] if reader.head_of_loop else []
-            below = with_renamed(text, renamed, (*seed, *recounted(text, reader.counts), *heads, *below))
-            apart = _below_timers(text, reader)
-            threads = tuple(Edit(line + 1, line, it) for it, line in apart.items())
-            made = Correction(first, last, written, reasons, below=(*below, *threads))
-            for above in _insertions(text, source, reader, apart):
+            below = tuple(sorted((*seed, *recounted(text, reader.counts), *heads, *below)))
+            made = Correction(first, last, written, reasons, below=below)
+            for above in _insertions(text, reader):
                 made = made._replace(above=above)
                 found.append((0 if _same(source, written) else _rank(text, made), made))
         best = max(found, key=lambda it: it[0], default=None)

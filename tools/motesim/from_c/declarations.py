@@ -4,45 +4,31 @@ from __future__ import annotations
 import re
 from collections.abc import Iterable
 
-from motesim.from_c.after_send import callbacks_for_packets, has_function, names_in
 from motesim.from_c.bits import bits_of
-from motesim.from_c.callbacks import calls_of, inlined
-from motesim.from_c.enums import DEFINED_EVENT, NO_TYPES, Enums
 from motesim.from_c.expressions import (
-    BYTES, IN_TICKS, LONG, MOST, NO_ARRAYS, NO_FIELDS, NO_POINTERS, NULL, OF_NULL, QUALIFIERS, READ_ONLY, SMALL, TICKS,
+    BYTES, IN_TICKS, LONG, MOST, NO_ARRAYS, NO_FIELDS, NO_POINTERS, NULL, OF_NULL, QUALIFIERS, SMALL, TICKS,
     TOO_LARGE, TYPES, Expressions, NoCounterpart,
 )
-from motesim.from_c.macros import expanded
 from motesim.from_c.nodes import MOMENTS_OF_SECOND, Node, names_of, number_of, value_of, with_values
-from motesim.from_c.own_names import ONE_CASE, OTHERS, RENAME, RENAMED, OwnNames
-from motesim.from_c.parameters import KEPT, OF_COMMENT, READ_BY_NAME, SHARED
-from motesim.from_c.places import LOCAL, end_of_block, has_one_user
-from motesim.from_c.plain_timers import KINDS, OF_PLAIN, variables_of
+from motesim.from_c.own_names import MISREAD, OTHERS, RENAME, OwnNames
+from motesim.from_c.places import end_of_block
 from motesim.from_c.scope import IN_C, LONGEST, allowed
 from motesim.from_c.shared import of_shared
-from motesim.from_c.sharing import end_of_block as end_of_words
-from motesim.from_c.structures import HALF, KEPT_FIELDS, OF_FIELDS, Field, of_fields
-from motesim.from_c.tokens import TOKEN, tokens_of
+from motesim.from_c.tokens import tokens_of
 from motesim.notation.keywords import RESERVED
 
 # The order of declarations, in a `code` and above it.
 ORDER = ('event', 'semaphore', 'process', 'autostart', 'receiver', 'var', 'etimer', 'ctimer', 'thread')
 CALLBACK = ('There are no functions. A callback timer runs its own block, `ctimer c { .. }`, at the head of `code`; '
-            'put other steps into a `thread`, which `spawn` runs.')
-OF_BLOCK = ('There are no functions: callback timer `%s` runs its own block, at the head of the `code`. This block has '
-            'the statements of the function: `ctimer %s { %s}`.')
-OF_RETURN = ' A block has no `return`: write the statements that it skips in an `else`.'
-OF_MOVED = 'There are no functions: the block of callback timer `%s` has these lines already.'
-INLINED = ('`%s` is also called by statements, so its statements are written there, too: nothing calls the block of a '
-           'timer but the timer.')
-ALSO_CALLED = ('`%s` is called by a timer and by other statements. Only the timer runs the block of a `ctimer`, so the '
-               'statements of `%s` are needed twice: in this block, and in a `thread` at the head of the `code`, which '
-               '`spawn` runs instead of each call of `%s`. Write the thread first.')
-OF_FUNCTION = ('There are no functions: a `thread` serves as one, at the head of the `code` that calls it, below its '
-               'variables and timers. Move the lines of the function there first.')
+            'put other steps into a `thread` at the head of the `code` that needs them, which `spawn` '
+            'runs. docs/use/FROM_CONTIKI.md shows both.')
+OF_PARAMETER = ('A thread has no parameters: `%s` is a variable of the process. Assign the argument to it before each '
+                '`spawn`.')
+OF_OLD_PARAMETER = ('A thread has no parameters, and the process has a variable `%s` already. If its value is needed '
+                    'later, give the parameter another name. Assign the argument to it before each `spawn`.')
+OF_PLAIN = ('A `struct %s` posts no event, so it is no `etimer`. Two variables, the moment at which it was set and its '
+            'interval, are compared with `now`: docs/use/FROM_CONTIKI.md shows this under "Timers".')
 OF_PROTOTYPE = 'A function needs no line above it: a `thread` is declared above the statements that spawn it.'
-# The words in front of the call of a function.
-BEFORE_CALL = frozenset((';', '{', '}', ')', '(', '=', ',', '!', '&&', '||', 'else', 'return'))
 # The types of addresses.
 ADDRESS = frozenset(('linkaddr_t', 'rimeaddr_t'))
 # A function with such a parameter is called for each packet.
@@ -50,7 +36,10 @@ CONNECTION = re.compile(r'\w+_conn|rimeaddr_t|linkaddr_t|uip_ipaddr_t')
 OF_PACKETS = ('No function is called when a packet arrives: a packet is the event `packet`. Above the first `code`, '
               'name the process that gets it, `receiver P;`. This process waits by `yield_until is(packet);`, and the '
               'statements of the function follow there: `data` is the value, and `from` the sender.')
-KEPT_NAMES = 'The comment keeps the names of the functions for the hints on their lines below.'
+NO_ENUMS = ('There are no enumerations: each name is a variable that is never assigned, such as `var idle = 0; var '
+            'busy = 1;` at the head of the `code`, or an event, such as `event go;` above the `process` line.')
+NO_TYPES = 'There are no types: all values have 16 bits.'
+DEFINED_EVENT = 'An event isn\'t a number: `event` declares its name, and `is(..)` tests it.'
 NO_CONNECTION = 'No connection is opened: `send x;` sends, and a packet is the event `packet`.'
 ABOVE = {'semaphore': 'A semaphore is declared above the `process` line, with its count.',
          'event': 'An event is declared by `event`, above the `process` line.'}
@@ -65,10 +54,11 @@ OF_EVENT = r'\bprocess_post(?:_synch)?\s*\([^,;]*,\s*NAME\b|\bev\s*[!=]=\s*NAME\
 SWITCH, CASE = re.compile(r'\bswitch\s*\(\s*ev\s*\)\s*\{'), r'\bcase\s+NAME\b'
 # An expression with parameters, for the preprocessor.
 MACRO = re.compile(r'#\s*define\s+([A-Za-z_]\w*\([^()]*\))\s*(\S.*)')
+CONDITIONAL = re.compile(r'#\s*(?:if|ifdef|ifndef|elif|else|endif)\b')
+NO_CONDITIONS = ('There is no preprocessor. Leave out the lines that begin with `#`, and between `#if` and `#endif` '
+                 'the lines that the compiler of C skips.')
 NO_MACROS = ('There is no preprocessor, and there are no macros: write the expression of `%s`, which is `%s`, at each '
              'place of the macro. The comment keeps it.')
-REPLACED = ('There is no preprocessor, and there are no macros: each line with `%s` has its text `%s` instead, with '
-            'the arguments in it. The comment keeps the macro.')
 OF_BYTES = ('A variable has 16 bits and no type: its values are 0 to 65,535, without a sign. To keep 8 bits, write `% '
             '256`, such as `x = ((x + 1) % 256);`.')
 OF_PARTS = ('A variable has 16 bits and no type: its values are 0 to 65,535. Count larger ones in parts, such as '
@@ -86,27 +76,9 @@ WRITE_BY_NAME = '`%s` has another meaning in a program, so write `%s` in all oth
 OF_TEXT = 'Here, `%s` is the number %d. In C, the text replaces the name, so `%s * 2` is `%s * 2` there.'
 MOST_MEMBERS = 8
 OF_NAMES = 'Each member is a variable of its own: %s.'
-OF_RECORDS = 'There are no arrays and no structures: each field of each member of `%s` is a variable of its own: %s.'
 OF_MEMBERS = ('%s The members of this array would be the variables `%s` to `%s`, but the program has another `%s`: '
               'give the array another name first.')
-RENAMED_CONSTANT = '%s: the name of the constant is `%s` here.'
-OTHER_VARIABLE = 'The process has a variable `%s` already, which each call would change'
-OTHER_STRUCTURE = 'The process has another structure `%s`, whose fields are variables already'
 NO_PLACE = 'Variables are declared at the head of `code`, before its timers, threads and `body`: `var %s = 0;`.'
-
-
-def in_lines_of_c(function: str) -> str:
-    """A function of C with a line for each statement, if it is in one line; otherwise nothing."""
-    head, brace, rest = function.strip().partition('{')
-    if '\n' in rest or not rest.rstrip().endswith('}') or '//' in rest:
-        return ''
-    lines, depth = [''], 0
-    for token in TOKEN.finditer(rest.rstrip()[:-1]):
-        depth += (token[0] in ('(', '{')) - (token[0] in (')', '}'))
-        lines[-1] += rest[len(''.join(lines)):token.end()]
-        if not depth and token[0] in (';', '}'):
-            lines.append('')
-    return '\n'.join([head + brace, *('  ' + it.strip() for it in lines if it.strip()), '}'])
 
 
 def is_minus(node: Node) -> bool:
@@ -124,7 +96,7 @@ def is_sum(text: str) -> bool:
     return False
 
 
-class Declarations(Enums, OwnNames):
+class Declarations(OwnNames):
     """Reads declarations."""
 
     def in_order(self, found: list[str]) -> list[str]:
@@ -144,18 +116,16 @@ class Declarations(Enums, OwnNames):
         if macro:
             self.why(NO_MACROS % macro.groups())
             self.comments.append('// %s is %s' % macro.groups())
-            below = expanded(self.below, line)
-            if below != self.below:
-                self.below = below
-                self.writer.reasons = [REPLACED % macro.groups()]
             return ''
+        if CONDITIONAL.match(line):
+            raise NoCounterpart(NO_CONDITIONS)
         if not defined:
             self.why('Leave this line out: there is no preprocessor, and no file has to be included.')
             return ''
         if self.is_event(defined[1]):
             self.writer.insist(DEFINED_EVENT)
             return self.at_top('event %s;' % self.new_name(defined[1]))
-        name = self.own_constant(self.scope.free(defined[1], 'variable'), defined[1])
+        name = self.scope.free(defined[1], 'variable')
         value = self.constant(defined[2])
         if value is None:
             raise NoCounterpart('%s. Leave this line out, and choose a value n: `var %s = n;`, at the head of the '
@@ -167,19 +137,6 @@ class Declarations(Enums, OwnNames):
             self.comments.append('// ' + IN_C % (allowed(name), -value))
             self.writer.insist(OF_MINUS)
         return self.declared(name, str(value % (MOST + 1)))
-
-    def own_constant(self, name: str, in_c: str) -> str:
-        """The name of the variable for a name of the preprocessor: another one if a name of C differs from it only in
-        its capitals."""
-        words = {*self.words_around()}
-        alike = {it for it in words if it.lower() == in_c.lower()} - {in_c}
-        others = {it for it in alike if re.search(LOCAL % it, self.below)}
-        if not others:
-            return name
-        new = self.fresh(name, {it.lower() for it in words})
-        self.below = TOKEN.sub(lambda it: new if it.lastgroup == 'name' and it[0] == in_c else it[0], self.below)
-        self.insist(RENAMED_CONSTANT % (ONE_CASE % (in_c, min(others)), new))
-        return new
 
     def is_event(self, name: str) -> bool:
         """Returns whether the program below posts a name as an event, or compares it with the event of a call."""
@@ -214,7 +171,9 @@ class Declarations(Enums, OwnNames):
         if not (self.place.is_top or self.place.is_head):
             return self.declared_above(name, value, at, is_static)
         found = self.new_name(name)
-        if name in OTHERS and (at is None or not self.rename(name, found, at)):
+        if name in OTHERS and at is not None:
+            raise NoCounterpart(RENAME % (MISREAD % name, found))
+        if name in OTHERS:
             self.writer.insist(WRITE_BY_NAME % (name, found))
         declared = 'var %s = %s;' % (found, value)
         if self.place.is_top:
@@ -269,18 +228,16 @@ class Declarations(Enums, OwnNames):
             self.at += 1
         kind = self.token.text
         if kind == 'enum':
-            return self.of_enum(words)
-        if 'struct' in words and kind in KINDS:
-            return self.of_plain_timers(kind)
+            raise NoCounterpart(NO_ENUMS)
+        if 'struct' in words and kind in ('timer', 'stimer'):
+            raise NoCounterpart(OF_PLAIN % kind)
         if 'struct' in words and kind in ('etimer', 'ctimer', 'rtimer', 'pt_sem', 'pt'):
             return self.of_struct(kind)
         if 'struct' in words and words[-1] == 'struct' and kind.endswith(('_callbacks', '_conn')):
-            receivers = [self.of_lower(it) for it in sorted(callbacks_for_packets(self.source))]
-            has_callbacks = kind.endswith('_callbacks') and not self.scope.receiver
-            self.why(OF_PACKETS if has_callbacks and not any(receivers) else NO_CONNECTION)
-            return ''.join(receivers) + self.of_connection()
+            self.why(NO_CONNECTION)
+            return self.rest_left_out()
         if 'struct' in words:
-            return self.of_structure(words)
+            raise NoCounterpart(NO_FIELDS)
         if self.ahead(1).text == '(':
             return self.of_function()
         if 'process_event_t' in words:
@@ -289,6 +246,16 @@ class Declarations(Enums, OwnNames):
         if words != ['var']:
             self.of_type(words)
         return self.variables(words)
+
+    def of_typedef(self) -> str:
+        """A name for a type, which isn't needed."""
+        self.need('typedef')
+        if self.token.text == 'enum':
+            raise NoCounterpart(NO_ENUMS)
+        if self.token.text not in TYPES | QUALIFIERS or '{' in [it.text for it in self.tokens]:
+            raise NoCounterpart(NO_TYPES)
+        self.why(NO_TYPES)
+        return self.rest_left_out()
 
     def of_type(self, words: list[str]) -> None:
         """Notes that a variable has no type, and what that means for its values."""
@@ -379,115 +346,22 @@ class Declarations(Enums, OwnNames):
             raise NoCounterpart(NO_ARRAYS)
         return count
 
-    def of_records(self, name: str, fields: tuple[Field, ...], is_static: bool) -> str:
-        """An array of structures: a variable for each field of each member."""
-        self.at += 1
-        count, its = self.members_of(), of_fields(name, fields)
-        if self.token.text != ';' or not count or max(map(len, its.variables)) >= LONGEST:
-            raise NoCounterpart(NO_FIELDS)
-        self.insist(OF_RECORDS % (name, ', '.join('`%s` to `%s%d` for `%s[..].%s`' % (
-            variable, variable, count - 1, name, it.name) for variable, it in zip(its.variables, fields))))
-        if self.place.is_top:
-            self.user = name
-            self.note_shared(name, its.variables[0])
-        names = ['%s%s' % (it, at or '') for it in its.variables for at in range(count)]
-        return ' '.join(filter(None, (self.declared(it, '0', is_static=is_static) for it in names)))
-
     def of_function(self) -> str:
         """A function: a thread, without parameters."""
-        name, timer = allowed(self.token.text), self.scope.callbacks.timer_of(self.token.text)
-        sent = self.scope.after_send.get(self.token.text)
+        name, words = allowed(self.token.text), [it.text for it in self.tokens[self.at:]]
         self.at += 1
-        if timer:
-            return self.of_timer(timer)
-        if self.is_prototype():
-            receiver = self.of_lower(self.ahead(-1).text) if self.is_for_packets(self.ahead(-1).text) else ''
+        parameters = words[:words.index(')')] if ')' in words else words
+        if words[len(parameters) + 1:][:1] == [';']:
             self.why(OF_PROTOTYPE)
-            return receiver + self.rest_left_out()
-        if sent:
-            return self.of_sent(*sent)
-        if self.is_for_packets(self.ahead(-1).text):
-            return self.of_receiver()
+            return self.rest_left_out()
+        if any(map(CONNECTION.fullmatch, parameters)):
+            raise NoCounterpart(OF_PACKETS)
         self.why('There are no functions: a `thread` serves as one, without parameters, and `spawn %s;` runs it. A '
                  'callback timer runs its own block, `ctimer c { .. }`.' % name)
-        if self.is_moved_whole(name):
-            return ''
         self.parameters(self.place.is_head)
         if not self.place.is_head or not self.accept('{') or self.token.kind != 'end':
             raise NoCounterpart(CALLBACK)
         return 'thread %s {' % name
-
-    def is_for_packets(self, name: str) -> bool:
-        """Returns whether a function has the parameters of one that is called for each packet, and no statement calls
-        it."""
-        words, around = [it.text for it in self.tokens[self.at:]], self.words_around()
-        is_called = any(around[at:at + 2] == [name, '('] and around[at - 1] in BEFORE_CALL
-                        for at in range(1, len(around)))
-        end = words.index(')') if ')' in words else len(words)
-        return any(CONNECTION.fullmatch(it) for it in words[:end]) and not is_called
-
-    def is_prototype(self) -> bool:
-        """Returns whether a semicolon follows the parameters of a function."""
-        words = [it.text for it in self.tokens[self.at:]]
-        return ')' in words and words[words.index(')') + 1:][:1] == [';']
-
-    def is_moved_whole(self, name: str) -> bool:
-        """Moves a function above the codes, unchanged, into the code that calls it. Returns False if these lines aren't
-        the whole function, or if not exactly one code calls it."""
-        words = [it.text for it in self.tokens if it.kind != 'end']
-        is_whole = words[-1:] == ['}'] and words.count('{') == words.count('}')
-        if not self.place.is_top or not is_whole or not has_one_user(self.place.below, name):
-            return False
-        self.at = len(words)
-        self.moved = name
-        self.inserted = in_lines_of_c(self.source)
-        self.writer.reasons = [OF_FUNCTION]
-        return True
-
-    def of_timer(self, timer: str) -> str:
-        """A function that a callback timer calls: the block of the timer."""
-        words = [it.text for it in self.tokens]
-        its, block = self.new_name(timer), self.block_of(timer)
-        body = self.scope.callbacks.bodies.get(self.scope.callbacks.functions.get(timer, ''), 'return')
-        is_moved = its in self.scope.callbacks.blocks and not re.search(r'\breturn\b', body)
-        if words[-1] != '}' or words.count('{') != words.count('}') or not (block or is_moved):
-            has_return = 'return' in self.scope.callbacks.bodies.get(self.scope.callbacks.functions.get(timer, ''), '')
-            raise NoCounterpart(CALLBACK + OF_RETURN * has_return)
-        self.at = len(words)
-        self.inline_calls(self.scope.callbacks.functions[timer])
-        if not block:
-            self.why(OF_MOVED % its)
-            return ''
-        self.why(OF_BLOCK % (its, its, block))
-        if its not in self.scope.callbacks.blocks:
-            self.declares.append('ctimer %s { %s}' % (its, block))
-        return ''
-
-    def inline_calls(self, function: str) -> None:
-        """Writes the statements of the function of a timer at the places that call it themselves."""
-        below = inlined(self.below, function, self.scope.callbacks.bodies.get(function, ''))
-        if below is None or calls_of(self.place.above, function):
-            raise NoCounterpart(ALSO_CALLED % ((function,) * 3))
-        if below != self.below:
-            self.writer.insist(INLINED % function)
-            self.below = below
-
-    def block_of(self, timer: str) -> str:
-        """The statements of the function that a callback timer calls, or nothing if no counterpart is known."""
-        callbacks = self.scope.callbacks
-        try:
-            body = callbacks.bodies[callbacks.functions[timer]]
-            return '' if re.search(r'\breturn\b', body) else self.translated(body) + ' '
-        except (KeyError, NoCounterpart):
-            return ''
-
-    def block_in_c(self, timer: str) -> str:
-        """The lines of the function that a callback timer calls, unchanged; nothing if a `return` leaves it."""
-        callbacks = self.scope.callbacks
-        body = callbacks.bodies.get(callbacks.functions.get(timer, ''), '')
-        lines = [it.rstrip() for it in body.split('\n') if it.strip()]
-        has_return = any(it.text == 'return' for it in tokens_of(body))
-        return '\n%s\n' % '\n'.join(lines) if lines and not has_return else ''
 
     def parameters(self, of_thread: bool) -> None:
         """Leaves out parameters. Those of a thread become variables of its process, if variables can be declared
@@ -498,37 +372,13 @@ class Declarations(Enums, OwnNames):
             words = [*words, ''] if self.token.text == ',' else [*words[:-1], self.token.text]
             self.at += 1
         names = [it for it in words if it.isidentifier() and it not in TYPES and it != 'pt']
-        if of_thread and self.place.head:
-            self.keep_parameters(names)
-
-    def keep_parameters(self, names: list[str]) -> None:
-        """Declares the parameters of a thread as variables, and keeps their order in a comment."""
-        for name in [*names]:
-            found = self.new_name(name)
-            if name in READ_ONLY:
-                self.writer.insist(READ_BY_NAME % (name, found))
-            if found in self.place.variables:
-                found = self.own_parameter(name, found)
-                names[names.index(name)] = found
-            if found in self.place.variables:
-                self.writer.insist(SHARED % found)
-            else:
-                self.why(OF_COMMENT)
-                self.declares.append('var %s = 0;' % found)
-        if names:
-            self.comments.insert(0, KEPT % ', '.join(allowed(it) for it in names))
-
-    def own_parameter(self, name: str, found: str) -> str:
-        """The name of a parameter if the process has a variable with its name: another one, to the end of the function,
-        or this name if too many lines have it."""
-        words, at = self.words_around(), max(at for at in range(self.at) if self.tokens[at].text == name)
-        place = self.count_above() + at
-        end = end_of_words(words, words.index('{', place) + 1) if '{' in words[place:] else place
-        new = self.fresh(found, {*words})
-        if not self.rename(name, new, at, end):
-            return found
-        self.insist(RENAMED % (OTHER_VARIABLE % found, new))
-        return new
+        misread = next((it for it in names if it in OTHERS), '')
+        if of_thread and misread:
+            raise NoCounterpart(RENAME % (MISREAD % misread, allowed(misread)))
+        for name in map(self.new_name, names if of_thread and self.place.head else ()):
+            self.insist((OF_OLD_PARAMETER if name in self.place.variables else OF_PARAMETER) % name)
+            if name not in self.place.variables:
+                self.declares.append('var %s = 0;' % name)
 
     def beginning_of(self, node: Node | None, words: list[str]) -> str:
         """The initial value of a variable with these words of its type: an address of no mote, if the program tests for
@@ -564,81 +414,6 @@ class Declarations(Enums, OwnNames):
             raise NoCounterpart(OF_INITIAL)
         return value
 
-    def of_structure(self, words: list[str]) -> str:
-        """A structure: a comment keeps its fields, and the variables of this type become variables for each field."""
-        is_type, is_definition = 'typedef' in words, '{' in (self.token.text, self.ahead(1).text)
-        its = self.structures.get(self.token.text, ())
-        if is_definition:
-            its = self.structures.get(self.keep_fields(), its)
-        else:
-            self.at += 1
-        found = []
-        while not is_type and (self.token.text != ';' or not is_definition):
-            is_pointer = self.accept('*') != ''
-            if its and self.ahead(1).text == '[' and not is_pointer:
-                found.append(self.of_records(self.token.text, its, 'static' in words))
-                break
-            if not its or self.token.kind != 'name' or self.ahead(1).text not in ('=', ',', ';'):
-                raise NoCounterpart(NO_FIELDS)
-            name = self.own_structure(self.token.text, its)
-            self.at += 1
-            found.append(self.with_values(name, its, is_pointer, 'static' in words))
-            if not self.accept(','):
-                break
-        if is_type and not is_definition:
-            raise NoCounterpart(NO_TYPES)
-        self.rest_left_out()
-        if is_definition and self.token.kind != 'end':
-            raise NoCounterpart(NO_FIELDS)
-        return ' '.join(filter(None, found))
-
-    def own_structure(self, name: str, fields: tuple[Field, ...]) -> str:
-        """The name of a structure that the token declares. If it is declared in a block, and the process has the
-        variables of another structure with its name, it gets another name, to the end of the block."""
-        if self.place.is_top or self.place.is_head or not any(map(self.is_variable, of_fields(name, fields).variables)):
-            return name
-        words = {*self.words_around(), name}
-        others = (self.fresh(name, words | {'%s%d' % (name, it) for it in range(count)}) for count in range(1, 100))
-        new = next(it for it in others if words.isdisjoint(of_fields(it, fields).variables))
-        if not self.rename(name, new, self.at):
-            raise NoCounterpart(RENAME % (OTHER_STRUCTURE % name, new))
-        self.insist(RENAMED % (OTHER_STRUCTURE % name, new))
-        return new
-
-    def keep_fields(self) -> str:
-        """Keeps the definition of a structure in a comment. Returns the name behind it, or nothing."""
-        while not self.accept('}'):
-            self.at += 1
-            if self.token.kind == 'end':
-                raise NoCounterpart(NO_FIELDS)
-        self.insist(KEPT_FIELDS)
-        self.kept_lines, self.comments = self.source.split('\n'), []
-        return self.token.text
-
-    def with_values(self, name: str, fields: tuple[Field, ...], is_pointer: bool, is_static: bool) -> str:
-        """The variables for the fields of a structure that is declared, with their initial values."""
-        its, values = of_fields(name, fields), ['0'] * len(fields)
-        if is_pointer and self.token.text == '=':
-            if 'packetbuf_dataptr' not in self.rest_of_line():
-                raise NoCounterpart(NO_POINTERS % name)
-            self.at += 1
-            values = self.received(its, self.expression())
-        elif self.accept('='):
-            self.need('{')
-            for at in range(len(fields)):
-                values[at] = self.beginning(self.expression())
-                if not self.accept(','):
-                    break
-            self.need('}')
-        self.insist(OF_FIELDS % (name, ', '.join('`%s` for `%s.%s`' % (variable, name, it.name)
-                                                 for variable, it in zip(its.variables, fields))))
-        if any(it.bits == HALF for it in fields):
-            self.writer.insist(OF_BYTES)
-        if self.place.is_top:
-            self.user = name
-            self.note_shared(name, its.variables[0])
-        return ' '.join(filter(None, (self.declared(*it, is_static=is_static) for it in zip(its.variables, values))))
-
     def of_struct(self, kind: str) -> str:
         self.at += 1
         if self.token.text == '*':
@@ -657,34 +432,6 @@ class Declarations(Enums, OwnNames):
                                 'and a callback timer, `ctimer %s { .. }`, runs its block.' % ((self.token.text,) * 2))
         self.why('An event timer is declared by `etimer`.')
         return self.of_names('etimer')
-
-    def of_plain_timers(self, kind: str) -> str:
-        """Timers that post no event: two variables for each."""
-        self.at += 1
-        found = []
-        while True:
-            name, variables = self.token.text, variables_of(self.token.text)
-            self.at += 1
-            self.insist(OF_PLAIN % (kind, *variables))
-            if self.place.is_top:
-                self.user = name
-                self.note_shared(name, variables[0])
-            found += [self.declared(it, '0', is_static=True) for it in variables]
-            if not self.accept(','):
-                break
-        self.end('')
-        return ' '.join(filter(None, found))
-
-    def of_connection(self) -> str:
-        """A connection, or a structure of its callbacks. The structure is kept as a comment while a function below it
-        is a callback: the comment says which one."""
-        words = [it.text for it in self.tokens]
-        if words.count('{') > words.count('}'):
-            raise NoCounterpart
-        if has_function(self.below, names_in(self.source)):
-            self.kept_lines = self.source.split('\n')
-            self.insist(KEPT_NAMES)
-        return self.rest_left_out()
 
     def rest_left_out(self) -> str:
         """Leaves out the rest of a declaration."""
@@ -714,13 +461,9 @@ class Declarations(Enums, OwnNames):
 
     def callback_of(self, timer: str) -> str:
         """A callback timer without its block."""
-        name, block = self.new_name(timer), self.block_of(timer)
-        if name in self.scope.callbacks.blocks:
-            self.why('`%s` is declared already.' % name)
-            return ''
+        name = self.new_name(timer)
         self.why('A callback timer has a block, which runs when the timer is due: `ctimer %s { .. }`.' % name)
-        block = block or self.block_in_c(name) or ('poll %s; ' % self.place.code if self.place.code else '')
-        declared = ('ctimer %s {%s}' if block.startswith('\n') else 'ctimer %s { %s}') % (name, block)
+        declared = 'ctimer %s { %s}' % (name, 'poll %s; ' % self.place.code if self.place.code else '')
         return self.in_code('Timers', declared) if self.is_moved('ctimer') else declared
 
     def of_names(self, word: str) -> str:

@@ -15,8 +15,6 @@ from motesim.from_c.nodes import (
     ADDRESSES, MOMENTS_OF_SECOND, Choice, Node, Step, address_of, has_difference, has_negative, is_difference,
     is_octal, is_of_no_mote, is_test, is_upper_byte, names_of, number_of, opposite, value_of, with_values,
 )
-from motesim.from_c.parameters import ALWAYS_CALLED, OF_CALL as OF_VALUE, RESULT, assignments, of_value
-from motesim.from_c.plain_timers import IN_SECONDS, OF_CALL, VALUES as OF_TIMERS, action_of, plain_timer
 from motesim.from_c.scope import Scope, abbreviated, allowed
 from motesim.from_c.tokens import END, Token
 from motesim.notation.faults import MOST_LEVELS
@@ -67,7 +65,6 @@ WORDS_OF_CALLS = {
     'packetbuf_dataptr': ('data', 'A packet is one number, and `data` is that number.'),
     'packetbuf_addr': ('from', 'The mote that sent a packet is `from`.'),
 }
-LOWER_BYTE = 'The upper 8 bits of a packet say for which mote it is, and the lower 8 are its value.'
 NO_RECEIVER = ('A packet goes to all motes that hear it. If its upper 8 bits say for whom it is, this number is '
                '`(data / 256)` at the receiver, and the sender knows it from its `send`.')
 # Names of calls that ask for a timer, or for an event.
@@ -129,10 +126,6 @@ NO_ARRAYS = 'There are no arrays: a variable holds one number of 16 bits.'
 MEMBER = 'There are no arrays: `%s[%d]` is the variable `%s`.'
 NO_INDEX = ('There are no arrays: a variable holds one number of 16 bits. An `if` for each number chooses among `%s`, '
             'such as `if (%s == 1) { .. %s .. }`.')
-# The variable for a member of an array whose place is a variable.
-ELEMENT = 'element'
-OF_ELEMENT = 'There are no arrays: the statements above choose the variable of the member, whose value `%s` keeps.'
-OF_MEMBERS = 'There are no arrays: an `if` for each member chooses the variable that is assigned.'
 NO_FIELDS = ('There are no structures: each field is a variable of its own, such as `p_x` instead of `p.x`. A packet '
              'has one number, `data`. Two small numbers fit into one: `((a * 256) + b)`.')
 NO_POINTERS = ('There are no pointers: leave out the declaration of `%s`, and write the name of the other variable, '
@@ -142,6 +135,9 @@ NO_TEXTS = 'There are no texts: a program prints numbers, `print 1;`. The line o
 NO_REALS = ('Numbers are whole, 0 to 65,535. Count in smaller units, such as tenths: 15 for 1.5; `((x * 9) / 10)` is '
             'nine '
             'tenths of x.')
+NO_VALUE = ('A call has no value. A `thread` without waits serves as a function, and stores its result in a variable '
+            'of the process, such as `result`. Above this line, assign the arguments to the variables that the '
+            'thread reads, and write `spawn %s;`; here, write `result` instead of `%s(..)`.')
 NO_CALLS = ('There are no functions: a `thread` without waits serves as one. It is run by `spawn`, and shares the '
             'variables of its process.')
 # A generator of pseudo-random numbers: its variable, its step, and the number that it yields.
@@ -427,12 +423,6 @@ class Writer:
     # The loops above a statement for its shifts by a variable: for each, the variable of the result, and the text; None
     # if no loop has a place there.
     turns: list[tuple[str, str]] | None = None
-    # The calls above a statement of functions whose values it uses; None if no call has a place there.
-    calls: list[str] | None = None
-    # The sign whose right side is written, `&&` or `||`: C evaluates it only if it is needed.
-    if_needed: str = ''
-    # The variables for the members of arrays that the statements above it have chosen.
-    elements: list[str] = field(default_factory=list)
     # The process in whose code the expression is, or nothing.
     process: str = ''
     # The variables of other processes.
@@ -594,8 +584,6 @@ class Writer:
             word, reason = WORDS_OF_CALLS[lower]
             if lower == 'clock_seconds' and self.scope.second != MOMENTS_OF_SECOND:
                 word, reason = '(now / %d)' % self.scope.second, IN_TICKS
-            if lower == 'packetbuf_dataptr' and self.scope.handlers.get(self.process, ('', False))[1]:
-                word, reason = '(data % 256)', LOWER_BYTE
             if lower == 'packetbuf_addr' and 'receiver' in ''.join(it.text.lower() for it in parts):
                 return self.refuse(NO_RECEIVER)
             (self.insist if reason == SECONDS else self.why)(reason)
@@ -616,17 +604,9 @@ class Writer:
             return '0'
         if lower == 'process_post' and len(parts) == 3:
             return self.refuse(self.of_post(*parts))
-        its = plain_timer(node, self.scope)
-        if its and action_of(lower) in OF_TIMERS and self.scope.kinds.get(its.start) == 'variable':
-            self.why(OF_CALL % node.text)
-            if its.is_in_seconds:
-                self.insist(IN_SECONDS % (self.scope.second, self.scope.second))
-            self.name(its.start)
-            self.name(its.interval)
-            return its.value_of(action_of(lower))
         test = node.text if node.text in TESTS else CALLS.get(lower, '') or self.test_meant(node)
         if not test or len(parts) != 1:
-            return self.of_function(node)
+            return self.refuse(NO_VALUE % ((allowed(node.text),) * 2))
         named = parts[0].text
         if test in ('fired', 'expired') and (named in OWN_EVENTS or self.scope.kinds.get(named) == 'event'):
             self.why('`%s` is about a timer; `is(%s)` is true in a call with the event `%s`.' % (test, named, named))
@@ -643,28 +623,6 @@ class Writer:
         if self.unknown is not None and kind == 'timer' and self.scope.kinds.get(name) != 'timer':
             name = self.new_name(name, 'timer')
         return '%s(%s)' % (test, name)
-
-    def of_function(self, node: Node) -> str:
-        """The variable with the value of a function, which a call above the statement runs."""
-        thread, result = allowed(node.text), self.scope.for_hint(RESULT)
-        names, is_first = self.scope.parameters.get(thread, ()), self.calls == []
-        values = [self.text(it) for it in node.parts]
-        is_thread = self.scope.kinds.get(thread) == 'thread' and self.scope.kinds.get(result) == 'variable'
-        assigned = assignments(names, values) if len(names) == len(values) else None
-        if not is_thread or not is_first or assigned is None or self.calls is None or self.if_needed:
-            always = ALWAYS_CALLED % self.if_needed if self.if_needed else ''
-            return self.refuse(of_value(thread, names, values, result) + always)
-        self.why(OF_VALUE % (thread, result))
-        self.calls.append(' '.join([*assigned, 'spawn %s;' % thread]))
-        return result
-
-    def sides(self, sign: str, left: Node, right: Node) -> tuple[str, str]:
-        """The sides of `&&` or `||`. The right one calls no function, because C calls it only if it is needed."""
-        first, outside = self.test(left), self.if_needed
-        self.if_needed = sign
-        second = self.test(right)
-        self.if_needed = outside
-        return first, second
 
     def address(self, node: Node) -> str:
         """An address, or the one that a pointer is to."""
@@ -763,8 +721,7 @@ class Writer:
             return self.text(left if is_of_no_mote(sign, right) else right)
         assert sign in PLAIN
         if sign in ('&&', '||'):
-            first, second = self.sides(sign, left, right)
-            return '(%s %s %s)' % (first, sign, second)
+            return '(%s %s %s)' % (self.test(left), sign, self.test(right))
         if sign in ('==', '!=') and value_of(right) == 0:
             return '(%s %s %s)' % (self.test(left), sign, self.test(right))
         return '(%s %s %s)' % (self.text(left), sign, self.text(right))
@@ -1001,14 +958,7 @@ class Writer:
         if len(its) < 2 or count is not None:
             return self.refuse(NO_ARRAYS)
         place = self.text(index)
-        if self.calls is None:
-            return self.refuse(NO_INDEX % ('`, `'.join(its), place, its[1]))
-        element = self.scope.for_hint(ELEMENT, len(self.elements))
-        self.why(OF_ELEMENT % element)
-        chosen = ['if (%s == %d) { %s = %s; }' % (place, at, element, it) for at, it in enumerate(its) if at]
-        self.calls.append(' '.join(['%s = %s;' % (element, its[0]), *chosen]))
-        self.elements.append(element)
-        return element
+        return self.refuse(NO_INDEX % ('`, `'.join(its), place, its[1]))
 
     def byte_of(self, address: str, node: Node) -> str:
         """A byte of an address: the address itself is the first one."""

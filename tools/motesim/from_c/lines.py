@@ -7,9 +7,6 @@ from motesim.from_c.expressions import ONE_TOO_MANY, READ_ONLY, Expressions, NoC
 from motesim.from_c.nodes import Choice, Node, Step
 from motesim.from_c.places import Surroundings
 from motesim.from_c.scope import ADDED, Scope, allowed
-from motesim.from_c.structures import (
-    OF_FIELD, Structure, structure_of, structures_of, with_fields, with_members, with_types,
-)
 from motesim.from_c.tokens import tokens_of, with_whole_texts
 
 ONLY_IF = 'In C, `%s` is done only if `%s` is true, so it is in the block of an `if`.'
@@ -25,21 +22,12 @@ class Lines(Expressions):
     def __init__(self, text: str, scope: Scope, place: Surroundings = Surroundings(), end: str = ''):
         """`end` is the text that is written for `PROCESS_END`: empty, or a brace if `PROCESS_BEGIN` became a brace."""
         super().__init__(with_whole_texts([it for it in tokens_of(text) if it.kind != 'comment']), scope)
-        self.structures = structures_of('\n'.join((place.above, text, place.below)))
-        self.tokens = with_members(with_types(self.tokens, self.structures), scope.kinds)
-        self.tokens, self.fields = with_fields(self.tokens, scope.kinds)
         self.comments = [it.text for it in tokens_of(text) if it.kind == 'comment']
-        # The lines of C, and those of them that are kept as comments.
-        self.source, self.kept_lines = text, list[str]()
-        self.place, self.writer = place, Writer(scope)
-        # The text below these lines, with other names for variables whose scope continues there.
-        self.below = place.below
+        # The lines of C.
+        self.source, self.place, self.writer = text, place, Writer(scope)
         self.writer.process = place.code
         if place.head:
             self.writer.foreign = frozenset(scope.of_kind('variable')) - place.variables
-        for name, its in self.fields.items():
-            self.why(OF_FIELD % (its, name))
-            scope.kinds.setdefault(name, 'variable')
         # Two facts: a block continues below these lines; a header without its brace opens a block.
         self.is_cut = self.opens = False
         # What the blocks that continue below these lines need at their ends, the innermost first.
@@ -64,12 +52,6 @@ class Lines(Expressions):
         self.events: list[str] = []
         # The counts of the semaphores that these lines initialize.
         self.counts: dict[str, str] = {}
-        # The name of a function that moves to the head of a code, or nothing.
-        self.moved = ''
-        # The name in C of the variables that these lines declare, if it differs from theirs.
-        self.user = ''
-        # The lines that it becomes there, or nothing if they don't change.
-        self.inserted = ''
 
     def why(self, reason: str) -> None:
         self.writer.why(reason)
@@ -109,24 +91,7 @@ class Lines(Expressions):
             return form % self.writer.text(node)
         self.why('There is no `? :`: each side is a statement of its own.')
         test = self.writer.test(node.parts[0])
-        calls = self.taken_calls()
-        sides = [self.below_calls(self.chosen(form, it)) for it in node.parts[1:]]
-        if calls and self.writer.calls is not None:
-            self.writer.calls += calls
-        return 'if %s { %s } else { %s }' % (test, *sides)
-
-    def taken_calls(self) -> list[str]:
-        """The calls of functions that the expressions written so far need above their statement; a later expression
-        has its own ones."""
-        calls, self.writer.calls = self.writer.calls or [], None if self.writer.calls is None else []
-        for name in self.writer.elements:
-            self.add(name)
-        self.writer.elements = []
-        return calls
-
-    def below_calls(self, text: str) -> str:
-        """A statement below the calls of functions that its expressions need."""
-        return ' '.join([*self.taken_calls(), text])
+        return 'if %s { %s } else { %s }' % (test, *(self.chosen(form, it) for it in node.parts[1:]))
 
     def stepped(self, name: str, sign: str) -> str:
         """A variable that is incremented or decremented."""
@@ -180,21 +145,6 @@ class Lines(Expressions):
         """Returns whether the process has a variable, also if these lines declare it."""
         return name in self.place.variables or any(it.startswith('var %s ' % name) for it in self.declares)
 
-    def received(self, its: Structure, packet: Node) -> list[str]:
-        """The values of the fields of a structure in a packet."""
-        raise NotImplementedError
-
-    def structure(self, name: str) -> Structure | None:
-        """The variables that became of a structure, or None if this name isn't that of a structure."""
-        text = '\n'.join((self.place.above, self.source, self.place.below))
-        return structure_of(name, self.structures, self.scope.kinds, self.place.variables, text)
-
-    def declare_fields(self) -> None:
-        """Declares the fields of structures that these lines use."""
-        for name in self.fields:
-            if self.place.head and not self.place.is_head and not self.is_variable(name):
-                self.declares.append('var %s = 0;' % name)
-
     def add(self, name: str) -> None:
         """Declares a variable that no line of C declares, unless the process has it already."""
         if not self.is_variable(name):
@@ -232,14 +182,6 @@ class Lines(Expressions):
         """A variable with its initial value."""
         raise NotImplementedError
 
-    def keep_parameters(self, names: list[str]) -> None:
-        """Declares the parameters of a thread as variables, and keeps their order in a comment."""
-        raise NotImplementedError
-
-    def is_moved_whole(self, name: str) -> bool:
-        """Moves a function above the codes, unchanged, into the code that calls it."""
-        raise NotImplementedError
-
     def is_event(self, name: str) -> bool:
         """Returns whether the program below uses a name as an event."""
         raise NotImplementedError
@@ -248,34 +190,10 @@ class Lines(Expressions):
         """The declaration of an event, above the line that names the processes."""
         raise NotImplementedError
 
-    def words_below(self) -> set[str]:
-        """The words of the program below these lines."""
-        raise NotImplementedError
-
     def note(self, shown: str) -> None:
         """Keeps a text of C as a comment."""
         self.comments.append('// ' + shown.strip('"').replace('\\n', '').strip())
 
     def words_in_order(self) -> list[str]:
         """The words of the program below these lines."""
-        return [it.text for it in tokens_of(self.below) if it.kind not in ('comment', 'text')]
-
-    def of_receiver(self) -> str:
-        """The parameters and the body of a function that is called for each packet."""
-        raise NotImplementedError
-
-    def of_lower(self, name: str) -> str:
-        """The line that names the process that gets the packets, if a function for packets is below this process."""
-        raise NotImplementedError
-
-    def with_packets(self, wait: str) -> str:
-        """A wait of C, in which a thread may run for each packet."""
-        raise NotImplementedError
-
-    def last_wait(self) -> str:
-        """The loop for packets at the end of a process, or nothing."""
-        raise NotImplementedError
-
-    def of_sent(self, kind: str, member: str) -> str:
-        """The parameters and the body of a function that is called when a send has ended."""
-        raise NotImplementedError
+        return [it.text for it in tokens_of(self.place.below) if it.kind not in ('comment', 'text')]

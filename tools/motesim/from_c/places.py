@@ -2,11 +2,10 @@
 from __future__ import annotations
 
 import re
-from collections.abc import Iterable, Iterator
+from collections.abc import Iterable
 from typing import NamedTuple
 
-from motesim.from_c.after_send import callbacks_for_packets
-from motesim.from_c.scope import CODE, set_in, process_of
+from motesim.from_c.scope import CODE, process_of
 from motesim.notation.faults import tokens_of
 
 NAME = r'[a-z][a-z0-9_]*'
@@ -21,21 +20,9 @@ ENDS = [
     (re.compile('(%s)' % NAME), r'\1 = 0'),
 ]
 BRACE, WORD = re.compile('[{}]'), re.compile(r'\w+')
-# A function of C, from its first line to its brace.
-FUNCTION = re.compile(r'^[A-Za-z_][\w \t*]*\s(\w+)\s*\([^(){};]*\)\s*\{', re.M)
 NO_WORDS = re.compile(r'"(?:[^"\\\n]|\\.)*"|//[^\n]*|/\*.*?\*/', re.S)
 # A block of a code in the notation.
 OF_CODE = re.compile(r'\b(body|ctimer|thread|onpoll|onexit)\b[^{};]*{')
-# A structure of C with its members.
-STRUCTURE = re.compile(r'\bstruct\s+\w+\s+(\w+)\s*=\s*\{([^{}]*)\}')
-# A block with a name: of a callback timer, or of a function of C.
-NAMED = re.compile(r'\bctimer\s+(\w+)\s*\{'
-                   r'|^[ \t]*[A-Za-z_][\w \t*]*\s(?!if\b|while\b|for\b)(\w+)\s*\([^(){};]*\)\s*\{', re.M)
-# A variable of C in its declaration, a variable or a timer at the head of a code, and what a function may change
-# although no sign assigns it: an array or a timer.
-LOCAL = r'\b(?:int|char|short|long|unsigned|signed|bool|\w+_t)\b[^;(){}]*\b%s\b'
-DECLARED = re.compile(r'\bvar\s+\w+\s*=\s*[0-9]+\s*;|\betimer\s+\w+\s*;')
-ALSO_CHANGED = re.compile(r'\b(\w+)\s*\[|\b[ec]timer_\w+\s*\(\s*&?\s*(\w+)')
 # The words of a code above which its variables are declared.
 BEHIND_VARIABLES = {'etimer', 'ctimer', 'thread', 'onpoll', 'onexit', 'body'}
 # A line above which a thread belongs.
@@ -181,73 +168,9 @@ def block_of(above: str) -> str:
     return found[-1] if found else ''
 
 
-def has_one_user(text: str, name: str) -> bool:
-    """Returns whether one code has a name, or calls a function that has it; or whether the text has only one code."""
-    return len(users_of(text, name)) == 1 or len([*CODE.finditer(text)]) == 1
-
-
 def users_of(text: str, name: str, known: Iterable[str] = ()) -> list[str]:
-    """The processes whose codes have a name, or call a function that has it. `known`: the names of processes."""
-    handlers = callbacks_for_packets(text)
-    names = _with_functions(text, name, handlers)
-    receivers = {receiver_of(text, it, known) for it in handlers & names}
-    users = {process_of(it, known) for it in CODE.finditer(text) if _uses(text, it, names)}
-    return [it for it in (process_of(it, known) for it in CODE.finditer(text)) if it in users | receivers]
-
-
-def receiver_of(text: str, function: str, known: Iterable[str] = ()) -> str:
-    """The process that gets the packets of a function: the one that uses the variables of the function, if exactly one
-    process does; otherwise the one that opens the connection; nothing if none does."""
-    users = sharers_of(text, function, known)
-    return users[0] if len(users) == 1 else opener_of(text, function, known)
-
-
-def opener_of(text: str, function: str, known: Iterable[str] = ()) -> str:
-    """The process that opens the connection of a function for packets, or nothing."""
-    names = _with_functions(text, function)
-    return next((process_of(it, known) for it in CODE.finditer(text) if _uses(text, it, names)), '')
-
-
-def sharers_of(text: str, function: str, known: Iterable[str] = ()) -> list[str]:
-    """The processes that use variables above the processes which a function for packets uses, too, if the variables
-    ever change."""
-    begin = next((it.end() for it in FUNCTION.finditer(text) if it[1] == function), 0)
-    if not begin:
-        return []
-    blocks = [*reached(text[begin:end_of_block(text, begin - 1)], text)]
-    changed = set_in(text) | {(one or other).lower() for one, other in ALSO_CHANGED.findall(text)}
-    names = {it for its in blocks for it in _words(its) if it.lower() in changed
-             and not any(re.search(LOCAL % it, other) for other in blocks)}
-    found = []
-    for code in CODE.finditer(text):
-        block = NO_WORDS.sub(' ', text[code.end():end_of_block(text, code.end())])
-        words = set(WORD.findall(DECLARED.sub('', block)))
-        if any(not re.search(LOCAL % it, block) for it in names & words):
-            found.append(process_of(code, known))
-    return found
-
-
-def reached(block: str, text: str) -> Iterator[str]:
-    """A block of C, and the blocks of a text whose names it has, also by other blocks."""
-    others = {it[1] or it[2]: text[it.end():end_of_block(text, it.end() - 1)] for it in NAMED.finditer(text)}
-    left = [block]
-    while left:
-        its = left.pop()
-        yield its
-        left += [others.pop(it) for it in _words(its) & others.keys()]
-
-
-def _with_functions(text: str, name: str, handlers: Iterable[str] = ()) -> set[str]:
-    """A name, and the functions of C that have it or call such a function; also the structures of such functions, if
-    they aren't handlers."""
-    bodies = {it[1]: _words(text[it.end():end_of_block(text, it.end() - 1)])
-              for it in FUNCTION.finditer(text)}
-    bodies |= {it[1]: set(WORD.findall(it[2])).difference(handlers) for it in STRUCTURE.finditer(text)}
-    found, count = {name}, 0
-    while len(found) > count:
-        count = len(found)
-        found |= {function for function, words in bodies.items() if words & found}
-    return found
+    """The processes whose codes have a name. `known`: the names of processes."""
+    return [process_of(it, known) for it in CODE.finditer(text) if _uses(text, it, {name})]
 
 
 def _words(text: str) -> set[str]:

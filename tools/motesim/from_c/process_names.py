@@ -5,7 +5,7 @@ from __future__ import annotations
 import re
 from typing import NamedTuple
 
-from motesim.from_c.scope import LONGEST, Scope, allowed
+from motesim.from_c.scope import LONGEST, Scope
 from motesim.from_c.tokens import TOKEN
 from motesim.notation.keywords import RESERVED
 
@@ -17,8 +17,6 @@ NAMED = ('process', 'autostart', 'receiver', 'code', 'process_name', 'process_th
 # Those that a name of a process may follow elsewhere.
 USED = (*NAMED, 'post', 'synch', 'poll', 'start', 'kill', 'gone', 'running', 'process_post', 'process_post_synch',
         'process_poll', 'process_start', 'process_exit', 'process_is_running')
-# Macros with more arguments than the names of processes.
-OF_ONE = ('process_name', 'process_thread')
 
 
 class NewNames(NamedTuple):

@@ -6,11 +6,8 @@ import re
 from collections.abc import Iterable
 from dataclasses import dataclass, field
 
-from motesim.from_c.after_send import callbacks_after_send
 from motesim.from_c.below import Assigned
-from motesim.from_c.callbacks import Callbacks, callbacks_of
 from motesim.from_c.counts import counts_of
-from motesim.from_c.parameters import parameters_of
 from motesim.notation.faults import tokens_of
 from motesim.notation.keywords import RESERVED
 
@@ -27,9 +24,6 @@ COPIED = re.compile(r'\b(?:packetbuf_copyto|memcpy)\s*\(\s*&?\s*(\w+)')
 # A text of C, which declares nothing.
 TEXT = re.compile(r'"(?:[^"\\\n]|\\.)*"')
 MACRO = re.compile(r'^[ \t]*PROCESS(?:_NAME)?[ \t]*\([ \t]*(\w+)', re.M)
-# The comment of a thread that runs for each packet, or for each packet to the mote itself.
-MARK, TO_MOTE = 'runs for each packet', ' to this mote'
-MARKED = re.compile(r'\bthread\s+(\w+)\s*\{[ \t]*//[ \t]*%s(%s)?' % (MARK, TO_MOTE))
 # The comment of a variable that no line of C declares, so that the hints know it again.
 ADDED = 'added by a hint'
 OF_HINTS = re.compile(r'\bvar (\w+) = [0-9]+; // ' + ADDED)
@@ -68,12 +62,6 @@ def abbreviated(name: str) -> str:
     return whole[:LONGEST - 4] + whole[-4:]
 
 
-def name_of(structure: str, field: str) -> str:
-    """The variable for a field of a structure."""
-    whole = '%s_%s' % (structure, field)
-    return abbreviated(whole) if len(whole.strip('_')) > LONGEST else allowed(whole)
-
-
 def _process(name: str, known: Iterable[str]) -> str:
     """The name of a process of Contiki, without the ending `_process` if a name without it is known."""
     short = allowed(name.lower().removesuffix('_process'))
@@ -83,17 +71,6 @@ def _process(name: str, known: Iterable[str]) -> str:
 def process_of(code: re.Match[str], known: Iterable[str]) -> str:
     """The process to which the beginning of a code belongs."""
     return code[1] or _process(code[2], known)
-
-
-def handlers_of(text: str, known: Iterable[str]) -> dict[str, tuple[str, bool]]:
-    """The threads that are marked, by their processes; for each, whether only packets to the mote itself matter."""
-    codes = [*CODE.finditer(text)]
-    found = {}
-    for it in MARKED.finditer(text):
-        own = [code for code in codes if code.start() < it.start()]
-        if own:
-            found[process_of(own[-1], known)] = it[1], it[2] is not None
-    return found
 
 
 def nearest(word: str, known: Iterable[str]) -> str | None:
@@ -155,14 +132,9 @@ class Scope:
                line of the notation or by Contiki's `PROCESS`
     counts     the initial counts of the semaphores of Contiki
     values     the initial values of the variables
-    callbacks  the callback timers
-    parameters for each thread that was a function, its parameters
     long       the names that are longer than the notation allows
     changed    the names of the variables that a line assigns to
     below      the variables that may be below 0 in C
-    after_send for each function that is called when a send has ended, the kind of connection and the callback
-    handlers   for each process with a thread that runs for each packet, this thread, and whether only packets to the
-               mote itself matter to it
     second     the moments of a second
     words      the words of the text, in small letters
     added      the variables that are added by hints
@@ -174,12 +146,8 @@ class Scope:
     processes: tuple[str, ...] = ()
     counts: dict[str, str] = field(default_factory=dict)
     values: dict[str, str] = field(default_factory=dict)
-    callbacks: Callbacks = Callbacks()
-    parameters: dict[str, tuple[str, ...]] = field(default_factory=dict)
     long: frozenset[str] = frozenset()
     changed: frozenset[str] = frozenset()
-    after_send: dict[str, tuple[str, str]] = field(default_factory=dict)
-    handlers: dict[str, tuple[str, bool]] = field(default_factory=dict)
     second: int = SECOND
     below: frozenset[str] = frozenset()
     words: frozenset[str] = frozenset()
@@ -206,8 +174,7 @@ class Scope:
             kinds.setdefault(name, 'process')
         return cls(kinds, codes, 'receiver' in words, named, tuple(dict.fromkeys([*codes, *named, *macros])),
                    {allowed(name): count for name, count in counts_of(text).items()}, dict(VARIABLE.findall(text)),
-                   callbacks_of(text), parameters_of(text), frozenset(LONG.findall(text)), changed_in(text),
-                   callbacks_after_send(text), handlers_of(text, named), second_of(text),
+                   frozenset(LONG.findall(text)), changed_in(text), second_of(text),
                    frozenset((*Assigned(words).found, *BELOW.findall(text))), frozenset(map(str.lower, words)),
                    frozenset(OF_HINTS.findall(text)))
 

@@ -13,28 +13,18 @@ from motesim.from_c.calls import CALLS, NO_NAME, Calls
 from motesim.from_c.control import ENDS, Control
 from motesim.from_c.declarations import ABOVE, Declarations
 from motesim.from_c.expressions import (
-    DICE, FIRST, IN_TICKS, MIXED, MOST, NO_BITS, NO_CALLS, NO_CHANCE, NO_FIELDS, NO_POINTERS, NO_SIZES, OF_MEMBERS,
+    DICE, FIRST, IN_TICKS, MIXED, MOST, NO_BITS, NO_CALLS, NO_CHANCE, NO_FIELDS, NO_POINTERS, NO_SIZES, 
     QUALIFIERS,    READ_ONLY, SHIFTS, SMALL_LETTERS, STEP, TYPES, NoCounterpart,
 )
-from motesim.from_c.nodes import MOMENTS_OF_SECOND, Node, value_of
-from motesim.from_c.parameters import NO_VALUE
-from motesim.from_c.places import end_of_block, last_statement
-from motesim.from_c.radio import Radio
+from motesim.from_c.nodes import MOMENTS_OF_SECOND, Node
 from motesim.from_c.scope import ALL_TICKS, allowed, nearest
-from motesim.from_c.sends import BROADCAST, COPIES, PAYLOAD, TO_ONE
-from motesim.from_c.tokens import END, tokens_of
-from motesim.notation.faults import MOST_LEVELS, STATEMENTS, WAITS
+from motesim.from_c.sends import BROADCAST, COPIES, NO_COPY, OF_ADDRESS
+from motesim.from_c.tokens import END
+from motesim.notation.faults import MOST_LEVELS, STATEMENTS
 from motesim.notation.keywords import RESERVED
 
 OF_SEED = ('`dice` is the variable of the generator, which begins with the seed. The statements mix the seed, so that '
            'motes don\'t draw in step. With the same seed in all motes, all motes draw the same numbers.')
-# A loop that continues one protothread.
-SCHEDULED = re.compile(r'while \( PT_SCHEDULE \( (\w+) \( (?:& \w+ )?\) \) \) '
-                       r'(?:; |\{ (?:PROCESS_(?:PAUSE|YIELD|WAIT_EVENT) \( \) ; )?\} |PROCESS_\w+ \( \) ; )')
-OF_LOOP = 'A `spawn` continues its thread in each call of the process, until the thread has ended: it needs no loop.'
-OF_PAUSES = ('In C, each `PROCESS_PAUSE` continues the protothread at once. Here, only an event of the process does, '
-             'such as that of a timer: so write `pause;` instead of a `yield;` in thread `%s`, and let it wait for '
-             'timers and events.')
 OF_ONE_BIT = 'There are no operators on bits: `+` sets a bit that is 0, and `-` clears a bit that is 1.'
 PRINTS = ('printf', 'print', 'println', 'puts', 'putchar', 'log_info', 'log_dbg', 'log_warn', 'log_err')
 # A packet that names its receiver has 8 bits for the receiver, and 8 for the value.
@@ -100,7 +90,7 @@ TARGETS = {'spawn': 'thread', 'acquire': 'semaphore', 'signal': 'semaphore', 'po
            'kill': 'process', 'reset': 'timer', 'restart_timer': 'timer', 'stop': 'timer'}
 
 
-class Statements(Radio, Declarations, Calls, Control):
+class Statements(Declarations, Calls, Control):
     """Reads lines as statements."""
 
     def written(self) -> str:
@@ -108,8 +98,6 @@ class Statements(Radio, Declarations, Calls, Control):
         text = self.plain()
         if IN_TICKS in self.writer.reasons:
             self.comments.append('// ' + ALL_TICKS)
-        if self.kept_lines:
-            return '\n'.join(filter(None, [text, *('// ' + it for it in self.kept_lines)]))
         for comment in self.comments:
             if comment.startswith('/*'):
                 self.why('A comment begins with `//`, and ends with the line.')
@@ -126,7 +114,6 @@ class Statements(Radio, Declarations, Calls, Control):
             found.append(self.skipping.behind)
         found = self.in_order(found)
         self.declare_borrowed()
-        self.declare_fields()
         return re.sub(r'\{ +\}', '{ }', ' '.join(it for it in found if it))
 
     def translated(self, statements: str) -> str:
@@ -137,18 +124,13 @@ class Statements(Radio, Declarations, Calls, Control):
         """A statement, with a step of the generator before it if it needs a random number."""
         word, outside, begun = self.token.text, self.writer.draws, self.begun
         around, turns = (self.before, self.after), self.writer.turns
-        calls, elements = self.writer.calls, self.writer.elements
         self.writer.draws, self.begun, self.before, self.after = False, self.token.line, [], []
         has_room = self.place.head > 0 and not word.lower().startswith(TESTED_AGAIN)
-        self.writer.turns, self.writer.calls = ([], []) if has_room else (None, None)
-        self.writer.elements = []
+        self.writer.turns = [] if has_room else None
         self.nested += 1
         if self.nested > MOST_LEVELS:
             raise NoCounterpart
-        text = self.one_statement()
-        if self.writer.calls and self.before:
-            raise NoCounterpart(NO_VALUE)
-        text = self.with_turns(self.with_calls(self.with_steps(word, text)))
+        text = self.with_turns(self.with_steps(word, self.one_statement()))
         self.nested -= 1
         self.before, self.after = around
         if self.writer.draws:
@@ -158,13 +140,7 @@ class Statements(Radio, Declarations, Calls, Control):
                 self.declares.append(FIRST)
             text = '%s %s' % (STEP, text)
         self.writer.draws, self.begun, self.writer.turns = outside, begun, turns
-        self.writer.calls, self.writer.elements = calls, elements
         return text
-
-    def with_calls(self, text: str) -> str:
-        """A statement below the calls of functions whose values it uses."""
-        calls = self.taken_calls()
-        return ('\n' if self.nested == 1 else ' ').join([*calls, text])
 
     def with_turns(self, text: str) -> str:
         """A statement below the loops for its shifts by a variable."""
@@ -193,8 +169,6 @@ class Statements(Radio, Declarations, Calls, Control):
             return ''
         if word == '{':
             raise NoCounterpart('A block belongs to an `if`, a `while`, a `thread` or a `code`.')
-        if word == 'while' and (scheduled := self.scheduled()):
-            return scheduled
         if word in ('if', 'while'):
             self.at += 1
             return self.choice_or_loop(word)
@@ -213,8 +187,7 @@ class Statements(Radio, Declarations, Calls, Control):
         if word in QUALIFIERS and self.ahead(1).text == 'PT_THREAD' and self.accept(word):
             return self.macro()
         if word == 'typedef' and self.ahead(1).text == 'struct':
-            self.at += 2
-            return self.of_structure(['typedef', 'struct'])
+            raise NoCounterpart(NO_FIELDS)
         if word == 'typedef':
             return self.of_typedef()
         if self.is_of_own_type():
@@ -239,18 +212,6 @@ class Statements(Radio, Declarations, Calls, Control):
         if word == '*' or word == '(' and self.ahead(1).text == '*':
             return self.of_pointer()
         raise NoCounterpart
-
-    def scheduled(self) -> str:
-        """A loop that only continues a protothread until it has ended; nothing if the loop does something else."""
-        words = [it.text for it in self.tokens[self.at:]]
-        found = SCHEDULED.match(' '.join(words))
-        if found is None or self.scope.kinds.get(allowed(found[1])) != 'thread':
-            return ''
-        self.at += len(found[0].split())
-        self.why(OF_LOOP)
-        if 'PAUSE' in found[0]:
-            self.insist(OF_PAUSES % allowed(found[1]))
-        return 'spawn %s;' % allowed(found[1])
 
     def is_of_own_type(self) -> bool:
         """Returns whether a declaration begins with the name of a type that the program itself has defined, and reads
@@ -304,11 +265,9 @@ class Statements(Radio, Declarations, Calls, Control):
             self.writer.insist(SENT_ALREADY + SENDS[lower])
             return self.end('').removesuffix(';')
         if lower in COPIES and behind == '(':
-            return self.of_copy(lower)
-        if lower in TO_ONE and behind == '(' and self.is_variable(self.scope.for_hint(PAYLOAD)):
-            return self.of_send_to_one(lower)
+            raise NoCounterpart(NO_COPY)
         if kind == 'variable' and behind in ('.', '->') and self.ahead(2).text == 'u8':
-            return self.of_byte()
+            raise NoCounterpart(OF_ADDRESS)
         if lower == 'continue':
             skipping = self.else_after_continue()
             if skipping:
@@ -394,27 +353,11 @@ class Statements(Radio, Declarations, Calls, Control):
         """A statement that begins with a member of an array."""
         begin = self.at
         self.at += 2
-        index, members = self.expression(), self.scope.members(array)
-        if value_of(index) is None and len(members) > 1 and self.writer.calls is not None:
-            self.need(']')
-            return self.of_each(members, index, begin)
-        name = self.writer.member(Node('name', array), index)
+        name = self.writer.member(Node('name', array), self.expression())
         self.need(']')
         self.tokens[begin:self.at] = [self.tokens[begin]._replace(text=name)]
         self.at = begin
         return self.statement()
-
-    def of_each(self, members: list[str], index: Node, begin: int) -> str:
-        """A statement that begins with the member of an array at a variable place: one for each member."""
-        self.why(OF_MEMBERS)
-        place, here, tokens, found = self.writer.text(index), self.place_here, self.tokens, list[str]()
-        calls, elements = [*(self.writer.calls or [])], [*self.writer.elements]
-        for at, name in enumerate(members):
-            self.go_back((begin, *here[1:]))
-            self.writer.calls, self.writer.elements = [*calls], [*elements]
-            self.tokens = [*tokens[:begin], tokens[begin]._replace(text=name), *tokens[here[0]:]]
-            found.append('if (%s == %d) { %s }' % (place, at, self.one_statement()))
-        return ' '.join(found)
 
     def of_pointer(self) -> str:
         """An assignment to the variable at which a pointer points."""
@@ -460,7 +403,10 @@ class Statements(Radio, Declarations, Calls, Control):
             raise NoCounterpart(OF_HANDLER % head)
         reader = Statements(does, self.scope, self.place._replace(is_head=False))
         try:
-            text = self.with_blocks(reader.plain())
+            text = reader.plain()
+            if 'spawn ' in text:
+                # (a handler can't run a thread)
+                raise NoCounterpart
             self.comments += reader.comments
         except NoCounterpart:
             self.why('%s Put the statements of `%s` into it.' % (OF_HANDLER % head, does.replace(' ', '').rstrip(';')))
@@ -469,16 +415,6 @@ class Statements(Radio, Declarations, Calls, Control):
         for reason in reader.writer.reasons:
             self.why(reason)
         return '%s { %s }' % (head, text)
-
-    def with_blocks(self, text: str) -> str:
-        """The statements of a handler, which can't spawn a thread: it has the statements of the thread instead."""
-        for name in re.findall(r'\bspawn (\w+);', text):
-            head = re.search(r'\bthread\s+%s\s*\{' % name, self.place.above)
-            block = self.place.above[head.end():end_of_block(self.place.above, head.end() - 1)] if head else 'exit'
-            if {'exit', *WAITS}.intersection(re.findall(r'\w+', block)):
-                raise NoCounterpart
-            text = text.replace('spawn %s;' % name, ' '.join(re.sub(r'//.*', '', block).split()))
-        return text
 
     def of_semaphore(self, name: str) -> str:
         """A semaphore whose count is incremented or decremented."""
@@ -507,8 +443,6 @@ class Statements(Radio, Declarations, Calls, Control):
             sign += '='
         if sign not in ASSIGNS:
             raise NoCounterpart
-        if sign == '=' and name not in self.scope.kinds and self.structure(name):
-            return self.of_structures(name, self.expression())
         variable = self.variable(name)
         if sign == ':=':
             self.why('`=` assigns.')
