@@ -221,6 +221,7 @@ REFUSALS = (
     ('static process_event_t e; e = PROCESS_EVENT_MSG;', '`e` gets its event only by `process_alloc_event()`'),
     ('clock_wait(5);', 'Let the process wait for an etimer'), ('printf("%d %d", n);', 'needs more values, 2 in all'),
     ('char *str = "abc"; n = str[1];', 'There are no texts here'), ('exit(0);', 'motesim has no `exit`.'),
+    ('printf("%*d", 3, n);', 'write a number instead of the `*`'), ('RADIO.off();', 'motesim has no `RADIO.off`.'),
     ('x = latr();', 'motesim has no `latr`. Do you mean `later`?'), ('bt++;', 'motesim has no `bt`.'),
     ('bytez[0] = 1;', 'Do you mean `bytes`?'), ('frobnicate(x);', 'motesim has no `frobnicate`.'),
     ('sprintf(bytes, "%d", n);', 'a packet is a number: send the number itself'),
@@ -254,6 +255,11 @@ class Forms(unittest.TestCase):
         text, _ = translation(in_process('  { int i = 3; printf("%d", i); } { int i; i = 2; printf("%d", i); }', '',
                                          VARIABLES))
         self.assertEqual(body_of(text), ['i2 = 3;', 'print i2;', 'i3 = 2;', 'print i3;'])
+
+    def test_members_of_arrays_have_names_that_show_their_index(self) -> None:
+        text, _ = translation(in_process('  m[1][0] = 1; k3[1] = 2; a[1] = 3; a1 = 4;', '',
+                                         '  static int m[2][2], k3[2], a[2], a1;'))
+        self.assertEqual(body_of(text), ['m_1_0 = 1;', 'k3_1 = 2;', 'a1 = 3;', 'a1_2 = 4;'])
 
     def test_names_are_allowed(self) -> None:
         text, _ = translation(in_process('  print = 1; veryLongNameOfAVariable = 2; Timer = 3;', '',

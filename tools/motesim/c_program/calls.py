@@ -14,7 +14,9 @@ from motesim.c_program.walk import all_parts, parts_of, without_casts
 from motesim.c_program.written import Block, If, Line
 from motesim.from_c.absent import MULTIHOP, NO_LISTS, NO_SENSORS, RUNICAST
 
-CONVERSION = re.compile(r'%(?:%|[-+ #0]*[0-9]*(?:\.[0-9*]+)?(?:hh|h|ll|l|z|j|t)?([a-zA-Z]))')
+CONVERSION = re.compile(r'%(?:%|[-+ #0]*[0-9]*(?:\.[0-9]+)?(?:hh|h|ll|l|z|j|t)?([a-zA-Z]))')
+WIDTH = re.compile(r'%[-+ #0]*[0-9]*\.?\*')
+OF_WIDTH = 'A `%*d` has no counterpart: write a number instead of the `*`, such as `%3d`.'
 # Calls that have no effect here.
 IGNORED = ('broadcast_open', 'unicast_open', 'abc_open', 'leds_init', 'packetbuf_set_attr', 'PT_INIT',
            'PROCESS_BEGIN', 'PROCESS_END', 'PT_BEGIN', 'PT_END', 'watchdog_periodic', 'packetbuf_clear',
@@ -412,6 +414,8 @@ class Calls(Chance):
         """Each number of a text is a line; a text without a number is the number 1."""
         if not it.parts or it.parts[0].kind != 'text':
             raise self.refuse(it.line, 'The first argument of `printf` is a text in quotes.')
+        if WIDTH.search(it.parts[0].text):
+            raise self.refuse(it.line, OF_WIDTH)
         found = [one for one in CONVERSION.finditer(it.parts[0].text) if one[1]]
         kinds, labels = [one[1] for one in found], labels_of(it.parts[0].text, found)
         if any(labels):

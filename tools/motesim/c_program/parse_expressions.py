@@ -172,6 +172,8 @@ class Expressions:
         self.need(')')
         if function.parts and function.parts[0].text.endswith('_sensor'):
             raise Refusal(line, OF_READING)
+        if function.kind == 'member' and function.parts[0].kind == 'name' and function.parts[0].variable is None:
+            raise Refusal(line, 'motesim has no `%s.%s`.' % (function.parts[0].text, function.text))
         if function.kind != 'name':
             raise Refusal(line, 'A pointer to a function is called here: call the function by its name.')
         return Expression('call', function.text, tuple(parts), function.line, function.variable)
