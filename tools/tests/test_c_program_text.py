@@ -640,6 +640,15 @@ class Remarks(unittest.TestCase):
         self.assertIn(wanted, self.remarks('for(i = 0; i <= 3; i++) n += a[i];'))
         self.assertNotIn('members 0 to 2', self.remarks('for(i = 0; i < 3; i++) n += a[i]; if(i > 0) a[i - 1] = 1;'))
 
+    def test_a_packet_of_another_program_has_two_bytes_if_both_are_read(self) -> None:
+        for body, wanted in (('printf("%d", d[0]);', ['print (data % 256);']),
+                             ('printf("%d %d", d[0], d[1]);', ['print (data / 256);', 'print (data % 256);'])):
+            above = ('static void recv(struct broadcast_conn *c, const rimeaddr_t *from) {\n'
+                     '  uint8_t *d = packetbuf_dataptr(); %s\n}\nstatic struct broadcast_conn bc;\n'
+                     'static const struct broadcast_callbacks calls = {recv};' % body)
+            text, _ = translation(in_process('  broadcast_open(&bc, 129, &calls);', above))
+            self.assertEqual([it.strip() for it in (text or '').split('\n') if 'print' in it], wanted)
+
     def test_a_second_byte_of_an_address_is_named(self) -> None:
         for byte, is_named in (('0', False), ('5', True)):
             notes = self.remarks('to.u8[0] = 1; to.u8[1] = %s;' % byte, 'static rimeaddr_t to;')

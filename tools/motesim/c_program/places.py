@@ -20,7 +20,7 @@ NEXT_INDEX = ('The array `%s` has the members 0 to %d, but `%s` may be %d here: 
               'else. Here, such a member isn\'t written, and has an old value if it is read.')
 NO_FIELD = 'There is no field `%s` here.'
 NO_ROOM = ('`unicast_send` needs 8 of the 16 bits of a packet for the number of the receiver. So 8 bits are left for '
-           'the value, but `%s` has two fields. Send one field, put both into 8 bits, such as `type * 64 + seq %% 64`, '
+           'the value, but %s has two fields. Send one field, put both into 8 bits, such as `type * 64 + seq %% 64`, '
            'or use `broadcast_send`.')
 OF_PACKET = ('A packet is one number of 16 bits, so it has one value or two fields that are at most 255: %s doesn\'t '
              'fit. Send a packet for each value.')
@@ -137,9 +137,11 @@ class Places(Base):
         name, at = it.parts[0].text or 'd', index.constant
         if at == 0 and (size_of(base.type) == 2 or self.has_one_byte(base.source)):
             return base
+        if at == 1:
+            self.program.knowledge.new_forms.add(base.source + '-read pair')
         if at not in (0, 1) or size_of(base.type) != 1:
             raise self.refuse(it.line, OF_INDEX % (name, name))
-        if self.has_one_byte(base.source):
+        if self.forms(base.source) and self.has_one_byte(base.source):
             raise self.refuse(it.line, ONLY_BYTE % at)
         wide = Type('array', of=base.type, size=2)
         return base._replace(type=base.type, root=wide, paths=((at,),))
@@ -147,7 +149,10 @@ class Places(Base):
     def has_one_byte(self, source: str) -> bool:
         """Returns whether all packets, or all data of events, are one byte."""
         forms = self.forms(source)
-        return source == 'packet' and self.is_to_one or 'byte' in forms and not forms & {'pair', 'word'}
+        if source == 'packet' and self.is_to_one:
+            return True
+        # (the packets of another program have one byte if nothing reads their second one)
+        return not forms & {'pair', 'word'} and ('byte' in forms or 'pair' not in self.forms(source + '-read'))
 
     def forms(self, source: str) -> set[str]:
         """The forms of the packets, or of the data of events: byte, word or pair."""
@@ -345,7 +350,7 @@ class Places(Base):
         if len(parts) != 2 or any(size_of(it) != 1 for _, it in parts):
             raise self.refuse(line, OF_PACKET % shown_type(its))
         if place.source == 'packet' and self.is_to_one:
-            raise self.refuse(self.first_call('unicast_send') or line, NO_ROOM % (its.name or 'the structure'))
+            raise self.refuse(self.first_call('unicast_send') or line, NO_ROOM % shown_type(its))
         # (the first of two fields is the upper byte, but the first byte of a value of 16 bits is its lower one)
         forms = self.forms(place.source)
         is_upper = bool(at) == bool(forms and 'pair' not in forms)
