@@ -35,7 +35,8 @@ ADDRESS = frozenset(('linkaddr_t', 'rimeaddr_t'))
 CONNECTION = re.compile(r'\w+_conn|rimeaddr_t|linkaddr_t|uip_ipaddr_t')
 OF_PACKETS = ('No function is called when a packet arrives: a packet is the event `packet`. Above the first `code`, '
               'name the process that gets it, `receiver P;`. This process waits by `yield_until is(packet);`, and the '
-              'statements of the function follow there: `data` is the value, and `from` the sender.')
+              'statements of the function follow there: `data` is the value, and `from` the sender. '
+              'docs/use/FROM_CONTIKI.md shows this under "The radio, printing, the node".')
 NO_ENUMS = ('There are no enumerations: each name is a variable that is never assigned, such as `var idle = 0; var '
             'busy = 1;` at the head of the `code`, or an event, such as `event go;` above the `process` line.')
 NO_TYPES = 'There are no types: all values have 16 bits.'
