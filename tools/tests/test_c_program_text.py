@@ -1,5 +1,6 @@
 """The text of programs in C that are translated as a whole: forms that readers know, refusals and remarks."""
 import textwrap
+import time
 import unittest
 
 import here  # noqa: F401
@@ -596,6 +597,12 @@ PROCESS_THREAD(app, ev, data) { PROCESS_BEGIN(); while(1) { PROCESS_YIELD(); pri
     def test_a_file_without_a_process_is_refused(self) -> None:
         for source in ('int main(void) { return 0; }', 'static int n;', ''):
             self.assertIn('No process is here', translation(source)[1])
+
+    def test_macros_that_grow_too_long_are_refused_soon(self) -> None:
+        started = time.process_time()
+        source = in_process('  n = %s1%s;' % ('A(' * 18, ')' * 18), '#define A(x) x x\nstatic int n;')
+        self.assertIn('line 10: The macros of this program are too long.', translation(source)[1])
+        self.assertLess(time.process_time() - started, 10)
 
     def test_lines_that_the_preprocessor_skips_may_have_anything(self) -> None:
         source = in_process('#if 0\n  frobnicate(3) + ;\n#elif VERSION > 2 && defined(HAS_N)\n  n = 1;\n#else\n  n = 2;'

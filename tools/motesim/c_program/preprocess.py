@@ -27,6 +27,8 @@ class Preprocessor:
         self.opened: list[int] = []
         self.branches: list[tuple[bool, bool]] = []
         self.found: list[Token] = []
+        # The number of tokens that were read to expand macros.
+        self.expansions = 0
 
     def result(self) -> list[Token]:
         """The tokens after all macros are expanded, and the end."""
@@ -125,6 +127,9 @@ class Preprocessor:
         found, at = list[Token](), 0
         while at < len(tokens):
             it = tokens[at]
+            self.expansions += 1
+            if self.expansions > MOST_TOKENS:
+                raise Refusal(it.line, 'The macros of this program are too long.')
             macro = self.macros.get(it.text) if it.kind == 'name' and it.text not in hidden else None
             at += 1
             if it.text == '__LINE__' and it.kind == 'name':
@@ -143,8 +148,6 @@ class Preprocessor:
             body = self.substituted(macro, arguments, it, hidden)
             inner = self.expanded(body, hidden | {it.text})
             found += with_origin(inner, it)
-            if len(found) > MOST_TOKENS:
-                raise Refusal(it.line, 'The macros of this program are too long.')
         return found
 
     def substituted(self, macro: Macro, arguments: list[list[Token]], use: Token, hidden: frozenset[str]
