@@ -2,9 +2,9 @@
 
 The pages are those of docs/use/. A block of commands begins with ```sh. The next block, which begins with ```, has the
 output of these commands. Commands without a block of output must print nothing. A block that begins with ```console has
-commands that open a window, and is not run. A block that begins with ```toml NAME, ```mote NAME or ```python NAME is a
-file that the reader saves under that name. The commands of a page are run in a separate folder, in which ./run, tools/
-and examples/ exist.
+commands that open a window, and is not run. A block that begins with ```toml NAME, ```mote NAME, ```python NAME or
+```c NAME is a file that the reader saves under that name. The commands of a page are run in a separate folder, in which
+./run, tools/ and examples/ exist.
 
 Shows the difference of each block that fails.
 """
@@ -23,7 +23,7 @@ from motesim.runner.programs import TOP
 
 # A block of commands, and the block with their output: only empty lines are between the two.
 BLOCK = re.compile(r'^```(?P<info>.*)\n(?P<text>(?:.*\n)*?)```$(?:\n+```\n(?P<shown>(?:.*\n)*?)```$)?', re.M)
-SAVED = re.compile(r'(?:toml|mote|python) ([a-z_.]+[.](?:toml|mote|py))')
+SAVED = re.compile(r'(?:toml|mote|python|c) ([a-z_.]+[.](?:toml|mote|py|c))')
 RUN = '#!/bin/sh\nexec "$MOTESIM" "$@"\n'
 # The seconds after which the commands of a block are ended, and the status of `timeout` then.
 SECONDS, TIMED_OUT = 300, 124
