@@ -223,6 +223,8 @@ REFUSALS = (
     ('clock_wait(5);', 'Let the process wait for an etimer'), ('printf("%d %d", n);', 'needs more values, 2 in all'),
     ('char *str = "abc"; n = str[1];', 'There are no texts here'), ('exit(0);', 'motesim has no `exit`.'),
     ('printf("%*d", 3, n);', 'write a number instead of the `*`'), ('RADIO.off();', 'motesim has no `RADIO.off`.'),
+    ('n = later;', '`later` is a function, but a number is expected here'),
+    ('static rimeaddr_t to; to.u8[1]++;', 'Only the first byte of an address'),
     ('x = latr();', 'motesim has no `latr`. Do you mean `later`?'), ('bt++;', 'motesim has no `bt`.'),
     ('bytez[0] = 1;', 'Do you mean `bytes`?'), ('frobnicate(x);', 'motesim has no `frobnicate`.'),
     ('sprintf(bytes, "%d", n);', 'a packet is a number: send the number itself'),

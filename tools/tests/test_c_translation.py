@@ -47,6 +47,7 @@ VALUES = (
      ' printf("%d %d %d %d %d %d", k[0], k[1], k[2], k[3], s[0].b, s[1].b);', '1 0 5 6 0 4'),
     ('struct { int a; rimeaddr_t b[2]; } s = {.b = {{{4, 0}}}}; printf("%d %d", s.a, s.b[0].u8[0]);'
      ' printf("%d", rimeaddr_cmp(&s.b[1], &rimeaddr_null));', '0 4 1'),
+    ('static rimeaddr_t to; to.u8[0] = 4; to.u8[0]++; to.u8[0] += 2; printf("%d", to.u8[0]);', '7'),
     ('int q[3] = {1, 2, 3}, r[3]; memcpy(r, q, 4); memset(&q[1], 0, 4); memset(&q[0], 0xff, sizeof(int));'
      ' printf("%d %d %d %d", q[0], q[2], r[1], r[2]);', '65535 0 2 0'),
     ('static linkaddr_t none; static const rimeaddr_t all[2] = {{{3, 0}}, {{0, 0}}}; rimeaddr_t one = {{5, 0}};'

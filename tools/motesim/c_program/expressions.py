@@ -24,6 +24,7 @@ NO_LONG = ('Values have 16 bits here, so `%s` with %d isn\'t translated: use sma
            'lower bits.')
 OF_NUMBER = ('`%s` is an address, but a number is expected here: write the name of a variable without `&`, or a member '
              'of an array such as `a[0]`.')
+OF_FUNCTION = '`%s` is a function, but a number is expected here: call it, `%s(..)`.'
 NO_BITS = 'This operation on bits needs statements of its own: write it above, into a variable.'
 OF_SECOND = ('A second has %d moments here, so `CLOCK_SECOND` is %d%s. `end` of the scenario is in moments, too, and '
              'so are the delays of packets.')
@@ -107,6 +108,8 @@ class Expressions(Events):
             return number(NUMBERS[it.text], UNSIGNED if NUMBERS[it.text] > 32_767 else INT)
         if it.text in EVENT_NUMBERS:
             return number(EVENT_NUMBERS[it.text])
+        if it.text in self.file.functions:
+            raise self.refuse(it.line, OF_FUNCTION % (it.text, it.text))
         raise self.absent_variable(it.text, it.line)
 
     def _index(self, it: Expression) -> Value:

@@ -7,7 +7,7 @@ from contextlib import contextmanager
 from motesim.c_program.base import Unit
 from motesim.c_program.constants import constant_of
 from motesim.c_program.control import ENDS, FALLS, Control, Flow, has_wait
-from motesim.c_program.places import NO_MOTE, OF_ADDRESS, OF_CHANGE, OF_RESULT, Path, Place, Pointer
+from motesim.c_program.places import NO_MOTE, OF_ADDRESS, OF_CHANGE, OF_RESULT, ONE_BYTE, Path, Place, Pointer
 from motesim.c_program.refusal import Refusal
 from motesim.c_program.tree import Expression, Function, Statement, Variable
 from motesim.c_program.types import INT, Type, leaves_of
@@ -23,7 +23,6 @@ NO_WAIT = ('Only a process and its protothreads can wait in Contiki: write this 
            'protothread, `PT_THREAD(%s(struct pt *pt))`, that the process runs by `PROCESS_PT_SPAWN(&pt, %s(&pt));`.')
 OF_CALLBACK = ('A callback and a handler can\'t wait in Contiki: let it poll the process, `process_poll(&%s);`, and '
                'let the process wait.')
-ONE_BYTE = 'Only the first byte of an address, `u8[0]`, has a value here: the other bytes are 0, and aren\'t assigned.'
 OF_ALLOCATED = ('`%s` gets its event only by `process_alloc_event()` here: name another event at the place that needs '
                 'it.')
 NO_EXIT = 'Only a process and its protothreads can exit so: use `return;` in `%s`.'

@@ -33,6 +33,7 @@ NO_CHANGE = 'A packet that has arrived can\'t be changed: use a variable.'
 NO_PACKET = 'The packet is known only in the function that is called for packets: keep its value in a variable.'
 OF_ADDRESS = 'An address is one number: the motes are numbered from 0, in the order of the scenario.'
 NO_MOTE = 255
+ONE_BYTE = 'Only the first byte of an address, `u8[0]`, has a value here: the other bytes are 0, and aren\'t assigned.'
 OF_NULL = 'The address that no mote has is %d here.' % NO_MOTE
 OF_CAST = ('`%s` is read with another type than it has: calculate the value instead, as by `x & 0xff`, `x >> 8`, or '
            '`low | (high << 8)`.')
@@ -109,6 +110,8 @@ class Places(Base):
         """A member of an array."""
         array = it.parts[0]
         its = self.type_of(array)
+        if array.kind == 'member' and self.type_of(array.parts[0]).kind == 'address':
+            return self.address_of_byte(it)
         base = self.place(array) if its.kind == 'array' and not self.is_alias(array) else self.pointed(array, True)
         index = self.evaluate(it.parts[1])
         if base.type.kind != 'array' or not base.type.of:
@@ -131,6 +134,13 @@ class Places(Base):
         paths = tuple((*path, at) for path in base.paths for at in range(size))
         whole = index if base.chosen is None else added(multiplied(base.chosen, number(size)), index, '+')
         return base._replace(type=of, paths=paths, chosen=whole)
+
+    def address_of_byte(self, it: Expression) -> Place:
+        """The address whose first byte is changed: `a.u8[0]++;`."""
+        if self.evaluate(it.parts[1]).constant != 0:
+            raise self.refuse(it.line, ONE_BYTE)
+        self.remark(it.line, OF_ADDRESS)
+        return self.place(it.parts[0].parts[0])
 
     def member_of_packet(self, base: Place, index: Value, it: Expression) -> Place:
         """A member of the values from the beginning of a packet, or of the data of an event."""
