@@ -22,7 +22,7 @@ from unittest import mock
 
 from here import TOOLS
 from motesim.grading.command import remarks, status_of
-from motesim.grading.entries import TRANSLATES, Entry, anonymous, data_of, entries_of
+from motesim.grading.entries import Entry, anonymous, data_of, entries_of
 from motesim.grading.marking import BINARY, Mark, Marks, Task, page_name, warned_of
 from motesim.grading.nets import cut_off, nets_of, program_of
 from motesim.grading.page import page_of
@@ -151,8 +151,8 @@ class Entries(Folder):
             'allowed (at line 1, column 85)',
             'key.toml': '0 of 3  the file is not TOML: A key has more than 80 parts: write fewer dots (at line 1, '
             'column 1)',
-            'notes.txt': '- of 3  its name ends neither in .toml nor in .mote',
-            'zoe.toml.txt': '- of 3  its name ends neither in .toml nor in .mote: remove the ending .txt',
+            'notes.txt': '- of 3  its name ends neither in .toml nor in .mote nor in .c',
+            'zoe.toml.txt': '- of 3  its name ends neither in .toml nor in .mote nor in .c: remove the ending .txt',
             'bytes.toml': '0 of 3  the file is not UTF-8 text: save it as UTF-8',
             'large.toml': '0 of 3  the file is longer than 1,048,576 bytes'})
         self.assertEqual(sorted(name for name, row in rows.items() if row == '3 of 3'),
@@ -160,9 +160,38 @@ class Entries(Folder):
 
     def test_a_program_in_c_in_a_scenario(self) -> None:
         self.hand_in('kira.toml', net('#include "contiki.h"\n// refuse\nPROCESS(a, "a");\n'))
-        wanted = '0 of 3  its program is in C, not in the notation of mote programs (%s)' % TRANSLATES
+        wanted = ('0 of 3  its program is in C, not in the notation of mote programs (tools/explain FILE.c --apply '
+                  'NEW.toml translates it)')
         for words in (), ('--net', 'task.toml'):
             self.assertEqual(self.rows(*words)['kira.toml'], wanted)
+
+    def test_a_program_in_c_is_translated(self) -> None:
+        in_c = '''#include "contiki.h"
+PROCESS(a, "a");
+AUTOSTART_PROCESSES(&a);
+PROCESS_THREAD(a, ev, data) {
+  PROCESS_BEGIN();
+  printf("%%d", %s);
+  PROCESS_END();
+}
+'''
+        for name, value in ('lea.c', '3'), ('max.c', '4'), ('nina.c', 'strlen("abc")'):
+            self.hand_in(name, in_c % value)
+        self.hand_in('kai.c', '\ufeff' + in_c % '3')
+        rows = self.rows('--net', 'task.toml')
+        self.assertIn('a second of a program in C has 128 moments, so the nets run for ', self.seen)
+        self.assertEqual({name: rows[name] for name in ('kai.c', 'lea.c', 'max.c', 'nina.c')}, {
+            'kai.c': rows['lea.c'], 'lea.c': self.rows('--net', 'task.toml')['lea.c'],
+            'max.c': '1 of 3  broken: 1, 2', 'nina.c': '0 of 3  its line 6 can\'t be translated from C'})
+        self.hand_in('omar.mote', PROGRAM % 3)
+        self.assertEqual(rows['lea.c'], self.rows('--net', 'task.toml')['omar.mote'])
+        said = self.grade('--net', 'task.toml', '--why', 'nina.c')
+        self.assertIn('line 6: printf("%d", strlen("abc"));', said)
+        self.assertIn('motesim has no `strlen`', said)
+        self.grade('--net', 'task.toml', '--write', 'scenarios')
+        written = (self.folder.parent / 'scenarios' / 'lea.c_in_task.toml').read_text()
+        self.assertIn('// Translated from C', written)
+        self.assertEqual(self.rows()['lea.c'], '0 of 3  a program needs a net: name one with --net')
 
     def test_files_that_are_no_solutions_have_no_mark_and_do_not_count(self) -> None:
         (self.folder / 'Emil_4712_file').mkdir()
@@ -170,17 +199,16 @@ class Entries(Folder):
         self.hand_in('Emil_4712_file/notes.txt', 'hello')
         (self.folder / 'Emil_4712_file/work.zip').write_bytes(b'PK\x03\x04\0')
         in_c = '/* neighbours */\n#include "contiki.h"\nPROCESS(a, "a");\n'
-        self.hand_in('ivan.c', in_c)
+        self.hand_in('ivan.h', in_c)
         self.hand_in('jana.mote', in_c)
-        named = 'its name ends neither in .toml nor in .mote'
+        named = 'its name ends neither in .toml nor in .mote nor in .c'
         self.assertEqual(self.rows('--net', 'task.toml'), {
             'Emil_4712_file/emil.mote': '1 of 3  broken: 1, 2', 'Emil_4712_file/notes.txt': '- of 3  ' + named,
             'Emil_4712_file/work.zip': '- of 3  ' + named, 'anna.toml': '3 of 3',
-            'ivan.c': '- of 3  it is a program in C, and %s (%s)' % (named, TRANSLATES),
-            'jana.mote': '0 of 3  it is a program in C, not in the notation of mote programs (%s)' % TRANSLATES})
+            'ivan.h': '- of 3  ' + named,
+            'jana.mote': '0 of 3  it is a program in C: a file of such a program is NAME.c'})
         self.grade('--net', 'task.toml', '-o', 'marks.csv', '-o', 'marks.html', '-o', 'marks.toml')
-        row = '\n"ivan.c","",3,"it is a program in C, and %s (%s)","","",""\n'
-        self.assertIn(row % (named, TRANSLATES), self.page('marks.csv'))
+        self.assertIn('\n"ivan.h","",3,"%s","","",""\n' % named, self.page('marks.csv'))
         self.assertIn('<td class="number ">- of 3</td>', self.page())
         self.assertIn('<td class="number">1 of 3</td><td>every mote prints a 3</td>', self.page())
         self.assertNotIn('holds', tomllib.loads(self.page('marks.toml'))['solution'][1])

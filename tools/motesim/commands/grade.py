@@ -6,8 +6,9 @@
   tools/grade answers task.expect.toml --net task.plan.toml --vary seed=1..5 \\
     --hidden task.plan.toml --vary-hidden seed=77..79
 
-A solution is a scenario NAME.toml. With --net, a program NAME.mote is a solution too, and the tool uses only the text
-of one program of a scenario: the program that --program names, or the only one. So nobody gains by changing the net.
+A solution is a scenario NAME.toml. With --net, a solution may also be a program NAME.mote, or a program NAME.c in C for
+Contiki, which the tool translates. Of a scenario, the tool then uses only the text of one program: the program that
+--program names, or the only one. So nobody gains by changing the net.
 With several nets, a sentence counts only if it holds in each of them. A net that --hidden names counts like the other
 nets, but a page of marks doesn't show it.
 

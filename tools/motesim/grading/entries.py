@@ -17,13 +17,11 @@ from typing import NamedTuple
 from motesim.faults import Fault
 from motesim.grading.own import own_of
 from motesim.scenario.faults import LONGEST_TEXT
-from motesim.scenario.kinds import begins_as_c
 from motesim.terminal import one_line
 
-SUFFIXES = ('.toml', '.mote')
+SUFFIXES = ('.toml', '.mote', '.c')
 OF_TEACHER = '.expect.toml'
 MOST_ENTRIES = 10_000
-IN_C, TRANSLATES = 'it is a program in C', 'tools/explain FILE.c --apply NEW.toml translates it'
 DEEPEST = 8
 
 
@@ -47,22 +45,15 @@ def _kind(mode: int) -> str:
     return 'not a file'
 
 
-def _why_by_name(name: str, path: Path) -> str:
+def _why_by_name(name: str) -> str:
     """The reason why a plain file has no mark, if its name isn't that of a solution. The reason doesn't contain the
     name, because it is shown on anonymous pages too."""
-    why = 'its name ends neither in .toml nor in .mote'
+    why = 'its name ends neither in .toml nor in .mote nor in .c'
     if name.lower().endswith(SUFFIXES):
         return why + ': write the ending in small letters'
     if name.removesuffix('.txt').endswith(SUFFIXES):
         return why + ': remove the ending .txt'
-    return '%s, and %s (%s)' % (IN_C, why, TRANSLATES) if _is_c(path) else why
-
-
-def _is_c(path: Path) -> bool:
-    try:
-        return begins_as_c(data_of(Entry('', path)))
-    except Fault:
-        return False
+    return why
 
 
 def _entries(folder: Path, top: Path, depth: int) -> Iterator[Entry]:
@@ -94,7 +85,7 @@ def _entries(folder: Path, top: Path, depth: int) -> Iterator[Entry]:
         elif not stat.S_ISREG(mode):
             yield Entry(its, path, _kind(mode))
         elif not it.name.endswith(SUFFIXES):
-            yield Entry(its, path, _why_by_name(it.name, path), False)
+            yield Entry(its, path, _why_by_name(it.name), False)
         elif not it.name.endswith(OF_TEACHER):
             yield Entry(its, path)
 
@@ -109,7 +100,7 @@ def entries_of(folder: Path) -> list[Entry]:
         if len(found) > MOST_ENTRIES:
             raise Fault('%s has more than %s entries' % (folder, '{:,}'.format(MOST_ENTRIES)))
     if not found:
-        raise Fault('%s has no solution: a scenario NAME.toml, or a program NAME.mote' % folder)
+        raise Fault('%s has no solution: a scenario NAME.toml, or a program NAME.mote or NAME.c' % folder)
     return found
 
 
@@ -137,7 +128,7 @@ def skipped_of(folder: Path) -> list[str]:
 
 def without_program(entry: Entry, data: bytes) -> str:
     """The reason why a file has no program: it is empty, or has only comments. Otherwise an empty text."""
-    comment = rb'//[^\n]*' if entry.path.suffix == '.mote' else rb'#[^\n]*'
+    comment = rb'#[^\n]*' if entry.path.suffix == '.toml' else rb'//[^\n]*'
     text = data.removeprefix(BOM_UTF8)
     if len(data) > LONGEST_TEXT or re.sub(comment, b'', text).strip():
         return ''

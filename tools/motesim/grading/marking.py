@@ -14,7 +14,8 @@ from motesim.explain.lint import (
 from motesim.explain.within import busiest
 from motesim.faults import Fault, tried
 from motesim.files import replace_whole
-from motesim.grading.entries import IN_C, TRANSLATES, Entry, data_of, without_program
+from motesim.grading.entries import Entry, data_of, without_program
+from motesim.grading.in_c import NotTranslated
 from motesim.grading.nets import NOT_UTF8, Net, NoProgram, program_of, unused_of
 from motesim.judge.expectations import (
     REFUSED, REQUIRED, Part, UnknownSentence, known_of, more_of, read_all, refused, same_report,
@@ -48,7 +49,9 @@ LONGEST_NAME = 80
 OF_HIDDEN = 'in a hidden net'
 BINARY = 'the file is binary: it has bytes that no text has'
 OF_C = 'its program is in C'
-NOT_NOTATION = ', not in the notation of mote programs (%s)' % TRANSLATES
+NOT_NOTATION = ', not in the notation of mote programs (tools/explain FILE.c --apply NEW.toml translates it)'
+OF_LINE = re.compile(r'\(line (\d+) of the program\)')
+OF_TRANSLATED = r'(line \1 of the translated program)'
 # The most lines of an error, and the most warnings, that are shown.
 MOST_LINES, MOST_WARNED = 60, 3
 
@@ -183,7 +186,7 @@ class Task:
         number, entry = numbered
         if entry.why:
             return Marks(entry.name, why=entry.why, is_solution=entry.is_solution)
-        if entry.path.suffix == '.mote' and not self.nets:
+        if entry.path.suffix in ('.mote', '.c') and not self.nets:
             return Marks(entry.name, why='a program needs a net: name one with --net')
         data = b''
         try:
@@ -200,14 +203,14 @@ class Task:
                 return Marks(entry.name, why='it is a scenario, not the text of a program: a file of a scenario is '
                                              'NAME.toml')
             if entry.path.suffix == '.mote' and begins_as_c(data):
-                return Marks(entry.name, why=IN_C + NOT_NOTATION, fix=self.fix(entry, data))
+                return Marks(entry.name, why='it is a program in C: a file of such a program is NAME.c')
             # (messages name lines by the solution's file; the name of an anonymous solution has the same ending)
             file = entry.name.removesuffix(entry.path.suffix).rpartition('/')[2] + entry.path.suffix
             if not self.nets:
                 found = [self.in_net(data.decode('utf-8'), (file, data.decode('utf-8')))]
             else:
                 source = [program_of(data, entry.path.name, net.program) for net in self.nets]
-                its = file, data.decode('utf-8')
+                its = file, source[0] if entry.path.suffix == '.c' else data.decode('utf-8')
                 found = [self.in_net(net.with_program(text), its, net.program)._replace(
                     net=net.name, is_hidden=net.is_hidden) for net, text in zip(self.nets, source)]
         except UnicodeDecodeError:
@@ -218,12 +221,16 @@ class Task:
             return Marks(entry.name, why=str(fault))
         except NoProgram as fault:
             return Marks(entry.name, why=str(fault), fix=(fault.hint,))
+        except NotTranslated as fault:
+            return Marks(entry.name, why=str(fault), fix=fault.lines)
         except UnknownSentence as fault:
             return Marks(entry.name, why=fault.which, fix=self.fix(entry, data))
         except Fault as fault:
             return Marks(entry.name, why=str(fault), fix=self.fix(entry, data))
         unused = unused_of(data, entry.path.name, self.nets[0]) if self.nets else ''
         marks = replace(self.together(entry.name, found), unused=unused)
+        if entry.path.suffix == '.c':
+            marks = replace(marks, warned=tuple(OF_LINE.sub(OF_TRANSLATED, it) for it in marks.warned))
         if any(its.is_refused for its in found):
             # (a file whose programs are expected to be refused keeps its marks)
             if any(its.why for its in found) and self.has_c(data, entry.path.name):

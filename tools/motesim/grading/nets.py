@@ -9,6 +9,7 @@ from pathlib import Path
 
 from motesim.experiments.asked import values_of
 from motesim.faults import Fault
+from motesim.grading.in_c import notation_of
 from motesim.judge.sentences import Sentence
 from motesim.judge.wide import first_wide
 from motesim.plan.plan import Plan
@@ -190,6 +191,8 @@ def program_of(data: bytes, name: str, wanted: str) -> str:
         raise Fault(NOT_UTF8) from None
     if name.endswith('.mote'):
         return text.removeprefix(MARK)
+    if name.endswith('.c'):
+        return notation_of(text.removeprefix(MARK))
     if has_plan(data):
         raise Fault('the file is a plan, not a scenario')
     try:
@@ -209,7 +212,7 @@ def program_of(data: bytes, name: str, wanted: str) -> str:
 def unused_of(data: bytes, name: str, net: Net) -> str:
     """The programs that the motes of a solution run, but that a marking in this net doesn't use, in words; an empty
     text if there are none. Programs that the net has too don't count."""
-    if name.endswith('.mote'):
+    if name.endswith(('.mote', '.c')):
         return ''
     tables = read_toml(data.decode('utf-8'))
     programs, motes = tables['programs'], tables.get('mote')
