@@ -394,7 +394,10 @@ class Control(Radio):
     def cases(self, it: Statement, value: Value | None, groups: list[tuple[list[Statement], int]]) -> Flow:
         """The cases of a `switch`; the statements behind a case without a `break` belong to it, too."""
         known, ends, flows = dict(self.known), list[dict[str, Limits]](), list[Flow]()
-        last = next((group for group in groups if any(one.kind == 'default' for one in group[0])), None)
+        defaults = [group for group in groups if any(one.kind == 'default' for one in group[0])]
+        if len(defaults) > 1:
+            raise self.refuse(defaults[1][0][0].line, 'A `switch` has only one `default`.')
+        last = defaults[0] if defaults else None
         out = self.out
         for labels, begin in [group for group in groups if group is not last]:
             self.known = dict(known)

@@ -229,6 +229,10 @@ class Declarations(Expressions):
         """A new variable of the innermost scope."""
         if one.type.kind == 'void' or one.type.kind == 'real':
             raise Refusal(one.line, 'Numbers are whole here, with 16 bits: `%s` has another type.' % one.name)
+        if not one.name:
+            raise Refusal(one.line, 'A name is expected here, behind its type.')
+        if one.type.kind == 'array' and not leaves_of(one.type):
+            raise Refusal(one.line, 'An array has at least one member.')
         if one.type.kind == 'struct' and not one.type.fields:
             raise Refusal(one.line, '`%s` has a type that motesim doesn\'t have: `struct %s`.' % (
                 one.name, one.type.name))

@@ -53,7 +53,7 @@ class Radio(Calls):
         if count is None or place.variable is None or place.chosen is not None:
             count = size_of(place.type)
         places = self.bytes_from(place, count, line)
-        if len(places) > 2 or len(places) == 2 and any(size_of(it.type) != 1 for it in places):
+        if not 0 < len(places) < 3 or len(places) == 2 and any(size_of(it.type) != 1 for it in places):
             name = place.variable.name if place.variable else ''
             raise self.refuse(line, OF_PACKET % ('`%s`' % name if name else shown_type(place.type)))
         return places
