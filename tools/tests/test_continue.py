@@ -9,7 +9,6 @@ from test_without_braces import PROGRAM, followed, printed
 
 # Statements, and the numbers that they print in C. (`n`, `i` and `j` are 0 at first, and `m` is 3.)
 PRINTS = [
-    # A `while` skips the step.
     ('while (n < 9) {\n if (n == 2) {\n n = (n + 3);\n continue;\n }\n print n;\n n = (n + 1);\n }',
      [0, 1, 5, 6, 7, 8]),
     ('while (n < 5) {\n n++;\n if (n == 2) continue;\n print n;\n }', [1, 3, 4, 5]),
@@ -18,16 +17,17 @@ PRINTS = [
     ('while (n < 5) {\n n++;\n if (n == 2) { print 70; continue; }\n print n;\n }', [1, 70, 3, 4, 5]),
     ('while (n < 5) {\n n++;\n if (!i) {\n i = 1;\n continue;\n }\n if (n == 3) continue;\n print n;\n }', [2, 4, 5]),
     ('while (n < 3) {\n n++;\n print n;\n if (n == 2) {\n print 70;\n continue;\n }\n }', [1, 2, 70, 3]),
-    # A `for` doesn't skip it.
-    ('for (n = 0; n < 5; n++) {\n if (n == 2) continue;\n print n;\n }', [0, 1, 3, 4]),
-    ('for (n = 0; n < 5; n++) { // all of them\n if (n == 2) {\n print 70;\n continue;\n }\n print n; }',
-     [0, 1, 70, 3, 4]),
-    ('for (n = 0, i = 9; n < 4; n++, i--) {\n if (n == 1) continue;\n if (n == 2) {\n print 70;\n continue;\n }\n'
-     ' print i;\n }\n print i;', [9, 70, 6, 5]),
-    ('for (n = 0; n < 2; n++) {\n for (i = 0; i < 3; i++) {\n if (i == 1) continue;\n print i;\n }\n print 50;\n }',
-     [0, 2, 50, 0, 2, 50]),
+    # A loop without a step of its own, within a `for`.
     ('for (n = 0; n < 3; n++) {\n i = 0;\n while (i < 2) {\n i++;\n if (i == n) continue;\n print i;\n }\n }',
      [1, 2, 2, 1]),
+]
+# In C, the `continue` of these loops doesn't skip the step.
+WITH_STEP = [
+    'for (n = 0; n < 5; n++) {\n if (n == 2) continue;\n print n;\n }',
+    'for (n = 0; n < 5; n++) { if (n == 2) continue; print n; }',
+    'for (n = 0, i = 9; n < 4; n++, i--) {\n if (n == 1) {\n print 70;\n continue;\n }\n print i;\n }',
+    'for (n = 0; n < 2; n++) {\n for (i = 0; i < 3; i++) {\n if (i == 1) continue;\n print i;\n }\n print 50;\n }',
+    'm = 5;\n while (--m) {\n if (m == 2) continue;\n print m;\n }',
 ]
 
 
@@ -51,22 +51,10 @@ class Continue(unittest.TestCase):
         assert said
         return said.hint
 
-    def test_a_loop_that_may_be_a_for_has_both_cases(self) -> None:
-        said = self.hint('while (n < 9) {\n if (n == 2) {\n n = (n + 3);\n continue;\n }\n print n;\n n = (n + 1);\n }')
-        self.assertIn('The lines below are for a `while` of C, in which the step, `n = (n + 1);`, is skipped', said)
-        self.assertIn('If this loop was a `for` in C, write the inserted `}` above `n = (n + 1);`.', said)
-        said = self.hint('while (n < 9) {\n if (n == 2) {\n if (i == 0) {\n i = 1;\n continue;\n }\n print 1;\n }\n'
-                         ' print n;\n n++;\n }')
-        self.assertIn('If this loop was a `for` in C, its step, `n++;`, stays the last statement', said)
-        self.assertIn('the step is skipped, too, and is in this `else`', said)
-
-    def test_a_for_has_its_own_case(self) -> None:
-        for its in ('for (n = 0; n < 5; n++) {\n if (n == 2) {\n continue;\n }\n print n;\n }',
-                    'for (n = 0; n < 5; n++) { if (n == 2) continue; print n; }'):
-            with self.subTest(its):
-                said = self.hint(its)
-                self.assertIn('The step, `n = (n + 1);`, stays the last statement of the block of the loop', said)
-                self.assertNotIn('If this loop was', said)
+    def test_a_loop_whose_step_is_not_skipped_has_advice(self) -> None:
+        for statements in WITH_STEP:
+            with self.subTest(statements):
+                self.assertIn('which a `continue` would skip, but in C it doesn\'t', self.hint(statements))
 
 
 if __name__ == '__main__':

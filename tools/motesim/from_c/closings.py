@@ -19,13 +19,11 @@ class Closing(NamedTuple):
     behind  the text after the brace, or after the `else` of an `if`
     is_if   whether the block is that of an `if`, so that an `else` may follow
     hides_else  whether the text closes an `if` to which an `else` behind it would belong
-    steps   the number of the last statements of the block that are behind the text `inside`
     """
     inside: str = ''
     behind: str = ''
     is_if: bool = False
     hides_else: bool = False
-    steps: int = 0
 
 
 class Edit(NamedTuple):
@@ -56,8 +54,7 @@ def edits_of(text: str, last: int, closings: Sequence[Closing]) -> tuple[Edit, .
         if closing.hides_else and [it.text for it in tokens[behind + 1:behind + 2]] == ['else']:
             return None
         if closing.inside:
-            before = tokens[begin_of_steps(tokens, end, closing.steps)]
-            pieces.append(Piece(before.line, before.column, closing.inside + ' '))
+            pieces.append(Piece(tokens[end].line, tokens[end].column, closing.inside + ' '))
         if closing.behind:
             pieces.append(Piece(tokens[behind].line, tokens[behind].column + 1, ' ' + closing.behind))
         at = end + 1
@@ -110,12 +107,6 @@ def end_of_block(tokens: list[Token], begin: int) -> int | None:
         if not depth:
             return at
     return None
-
-
-def begin_of_steps(tokens: list[Token], end: int, count: int) -> int:
-    """The place of the first word of the last statements above a brace; `count` is their number."""
-    ends = [at for at in range(end - 1, -1, -1) if tokens[at].text in (';', '{', '}')]
-    return ends[count] + 1 if 0 < count < len(ends) else end
 
 
 def end_of_chain(tokens: list[Token], end: int | None) -> int | None:

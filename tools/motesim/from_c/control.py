@@ -295,7 +295,7 @@ class Control(Skips):
             return self.counting_loop(test)
         if word == 'while':
             refuse_endless(test)
-            self.place = outside._replace(loop=test, is_head=False, rest=(), kept_steps=0)
+            self.place = outside._replace(loop=test, is_head=False, rest=())
         block = self.body(is_if=word == 'if')
         text, self.place = '%s %s %s' % (word, test, block), outside
         danger = caution(test, block) if word == 'while' else ''
@@ -318,8 +318,8 @@ class Control(Skips):
         first = self.steps([it._replace(only=None) for it in self.after])
         last = self.steps(self.before)
         self.before, self.after = [], []
+        self.refuse_continue(last)
         body = self.body(last)
-        self.note_step(last)
         if first:
             self.why('The step is at the start of the block, so `%s` isn\'t done when the test is false. In C, it is '
                      'done then too: after the loop, the variable is one step further.' % first)
@@ -368,11 +368,10 @@ class Control(Skips):
         test, undeclared = self.test_of_loop()
         loop = loop_of(first, test, self.steps_of_loop())
         rest = tuple(it.text for it in tokens_of(loop.last))
-        outside, self.place = self.place, self.place._replace(loop=loop.test, is_head=False, rest=rest,
-                                                              kept_steps=loop.last.count(';'))
+        self.refuse_continue(loop.last)
+        outside, self.place = self.place, self.place._replace(loop=loop.test, is_head=False, rest=rest)
         body = self.body(loop.last)
         self.place = outside
-        self.note_step(loop.last)
         self.why_with_rest('There is no `for`: a `while` with the first step above it',
                            ', and `%s` at the end of its block' % loop.last if loop.last else '')
         if loop.reason:

@@ -9,9 +9,6 @@ from motesim.from_c.scope import CODE, process_of
 from motesim.notation.faults import tokens_of
 
 NAME = r'[a-z][a-z0-9_]*'
-# A comment behind the head of a loop that was a `for` in C, in which a `continue` doesn't skip the steps.
-KEEPS_STEP, KEEPS_STEPS = 'a continue runs the last statement', 'a continue runs the last %d statements'
-KEPT_STEPS = re.compile('%s|%s' % (KEEPS_STEP, KEEPS_STEPS.replace('%d', '([0-9]+)')))
 ENDS = [
     (re.compile(r'\((%s) (?:<|!=) (%s|[0-9]+)\)' % (NAME, NAME)), r'\1 = \2'),
     (re.compile(r'\((%s) <= ([0-9]+)\)' % NAME), r'\1 = (\2 + 1)'),
@@ -52,7 +49,6 @@ class Surroundings(NamedTuple):
     above    the text above the lines
     below    the text below the lines
     inner    the first words of the statements whose blocks are open around the lines, within this `while`
-    kept_steps  the number of the last statements of this `while` that a `continue` doesn't skip, as a comment says
     """
     is_head: bool = False
     is_top: bool = False
@@ -71,7 +67,6 @@ class Surroundings(NamedTuple):
     above: str = ''
     below: str = ''
     inner: tuple[str, ...] = ()
-    kept_steps: int = 0
 
 
 def place_below(above: list[str]) -> Surroundings:
@@ -107,14 +102,7 @@ def place_below(above: list[str]) -> Surroundings:
     timers = frozenset(name for word, name in zip(words[codes[-1]:], words[codes[-1] + 1:]) if word == 'etimer')
     return Surroundings(len(opened) == 1, False, loop, words[codes[-1] + 1], head, names, timers, _last(words),
                         last_statement(words), True, frozenset(BEHIND_VARIABLES.intersection(words[codes[-1]:])),
-                        levels, inner=tuple(words[at] for at in begins[len(begins) - levels + 1:]) if levels else (),
-                        kept_steps=_kept_steps(above[tokens[begins[-levels]].line - 1]) if levels else 0)
-
-
-def _kept_steps(head: str) -> int:
-    """The number of the last statements of a loop that no `continue` skips, by the comment at the head of the loop."""
-    found = KEPT_STEPS.search(head)
-    return int(found[1] or 1) if found else 0
+                        levels, inner=tuple(words[at] for at in begins[len(begins) - levels + 1:]) if levels else ())
 
 
 def rest_of_loop(lines: str, below: str, levels: int) -> tuple[str, ...]:

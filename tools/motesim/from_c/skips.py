@@ -1,64 +1,43 @@
 """A `continue` of C: the statements that it skips, in the block of an `else`.
 
-The block of the `else` ends with the block around it. A `for` of C is a `while` with its step at the end: this step
-isn't skipped.
+The block of the `else` ends with the block around it. A loop whose step is at the end of its block here has no
+corrected line: in C, a `continue` doesn't skip this step.
 """
 from __future__ import annotations
 
-import re
-
 from motesim.from_c.closings import Closing
 from motesim.from_c.own_names import OwnNames
-from motesim.from_c.places import KEEPS_STEP, KEEPS_STEPS, last_statement
+from motesim.from_c.expressions import NoCounterpart
 from motesim.from_c.tokens import tokens_of
 
+OF_STEP = ('There is no `continue`. Here, the block of this loop ends with `%s`, which a `continue` would skip, but in '
+           'C it doesn\'t. So first put the statements that the `continue` skips into the block of an `else`, `if .. '
+           '{ } else { .. }`.')
 NO_CONTINUE = 'There is no `continue` in loops: '
 IN_ELSE = ('put the statements that it would skip into the block of an `else`, `if .. { } else { .. }`.')
 IN_IF = 'put the statements that it would skip into the block of an `if` with the opposite test.'
-STEP_STAYS = ' The step, `%s;`, stays the last statement of the block of the loop, after this `%s`.'
-# (a message that doesn't know the loop of C)
-BOTH = (' If this loop was a `for` in C, its step, `%s;`, stays the last statement of the block, after this `else`. If '
-        'it was a `while` or a `do`, the step is skipped, too, and is in this `else`.')
-BOTH_WITH_LINES = (' The lines below are for a `while` of C, in which the step, `%s;`, is skipped, too. If this loop '
-                   'was a `for` in C, write the inserted `}` above `%s;`.')
-
-
-# A statement that changes a variable, in C or in the notation, from its words with spaces between them.
-STEP = re.compile(r'(?:\+ \+|- -) (\w+)|(\w+) (?:\+ \+|- -|(?:[-+*/%] )?= .*)')
-
-
-def plain(statement: str) -> str:
-    """A statement in its usual form, from its words with spaces between them."""
-    joined = re.sub(r'([-+*/%]) (?==)', r'\1', statement.replace('( ', '(').replace(' )', ')'))
-    return re.sub(r' ?(\+ \+|- -) ?', lambda it: it[1].replace(' ', ''), joined)
 
 
 class Skips(OwnNames):
     """Reads `continue`."""
 
-    def last_step(self) -> str:
-        """The statement at the end of the loop around the lines that changes a variable of its test, or nothing."""
-        last = last_statement([*(it.text for it in self.tokens[self.at + 1:]), *self.place.rest])
-        found = STEP.fullmatch(last)
-        tested = [it.text for it in tokens_of(self.place.loop)]
-        return plain(last) if found and (found[1] or found[2]) in tested else ''
-
     def of_continue(self) -> str:
         """Advice on a `continue`."""
-        step = self.last_step()
-        more = STEP_STAYS % (step, 'else') if self.place.kept_steps else BOTH % step
-        return NO_CONTINUE + IN_ELSE + (more if step else '')
+        return NO_CONTINUE + IN_ELSE
 
-    def note_step(self, last: str) -> None:
-        """Notes at the head of a loop, whose block continues below these lines, that no `continue` skips its step."""
-        depth = 1
-        for it in tokens_of(self.place.below) if last and self.is_cut else ():
-            depth += (it.text == '{') - (it.text == '}')
-            if not depth:
-                break
-            if it.text == 'continue':
-                count = last.count(';')
-                self.comments.append('// ' + (KEEPS_STEP if count == 1 else KEEPS_STEPS % count))
+    def refuse_continue(self, last: str) -> None:
+        """Raises advice on a `continue` in the block of a loop, if the block ends with a step here that the `continue`
+        doesn't skip in C."""
+        opened, head, begins = list[str](), '', True
+        for it in (*self.tokens[self.at:], *tokens_of(self.place.below)) if last else ():
+            head, begins = it.text if begins else head, it.text in ('{', '}', ';')
+            if it.text == '{':
+                opened.append(head)
+            elif it.text == '}':
+                del opened[-1:]
+            elif it.text == 'continue' and not {'while', 'for', 'do'}.intersection(opened[1:]):
+                raise NoCounterpart(OF_STEP % last)
+            if not opened and begins:
                 break
 
     def closing_of_skipped(self) -> Closing | None:
@@ -74,14 +53,7 @@ class Skips(OwnNames):
             if depth < 0:
                 end = at
                 break
-        words, steps = list(rest), place.kept_steps
-        for _ in range(steps):
-            last = last_statement(words)
-            if not last:
-                return None
-            del words[-len(last.split()) - 1:]
-        is_rest = set(words[end:]) <= {'}'}
-        return Closing('}', steps=steps if end == len(rest) else 0) if is_rest else None
+        return Closing('}') if set(rest[end:]) <= {'}'} else None
 
     def ends_in_continue(self) -> bool:
         """Returns whether these lines end with a `continue` that is the last statement of the `if` at this place."""
@@ -101,7 +73,7 @@ class Skips(OwnNames):
             depth += (word == '{') - (word == '}')
             if not depth and at + 1 < len(words) and words != ['continue', ';']:
                 return None
-        self.why_skipped(closing, 'else' if len(words) > 4 else 'if')
+        self.insist(NO_CONTINUE + (IN_ELSE if len(words) > 4 else IN_IF))
         if len(words) <= 4:
             self.at = len(self.tokens)
             self.skip_rest(closing)
@@ -121,16 +93,10 @@ class Skips(OwnNames):
                 it.text in '{}' for it in self.tokens[:self.at]):
             return ''
         self.at += 2
-        self.why_skipped(closing, 'else')
+        self.insist(NO_CONTINUE + IN_ELSE)
         self.at += 1
         self.skip_rest(closing)
         return '} else {'
-
-    def why_skipped(self, closing: Closing, word: str) -> None:
-        """Notes that the statements below are now in the block of an `if` or an `else`, and the place of the step."""
-        step = self.last_step()
-        more = STEP_STAYS % (step, word) if self.place.kept_steps else BOTH_WITH_LINES % (step, step)
-        self.insist(NO_CONTINUE + (IN_ELSE if word == 'else' else IN_IF) + (more if step else ''))
 
     def skip_rest(self, closing: Closing) -> None:
         """Notes the block with the statements that are skipped, which continues below these lines."""
