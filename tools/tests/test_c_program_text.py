@@ -599,6 +599,12 @@ PROCESS_THREAD(app, ev, data) { PROCESS_BEGIN(); while(1) { PROCESS_YIELD(); pri
         self.assertIn(late, translation(source)[1])
         self.assertNotIn(late, translation(source.replace('&opener);', '&opener, &app);'))[1])
 
+    def test_a_process_with_too_many_variables_is_refused_with_their_number(self) -> None:
+        body = '  for(n = 0; n < 60; n++) { big[n] = n; x += big[n]; }'
+        text, notes = translation(in_process(body, 'static int big[63];', VARIABLES))
+        self.assertIsNone(text)
+        self.assertRegex(notes, r'The program is too large for a mote: the process `p` would have 6. variables, and 64')
+
     def test_a_file_without_a_process_is_refused(self) -> None:
         for source in ('int main(void) { return 0; }', 'static int n;', ''):
             self.assertIn('No process is here', translation(source)[1])

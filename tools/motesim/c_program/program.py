@@ -8,6 +8,7 @@
 """
 from __future__ import annotations
 
+import re
 from typing import NamedTuple
 
 from motesim.c_program.allocation import early_posts
@@ -36,6 +37,10 @@ NO_EXITED = ('In Contiki, the function that is called for packets runs in a proc
              'event that another process has ended. In the translation it runs in `%s`, which misses this event: post '
              'an event to `%s`, and let it start or end the process.')
 TOO_LARGE = 'The program is too large for a mote: %s'
+# The declarations of a process, and the most of them that it may have.
+MOST_PARTS = ('var', 'variables', 64), ('etimer|ctimer', 'timers', 64), ('thread', 'threads', 7)
+OF_HELPERS = (' Each member of an array is a variable, and so is each intermediate value, such as those of `a | b`, of '
+              'a member that an index chooses, or of the result of a function.')
 LIMITS = {7: 'blocks or brackets are nested more than 32 deep.',
           8: 'a process has at most 64 variables, 64 timers and 7 threads, and a program at most 4,096 statements.'}
 
@@ -70,7 +75,7 @@ def translated(text: str, second: int = SECOND) -> Translation:
     found = '\n'.join(lines) + '\n'
     fault = find_fault(found)
     if fault is not None:
-        raise Refusal(*of_fault(fault, file))
+        raise Refusal(*of_fault(fault, file, found))
     remarks = sorted(Remark(*it) for it in program.remarks.values())
     return Translation(found, tuple(remarks))
 
@@ -84,12 +89,22 @@ def remark_names(program: Program) -> None:
         program.remark(ordered[0][0], OF_NAMES % ', '.join([*names[:MOST_NAMES], *more]))
 
 
-def of_fault(fault: ProgramError, file: File) -> tuple[int, str]:
+def of_fault(fault: ProgramError, file: File, text: str) -> tuple[int, str]:
     """The refusal for a program that is too large for the notation."""
     line = min(file.processes.values(), default=1)
-    shown = LIMITS.get(fault.kind, 'error %d at `%s`, line %d of the translation.' % (
-        fault.kind, fault.token.text, fault.token.line))
-    return line, TOO_LARGE % shown
+    other = 'error %d at `%s`, line %d of the translation.' % (fault.kind, fault.token.text, fault.token.line)
+    return line, TOO_LARGE % (fault.kind == 8 and exceeded(text) or LIMITS.get(fault.kind, other))
+
+
+def exceeded(text: str) -> str:
+    """The limit of a process that a translation exceeds, in words; an empty text if none does."""
+    for code in re.split(r'^code ', text, flags=re.M)[1:]:
+        for words, what, most in MOST_PARTS:
+            count = len(re.findall(r'^  (?:%s) ' % words, code, re.M))
+            if count > most:
+                return 'the process `%s` would have %d %s, and %d are allowed.%s' % (
+                    code.split(' ')[0], count, what, most, OF_HELPERS if words == 'var' else '')
+    return ''
 
 
 def check_processes(file: File) -> None:
