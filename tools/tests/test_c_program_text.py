@@ -611,7 +611,7 @@ PROCESS_THREAD(app, ev, data) { PROCESS_BEGIN(); while(1) { PROCESS_YIELD(); pri
 
     def test_macros_that_grow_too_long_are_refused_soon(self) -> None:
         started = time.process_time()
-        source = in_process('  n = %s1%s;' % ('A(' * 18, ')' * 18), '#define A(x) x x\nstatic int n;')
+        source = in_process('  n = %s1%s;' % ('A(' * 40, ')' * 40), '#define A(x) x x\nstatic int n;')
         self.assertIn('line 10: The macros of this program are too long.', translation(source)[1])
         self.assertLess(time.process_time() - started, 10)
 

@@ -127,9 +127,7 @@ class Preprocessor:
         found, at = list[Token](), 0
         while at < len(tokens):
             it = tokens[at]
-            self.expansions += 1
-            if self.expansions > MOST_TOKENS:
-                raise Refusal(it.line, 'The macros of this program are too long.')
+            self.count(1, it)
             macro = self.macros.get(it.text) if it.kind == 'name' and it.text not in hidden else None
             at += 1
             if it.text == '__LINE__' and it.kind == 'name':
@@ -150,6 +148,12 @@ class Preprocessor:
             found += with_origin(inner, it)
         return found
 
+    def count(self, tokens: int, use: Token) -> None:
+        """Counts the tokens that macros make. Raises a Refusal if there are too many."""
+        self.expansions += tokens
+        if self.expansions > MOST_TOKENS:
+            raise Refusal(use.line, 'The macros of this program are too long.')
+
     def substituted(self, macro: Macro, arguments: list[list[Token]], use: Token, hidden: frozenset[str]
                     ) -> list[Token]:
         """The tokens of a macro with its arguments."""
@@ -158,6 +162,7 @@ class Preprocessor:
         if names and names[-1] == '__VA_ARGS__':
             rest = [part for it in arguments[len(names) - 1:] for part in (use._replace(kind='sign', text=','), *it)]
             values['__VA_ARGS__'] = rest[1:]
+        whole = dict[str, list[Token]]()
         found, at = list[Token](), 0
         while at < len(macro.tokens):
             it = macro.tokens[at]._replace(line=use.line, comments=(), first=False)
@@ -171,8 +176,10 @@ class Preprocessor:
                 found.append(it._replace(kind='text', text='"%s"' % text.replace('"', '')))
                 at += 1
             elif it.kind == 'name' and it.text in values:
-                own = values[it.text]
-                its = own if following.text == '##' else self.expanded(own, hidden)
+                if following.text != '##' and it.text not in whole:
+                    whole[it.text] = self.expanded(values[it.text], hidden)
+                its = values[it.text] if following.text == '##' else whole[it.text]
+                self.count(len(its), use)
                 found += [part._replace(line=use.line) for part in its] or [it._replace(kind='', text='')]
             else:
                 found.append(it)
