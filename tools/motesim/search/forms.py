@@ -3,7 +3,7 @@ from __future__ import annotations
 
 # For each effect: the words that follow its first one, and the effect in words.
 FORMS = {
-    'lose': ('SENDER RECEIVER EVERY', 'the link loses every k-th packet; with 1, it loses everything'),
+    'lose': ('SENDER RECEIVER EVERY', 'the link loses every k-th packet, with k = EVERY; 1 loses everything'),
     'apart': ('MOTE MOTE', 'the two links between these motes lose everything'),
     'silent': ('MOTE', 'no mote hears this mote'),
     'fails': ('MOTE MOMENT', 'the mote fails at this moment'),
