@@ -225,6 +225,7 @@ REFUSALS = (
     ('printf("%*d", 3, n);', 'write a number instead of the `*`'), ('RADIO.off();', 'motesim has no `RADIO.off`.'),
     ('n = later;', '`later` is a function, but a number is expected here'),
     ('static rimeaddr_t to; to.u8[1]++;', 'Only the first byte of an address'),
+    ('static char k[999999999];', 'at most 4,096 members'),
     ('static int k[];', 'An array has at least one member'), ('static int [3];', 'A name is expected here'),
     ('switch(n) { default: n = 1; break; default: n = 2; }', 'only one `default`'),
     ('packetbuf_copyfrom(&n, 0);', '`n` doesn\'t fit'),

@@ -144,7 +144,7 @@ class Base:
         `p.x`."""
         key = variable, path
         if key not in self.own_names:
-            is_table = sum(isinstance(it, int) for it in path) > 1 or variable.name[-1].isdigit()
+            is_table = sum(isinstance(it, int) for it in path) > 1 or variable.name[-1:].isdigit()
             parts = ['_%s' % it if is_table or isinstance(it, str) else str(it or '') for it in path]
             self.own_names[key] = self.new_name(variable.name + ''.join(parts), variable.line)
         return self.own_names[key]

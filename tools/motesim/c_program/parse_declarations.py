@@ -16,7 +16,7 @@ OF_PARAMETERS = 'The type of the parameter `%s` is expected here, in front of it
 NO_END = 'Functions aren\'t inside of others: above `%s`, a `}` is missing.'
 OF_FUNCTIONS = 'An array of functions has no counterpart: call each function by its name, in a `switch`.'
 OF_BITS = 'A field with a number of bits has no counterpart: use a field of the type `uint8_t`.'
-MOST_MEMBERS = 64
+MOST_MEMBERS, MOST_SIZE = 64, 4_096
 ZERO = Expression('number', '0', number=0, type=INT)
 WORDS = ('unsigned', 'signed', 'short', 'long', 'int', 'char', 'void', 'float', 'double')
 
@@ -164,6 +164,8 @@ class Declarations(Expressions):
         self.need(']')
         if size < 0:
             raise Refusal(line, 'An array has at least one member.')
+        if size > MOST_SIZE:
+            raise Refusal(line, 'An array has at most 4,096 members here.')
         return Type('array', of=self.array(its), size=size)
 
     def parameters(self) -> tuple[tuple[str, Type], ...]:
