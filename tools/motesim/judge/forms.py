@@ -56,7 +56,7 @@ DEED = Table('DEED', 'Lines of the report', ('mote 1 %s',), (
     (('prints just P 1 to 29 in any order',),
      'all lines `print P V`: exactly these values, in any order'),
     (('prints just P its distance from mote 0',),
-     'exactly one line `print P V`, with this value. You can also write another VALUE of the next table'),
+     'exactly one line `print P V`, with this value. Instead of this VALUE, any other VALUE is possible'),
     (('finally prints P VALUE',), 'the last line `print P V`: this value'),
     (('sends', 'sends VALUE'), '`send N V`'),
     (('receives', 'receives VALUE', 'receives VALUE from mote 2'), '`recv F N V`'),
@@ -65,7 +65,8 @@ DEED = Table('DEED', 'Lines of the report', ('mote 1 %s',), (
      'lines that have this text directly after the moment; more words may follow'),
     (("writes 'collide' or 'lost'",), 'lines that have one of these texts directly after the moment'),
     (('never sends', 'never prints P VALUE'),
-     'no line of the deed after `never`; the MOTES must be from the first three rows of the table MOTES'),
+     'no line of the deed, here `sends` or `prints P VALUE`; the MOTES must be from the first three rows of the table '
+     'MOTES'),
 ))
 VALUE = Table('VALUE', 'Is', ('mote 1 prints p %s',), (
     (('7',), 'this number'),
@@ -91,8 +92,8 @@ TIMES = Table('TIMES', 'How many lines', ('mote 1 sends %s',), (
      'more than twice as many lines of the same deed as the same motes have from 300 to 399'),
     (('at least 80 % as often as mote 0',), 'at least 80 % as many lines of the same deed as mote 0 has'),
     (('at least 80 % as often as mote 0 prints P', 'exactly 1 times as often as it receives'),
-     'at least 80 % as many lines as mote 0 has lines `print P V`; exactly as many lines as the mote itself has lines '
-     '`recv`'),
+     'at least 80 % as many lines as mote 0 has lines `print P V`; in the second example, exactly as many lines as '
+     'the mote itself has lines `recv`'),
 ))
 WHEN = Table('WHEN', 'Moments', ('mote 1 sends %s',), (
     (('at 60',), '60'),
