@@ -239,6 +239,9 @@ REFUSALS = (
     ('uint32_t l = 1; n = l >> 16;', '`>>` with 16'), ('if(clock_time() > 100000UL) n = 1;', '`>` with 100000'),
     ('x = &n;', '`&n` is an address, but a number is expected'), ('x = a;', '`a` is an address, but a number'),
     ('*(uint16_t *)packetbuf_dataptr() = 3;', 'A packet is filled by a copy of a variable'),
+    ('int *q; for(q = a; q < &n; q++) x = *q;', 'compared only with members of its array'),
+    ('struct { int v[0]; int k; } s; s.k = 1;', 'An array has at least one member'),
+    ('static int big[4096][4096]; x = big[1][2];', '`big` has too many members'),
     ('later(1);', '`later` has 0 parameters.'), ('f();', '`f` has 1 parameter.'),
 )
 

@@ -15,6 +15,7 @@ TESTS = ('if', 'while', 'do', 'for')
 COMPARES = ('==', '!=', '<', '<=', '>', '>=')
 OF_SEVERAL = ('The parameter `%s` of `%s` gets a pointer that changes in one call, and another pointer in another '
               'call: let it be an index of one array.')
+NO_MEMBER = 'A pointer that changes is compared only with members of its array here, such as `&a[3]`.'
 STEPS = ('++', '--')
 OF_INDEX = '`%s` is the index of a member of `%s` here, not a pointer, and 65535 if it is NULL.'
 
@@ -267,6 +268,8 @@ class Rewriter:
             return it._replace(variable=self.renewed(it.variable))
         if it.kind == 'unary' and it.text == '&':
             inner = it.parts[0]
+            if inner.kind != 'index':
+                raise Refusal(it.line, NO_MEMBER)
             return self.sum('+', inner.parts[0], inner.parts[1], it.line)
         if it.kind == 'binary':
             return self.sum(it.text, it.parts[0], it.parts[1], it.line)

@@ -8,7 +8,7 @@ from motesim.c_program.parse_expressions import Expressions
 from motesim.c_program.refusal import Refusal
 from motesim.c_program.tree import Expression, File, Variable
 from motesim.c_program.types import (
-    CHARACTER, INT, NAMED, REAL, STRUCTURES, VOID, Type, leaves_of, pointer_to,
+    CHARACTER, INT, NAMED, REAL, STRUCTURES, VOID, Type, has_empty, members_of, pointer_to,
 )
 
 QUALIFIERS = ('static', 'const', 'volatile', 'extern', 'inline', 'register', 'auto', '__inline', 'CC_INLINE')
@@ -233,12 +233,12 @@ class Declarations(Expressions):
             raise Refusal(one.line, 'Numbers are whole here, with 16 bits: `%s` has another type.' % one.name)
         if not one.name:
             raise Refusal(one.line, 'A name is expected here, behind its type.')
-        if one.type.kind == 'array' and not leaves_of(one.type):
+        if has_empty(one.type):
             raise Refusal(one.line, 'An array has at least one member.')
         if one.type.kind == 'struct' and not one.type.fields:
             raise Refusal(one.line, '`%s` has a type that motesim doesn\'t have: `struct %s`.' % (
                 one.name, one.type.name))
-        if len(leaves_of(one.type)) > MOST_MEMBERS and one.type.of and one.type.of.name != 'char':
+        if members_of(one.type) > MOST_MEMBERS and one.type.of and one.type.of.name != 'char':
             raise Refusal(one.line, 'A process has at most 64 variables, so `%s` has too many members.' % one.name)
         is_static = not self.function or 'static' in qualifiers
         found = Variable(one.name, one.type, one.line, self.function, is_static, 'const' in qualifiers, False, initial)

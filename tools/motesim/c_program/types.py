@@ -94,6 +94,20 @@ def size_of(its: Type) -> int:
     return size + (size % 2 if any(size_of(it) > 1 for _, it in its.fields) else 0)
 
 
+def members_of(its: Type) -> int:
+    """The number of the parts of a type that are no arrays and no structures."""
+    if its.kind == 'struct':
+        return sum(members_of(field) for _, field in its.fields)
+    return its.size * members_of(its.of) if its.kind == 'array' and its.of else 1
+
+
+def has_empty(its: Type) -> bool:
+    """Returns whether a type is an array without members, or has one."""
+    if its.kind == 'struct':
+        return any(has_empty(field) for _, field in its.fields)
+    return its.kind == 'array' and its.of is not None and (not its.size or has_empty(its.of))
+
+
 def leaves_of(its: Type, path: tuple[str | int, ...] = ()) -> list[tuple[tuple[str | int, ...], Type]]:
     """The parts of a type that are no arrays and no structures, with their paths."""
     if its.kind == 'struct':
