@@ -358,6 +358,23 @@ PROCESS_THREAD(q, ev, data) { static int n; PROCESS_BEGIN(); n = random_rand(); 
         for first in 'var s = 65535;', 'var u = 44;', 'var n = 65532;':
             self.assertIn(first, text or '')
 
+    def test_an_address_that_is_not_set_has_the_bytes_0(self) -> None:
+        above = 'static linkaddr_t parent; static linkaddr_t own;'
+        body = ('  if(parent.u8[0] == 0) printf("%d", linkaddr_null.u8[0]); own.u8[0] = 3; printf("%d", own.u8[0]);'
+                ' PROCESS_YIELD(); parent.u8[0] = n;')
+        text, notes = translation(in_process(body, above, VARIABLES))
+        self.assertIsNotNone(text, notes)
+        self.assertIn('var parent = 255;', text or '')
+        for line in 'if ((parent * (parent != 255)) == 0) {', '  print 0;', 'print own;':
+            self.assertIn(line, body_of(text))
+        self.assertIn('`parent` may be an address that isn\'t set', notes)
+        self.assertNotIn('`own` may be', notes)
+
+    def test_a_remark_says_that_times_begin_again_at_0(self) -> None:
+        for call in 'clock_seconds', 'clock_time':
+            notes = translation(in_process('  u = %s();' % call, '', VARIABLES))[1]
+            self.assertIn('`%s()` begins again at 0 after each 65,536 moments, which are 512 seconds' % call, notes)
+
     def test_a_semaphore_may_be_declared_in_a_process(self) -> None:
         body = '  PT_SEM_INIT(&s, 2); PT_SEM_WAIT(process_pt, &s); n = PT_SEM_COUNT(&s);'
         text, notes = translation(in_process(body, '', VARIABLES + ' static struct pt_sem s;'))
@@ -390,7 +407,7 @@ class Refusals(unittest.TestCase):
             with self.subTest(copied):
                 text, notes = translation(in_process('  broadcast_open(&bc, 129, &calls);', above))
                 self.assertIsNone(text)
-                self.assertIn('line 5: A packet is one number of 16 bits', notes)
+                self.assertIn('line 5: A packet, or the data of an event, is one number of 16 bits', notes)
                 self.assertIn(wanted, notes)
 
     def test_a_wait_that_is_not_in_a_process_names_its_function(self) -> None:

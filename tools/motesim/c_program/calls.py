@@ -54,6 +54,7 @@ OF_STRUCT_TIMER = ('A `struct timer` and a `struct stimer` post no event when th
                    'here, and a wait for it ends only if another event arrives.')
 TOO_LONG = ('A timer is set to at most 65,535 moments, and a second has %d: wait for it several times, or translate '
             'with fewer moments, such as `--clock-second 10`.')
+OF_NOW = ('Here, a time has 16 bits, so `%s()` begins again at 0 after each 65,536 moments, which are %d seconds.')
 OF_RADIO_TIMER = ('In Contiki, the function that is called for packets, and the functions of the ctimers that it sets, '
                   'run in a process of the radio. So the event of `%s`, which is set here, goes to the process of the '
                   'radio. In the translation, `%s` gets the event.')
@@ -402,9 +403,15 @@ class Calls(Chance):
         return added(now, self.in_variable(start), '-')
 
     def value_clock_time(self, it: Expression) -> Value:
+        self.note_wrap(it)
         return Value('now', UNSIGNED, 0, MOST)
 
+    def note_wrap(self, it: Expression) -> None:
+        """Notes that the time begins again at 0."""
+        self.remark(it.line, OF_NOW % (it.text, (MOST + 1) // self.program.second))
+
     def value_clock_seconds(self, it: Expression) -> Value:
+        self.note_wrap(it)
         second = self.program.second
         return Value('(now / %d)' % second, UNSIGNED, 0, MOST // second)
 

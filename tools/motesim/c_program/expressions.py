@@ -7,14 +7,14 @@ from motesim.c_program import bits
 from motesim.c_program.base import OF_LONG, joined_limits
 from motesim.c_program.constants import EVENT_NUMBERS, NUMBERS, SECOND, constant_of
 from motesim.c_program.events import Events
-from motesim.c_program.places import ADDRESSES, OF_ADDRESS, OF_CHANGE, TEXTS, Place
+from motesim.c_program.places import ADDRESSES, NO_MOTE, OF_ADDRESS, OF_CHANGE, TEXTS, Place
 from motesim.c_program.tree import Expression
 from motesim.c_program.types import INT, UNSIGNED, Type, size_of
 from motesim.c_program.values import (
     HALF, MOST, OPPOSITE, Value, added, both, common, compared, converted, divided, is_true, multiplied, negated,
     number, promoted,
 )
-from motesim.c_program.walk import parts_of
+from motesim.c_program.walk import base_of, parts_of
 from motesim.c_program.written import Block, If, Line, While
 
 COMPARES = ('==', '!=', '<', '<=', '>', '>=')
@@ -25,6 +25,8 @@ NO_LONG = ('Values have 16 bits here, so `%s` with %d isn\'t translated: use sma
 OF_NUMBER = ('`%s` is an address, but a number is expected here: write the name of a variable without `&`, or a member '
              'of an array such as `a[0]`.')
 OF_FUNCTION = '`%s` is a function, but a number is expected here: call it, `%s(..)`.'
+OF_UNSET = ('`%s` may be an address that isn\'t set. As in C, its bytes are 0 then. But the motes are numbered from 0 '
+            'here, so mote 0 has these bytes, too: to tell them apart, use `linkaddr_cmp`, or leave mote 0 out.')
 NO_BITS = 'This operation on bits needs statements of its own: write it above, into a variable.'
 OF_SECOND = ('A second has %d moments here, so `CLOCK_SECOND` is %d%s. `end` of the scenario is in moments, too, and '
              'so are the delays of packets.')
@@ -123,8 +125,12 @@ class Expressions(Events):
         found = self.address(base)
         if found.text == 'self':
             self.remark(it.line, OF_ADDRESS)
-        if index.constant != 0:
+        if index.constant != 0 or found.constant == NO_MOTE:
             return number(0)
+        if found.reads and found.low <= NO_MOTE <= found.high:
+            variable = base_of(base)
+            self.remark(it.line, OF_UNSET % (variable.name if variable else 'This address'))
+            found = found._replace(text='(%s * (%s != %d))' % (found.text, found.text, NO_MOTE), low=0)
         return found._replace(type=INT, high=255 if found.high > 255 else found.high)
 
     def _member(self, it: Expression) -> Value:

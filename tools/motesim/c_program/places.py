@@ -22,8 +22,8 @@ NO_FIELD = 'There is no field `%s` here.'
 NO_ROOM = ('`unicast_send` needs 8 of the 16 bits of a packet for the number of the receiver. So 8 bits are left for '
            'the value, but %s has two fields. Send one field, put both into 8 bits, such as `type * 64 + seq %% 64`, '
            'or use `broadcast_send`.')
-OF_PACKET = ('A packet is one number of 16 bits, so it has one value or two fields that are at most 255: %s doesn\'t '
-             'fit. Send a packet for each value.')
+OF_PACKET = ('A packet, or the data of an event, is one number of 16 bits: one value, or two fields that are at most '
+             '255. So %s doesn\'t fit: send a packet, or post an event, for each value.')
 OF_INDEX = ('A packet is one number of 16 bits, so it has at most two bytes, `%s[0]` and `%s[1]`: send a packet for '
             'each value.')
 ONLY_BYTE = 'The packets of this program have one byte: there is no byte %d.'

@@ -13,8 +13,8 @@ from motesim.c_program.written import Line, While
 
 SENDS = ('broadcast_send', 'abc_send', 'unicast_send')
 OF_TEXT = 'A packet is one number: the text is sent as 1.'
-OF_TWO = ('A packet is one number of 16 bits: `%s` is its upper 8 bits, and `%s` its lower 8. So each of them has to '
-          'be at most 255. The receiver gets them by `(data / 256)` and `(data %% 256)`.')
+OF_TWO = ('A packet, or the data of an event, is one number of 16 bits: `%s` is its upper 8 bits, and `%s` its lower '
+          '8. So each of them has to be at most 255. The receiver gets them by `(data / 256)` and `(data %% 256)`.')
 OF_ONE_MOTE = ('A packet goes to all motes that hear it: its upper 8 bits say for which mote it is, and its lower 8 '
                'bits are its value, which is at most 255. The motes are numbered from 0.')
 OF_SENT = 'In Contiki, `%s` is called when the send has ended. Here, its statements follow the `send`.'

@@ -402,6 +402,7 @@ def of_program(program: Program, is_zero_given: bool) -> Iterator[Warned]:
     # (a translated program has the results of C, also for values below 0 or above 65,535)
     for text, token in () if program.is_translated else (
             *(() if is_zero_given else differences.tests(program.words, program.tokens)),
+            *(() if is_zero_given else unchanged.never_above(program.words, program.tokens)),
             *signed.tests(program.words, program.tokens, program.below),
             *wraps.warnings(program.words, program.tokens)):
         yield Warned(text, name, token)

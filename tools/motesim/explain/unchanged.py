@@ -52,6 +52,13 @@ def warnings(words: list[str], tokens: list[Token]) -> Iterator[tuple[str, Token
             value = words[at + 2:words.index(';', at)] if words[at] == 'set' else []
             if len(value) > 1 and result(value, fixed) == 0:
                 yield ZERO % shown(value), tokens[at + 2]
+
+
+def never_above(words: list[str], tokens: list[Token]) -> Iterator[tuple[str, Token]]:
+    """Each test that is never true, because a variable has the greatest number until it is true."""
+    for begin, end in codes_of(words):
+        values = initial_values(words, begin, end)
+        for at in range(begin, end):
             yield from _never_above(words, tokens, at, values, (begin, end))
 
 
