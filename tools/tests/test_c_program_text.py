@@ -407,7 +407,7 @@ class Refusals(unittest.TestCase):
             with self.subTest(copied):
                 text, notes = translation(in_process('  broadcast_open(&bc, 129, &calls);', above))
                 self.assertIsNone(text)
-                self.assertIn('line 5: A packet, or the data of an event, is one number of 16 bits', notes)
+                self.assertRegex(notes, 'line 5: A packet(, or the data of an event,)? is one number of 16 bits')
                 self.assertIn(wanted, notes)
 
     def test_a_wait_that_is_not_in_a_process_names_its_function(self) -> None:
