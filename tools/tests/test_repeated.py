@@ -41,6 +41,23 @@ class Repeated(Bed):
             'net.csv: prints differs in 2 of 6 runs; the first (period = 1, motes = 2): 2 instead of 17\n'
             'net.csv: report_sha256 differs in 1 of 6 runs; the first (period = 1, motes = 2)\n'), ''))
 
+    def test_each_of_several_rows_of_a_run_is_compared(self) -> None:
+        self.sweep(*self.words)
+        path = self.folder / 'net.csv'
+        whole = path.read_text()
+        path.write_text(whole + whole.splitlines(True)[2])
+        one_more = 'net.csv: 1 row is of the same run as another row\n'
+        self.assertEqual(self.check(), (0, SAME % 'net.csv' + one_more, ''))
+        self.change(path, 'prints', '17', 2)
+        status, said, _ = self.check()
+        self.assertEqual(status, 1)
+        self.assertIn('prints differs in 2 of 6 runs; the first (period = 1, motes = 2): 2 instead of 17\n', said)
+        # (a row with a fault that --retry has replaced by the row below it doesn't count)
+        path.write_text(whole)
+        self.change(path, 'fault', 'too long', 1)
+        path.write_text(path.read_text() + whole.splitlines(True)[1])
+        self.assertEqual(self.check(), (0, SAME % 'net.csv', ''))
+
     def test_another_program_next_to_the_plan_differs(self) -> None:
         self.sweep(*self.words)
         (self.folder / 'a.mote').write_text(MOTE.replace('print', 'print 1; print'))

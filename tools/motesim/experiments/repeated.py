@@ -19,29 +19,38 @@ BUILD = ('program', 'program_sha256', 'kit')
 
 
 class Finished:
-    """The rows of a finished sweep, by their places in its order, and the number of rows with other values."""
+    """The rows of a finished sweep, by their places in its order, and the number of rows with other values.
+
+    rows   for each place its rows: one, unless somebody has copied or added rows. A row with a fault doesn't count if
+           another row of the run follows it, which --retry has added.
+    """
 
     def __init__(self, path: Path, sweep: Sweep, columns: Sequence[str]) -> None:
         found, rows = read_results(path)
         check_columns(path, found, [it for it in columns if it in found or it != PLAN_FILES])
-        self.path, self.columns, self.rows, self.others = path, found, dict[int, Row](), 0
+        self.path, self.columns, self.rows, self.others = path, found, dict[int, list[Row]](), 0
         self.places = Places(sweep)
         for row in rows:
             place = self.places.of(row)
             if place is None:
                 self.others += 1
             else:
-                self.rows[place] = row
+                before = self.rows.get(place, [])
+                self.rows[place] = [*(it for it in before if not it['fault']), row]
         if len(self.rows) < sweep.runs():
             raise Fault('%s has %d of the %d runs: the same command without --check makes the missing runs' % (
                 path, len(self.rows), sweep.runs()))
 
     def pairs(self, rows: Iterator[Row]) -> Iterator[tuple[Row, Row]]:
-        """Each of these new rows, after the row that the file has for the same run."""
+        """Each of these new rows, after each row that the file has for the same run."""
         for row in rows:
             place = self.places.of(row)
             if place is not None:
-                yield self.rows[place], row
+                yield from ((before, row) for before in self.rows[place])
+
+    def repeated(self) -> int:
+        """The number of rows whose values another row has, too."""
+        return sum(len(its) - 1 for its in self.rows.values())
 
 
 class Compared:
@@ -78,6 +87,9 @@ class Compared:
         build = [it for it in BUILD if it in self.counts]
         if build:
             lines.append('another build of motesim made the rows of %s: other values in %s' % (path, ', '.join(build)))
+        if self.finished.repeated():
+            count = self.finished.repeated()
+            lines.append('%s: %d row%s of the same run as another row' % (path, count, 's are' if count > 1 else ' is'))
         if self.finished.others:
             lines.append('not compared: the rows of %s whose values are not those of this command (%d)' % (
                 path, self.finished.others))
