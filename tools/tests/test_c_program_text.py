@@ -753,6 +753,24 @@ PROCESS_THREAD(mac, ev, data) { PROCESS_BEGIN();
             'ready = p', 'process_post(&mac, ready, NULL);\n ready = p'))[1]
         self.assertIn('line 8: ' + early, notes)
 
+    def test_a_packet_that_has_been_overwritten_has_a_remark(self) -> None:
+        above = '''static struct broadcast_conn bc;
+static struct ctimer c;
+static uint16_t answer, n;
+static void recv(struct broadcast_conn *c, const rimeaddr_t *from) {
+  uint16_t *p = packetbuf_dataptr();
+  LINES
+}
+static const struct broadcast_callbacks calls = { recv };'''
+        copies, prints = 'packetbuf_copyfrom(&answer, 2); broadcast_send(&bc);', 'printf("%d", *p);'
+        for lines, is_seen in (
+                (copies + prints, True), (prints + copies, False), ('if(n) { %s } %s' % (copies, prints), True),
+                ('if(n) { %s } else { %s }' % (copies, prints), False),
+                ('n = *p; %s printf("%%d", n);' % copies, False),
+                ('packetbuf_copyfrom(p, 2); broadcast_send(&bc);', False)):
+            notes = translation(in_process('  broadcast_open(&bc, 129, &calls);', above.replace('LINES', lines)))[1]
+            self.assertEqual('Contiki has one packet buffer' in notes, is_seen, (lines, notes))
+
     def test_each_cause_has_one_remark(self) -> None:
         self.assertEqual(self.remarks('leds_on(1); leds_on(2); leds_off(1);').count('LEDs'), 1)
 

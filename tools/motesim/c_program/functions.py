@@ -7,7 +7,7 @@ from contextlib import contextmanager
 from motesim.c_program.base import Unit
 from motesim.c_program.constants import constant_of
 from motesim.c_program.control import ENDS, FALLS, Control, Flow, has_wait
-from motesim.c_program.places import NO_MOTE, OF_ADDRESS, OF_CHANGE, OF_RESULT, ONE_BYTE, Path, Place, Pointer
+from motesim.c_program.places import INTACT, NO_MOTE, OF_ADDRESS, OF_CHANGE, OF_RESULT, ONE_BYTE, Path, Place, Pointer
 from motesim.c_program.refusal import Refusal
 from motesim.c_program.tree import Expression, Function, Statement, Variable
 from motesim.c_program.types import INT, Type, leaves_of
@@ -313,7 +313,7 @@ class Functions(Control):
         """Translates another part of the code."""
         kept = (self.unit, self.known, self.posts, self.jumps, self.in_switch, self.buffer, self.fresh, self.log,
                 self.next_sends, self.open_loops, self.is_wait_test)
-        self.unit, self.known, self.posts, self.jumps, self.in_switch = unit, {}, [], [], 0
+        self.unit, self.known, self.posts, self.jumps, self.in_switch = unit, {INTACT: (1, 1)}, [], [], 0
         self.buffer, self.fresh, self.log, self.open_loops = None, set(), [], []
         self.is_wait_test = False
         yield

@@ -24,6 +24,10 @@ NO_ROOM = ('`unicast_send` needs 8 of the 16 bits of a packet for the number of 
            'or use `broadcast_send`.')
 OF_PACKET = ('A packet, or the data of an event, is one number of 16 bits: one value, or two fields that are at most '
              '255. So %s doesn\'t fit: send a packet, or post an event, for each value.')
+OVERWRITTEN = ('Contiki has one packet buffer. So after `packetbuf_copyfrom`, this is a value of the packet that is '
+               'sent there; here, it is still the value of the packet that has arrived. Copy the value before.')
+# The name under which it is known that no statement has overwritten the packet buffer.
+INTACT = 'packet buffer'
 OF_INDEX = ('A packet is one number of 16 bits, so it has at most two bytes, `%s[0]` and `%s[1]`: send a packet for '
             'each value.')
 ONLY_BYTE = 'The packets of this program have one byte: there is no byte %d.'
@@ -348,6 +352,8 @@ class Places(Base):
         """The value of a packet or of an event, or a field of it."""
         if place.source == 'packet' and not self.unit.is_callback:
             raise self.refuse(line, NO_PACKET)
+        if place.source == 'packet' and INTACT not in self.known:
+            self.remark(line, OVERWRITTEN)
         its = place.root
         parts = leaves_of(its)
         path = place.paths[0]

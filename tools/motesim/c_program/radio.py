@@ -4,7 +4,7 @@ from __future__ import annotations
 from collections.abc import Sequence
 
 from motesim.c_program.calls import Calls
-from motesim.c_program.places import NO_MOTE, OF_PACKET, Place, shown_type
+from motesim.c_program.places import INTACT, NO_MOTE, OF_PACKET, Place, shown_type
 from motesim.c_program.tree import Expression, Statement
 from motesim.c_program.types import UNSIGNED, leaves_of, size_of
 from motesim.c_program.values import MOST, Value, added, as_type, multiplied, number
@@ -92,6 +92,7 @@ class Radio(Calls):
         if form == 'byte' and 'pair' in self.forms('packet'):
             value = multiplied(as_type(value, UNSIGNED), number(256, UNSIGNED))
         self.flush()
+        self.known.pop(INTACT, None)
         if self.next_sends:
             self.buffer = value
             return
