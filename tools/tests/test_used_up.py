@@ -74,8 +74,8 @@ class UsedUp(unittest.TestCase):
                 ('while 1 { wait_until is(packet); spawn looks; }',
                  'true each time, and line 11: `wait_until (x == 0)` never waited'),
                 ('yield_until is(packet); while (x < 5) { print x; }',
-                 'line 14: `while (x < 5)` repeated 4999 times in this call, and nothing in its block waited: a '
-                 '`yield`, or a `yield_until` with the next event, lets the process wait there'),
+                 'line 14: `while (x < 5)` repeated 4999 times in this call, and nothing in its block waited: if '
+                 'the loop waits for something, write a `yield_until` in it; if it calculates, write a `pause` in it'),
                 ('x = 9; yield_until is(packet); while x { synch q msg 1; }',
                  'line 21: `while is(msg)` repeated'),
                 ('while 1 { yield; if is(packet) { while 1 { if (data == 7) { print 1; } else { yield; } } } }',

@@ -8,7 +8,7 @@ from motesim.faults import Fault
 from motesim.notation.faults import Token
 from motesim.report import Report
 from motesim.scenario import Scenario
-from motesim.why.endless import AT_ONCE, Endless, LastRun, endless, instead
+from motesim.why.endless import AT_ONCE, LETS_WAIT, Endless, LastRun, endless, instead
 from motesim.why.replay import QUEUE
 from motesim.why.translate import Program, translated
 
@@ -18,8 +18,7 @@ NEVER_WAITED = ('the `while` on line %d of the program repeated %d times in one 
                 'never waited: its test was %s each time. So the mote\'s work was used up, and the mote halted. %s '
                 'waits for the next call first')
 NO_WAIT = ('this loop repeated %d times in one call of its process, and nothing in its block waited. So the mote\'s '
-           'work was used up, and the mote halted. A `yield`, or a `yield_until` with the next event, lets the process '
-           'wait there')
+           'work was used up, and the mote halted: ' + LETS_WAIT)
 
 
 class Loop(NamedTuple):

@@ -6,7 +6,7 @@ from typing import Any, NamedTuple
 
 from motesim.explain.lint import Program as Loops
 from motesim.faults import Fault
-from motesim.why.endless import AT_ONCE, MOST_WAITS, Endless, instead
+from motesim.why.endless import AT_ONCE, LETS_WAIT, MOST_WAITS, Endless, instead
 from motesim.why.replay import SYSTEM, Frame, Link, Replay
 from motesim.why.source import At, Source
 from motesim.why.translate import Program
@@ -100,7 +100,7 @@ def used_up(source: Source, mote: int) -> list[str]:
     if branches or not found:
         return branches
     return [in_rounds(program, found) + (
-        'nothing in its block waited: a `yield`, or a `yield_until` with the next event, lets the process wait there')]
+        'nothing in its block waited: ' + LETS_WAIT)]
 
 
 def in_rounds(program: Program, found: Endless) -> str:
