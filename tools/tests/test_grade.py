@@ -177,7 +177,7 @@ PROCESS_THREAD(a, ev, data) {
 '''
         for name, value in ('lea.c', '3'), ('max.c', '4'), ('nina.c', 'strlen("abc")'):
             self.hand_in(name, in_c % value)
-        self.hand_in('kai.c', '\ufeff' + in_c % '3')
+        self.hand_in('kai.c', '\ufeff' + (in_c % '3').replace('"%d"', '"three %d"'))
         rows = self.rows('--net', 'task.toml')
         self.assertIn('a second of a program in C has 128 moments, so the nets run for ', self.seen)
         self.assertEqual({name: rows[name] for name in ('kai.c', 'lea.c', 'max.c', 'nina.c')}, {
@@ -187,6 +187,7 @@ PROCESS_THREAD(a, ev, data) {
         self.assertEqual(rows['lea.c'], self.rows('--net', 'task.toml')['omar.mote'])
         said = self.grade('--net', 'task.toml', '--why', 'nina.c')
         self.assertIn('line 6: printf("%d", strlen("abc"));', said)
+        self.assertIn('\nline 6 in C: ', self.grade('--net', 'task.toml', '--why', 'kai.c'))
         self.assertIn('motesim has no `strlen`', said)
         self.grade('--net', 'task.toml', '--write', 'scenarios')
         written = (self.folder.parent / 'scenarios' / 'lea.c_in_task.toml').read_text()

@@ -5,7 +5,7 @@ from collections.abc import Sequence
 from functools import lru_cache
 
 from motesim.c_program.constants import SECOND
-from motesim.c_program.program import translated
+from motesim.c_program.program import Translation, translated
 from motesim.c_program.refusal import Refusal
 from motesim.explain.whole import with_comment
 from motesim.faults import Fault
@@ -33,9 +33,19 @@ def of_seconds(names: Sequence[str], ends: Sequence[int]) -> list[str]:
 
 
 @lru_cache(maxsize=4)
-def notation_of(source: str) -> str:
-    """A program in C in the notation."""
+def translation_of(source: str) -> Translation:
+    """A program in C in the notation, with the remarks about differences."""
     try:
-        return with_comment(translated(source).text, 'C')
+        return translated(source)
     except Refusal as refusal:
         raise NotTranslated(refusal, source) from None
+
+
+def notation_of(source: str) -> str:
+    """The text of a program in C in the notation."""
+    return with_comment(translation_of(source).text, 'C')
+
+
+def remarks_of(source: str) -> tuple[str, ...]:
+    """The remarks about differences between a program in C and its translation."""
+    return tuple('line %d in C: %s' % (it.line, it.text) for it in translation_of(source).remarks)

@@ -15,7 +15,7 @@ from motesim.explain.within import busiest
 from motesim.faults import Fault, tried
 from motesim.files import replace_whole
 from motesim.grading.entries import Entry, data_of, without_program
-from motesim.grading.in_c import NotTranslated
+from motesim.grading.in_c import NotTranslated, remarks_of
 from motesim.grading.nets import NOT_UTF8, Net, NoProgram, program_of, unused_of
 from motesim.judge.expectations import (
     REFUSED, REQUIRED, Part, UnknownSentence, known_of, more_of, read_all, refused, same_report,
@@ -104,6 +104,7 @@ class Marks:
     warned   the warnings about its programs; and in a net that isn't hidden, those about packets of one moment and,
              if a sentence is broken, about losses, ranges and seeds
     unused   its programs that no mote of the nets runs, in words
+    of_c     for a program in C, the remarks about differences between it and its translation
     """
     name: str
     marks: tuple[Mark, ...] = ()
@@ -119,6 +120,7 @@ class Marks:
     shown_halts: str = ''
     warned: tuple[str, ...] = ()
     unused: str = ''
+    of_c: tuple[str, ...] = ()
 
     @property
     def has_mark(self) -> bool:
@@ -131,7 +133,7 @@ class Marks:
                       for it in self.marks)
         lacks = tuple(cut(one_line(it), LONGEST_WHY) for it in self.lacks)
         return replace(self, marks=marks, why=cut(one_line(self.why), LONGEST_WHY), lacks=lacks,
-                       fix=lines_of(self.fix), unused=cut(one_line(self.unused), LONGEST_WHY))
+                       fix=lines_of(self.fix), of_c=lines_of(self.of_c), unused=cut(one_line(self.unused), LONGEST_WHY))
 
     @property
     def short_name(self) -> str:
@@ -230,7 +232,8 @@ class Task:
         unused = unused_of(data, entry.path.name, self.nets[0]) if self.nets else ''
         marks = replace(self.together(entry.name, found), unused=unused)
         if entry.path.suffix == '.c':
-            marks = replace(marks, warned=tuple(OF_LINE.sub(OF_TRANSLATED, it) for it in marks.warned))
+            marks = replace(marks, warned=tuple(OF_LINE.sub(OF_TRANSLATED, it) for it in marks.warned),
+                            of_c=remarks_of(data.decode('utf-8').removeprefix(MARK)))
         if any(its.is_refused for its in found):
             # (a file whose programs are expected to be refused keeps its marks)
             if any(its.why for its in found) and self.has_c(data, entry.path.name):

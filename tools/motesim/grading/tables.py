@@ -152,4 +152,4 @@ def why(marks: Marks) -> list[str]:
     lines += ['%s: it used up its work there, maybe in a loop without a wait' % marks.halts] if marks.halts else []
     if marks.first_failed is not None:
         lines += [*marks.warned, *([marks.unused, UNUSED] if marks.unused else [])]
-    return lines + [RENAMED] * any(marks.lacks)
+    return [*lines, *([RENAMED] * any(marks.lacks)), *marks.of_c]
