@@ -771,6 +771,18 @@ static const struct broadcast_callbacks calls = { recv };'''
             notes = translation(in_process('  broadcast_open(&bc, 129, &calls);', above.replace('LINES', lines)))[1]
             self.assertEqual('Contiki has one packet buffer' in notes, is_seen, (lines, notes))
 
+    def test_remarks_on_the_packet_buffer_on_channels_and_on_the_address_0(self) -> None:
+        above = 'static struct broadcast_conn bc; static rimeaddr_t to;\n'
+        fill, wait, send = 'packetbuf_copyfrom(&u, 2); ', 'PROCESS_YIELD(); ', 'broadcast_send(&bc); '
+        for body, words in (
+                (fill + wait + send, 'each packet that arrives overwrites it'), (fill + send + wait, None),
+                (wait + fill + send, None), ('broadcast_open(&bc, 129, NULL);', 'Connections have no channels here'),
+                ('to.u8[0] = 0; to.u8[1] = 0;', 'this is the address of mote 0 here'), ('to.u8[0] = 1;', None)):
+            text, notes = translation(in_process('  ' + body, above, VARIABLES))
+            self.assertIsNotNone(text, notes)
+            self.assertTrue(words is None or words in notes, (body, notes))
+            self.assertEqual('overwrites it' in notes, 'overwrites' in (words or ''))
+
     def test_each_cause_has_one_remark(self) -> None:
         self.assertEqual(self.remarks('leds_on(1); leds_on(2); leds_off(1);').count('LEDs'), 1)
 

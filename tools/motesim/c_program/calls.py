@@ -55,6 +55,8 @@ OF_STRUCT_TIMER = ('A `struct timer` and a `struct stimer` post no event when th
 TOO_LONG = ('A timer is set to at most 65,535 moments, and a second has %d: wait for it several times, or translate '
             'with fewer moments, such as `--clock-second 10`.')
 OF_NOW = ('Here, a time has 16 bits, so `%s()` begins again at 0 after each 65,536 moments, which are %d seconds.')
+OF_CHANNEL = ('Connections have no channels here: a packet goes to all motes in range, whatever channel or kind of '
+              'connection their programs open.')
 OF_RADIO_TIMER = ('In Contiki, the function that is called for packets, and the functions of the ctimers that it sets, '
                   'run in a process of the radio. So the event of `%s`, which is set here, goes to the process of the '
                   'radio. In the translation, `%s` gets the event.')
@@ -105,6 +107,8 @@ class Calls(Chance):
 
     def note_connection(self, it: Expression) -> None:
         """Notes that packets arrive before a connection is opened, and after it is closed."""
+        if it.text.endswith('_open'):
+            self.remark(it.line, OF_CHANNEL)
         callback = self.program.usage.callback
         if callback is None or self.unit.name in ('onpoll', 'onexit'):
             return

@@ -15,6 +15,8 @@ from motesim.c_program.values import Value, converted, negated, number
 from motesim.c_program.walk import all_parts
 from motesim.c_program.written import Block, Comment, Flag, If, Line, While
 
+OF_MOTE_0 = ('The motes are numbered from 0, so this is the address of mote 0 here. For the address that no mote has, '
+             'write `linkaddr_copy(&a, &linkaddr_null)`.')
 LOST_TIMER = ('In C, `%s` isn\'t static, so its memory has other values after a wait, and its event may never come. '
               'Here, it comes: declare it as `static`.')
 LOST = ('In C, `%s` isn\'t static, so it loses its value when its process waits. Here, it keeps it: declare it as '
@@ -180,7 +182,7 @@ class Functions(Control):
             return False
         value, index = self.evaluate(it.parts[1]), self.evaluate(target.parts[1])
         if index.constant == 0:
-            self.remark(it.line, OF_ADDRESS)
+            self.remark(it.line, OF_MOTE_0 if value.constant == 0 else OF_ADDRESS)
             self.write(self.place(owner), value, it.line)
         elif value.constant != 0:
             self.remark(it.line, ONE_BYTE)

@@ -17,6 +17,9 @@ OF_TWO = ('A packet, or the data of an event, is one number of 16 bits: `%s` is 
           '8. So each of them has to be at most 255. The receiver gets them by `(data / 256)` and `(data %% 256)`.')
 OF_ONE_MOTE = ('A packet goes to all motes that hear it: its upper 8 bits say for which mote it is, and its lower 8 '
                'bits are its value, which is at most 255. The motes are numbered from 0.')
+KEPT = ('Contiki has one packet buffer, and each packet that arrives overwrites it. Here, this statement sends the '
+        'value of the last `packetbuf_copyfrom`, also if packets arrived after it: fill the buffer directly before '
+        'the send.')
 OF_SENT = 'In Contiki, `%s` is called when the send has ended. Here, its statements follow the `send`.'
 TOO_LARGE = 'A packet to one mote has 8 bits for its value: this one has more.'
 OF_BYTES = 'These %d bytes aren\'t whole variables: assign the values one by one.'
@@ -112,13 +115,14 @@ class Radio(Calls):
         found = it.expressions[0] if it.kind == 'expression' else None
         return found is not None and found.kind == 'call' and found.text in SENDS
 
-    def sent_value(self) -> Value:
+    def sent_value(self, line: int) -> Value:
         """The value in the buffer."""
         if self.buffer is not None:
             return self.buffer
         if self.unit.is_callback and self.unit.name == 'receive':
             return self.whole('packet')
         kept = self.payload()
+        self.remark(line, KEPT)
         return Value(kept, UNSIGNED, *self.limits(kept, UNSIGNED), frozenset([kept]))
 
     def send(self, it: Expression, value: Value) -> None:
@@ -136,7 +140,7 @@ class Radio(Calls):
         self.program.knowledge.assign(('', 'packet'), (value.low, value.high), self.unit.name)
 
     def call_broadcast_send(self, it: Expression) -> None:
-        value = self.sent_value()
+        value = self.sent_value(it.line)
         self.note_packet(value)
         self.send(it, value)
 
@@ -145,7 +149,7 @@ class Radio(Calls):
 
     def call_unicast_send(self, it: Expression) -> None:
         _, target = self.arguments(it, 2)
-        value, address = self.sent_value(), self.address(target)
+        value, address = self.sent_value(it.line), self.address(target)
         self.remark(it.line, OF_ONE_MOTE)
         if value.low < 0 or value.high > 255:
             if 'pair' in self.forms('packet'):
