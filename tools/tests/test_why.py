@@ -776,6 +776,21 @@ code p { var n = 0; etimer t; body { set t 30; while 1 {
                          'line 20: `if (is(packet) && (data == (newest + 1)))` was false each time')
         self.assertRegex(said[2], r'^4 copies did not reach a process here; ')
 
+    def test_a_reason_that_several_statements_have_is_said_once(self) -> None:
+        text = '''version = 2
+end = 30
+medium = { range = 10, base = 1, per = 100, collide = false }
+mote = [{ x = 0, y = 0, program = "a" }]
+[programs]
+a = """process a; autostart a; code a { ctimer c { set c 5; set c 6; print 1; } body { yield; } }"""
+'''
+        asker = Asker(Source('test', answer(text.encode()).report, Scenario.parse(text)))
+        missing = asker.about('mote 0 prints a 1')
+        assert isinstance(missing, Missing)
+        said = next(it.words for it in misses(asker, missing)[0][1] if '`print 1` was never reached' in it.words)
+        self.assertIn('because its timer c was never due', said)
+        self.assertEqual(len(said.split('; ')), len({*said.split('; ')}), said)
+
     def test_an_event_of_a_callback_timer_that_ran_no_block(self) -> None:
         text = '''version = 2
 end = 30

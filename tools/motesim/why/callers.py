@@ -153,7 +153,7 @@ class Callers:
     def sentence(self, numbers: Sequence[int], depth: int) -> str:
         """The statements of these numbers, which call a process, thread or timer: for each, the moment at which it was
         last reached, and the reason why it wasn't reached later."""
-        found = []
+        found = list[str]()
         for number in numbers[:MOST_CALLERS]:
             here = self.reached(number)
             it = self.program.statement(number)
@@ -162,5 +162,6 @@ class Callers:
                 words += 'last reached at %d%s' % (here[-1].at, self.reason(number, depth + 1))
             else:
                 words += 'never reached%s' % (self.reason(number, depth + 1) or self.waiting(it.process))
-            found.append(words)
-        return ''.join('; ' + words for words in found)
+            # (several of these statements may have the same reasons)
+            found += words.split('; ')
+        return ''.join('; ' + words for words in dict.fromkeys(found))
