@@ -204,7 +204,8 @@ REFUSALS = (
     ('etimer_set(&et, 7000L * CLOCK_SECOND);', 'at most 65,535 moments'), ('x = strlen("a");', 'no `strlen`'),
     ('packetbuf_copyfrom();', '`packetbuf_copyfrom` needs 1 argument'), ('process_start();', 'needs 1 argument'),
     ('x = sht11_sensor.value(0);', 'A mote has no sensors'), ('SENSORS_ACTIVATE(b);', 'no sensors and no buttons'),
-    ('int *q = (int *)data; PROCESS_YIELD(); x = *q;', '`q` isn\'t the address of a variable'),
+    ('int *q = (int *)data; PROCESS_YIELD(); x = *q;', 'known only up to the next wait'),
+    ('static int *q; q = data; PROCESS_YIELD(); x = *q;', 'known only up to the next wait'),
     ('if(x { }', 'A `)` is expected here, not `{`.'), ('etimer_set(&et, 5;', 'A `)` is expected here, not `;`.'),
     ('n = 3', 'A `;` is missing at the end of this line.'), ('else n = 2;', 'There is no `if` for this `else`'),
     ('whlie(n) { }', '`whlie` is no statement of C that has a block'), ('case 3: n = 4;', 'A `case` is in the block'),
@@ -440,6 +441,39 @@ class Refusals(unittest.TestCase):
             with self.subTest(old):
                 self.assertIn(old, source)
                 self.assertIn(wanted, translation(source.replace(old, new))[1])
+
+    def test_a_pointer_to_an_event_is_known_only_in_its_function_up_to_the_next_wait(self) -> None:
+        source = '''PROCESS(p, "p");
+AUTOSTART_PROCESSES(&p);
+static struct broadcast_conn bc;
+static const rimeaddr_t *sender;
+static uint8_t n;
+static void recv(struct broadcast_conn *c, const rimeaddr_t *from) {
+  sender = from;
+  n = sender->u8[0];
+  process_poll(&p);
+}
+static const struct broadcast_callbacks calls = { recv };
+PROCESS_THREAD(p, ev, data)
+{
+  static uint16_t *kept;
+  PROCESS_BEGIN();
+  broadcast_open(&bc, 129, &calls);
+  while(1) {
+    PROCESS_WAIT_EVENT();
+    kept = data;
+    if(ev == PROCESS_EVENT_MSG) { printf("%d", *kept); }
+    LAST
+  }
+  PROCESS_END();
+}
+'''
+        for last, name in (('', ''), ('printf("%d", n);', ''), ('printf("%d", sender->u8[0]);', 'sender'),
+                           ('PROCESS_YIELD(); printf("%d", *kept);', 'kept')):
+            text, notes = translation(source.replace('LAST', last))
+            self.assertEqual(text is None, bool(name), notes)
+            if name:
+                self.assertIn('line 21: `%s` points to a packet, its sender or the data' % name, notes)
 
     def test_processes_share_no_variables(self) -> None:
         source = '''PROCESS(a, "a");

@@ -7,7 +7,9 @@ from contextlib import contextmanager
 from motesim.c_program.base import Unit
 from motesim.c_program.constants import constant_of
 from motesim.c_program.control import ENDS, FALLS, Control, Flow, has_wait
-from motesim.c_program.places import INTACT, NO_MOTE, OF_ADDRESS, OF_CHANGE, OF_RESULT, ONE_BYTE, Path, Place, Pointer
+from motesim.c_program.places import (
+    INTACT, NO_MOTE, OF_ADDRESS, OF_CHANGE, OF_EVENTS, OF_RESULT, ONE_BYTE, Path, Place, Pointer,
+)
 from motesim.c_program.refusal import Refusal
 from motesim.c_program.tree import Expression, Function, Statement, Variable
 from motesim.c_program.types import INT, Type, leaves_of
@@ -47,6 +49,7 @@ class Functions(Control):
     def __init__(self, *arguments: object) -> None:
         super().__init__(*arguments)
         self.aliases = {}
+        self.past = set()
         self.values = {}
         self.threads: dict[str, str] = {}
         self.effects: dict[str, set[str]] = {}
@@ -318,7 +321,10 @@ class Functions(Control):
         self.unit, self.known, self.posts, self.jumps, self.in_switch = unit, {INTACT: (1, 1)}, [], [], 0
         self.buffer, self.fresh, self.log, self.open_loops = None, set(), [], []
         self.is_wait_test = False
+        pointers = self.forget_pointers()
         yield
+        self.forget_pointers()
+        self.aliases |= pointers
         self.effects[unit.function.name] = {*self.log}
         (self.unit, self.known, self.posts, self.jumps, self.in_switch, self.buffer, self.fresh, self.log,
          self.next_sends, self.open_loops, self.is_wait_test) = kept
@@ -408,6 +414,15 @@ class Functions(Control):
 
     # Waits.
 
+    def forget_pointers(self) -> dict[Variable, Pointer]:
+        """Forgets the pointers to the event of this call: another event may be next. Returns them."""
+        found = {variable: pointer for variable, pointer in self.aliases.items() if pointer.kind in OF_EVENTS
+                 and not variable.is_parameter and variable not in self.permanent}
+        for variable in found:
+            del self.aliases[variable]
+        self.past |= {*found}
+        return found
+
     def check_wait(self, it: Expression) -> None:
         if not self.unit.may_wait or self.unit.function.kind == 'function':
             is_called = self.unit.is_callback or self.unit.name in ('onpoll', 'onexit') or 'ctimer ' in self.unit.name
@@ -416,9 +431,7 @@ class Functions(Control):
         self.is_first = False
         self.fresh = {one for one in self.fresh if one.is_static}
         self.buffer = None
-        for variable, pointer in [*self.aliases.items()]:
-            if pointer.kind in ('data', 'packet') and not variable.is_parameter and variable not in self.permanent:
-                del self.aliases[variable]
+        self.forget_pointers()
 
     def waits(self, it: Expression, test: Expression | None) -> None:
         """A wait for an event, until a test is true."""

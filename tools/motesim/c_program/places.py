@@ -14,6 +14,10 @@ from motesim.c_program.written import Block, If, Line
 
 Path = tuple[str | int, ...]
 NO_POINTER = 'There are no pointers here: `%s` isn\'t the address of a variable that is known at this place.'
+OF_PAST = ('`%s` points to a packet, its sender or the data of an event. Here, these are known only up to the next '
+           'wait, and only in the function that sets the pointer: keep the value in a variable instead.')
+# The kinds of such pointers.
+OF_EVENTS = ('data', 'packet', 'sender')
 NO_PLACE = 'A value can\'t be assigned to this.'
 NO_INDEX = 'The array `%s` has the members 0 to %d: there is no member %d.'
 NEXT_INDEX = ('The array `%s` has the members 0 to %d, but `%s` may be %d here: then, C reads or writes something '
@@ -83,6 +87,8 @@ class Places(Base):
 
     # What pointers that never change point to, by their variables.
     aliases: dict[Variable, Pointer]
+    # The pointers that pointed to a packet, its sender or the data of an event.
+    past: set[Variable]
 
     def evaluate(self, it: Expression) -> Value:
         raise NotImplementedError
@@ -259,7 +265,7 @@ class Places(Base):
             if variable.type.of and variable.type.of.name == 'char':
                 return Pointer('text')
             return Pointer('place', Place('variable', variable.type, variable))
-        raise self.refuse(it.line, NO_POINTER % it.text)
+        raise self.refuse(it.line, (OF_PAST if variable in self.past else NO_POINTER) % it.text)
 
     def address_of(self, it: Expression) -> Pointer:
         """The pointer to what an expression names."""

@@ -127,7 +127,7 @@ class ProcessWriter(Functions):
             assert variable is not None
             if not variable.is_static and variable.initial and variable.type.kind != 'pointer':
                 self.check_constant(it, variable)
-            if variable.type.kind == 'pointer':
+            if variable.type.kind == 'pointer' and variable.initial:
                 self.permanent.add(variable)
             self.of_declare(it)
         elif it.kind == 'empty':
