@@ -817,6 +817,15 @@ static const struct broadcast_callbacks calls = { recv };'''
             self.assertTrue(words is None or words in notes, (body, notes))
             self.assertEqual('overwrites it' in notes, 'overwrites' in (words or ''))
 
+    def test_a_product_that_an_int_of_a_node_does_not_hold_has_a_remark(self) -> None:
+        for body, is_seen in (
+                ('x = 5000; for(i = 0; i < 3; i++) x = (x * 7 + 6000) / 8;', True), ('x = 200; x = x * 300;', True),
+                ('for(i = 2; i * i <= n; i++) n++;', True), ('for(u = 2; u * u <= 400; u++) n++;', False),
+                ('for(i = 0; i < 9; i++) x = (i * 100) / 8;', False), ('x = (n * 7) & 3; a[0] = n * 3;', False)):
+            text, notes = translation(in_process('  n = node_id; PROCESS_YIELD(); ' + body, '', VARIABLES))
+            self.assertIsNotNone(text, notes)
+            self.assertEqual('a product above 32,767 is below 0 there' in notes, is_seen, (body, notes))
+
     def test_each_cause_has_one_remark(self) -> None:
         self.assertEqual(self.remarks('leds_on(1); leds_on(2); leds_off(1);').count('LEDs'), 1)
 

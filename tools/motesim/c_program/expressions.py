@@ -28,6 +28,8 @@ OF_FUNCTION = '`%s` is a function, but a number is expected here: call it, `%s(.
 OF_UNSET = ('`%s` may be an address that isn\'t set. As in C, its bytes are 0 then. But the motes are numbered from 0 '
             'here, so mote 0 has these bytes, too: to tell them apart, use `linkaddr_cmp`, or leave mote 0 out.')
 NO_BITS = 'This operation on bits needs statements of its own: write it above, into a variable.'
+OF_OVERFLOW = ('An `int` of a node has 16 bits, so a product above 32,767 is below 0 there. Here, it isn\'t: calculate '
+               'with `uint16_t`, or with smaller values.')
 OF_SECOND = ('A second has %d moments here, so `CLOCK_SECOND` is %d%s. `end` of the scenario is in moments, too, and '
              'so are the delays of packets.')
 
@@ -207,10 +209,20 @@ class Expressions(Events):
             for one, other in ((it.parts[0], right), (it.parts[1], left)):
                 if one.kind == 'number' and one.number > 32_767 and other.is_negative:
                     self.remark(it.line, OF_LONG)
+            self.note_size(it.text, left, right, self.is_long(it), it.line)
             return compared(it.text, left, right)
-        if self.is_long(it) and exceeds(it.text, left, right):
-            self.remark(it.line, OF_LONG)
+        self.note_size(it.text, left, right, self.is_long(it), it.line)
         return self.operation(it.text, left, right, it.line)
+
+    def note_size(self, sign: str, left: Value, right: Value, is_long: bool, line: int) -> None:
+        """Notes that a result may have more bits than a value has here, or than an `int` has on a node."""
+        if is_long and exceeds(sign, left, right):
+            self.remark(line, OF_LONG)
+        is_compared = sign in ('/', '%', '>>', *COMPARES) and (left.wraps or right.wraps)
+        is_certain = sign == '*' and common(left, right).signed and min(left.low, right.low) > 0 and \
+            left.low * right.low >= HALF
+        if not is_long and (is_compared or is_certain):
+            self.remark(line, OF_OVERFLOW)
 
     def check_size(self, sign: str, parts: Sequence[Expression], line: int) -> None:
         """Refuses an operation whose result depends on more than the lower 16 bits of its operands."""
@@ -452,8 +464,7 @@ class Expressions(Events):
             return
         if place.chosen is None:
             old = promoted(self.read(place, line))
-            if self.is_long(it.parts[1]) and exceeds(sign, old, value):
-                self.remark(line, OF_LONG)
+            self.note_size(sign, old, value, self.is_long(it.parts[1]), line)
             self.write(place, self.operation(sign, old, value, line), line)
             return
         kept = value if value.is_simple else self.temporary(value)

@@ -22,6 +22,7 @@ class Value(NamedTuple):
     test    for a comparison, its sign and both sides
     zeros   the number of its lowest bits that are always 0
     truth   a shorter text that is true if the value isn't 0
+    wraps   whether it may be greater than an `int` can be: then it is below 0 on a node
     """
     text: str
     type: Type
@@ -31,6 +32,7 @@ class Value(NamedTuple):
     test: tuple[str, str, str] | None = None
     zeros: int = 0
     truth: str = ''
+    wraps: bool = False
 
     @property
     def constant(self) -> int | None:
@@ -181,7 +183,8 @@ def added(a: Value, b: Value, sign: str) -> Value:
         return (a if b.constant == 0 else b)._replace(type=its)
     if b.constant is not None and b.low < 0:
         b, sign = number(-b.low), '-' if sign == '+' else '+'
-    return Value('(%s %s %s)' % (of_side(a), sign, of_side(b)), its, *limits, a.reads | b.reads)
+    return Value('(%s %s %s)' % (of_side(a), sign, of_side(b)), its, *limits, a.reads | b.reads,
+                 wraps=its.signed and (a.wraps or b.wraps))
 
 
 def multiplied(a: Value, b: Value) -> Value:
@@ -193,7 +196,7 @@ def multiplied(a: Value, b: Value) -> Value:
         return folded or (b if a.constant == 1 else a)._replace(type=its)
     zeros = min(16, a.zeros + b.zeros)
     return Value('(%s * %s)' % (a.text, b.text), its, *limited(min(products), max(products), its), a.reads | b.reads,
-                 zeros=zeros)
+                 zeros=zeros, wraps=its.signed and (max(products) >= HALF or min(products) < -HALF))
 
 
 def of_constants(a: Value, b: Value, sign: str, its: Type) -> Value | None:
