@@ -90,6 +90,12 @@ class ChanceTest(unittest.TestCase):
 
 
 class PlacesTest(unittest.TestCase):
+    def test_a_place_of_a_list_may_be_a_parameter(self) -> None:
+        text = PLAN_OF_ONE % 'flood.mote'
+        text = text.replace('rule = "line"\ncount = 1\nstep = 1', 'rule = "list"\nat = [["${far}", 2], [0, 0]]')
+        made = plan(text + '[parameters]\nfar = 7\nperiod = 3\n').scenario({'far': 30})
+        self.assertEqual([(it.x, it.y) for it in Scenario.parse(made).places], [(30, 2), (0, 0)])
+
     def test_a_ring_of_four(self) -> None:
         self.assertEqual(places.ring(4, 30_000), [(30_000, 0), (0, 30_000), (-30_000, 0), (0, -30_000)])
 

@@ -221,11 +221,14 @@ class Builder:
         return first + OF_TABLE * (self.drawing[array] - 1)
 
     def listed(self, rows: list[Any], path: Path) -> list[Point]:
+        points = list[Point]()
         for index, row in enumerate(rows):
-            if type(row) is not list or len(row) != 2 or not all(type(it) is int for it in row):
+            its = [self.tables.filled(it, path) for it in row] if type(row) is list else []
+            if len(its) != 2 or not all(type(it) is int for it in its):
                 raise self.tables.fault(path, 'Place %d of the list is not two whole numbers.' % index,
                                         'an array of pairs, `[[0, 0], [10, 0]]`')
-        return [(row[0], row[1]) for row in rows]
+            points.append((its[0], its[1]))
+        return points
 
     def places_of_csv(self, values: Mapping[str, Any], path: Path, names: list[str]) -> list[Point]:
         points, at = [], path + ('file',)
