@@ -38,7 +38,7 @@ MOTES = Table('MOTES', 'The sentence is about', ('%s sends', '%s send'), (
     (('every mote', 'each mote', 'all motes', 'every mote but 0', 'all motes but motes 0 and 1'),
      'each mote, except those after `but`'),
     (('motes 3 to 7 together', 'all motes together'),
-     'all lines of these motes, as if one mote had them, sorted by moment, then by mote'),
+     'all lines of these motes in one list, sorted by moment, then by mote'),
     (('no mote', 'no mote but 0'),
      'all motes, except those after `but`; the rest of the sentence must hold for none of them'),
     (('some mote', 'some mote but 0'),
@@ -56,7 +56,8 @@ DEED = Table('DEED', 'Lines of the report', ('mote 1 %s',), (
     (('prints just P 1 to 29 in any order',),
      'all lines `print P V`: exactly these values, in any order'),
     (('prints just P its distance from mote 0',),
-     'exactly one line `print P V`, with this value. Instead of this VALUE, any other VALUE is possible'),
+     'exactly one line `print P V`, with this value. Instead of `its distance from mote 0`, you may write any VALUE of '
+     'the next table'),
     (('finally prints P VALUE',), 'the last line `print P V`: this value'),
     (('sends', 'sends VALUE'), '`send N V`'),
     (('receives', 'receives VALUE', 'receives VALUE from mote 2'), '`recv F N V`'),
@@ -65,8 +66,8 @@ DEED = Table('DEED', 'Lines of the report', ('mote 1 %s',), (
      'lines that have this text directly after the moment; more words may follow'),
     (("writes 'collide' or 'lost'",), 'lines that have one of these texts directly after the moment'),
     (('never sends', 'never prints P VALUE'),
-     'no line of the deed, here `sends` or `prints P VALUE`; the MOTES must be from the first three rows of the table '
-     'MOTES'),
+     'no line of the deed, here `sends` or `prints P VALUE`; MOTES must be from the first three rows of the table '
+     'above'),
 ))
 VALUE = Table('VALUE', 'Is', ('mote 1 prints p %s',), (
     (('7',), 'this number'),
@@ -124,8 +125,8 @@ OTHER = Table('Sentence', 'Is about', ('%s',), (
      'copies that the medium loses; their moment is the one at which the packet was sent'),
     (('at least 90 % of copies arrive', 'at most 5 % of the copies collide at motes 1 to 3', 'every copy arrives',
       'each copy arrives at mote 3', 'all copies arrive'),
-     'a share of all copies, except those that are still on the way at the end. A copy that the medium loses counts, '
-     'even if it would arrive after the end. No WHEN is allowed'),
+     'a share of all copies, except those that are still on the way at the end. All copies include those that the '
+     'medium loses, even if they would arrive after the end. No WHEN is allowed'),
     (('exactly 1 copy is left', 'exactly 2 copies are left'),
      'the last line of the report: the copies on the way at the end'),
     (('exactly 75 packets are sent', 'no packet is sent after 90'), 'lines of the medium'),
