@@ -787,6 +787,31 @@ PROCESS_THREAD(mac, ev, data) { PROCESS_BEGIN();
             'ready = p', 'process_post(&mac, ready, NULL);\n ready = p'))[1]
         self.assertIn('line 8: ' + early, notes)
 
+    def test_a_timer_that_is_reset_before_it_has_expired_has_a_remark(self) -> None:
+        above = '''static struct etimer other; static struct ctimer c; static uint8_t k;
+static void again(void) { etimer_reset(&et); }
+static void tick(void *ptr) { ctimer_reset(&c); }
+static void late(void *ptr) { printf("%d", 1); }'''
+        expired, wait = 'PROCESS_WAIT_EVENT_UNTIL(etimer_expired(&et)); ', 'while(1) { PROCESS_WAIT_EVENT(); %s }'
+        reset = 'etimer_reset(&et);'
+        for body, is_early in (
+                (reset, True), ('while(1) { %s %s }' % (expired, reset), False), (expired + 'again();', False),
+                (expired + 'etimer_stop(&et); ' + reset, True),
+                ('while(!etimer_expired(&et)) PROCESS_YIELD(); ' + reset, False),
+                (expired + 'while(1) { %s PROCESS_YIELD(); }' % reset, True), ('ctimer_set(&c, 3, tick, NULL);', False),
+                ('ctimer_set(&c, 3, late, NULL); ctimer_reset(&c);', True), (wait % reset, False),
+                ('etimer_set(&other, 3);' + wait % reset, True), ('process_poll(&p);' + wait % reset, True),
+                ('etimer_set(&other, 3);' + wait % ('if(data == &et) { %s }' % reset), False),
+                (wait % ('switch(ev) { case PROCESS_EVENT_TIMER: %s break; }' % reset), False),
+                ('process_poll(&p);' + wait % ('if(ev == PROCESS_EVENT_TIMER) { %s }' % reset), False),
+                ('process_poll(&p);' + wait % ('if(!etimer_expired(&et)) continue; ' + reset), False),
+                ('while(1) { PROCESS_WAIT_EVENT_UNTIL(etimer_expired(&et) || ev == PROCESS_EVENT_POLL); '
+                 'if(ev == PROCESS_EVENT_POLL) { continue; } %s }' % reset, False),
+                ('while(1) { PROCESS_WAIT_EVENT_UNTIL(k || etimer_expired(&et)); %s }' % reset, True)):
+            with self.subTest(body):
+                notes = self.remarks('etimer_set(&et, 5); ' + body, 'static struct etimer et;\n' + above, '')
+                self.assertEqual('expires at once' in notes, is_early, notes)
+
     def test_a_packet_that_has_been_overwritten_has_a_remark(self) -> None:
         above = '''static struct broadcast_conn bc;
 static struct ctimer c;

@@ -5,12 +5,12 @@ import re
 from collections.abc import Callable, Sequence
 
 from motesim.c_program.chance import Chance
-from motesim.c_program.constants import constant_of
+from motesim.c_program.constants import EVENT_NUMBERS, constant_of
 from motesim.c_program.places import OF_DATA, TEXTS, Place, Pointer, has_effects
 from motesim.c_program.tree import Expression, Function
-from motesim.c_program.types import INT, UNSIGNED
-from motesim.c_program.values import MOST, NOTHING, Value, added, as_type, compared, number
-from motesim.c_program.walk import all_parts, parts_of, without_casts
+from motesim.c_program.types import INT, UNSIGNED, leaves_of
+from motesim.c_program.values import MOST, NOTHING, Limits, Value, added, as_type, compared, number
+from motesim.c_program.walk import all_parts, parts_of, shown, without_casts
 from motesim.c_program.written import Block, If, Line
 from motesim.from_c.absent import MULTIHOP, NO_LISTS, NO_SENSORS, RUNICAST
 
@@ -21,6 +21,7 @@ OF_WIDTH = 'A `%*d` has no counterpart: write a number instead of the `*`, such 
 IGNORED = ('broadcast_open', 'unicast_open', 'abc_open', 'leds_init', 'packetbuf_set_attr', 'PT_INIT',
            'PROCESS_BEGIN', 'PROCESS_END', 'PT_BEGIN', 'PT_END', 'watchdog_periodic', 'packetbuf_clear',
            'packetbuf_set_datalen')
+TIMER = EVENT_NUMBERS['PROCESS_EVENT_TIMER']
 LEDS = ('leds_on', 'leds_off', 'leds_toggle', 'leds_blink', 'leds_invert')
 OF_LEDS = 'A mote has no LEDs: a `print` shows the moment in the report.'
 OF_TEXT = ('There are no texts: each number of a `printf` has a `print`, whose comment has the text, and a `printf` '
@@ -60,6 +61,10 @@ OF_CHANNEL = ('Connections have no channels here: a packet goes to all motes in 
 OF_RADIO_TIMER = ('In Contiki, the function that is called for packets, and the functions of the ctimers that it sets, '
                   'run in a process of the radio. So the event of `%s`, which is set here, goes to the process of the '
                   'radio. In the translation, `%s` gets the event.')
+OF_RESET = ('In Contiki, a timer that is reset before it has expired expires at once, because its next interval begins '
+            'in the future. Here, `%s` expires at the end of that interval. To start it from now, use `%s_restart`.')
+# The name under which it is known that a timer has expired.
+ELAPSED = 'end of '
 NO_CLOSE = 'A connection isn\'t closed here: `%s` runs for each packet up to the end.'
 NOT_OPEN = 'A connection isn\'t opened here: `%s` runs for each packet from the start.'
 OF_RECEIVER = 'In Contiki, `%s` still runs for packets after this process has ended.'
@@ -281,6 +286,7 @@ class Calls(Chance):
         name = self.timer(timer, 'etimer')
         self.note_callback_timer(name, it.line)
         self.emit('set %s %s;' % (name, self.interval(interval)))
+        self.note_running(name)
 
     def note_callback_timer(self, name: str, line: int) -> None:
         if self.unit.of_radio:
@@ -290,7 +296,10 @@ class Calls(Chance):
         name = self.timer(self.arguments(it, 1)[0], *kinds)
         if kinds[0] == 'etimer' and word != 'stop':
             self.note_callback_timer(name, it.line)
+        if word == 'reset' and ELAPSED + name not in self.known:
+            self.remark(it.line, OF_RESET % (name, kinds[0]))
         self.emit('%s %s;' % (word, name))
+        self.note_running(name)
 
     def call_etimer_reset(self, it: Expression) -> None:
         self.changed_timer(it, 'reset', 'etimer')
@@ -309,6 +318,60 @@ class Calls(Chance):
 
     def call_ctimer_stop(self, it: Expression) -> None:
         self.changed_timer(it, 'stop', 'ctimer')
+
+    # Whether a timer has expired.
+
+    # The two sides of the `||` in the test of the last wait: if one of them is false, the other one is true.
+    either: dict[str, Expression]
+
+    def note_wait(self, test: Expression | None, is_until: bool = True) -> None:
+        """Notes the timers that have expired after a wait."""
+        self.note_expired(test, is_until)
+        if test and test.kind == 'binary' and test.text == '||' and is_until:
+            one, other = test.parts
+            self.either = {shown(one): other, shown(other): one}
+
+    def note_running(self, name: str) -> None:
+        """Notes that a timer is set or stopped."""
+        self.program.knowledge.assign((self.process, ELAPSED + name), (1, 1), self.unit.name)
+        self.note_effects([ELAPSED + name])
+
+    def note_expired(self, test: Expression | None, is_true_here: bool = True) -> None:
+        """Notes the timers that have expired if a test is true, or if it is false. Without a test, it is a wait for any
+        event."""
+        if test is None:
+            self.known |= self.only_timer() if self.has_only_timers else {}
+        elif test.kind == 'unary' and test.text == '!':
+            self.note_expired(test.parts[0], not is_true_here)
+        elif test.kind == 'binary' and test.text == ('&&' if is_true_here else '||'):
+            self.note_expired(test.parts[0], is_true_here)
+            self.note_expired(test.parts[1], is_true_here)
+        elif not is_true_here and shown(test) in self.either:
+            self.note_expired(self.either[shown(test)])
+        elif test.kind == 'call' and test.text in ('etimer_expired', 'ctimer_expired') and is_true_here:
+            self.known[ELAPSED + self.timer(self.first(test), 'etimer', 'ctimer')] = (1, 1)
+        elif test.kind == 'binary' and test.text == ('==' if is_true_here else '!='):
+            for one, other in (test.parts, test.parts[::-1]):
+                if self.is_event(one) and constant_of(other) == TIMER:
+                    self.known |= self.only_timer()
+                elif self.is_data(one) and without_casts(other).kind == 'unary':
+                    pointer = self.pointer(other)
+                    if pointer.kind == 'timer':
+                        self.known[ELAPSED + self.timer(other, 'etimer')] = (1, 1)
+
+    def only_timer(self) -> dict[str, Limits]:
+        """The timer that has expired when the event of a timer arrives, if the process has only one etimer."""
+        found = [self.named(it, path) for it in self.use.variables for path, its in leaves_of(it.type)
+                 if its.kind == 'etimer']
+        return {ELAPSED + found[0]: (1, 1)} if len(found) == 1 else {}
+
+    @property
+    def has_only_timers(self) -> bool:
+        """Returns whether all events that the process waits for are those of timers."""
+        units = (*self.file.bodies.values(), *self.file.functions.values())
+        others = ('process_post', 'process_post_synch', 'process_poll', 'process_start')
+        return len(self.file.processes) == 1 and not any(
+            it.kind == 'call' and it.text in others for one in units for it in all_parts(one.body))
 
     def value_etimer_expired(self, it: Expression) -> Value:
         return self.expired(it, 'etimer')

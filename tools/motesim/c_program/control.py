@@ -5,6 +5,7 @@ from collections.abc import Callable, Sequence
 from typing import NamedTuple, Union
 
 from motesim.c_program.base import joined_limits
+from motesim.c_program.calls import TIMER
 from motesim.c_program.constants import constant_of
 from motesim.c_program.radio import Radio
 from motesim.c_program.tree import Expression, Statement, Variable
@@ -136,10 +137,12 @@ class Control(Radio):
         value = self.settled_test(test)
         known = dict(self.known)
         self.refine(test, True)
+        self.note_expired(test)
         with self.into([]) as then:
             first = ENDS if value.constant == 0 else self.run(it.body)
         ends, self.known = self.known, dict(known)
         self.refine(test, False)
+        self.note_expired(test, False)
         with self.into([]) as other:
             second = ENDS if value.constant not in (0, None) else self.run(it.others)
         self.unit.temporaries, self.unit.flags = temporaries, flags
@@ -278,6 +281,8 @@ class Control(Radio):
             flow = self.loop_body(it, test, step, last, target, (above if is_twice else [], posts, is_again))
         self.leave_loop(key, known)
         targets = flow.targets
+        if test and target not in targets:
+            self.note_expired(test, False)
         if above and not is_twice:
             body = [*above, If(value, body, [Flag(target, 1)])]
             targets |= {target}
@@ -316,6 +321,7 @@ class Control(Radio):
         above, posts, is_again = extra
         if test:
             self.refine(test, True)
+            self.note_expired(test)
         self.posts = [*posts]
         self.flush()
 
@@ -402,6 +408,8 @@ class Control(Radio):
         for labels, begin in [group for group in groups if group is not last]:
             self.known = dict(known)
             test = self.case_test(it, labels, value)
+            if value is None and any(constant_of(one.expressions[0]) == TIMER for one in labels if one.expressions[0]):
+                self.known |= self.only_timer()
             with self.into([]) as then:
                 flows.append(self.run(body_from(it, begin)))
             ends.append(self.known)

@@ -5,6 +5,7 @@ from collections.abc import Iterator
 from contextlib import contextmanager
 
 from motesim.c_program.base import Unit
+from motesim.c_program.calls import ELAPSED
 from motesim.c_program.constants import constant_of
 from motesim.c_program.control import ENDS, FALLS, Control, Flow, has_wait
 from motesim.c_program.places import (
@@ -50,6 +51,7 @@ class Functions(Control):
         super().__init__(*arguments)
         self.aliases = {}
         self.past = set()
+        self.either = {}
         self.values = {}
         self.threads: dict[str, str] = {}
         self.effects: dict[str, set[str]] = {}
@@ -336,7 +338,9 @@ class Functions(Control):
             unit = Unit(function.name, function, may_wait=function.kind == 'thread',
                         is_callback=self.unit.is_callback and function.kind != 'thread',
                         of_radio=self.unit.of_radio and function.kind != 'thread')
+            expired = {key: its for key, its in self.known.items() if key.startswith(ELAPSED) and not unit.may_wait}
             with self.unit_of(unit), self.into([]) as block:
+                self.known |= expired
                 self.body_of(function)
             self.threads[function.name] = name
             self.code.threads[name] = [*self.heading(function), *without_last_exit(block)]
@@ -430,7 +434,7 @@ class Functions(Control):
             raise self.refuse(it.line, reason)
         self.is_first = False
         self.fresh = {one for one in self.fresh if one.is_static}
-        self.buffer = None
+        self.buffer, self.either = None, {}
         self.forget_pointers()
 
     def waits(self, it: Expression, test: Expression | None) -> None:
@@ -441,8 +445,9 @@ class Functions(Control):
         if above:
             self.yield_lines(None)
             self.wait_by_loop(test, True)
-            return
-        self.yield_lines(value)
+        else:
+            self.yield_lines(value)
+        self.note_wait(test)
 
     def wait_test(self, test: Expression | None) -> tuple[Block, Value | None]:
         """The test of a wait, as an expression; the statements that it would need, if it can't be one."""
@@ -486,13 +491,13 @@ class Functions(Control):
         assert value is not None
         if above:
             self.wait_by_loop(test, is_until)
-            return
-        if not self.receives:
+        elif not self.receives:
             self.emit('%s %s;' % ('wait_until' if is_until else 'wait_while', value.condition))
-            return
-        with self.into([]) as body:
-            self.yield_lines(None)
-        self.out.append(While(negated(value) if is_until else value, body))
+        else:
+            with self.into([]) as body:
+                self.yield_lines(None)
+            self.out.append(While(negated(value) if is_until else value, body))
+        self.note_wait(test, is_until)
 
     def call_PROCESS_YIELD(self, it: Expression) -> None:
         self.waits(it, None)

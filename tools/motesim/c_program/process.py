@@ -6,13 +6,14 @@ from collections.abc import Sequence
 
 from motesim.c_program.allocation import at_start_of
 from motesim.c_program.base import OF_LONG, Program, Unit
+from motesim.c_program.calls import ELAPSED
 from motesim.c_program.functions import Functions, without_last_exit
 from motesim.c_program.places import Pointer
 from motesim.c_program.tree import Expression, Function, Statement, Variable
 from motesim.c_program.types import INT, Type, leaves_of
 from motesim.c_program.usage import GLOBAL
 from motesim.c_program.values import Limits, Value, compared, number, united
-from motesim.c_program.walk import all_parts, without_casts
+from motesim.c_program.walk import all_parts, shown, without_casts
 from motesim.c_program.written import Block, Flag, If, Line, lines_of
 
 IF_OTHER = 'if ((data / 256) != self) { exit; }'
@@ -210,21 +211,22 @@ class ProcessWriter(Functions):
         timer, interval, function, pointer = self.arguments(it, 4)
         name = self.timer(timer, 'ctimer')
         self.emit('set %s %s;' % (name, self.interval(interval)))
+        self.note_running(name)
         target = self.pointer(function)
         if target.kind != 'function':
             raise self.refuse(it.line, NO_CALLBACK)
-        shown, known = (target.name, self.shown(pointer)), self.callbacks.setdefault(name, [])
-        is_new = shown not in known
-        known += [shown] * is_new
+        called, known = (target.name, shown(pointer)), self.callbacks.setdefault(name, [])
+        is_new = called not in known
+        known += [called] * is_new
         key = self.process, name
         if len(known) > 1:
             self.program.knowledge.new_shared_timers.add(key)
         if key in self.program.knowledge.shared_timers:
-            self.assign(self.function_of(name), number(known.index(shown)))
+            self.assign(self.function_of(name), number(known.index(called)))
         if is_new:
             self.blocks.setdefault(name, []).append([])
             block = self.callback_block(name, self.file.functions[target.name], pointer)
-            self.blocks[name][known.index(shown)] = block
+            self.blocks[name][known.index(called)] = block
 
     def function_of(self, timer: str) -> str:
         """The variable that says which function a callback timer runs."""
@@ -240,19 +242,13 @@ class ProcessWriter(Functions):
                 found = [If(test, blocks[at], found)]
             self.code.ctimers[name] = found
 
-    def shown(self, it: Expression) -> str:
-        """An expression as a text, to compare it with another one."""
-        it = without_casts(it)
-        if it.kind == 'number':
-            return str(it.number)
-        return '%s(%s)' % (it.text, ','.join(self.shown(part) for part in it.parts))
-
     def callback_block(self, name: str, function: Function, pointer: Expression) -> Block:
         """The block of a function that a ctimer calls."""
         for variable in function.parameters:
             self.bind_pointer(variable, without_casts(pointer))
         unit = Unit('ctimer ' + name, function, may_wait=False, may_spawn=False, of_radio=self.unit.of_radio)
         with self.unit_of(unit), self.into([]) as block:
+            self.known[ELAPSED + name] = (1, 1)
             self.run_to_return(function.body)
         return [*self.heading(function), *block]
 

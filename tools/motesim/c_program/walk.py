@@ -90,3 +90,11 @@ def has_jump(statements: Iterable[Statement], kind: str) -> bool:
 
 
 _NONE = Variable('', None, 0)  # type: ignore[arg-type]
+
+
+def shown(it: Expression) -> str:
+    """An expression as a text, to compare it with another one."""
+    it = without_casts(it)
+    if it.kind == 'number':
+        return str(it.number)
+    return '%s(%s)' % (it.text, ','.join(shown(part) for part in it.parts))
