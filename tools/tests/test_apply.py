@@ -173,6 +173,19 @@ class Command(unittest.TestCase):
         self.run_on(self.written('mueller.c', C), '--apply', str(output))
         self.assertNotIn('mueller', output.read_text())
 
+    def test_the_moments_of_a_second_can_be_named(self) -> None:
+        source = C.replace('#define PERIOD 10', '#define PERIOD (5 * CLOCK_SECOND)')
+        name, output = self.written('b.c', source), str(self.folder / 'b.toml')
+        status, out, _ = self.run_on(name, '--apply', output, '--clock-second', '20')
+        self.assertEqual(status, 0)
+        self.assertIn('set et 100;', Path(output).read_text())
+        self.assertIn('end = 2000\n', Path(output).read_text())
+        for words in ([name, '--clock-second', '20'], [name, '--apply', output, '--clock-second', '0'],
+                      [name, '--apply', output, '--clock-second', 'ten']):
+            status, _, err = self.run_on(*words)
+            self.assertEqual(status, 2)
+            self.assertIn('clock-second', err)
+
     def test_quotes_in_a_program_are_refused(self) -> None:
         name = self.written('q.mote', "process a; // '''\n")
         status, _, err = self.run_on(name, '--apply', str(self.folder / 'q.toml'))

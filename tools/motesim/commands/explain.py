@@ -47,6 +47,8 @@ def main() -> int:
     from motesim.explain.applied import apply
     from motesim.explain.explanation import explain
     from motesim.explain.within import runs_within
+    if asked.apply is None and asked.clock_second != SECOND:
+        words.error('--clock-second is about the file that --apply writes: name this file, too')
     if asked.apply is not None:
         return apply(asked.file, asked.apply, runs_within(asked.apply, asked), asked.clock_second)
     return explain(asked.file, runs_within(asked.file, asked))
