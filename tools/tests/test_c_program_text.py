@@ -851,6 +851,14 @@ static const struct broadcast_callbacks calls = { recv };'''
             self.assertIsNotNone(text, notes)
             self.assertEqual('a product above 32,767 is below 0 there' in notes, is_seen, (body, notes))
 
+    def test_an_index_that_a_loop_limits_has_no_remark(self) -> None:
+        above = '''static int t[4];
+static int find(int k) { int i; for(i = 0; i < 4; i++) { if(t[i] == k) return i; } return RESULT; }'''
+        for result, is_seen in ('-1', False), ('0', False), ('4', True):
+            notes = translation(in_process('  x = find(n); if(x >= 0) t[x] = 1;', above.replace('RESULT', result),
+                                           VARIABLES))[1]
+            self.assertEqual('may be 4 here' in notes, is_seen, notes)
+
     def test_each_cause_has_one_remark(self) -> None:
         self.assertEqual(self.remarks('leds_on(1); leds_on(2); leds_off(1);').count('LEDs'), 1)
 

@@ -15,6 +15,8 @@ LoopLimits = dict[str, Limits | None]
 # The limits that values get that still change after some translations.
 STEPS_DOWN, STEPS_UP = (0, -1, -128, -32_768), (0, 1, 2, 4, 8, 16, 32, 64, 127, 255, 32_767, MOST)
 EXACT_ROUNDS = 3
+# The most translations that make limits narrower.
+MOST_NARROWINGS = 2
 
 
 @dataclass
@@ -33,6 +35,7 @@ class Knowledge:
     shared_timers: set[Key] = field(default_factory=set)
     new_shared_timers: set[Key] = field(default_factory=set)
     rounds: int = 0
+    narrowings: int = 0
 
     def assign(self, key: Key, limits: Limits, unit: str) -> None:
         """Notes that a part of the program assigns a value to a variable."""
@@ -47,6 +50,9 @@ class Knowledge:
         is_same = merged == self.limits and self.writers == self.new_writers and self.loops == loops
         is_same = is_same and self.forms == self.new_forms
         is_same = is_same and self.shared_timers == self.new_shared_timers
+        if is_same and self.new_limits != self.limits and self.narrowings < MOST_NARROWINGS:
+            # (what follows from right limits is right, too; the steps of `merged` may have been too large)
+            merged, is_same, self.narrowings = self.new_limits, False, self.narrowings + 1
         self.limits, self.writers, self.loops = merged, self.new_writers, loops
         self.forms, self.shared_timers = self.new_forms, self.new_shared_timers
         self.new_limits, self.new_writers, self.new_loops = {}, {}, {}
