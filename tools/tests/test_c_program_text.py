@@ -830,6 +830,30 @@ static const struct broadcast_callbacks calls = { recv };'''
             notes = translation(in_process('  broadcast_open(&bc, 129, &calls);', above.replace('LINES', lines)))[1]
             self.assertEqual('Contiki has one packet buffer' in notes, is_seen, (lines, notes))
 
+    def test_a_send_of_a_buffer_that_another_statement_has_changed_has_a_remark(self) -> None:
+        above = '''static struct broadcast_conn bc; static struct ctimer delay; static uint16_t k, m;
+static void out(void) { broadcast_send(&bc); }
+static void fill(uint16_t value) { k = value; packetbuf_copyfrom(&k, 2); }
+static void both(uint16_t value) { k = value; packetbuf_copyfrom(&k, 2); broadcast_send(&bc); }
+static void later(void *ptr) { broadcast_send(&bc); }
+static void recv(struct broadcast_conn *c, const rimeaddr_t *from) { LINES; }
+static const struct broadcast_callbacks calls = { recv };'''
+        fill, send = 'packetbuf_copyfrom(&k, 2); ', 'broadcast_send(&bc); '
+        for body, lines, is_seen in (
+                (fill + send + send, '', True), (fill + send + 'packetbuf_clear(); ' + send, '', True),
+                ('packetbuf_clear(); ' + fill + send, '', False), (fill + 'for(m = 0; m < 3; m++) ' + send, '', True),
+                (fill + 'out(); fill(3); ' + send + 'both(4); both(5);', '', False), ('both(4); ' + send, '', True),
+                ('if(k) { %s } else { packetbuf_copyfrom(&m, 2); } %s' % (fill, send), '', False),
+                ('', 'out();', False), ('', send + send, True), ('', 'ctimer_set(&delay, 3, later, NULL);', True)):
+            with self.subTest(body + lines):
+                notes = self.remarks('broadcast_open(&bc, 129, &calls); %s;' % body, above.replace('LINES', lines), '')
+                self.assertEqual('fill the buffer directly before each send' in notes, is_seen, notes)
+        text, _ = translation(in_process('  broadcast_open(&bc, 129, &calls);', above.replace('LINES', 'out();')))
+        self.assertIn('send data;', text or '')
+        for length, is_seen in (1, True), (2, False):
+            notes = self.remarks('%s packetbuf_set_datalen(%d); %s' % (fill, length, send), above, '')
+            self.assertEqual('`packetbuf_set_datalen` doesn\'t change it' in notes, is_seen)
+
     def test_remarks_on_the_packet_buffer_on_channels_and_on_the_address_0(self) -> None:
         above = 'static struct broadcast_conn bc; static rimeaddr_t to;\n'
         fill, wait, send = 'packetbuf_copyfrom(&u, 2); ', 'PROCESS_YIELD(); ', 'broadcast_send(&bc); '

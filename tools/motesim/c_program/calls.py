@@ -97,6 +97,7 @@ class Calls(Chance):
             return
         if it.text in IGNORED or it.text.endswith('_close'):
             self.note_connection(it)
+            self.note_buffer(it)
             return
         if it.text in LEDS:
             self.remark(it.line, OF_LEDS)
@@ -109,6 +110,10 @@ class Calls(Chance):
             self._call(it)
             return
         made(it)
+
+    def note_buffer(self, it: Expression) -> None:
+        """Notes that a call changes the packet buffer."""
+        raise NotImplementedError
 
     def note_connection(self, it: Expression) -> None:
         """Notes that packets arrive before a connection is opened, and after it is closed."""

@@ -11,6 +11,7 @@ from motesim.c_program.control import ENDS, FALLS, Control, Flow, has_wait
 from motesim.c_program.places import (
     INTACT, NO_MOTE, OF_ADDRESS, OF_CHANGE, OF_EVENTS, OF_RESULT, ONE_BYTE, Path, Place, Pointer,
 )
+from motesim.c_program.radio import FILLED
 from motesim.c_program.refusal import Refusal
 from motesim.c_program.tree import Expression, Function, Statement, Variable
 from motesim.c_program.types import INT, Type, leaves_of
@@ -236,7 +237,9 @@ class Functions(Control):
         for variable in bound:
             self.aliases.pop(variable, None)
             self.values.pop(variable, None)
-        self.buffer = self.buffer if not self.touches_buffer(function) else None
+        if self.touches_buffer(function):
+            self.buffer = None
+            self.known |= {} if FILLED in self.effects.get(function.name, ()) else {FILLED: (1, 1)}
         return self.result_of(function)
 
     def touches_buffer(self, function: Function) -> bool:
@@ -321,6 +324,7 @@ class Functions(Control):
         kept = (self.unit, self.known, self.posts, self.jumps, self.in_switch, self.buffer, self.fresh, self.log,
                 self.next_sends, self.open_loops, self.is_wait_test)
         self.unit, self.known, self.posts, self.jumps, self.in_switch = unit, {INTACT: (1, 1)}, [], [], 0
+        self.known |= {FILLED: (1, 1)} if unit.is_callback else {}
         self.buffer, self.fresh, self.log, self.open_loops = None, set(), [], []
         self.is_wait_test = False
         pointers = self.forget_pointers()
@@ -338,9 +342,9 @@ class Functions(Control):
             unit = Unit(function.name, function, may_wait=function.kind == 'thread',
                         is_callback=self.unit.is_callback and function.kind != 'thread',
                         of_radio=self.unit.of_radio and function.kind != 'thread')
-            expired = {key: its for key, its in self.known.items() if key.startswith(ELAPSED) and not unit.may_wait}
+            facts = {key: its for key, its in self.known.items() if key.startswith(ELAPSED) or key == FILLED}
             with self.unit_of(unit), self.into([]) as block:
-                self.known |= expired
+                self.known |= {} if unit.may_wait else facts
                 self.body_of(function)
             self.threads[function.name] = name
             self.code.threads[name] = [*self.heading(function), *without_last_exit(block)]
@@ -435,6 +439,7 @@ class Functions(Control):
         self.is_first = False
         self.fresh = {one for one in self.fresh if one.is_static}
         self.buffer, self.either = None, {}
+        self.note_effects([FILLED])
         self.forget_pointers()
 
     def waits(self, it: Expression, test: Expression | None) -> None:

@@ -17,13 +17,16 @@ OF_TWO = ('A packet, or the data of an event, is one number of 16 bits: `%s` is 
           '8. So each of them has to be at most 255. The receiver gets them by `(data / 256)` and `(data %% 256)`.')
 OF_ONE_MOTE = ('A packet goes to all motes that hear it: its upper 8 bits say for which mote it is, and its lower 8 '
                'bits are its value, which is at most 255. The motes are numbered from 0.')
-KEPT = ('Contiki has one packet buffer, and each packet that arrives overwrites it. Here, this statement sends the '
-        'value of the last `packetbuf_copyfrom`, also if packets arrived after it: fill the buffer directly before '
-        'the send.')
+KEPT = ('Contiki has one packet buffer: each packet that arrives overwrites it, and a send and `packetbuf_clear` '
+        'change it, too. Here, this statement sends the value of the last `packetbuf_copyfrom`, or of the packet that '
+        'arrived: fill the buffer directly before each send.')
 OF_SENT = 'In Contiki, `%s` is called when the send has ended. Here, its statements follow the `send`.'
 TOO_LARGE = 'A packet to one mote has 8 bits for its value: this one has more.'
 OF_BYTES = 'These %d bytes aren\'t whole variables: assign the values one by one.'
 OF_TYPES = 'The values that are copied here have other sizes than those they are copied to: assign them one by one.'
+OF_LENGTH = 'A packet is one number of 16 bits here, so `packetbuf_set_datalen` doesn\'t change it.'
+# The name under which it is known that the packet buffer has the value to send.
+FILLED = 'value to send'
 SIZES = 'The packets of this program have several sizes, and none of them is known here.'
 
 
@@ -96,12 +99,21 @@ class Radio(Calls):
             value = multiplied(as_type(value, UNSIGNED), number(256, UNSIGNED))
         self.flush()
         self.known.pop(INTACT, None)
+        self.known[FILLED] = (1, 1)
         if self.next_sends:
             self.buffer = value
             return
         kept = self.payload()
         self.assign(kept, value, UNSIGNED)
         self.buffer = Value(kept, UNSIGNED, *self.limits(kept, UNSIGNED), frozenset([kept]))
+
+    def note_buffer(self, it: Expression) -> None:
+        if it.text == 'packetbuf_clear':
+            self.note_effects([FILLED])
+        elif it.text == 'packetbuf_set_datalen':
+            sizes = {{'byte': 1}.get(form, 2) for form in self.forms('packet')}
+            if {self.evaluate(self.first(it)).constant} != sizes:
+                self.remark(it.line, OF_LENGTH)
 
     # Whether the statement behind the one that is translated sends the buffer.
     next_sends = False
@@ -115,17 +127,19 @@ class Radio(Calls):
         found = it.expressions[0] if it.kind == 'expression' else None
         return found is not None and found.kind == 'call' and found.text in SENDS
 
-    def sent_value(self, line: int) -> Value:
+    def sent_value(self) -> Value:
         """The value in the buffer."""
         if self.buffer is not None:
             return self.buffer
-        if self.unit.is_callback and self.unit.name == 'receive':
+        if self.unit.is_callback and INTACT in self.known:
             return self.whole('packet')
         kept = self.payload()
-        self.remark(line, KEPT)
         return Value(kept, UNSIGNED, *self.limits(kept, UNSIGNED), frozenset([kept]))
 
     def send(self, it: Expression, value: Value) -> None:
+        if FILLED not in self.known:
+            self.remark(it.line, KEPT)
+        self.note_effects([FILLED])
         self.emit('send %s;' % value.text)
         self.flush()
         sent = self.program.usage.sent
@@ -140,7 +154,7 @@ class Radio(Calls):
         self.program.knowledge.assign(('', 'packet'), (value.low, value.high), self.unit.name)
 
     def call_broadcast_send(self, it: Expression) -> None:
-        value = self.sent_value(it.line)
+        value = self.sent_value()
         self.note_packet(value)
         self.send(it, value)
 
@@ -149,7 +163,7 @@ class Radio(Calls):
 
     def call_unicast_send(self, it: Expression) -> None:
         _, target = self.arguments(it, 2)
-        value, address = self.sent_value(it.line), self.address(target)
+        value, address = self.sent_value(), self.address(target)
         self.remark(it.line, OF_ONE_MOTE)
         if value.low < 0 or value.high > 255:
             if 'pair' in self.forms('packet'):
