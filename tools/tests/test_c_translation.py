@@ -127,6 +127,19 @@ static void tick(void *p) {
                 report = Report.parse(answer((SCENARIO % (END, text)).encode()).report)
                 self.assertEqual(' '.join(str(it.value) for it in report.lines('print') if it.mote == 0), wanted, text)
 
+    def test_a_function_may_be_called_several_times_in_a_statement(self) -> None:
+        need_program(self)
+        above = 'static int at(int a) { int i; for(i = 0; i < 3; i++) { if(i == a) return i; } return 0; }'
+        body = '''  static int t[2][2] = {{1, 2}, {5, 6}}; static int w[3] = {10, 20, 30};
+  w[at(1)] += at(2); w[at(2)] -= at(1);
+  printf("%d %d %d", w[1], w[2], t[at(1)][at(0)]);
+  t[at(1)][at(0)] = 50; t[at(0)][at(1)] += at(1) + at(2);
+  printf("%d %d %d", t[1][0], t[0][1], w[at(0)] + w[at(1)]);'''
+        text, notes = translation(in_process(body, above))
+        self.assertIsNotNone(text, notes)
+        report = Report.parse(answer((SCENARIO % (END, text)).encode()).report)
+        self.assertEqual([it.value for it in report.lines('print') if it.mote == 0], [22, 29, 5, 50, 5, 32], text)
+
     def test_random_numbers_are_spread_over_their_range(self) -> None:
         need_program(self)
         body = ('  for(u = 0; u < 200; u++) { for(i = 0; i < 20; i++) { n = random_rand() % 1000; if(n < 300) low++;'

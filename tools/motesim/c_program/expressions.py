@@ -459,7 +459,9 @@ class Expressions(Events):
         sign, line = it.text[:-1], it.line
         self.check_size(sign, it.parts, line)
         value = self.operand(it.parts[1])
+        at, changes = len(self.out), len(self.log)
         place = self.place(target)
+        value = self.kept_before(value, at, changes)
         if place.chosen is None and sign in '|&' and self.one_bit(sign, place, value, line):
             return
         if place.chosen is None:

@@ -189,7 +189,9 @@ class Functions(Control):
         value, index = self.evaluate(it.parts[1]), self.evaluate(target.parts[1])
         if index.constant == 0:
             self.remark(it.line, OF_MOTE_0 if value.constant == 0 else OF_ADDRESS)
-            self.write(self.place(owner), value, it.line)
+            at, changes = len(self.out), len(self.log)
+            place = self.place(owner)
+            self.write(place, self.kept_before(value, at, changes), it.line)
         elif value.constant != 0:
             self.remark(it.line, ONE_BYTE)
         return True

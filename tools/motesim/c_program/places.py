@@ -9,7 +9,7 @@ from motesim.c_program.types import (
     ADDRESS, BYTE, INT, UNSIGNED, Type, leaves_of, pointer_to, size_of,
 )
 from motesim.c_program.values import Value, added, compared, converted, multiplied, number
-from motesim.c_program.walk import all_parts
+from motesim.c_program.walk import all_parts, parts_of
 from motesim.c_program.written import Block, If, Line
 
 Path = tuple[str | int, ...]
@@ -139,7 +139,8 @@ class Places(Base):
             return base._replace(type=of, paths=tuple((*path, index.low) for path in base.paths))
         if index.high == size and it.parts[1].kind == 'name':
             self.remark(it.line, NEXT_INDEX % (array.text, size - 1, it.parts[1].text, size))
-        if not index.is_simple:
+        # (another call of a function in the same statement changes its result)
+        if not index.is_simple or any(part.kind == 'call' for part in parts_of(it.parts[1])):
             index = self.temporary(index, 'at')
         paths = tuple((*path, at) for path in base.paths for at in range(size))
         whole = index if base.chosen is None else added(multiplied(base.chosen, number(size)), index, '+')
