@@ -194,7 +194,8 @@ class Resonances(unittest.TestCase):
         self.assertEqual((resonance.REPEATED, resonance.FREQUENT, resonance.LEAST_PACKETS, resonance.RARE,
                           resonance.MORE, resonance.LEAST_TOGETHER), (3, 1 / 8, 5, 0.001, 1.8, 2))
         for words in ('| by value | the mote sends it at least 3 times |', 'at least an eighth of the packets',
-                      'Only kinds with at least 5 packets are tested', 'the sender sends at least 10 packets in the run',
+                      'Only kinds with at least 5 packets are tested',
+                      'the sender sends at least 10 packets in the run',
                       'by chance is below 0.001 / m', 'at least 1.8 times as many packets of the kind',
                       'k is at least 2, and', 'k is at least 5, and at least 1.8 times the expected number n * p'):
             self.assertIn(words, text)
