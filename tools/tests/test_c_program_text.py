@@ -830,6 +830,27 @@ static const struct broadcast_callbacks calls = { recv };'''
             notes = translation(in_process('  broadcast_open(&bc, 129, &calls);', above.replace('LINES', lines)))[1]
             self.assertEqual('Contiki has one packet buffer' in notes, is_seen, (lines, notes))
 
+    def test_a_printf_that_names_another_size_than_its_value_has_a_remark(self) -> None:
+        for body, wanted in (
+                ('printf("%d %d", l, x);', '`%d` of a `printf` reads 16 bits, but this value has 32'),
+                ('printf("%lu", u);', '`%lu` of a `printf` reads 32 bits, but this value has 16'),
+                ('printf("%u %u", clock_time() / CLOCK_SECOND, x);', 'write `%lu`'),
+                ('printf("%5ld", x);', 'write `%d`'),
+                ('printf("%u %u", big(), x);', 'write `%lu`'), ('printf("%lu", CLOCK_SECOND * 2);', ''),
+                ('printf("%d %lu", x, l);', ''), ('printf("%d", clock_seconds());', ''),
+                ('printf("%ld", (long)x);', ''),
+                ('printf("%u %d", (unsigned)clock_time(), b);', ''), ('printf("%d %d", clock_time() > 5, x);', '')):
+            with self.subTest(body):
+                notes = self.remarks(body, 'static uint32_t l;\nstatic uint32_t big(void) { return l; }', VARIABLES)
+                self.assertEqual(wanted if 'Tmote Sky, `%' in notes else '', wanted, notes)
+                self.assertIn(wanted, notes)
+
+    def test_data_that_counts_as_null_has_a_remark(self) -> None:
+        for first, posted, is_seen in (('= 0', '&k', True), ('= 0', '(void *)k', False), ('= 4', '&k', False)):
+            notes = self.remarks('process_post(&p, PROCESS_EVENT_MSG, %s); PROCESS_YIELD(); if(data != NULL) { x = 1; }'
+                                 % posted, 'static int k %s;' % first)
+            self.assertEqual('counts as NULL' in notes, is_seen)
+
     def test_a_send_of_a_buffer_that_another_statement_has_changed_has_a_remark(self) -> None:
         above = '''static struct broadcast_conn bc; static struct ctimer delay; static uint16_t k, m;
 static void out(void) { broadcast_send(&bc); }

@@ -6,6 +6,7 @@ from collections.abc import Callable, Sequence
 
 from motesim.c_program.chance import Chance
 from motesim.c_program.constants import EVENT_NUMBERS, constant_of
+from motesim.c_program.expressions import COMPARES
 from motesim.c_program.places import OF_DATA, TEXTS, Place, Pointer, has_effects
 from motesim.c_program.tree import Expression, Function
 from motesim.c_program.types import INT, UNSIGNED, leaves_of
@@ -14,7 +15,7 @@ from motesim.c_program.walk import all_parts, parts_of, shown, without_casts
 from motesim.c_program.written import Block, If, Line
 from motesim.from_c.absent import MULTIHOP, NO_LISTS, NO_SENSORS, RUNICAST
 
-CONVERSION = re.compile(r'%(?:%|[-+ #0]*[0-9]*(?:\.[0-9]+)?(?:hh|h|ll|l|z|j|t)?([a-zA-Z]))')
+CONVERSION = re.compile(r'%(?:%|[-+ #0]*[0-9]*(?:\.[0-9]+)?(?P<size>hh|h|ll|l|z|j|t)?(?P<kind>[a-zA-Z]))')
 WIDTH = re.compile(r'%[-+ #0]*[0-9]*\.?\*')
 OF_WIDTH = 'A `%*d` has no counterpart: write a number instead of the `*`, such as `%3d`.'
 # Calls that have no effect here.
@@ -43,6 +44,10 @@ ADVICE = (
     (('memcmp',), 'Compare the values one by one.'),
 )
 OF_BELOW = 'This value may be below 0. Then it is printed as a number that is 65,536 above it.'
+OF_BITS = ('On the Tmote Sky, `%s` of a `printf` reads %d bits, but this value has %d. So the node prints wrong '
+           'numbers: write `%s`. Here, the value itself is printed.')
+# The functions of Contiki whose results have 32 bits.
+LONG_CALLS = ('clock_time', 'clock_seconds', 'timer_remaining', 'stimer_remaining', 'stimer_elapsed')
 NO_DATA = ('`process_start` passes no value here: post the value to `%s` after the start, and let it wait for this '
            'event.')
 OF_ITSELF = 'A process ends itself by `PROCESS_EXIT()`: `process_exit` of the current process is refused here.'
@@ -495,8 +500,8 @@ class Calls(Chance):
             raise self.refuse(it.line, 'The first argument of `printf` is a text in quotes.')
         if WIDTH.search(it.parts[0].text):
             raise self.refuse(it.line, OF_WIDTH)
-        found = [one for one in CONVERSION.finditer(it.parts[0].text) if one[1]]
-        kinds, labels = [one[1] for one in found], labels_of(it.parts[0].text, found)
+        found = [one for one in CONVERSION.finditer(it.parts[0].text) if one['kind']]
+        kinds, labels = [one['kind'] for one in found], labels_of(it.parts[0].text, found)
         if any(labels):
             self.remark(it.line, OF_TEXT)
         if len(kinds) > len(it.parts) - 1:
@@ -508,10 +513,29 @@ class Calls(Chance):
             if kind in 'feg':
                 raise self.refuse(it.line, 'Numbers are whole here, with 16 bits.')
             self.printed(part, kind in 'di', label)
+        for at, (one, part) in enumerate(zip(found, it.parts[1:])):
+            self.check_bits(one, part, at + 1 == len(found))
         for part in it.parts[len(kinds) + 1:]:
             self.effect(part)
         if all(kind in 'sp' for kind in kinds):
             self.print_text(it)
+
+    def check_bits(self, conversion: re.Match[str], it: Expression, is_last: bool) -> None:
+        """Notes that a node prints a wrong number, because the text names another size than the value has."""
+        kind, is_read_long = conversion['kind'], (conversion['size'] or '').startswith('l')
+        is_long = self.is_printed_long(it)
+        if kind in 'diuxXo' and is_long != is_read_long and not (is_long and is_last):
+            bits = (32, 16) if is_read_long else (16, 32)
+            self.remark(it.line, OF_BITS % (conversion[0], *bits, '%' + 'l' * is_long + kind))
+
+    def is_printed_long(self, it: Expression) -> bool:
+        """Returns whether a value has 32 bits on a node."""
+        if it.kind == 'call':
+            function = self.file.functions.get(it.text)
+            return function.result.bits > 16 if function else it.text in LONG_CALLS
+        if it.kind == 'binary' and it.text not in (*COMPARES, '&&', '||'):
+            return any(map(self.is_printed_long, it.parts))
+        return it.text == 'CLOCK_SECOND' or self.is_long(it)
 
     def print_text(self, it: Expression) -> None:
         """A text without a number is the number 1."""

@@ -11,6 +11,8 @@ from motesim.from_c.absent import NO_SENSORS
 KERNEL = {129: 'init', 130: 'poll', 131: 'exit', 133: 'continue', 134: 'msg', 135: 'exited', 136: 'timer', 137: 'com'}
 NO_EVENT = ('The event of a call is compared with events here: `ev == PROCESS_EVENT_TIMER`, or an event of the '
             'program. It has no number.')
+OF_ZERO = ('In Contiki, the data of an event that was posted with the address of a variable isn\'t NULL. Here, it is '
+           'the value of the variable, so it counts as NULL if this value is 0.')
 NO_DATA = 'The data of an event is compared with a number, with `&` and a timer, or with `&` and a process here.'
 NO_KERNEL_EVENT = 'motesim has no event with the number %d.'
 
@@ -111,6 +113,8 @@ class Events(Places):
         if constant_of(other) is not None and (constant_of(other) != 0 or other.kind == 'number'):
             return compared('==', self.whole('data'), self.evaluate(other))
         if other.kind == 'name' and other.text == 'NULL':
+            if self.forms('data') and self.whole('data').low <= 0:
+                self.remark(other.line, OF_ZERO)
             found = compared('==', self.whole('data'), number(0))
             others = both(self.event_test('timer'), self.event_test('exited'), '||')
             return both(found, negated(others), '&&')
