@@ -1,4 +1,5 @@
 """The text of programs in C that are translated as a whole: forms that readers know, refusals and remarks."""
+import re
 import textwrap
 import time
 import unittest
@@ -200,7 +201,7 @@ REFUSALS = (
     ('x = ev;', 'is compared with events'), ('return;', '`return` in a process'),
     ('while(n) { PT_SEM_INIT(&s, 1); }', 'is set once'), ('x = ;', 'An expression is expected here, not `;`.'),
     ('static int *q = &n; q = &x;', 'or is NULL: use an index'),
-    ('x = *(int *)packetbuf_dataptr();', 'The packet is known only in the function'),
+    ('x = *(int *)packetbuf_dataptr();', 'The packet and its sender are known only in the function'),
     ('etimer_set(&et, 7000L * CLOCK_SECOND);', 'at most 65,535 moments'), ('x = strlen("a");', 'no `strlen`'),
     ('packetbuf_copyfrom();', '`packetbuf_copyfrom` needs 1 argument'), ('process_start();', 'needs 1 argument'),
     ('x = sht11_sensor.value(0);', 'A mote has no sensors'), ('SENSORS_ACTIVATE(b);', 'no sensors and no buttons'),
@@ -474,6 +475,25 @@ PROCESS_THREAD(p, ev, data)
             self.assertEqual(text is None, bool(name), notes)
             if name:
                 self.assertIn('line 21: `%s` points to a packet, its sender or the data' % name, notes)
+
+    def test_a_packet_is_known_only_in_the_function_for_packets(self) -> None:
+        above = '''static struct broadcast_conn bc; static struct ctimer delay; static uint16_t n;
+static void show(void) { printf("%d", *(uint16_t *)packetbuf_dataptr()); }
+static void who(void) { printf("%d", packetbuf_addr(PACKETBUF_ADDR_SENDER)->u8[0]); }
+static void later(void *ptr) { rimeaddr_t *a = ptr; printf("%d", a->u8[0]); }
+static void idle(void *ptr) { who(); }
+static void recv(struct broadcast_conn *c, const rimeaddr_t *from) { show(); who(); LINES; }
+static const struct broadcast_callbacks calls = { recv };'''
+        for lines, body, wanted in (
+                ('', '', ''), ('', 'show();', 'line 16: The packet and its sender'),
+                ('', 'who();', 'line 16: The packet and its sender'),
+                ('ctimer_set(&delay, 3, later, (void *)from)', '', 'line 9: The last value of `ctimer_set`'),
+                ('ctimer_set(&delay, 3, idle, NULL)', '', 'line 6: The packet and its sender')):
+            source = in_process('  broadcast_open(&bc, 129, &calls);\n  PROCESS_YIELD(); ' + body,
+                                above.replace('LINES', lines))
+            text, notes = translation(source)
+            self.assertEqual(text is None, bool(wanted), notes)
+            self.assertIn(wanted, notes)
 
     def test_processes_share_no_variables(self) -> None:
         source = '''PROCESS(a, "a");
@@ -865,12 +885,14 @@ static const struct broadcast_callbacks calls = { recv };'''
                 ('packetbuf_clear(); ' + fill + send, '', False), (fill + 'for(m = 0; m < 3; m++) ' + send, '', True),
                 (fill + 'out(); fill(3); ' + send + 'both(4); both(5);', '', False), ('both(4); ' + send, '', True),
                 ('if(k) { %s } else { packetbuf_copyfrom(&m, 2); } %s' % (fill, send), '', False),
-                ('', 'out();', False), ('', send + send, True), ('', 'ctimer_set(&delay, 3, later, NULL);', True)):
+                ('', 'out();', False), ('', 'if(m) { %s } %s' % (fill, send), True), ('', send + send, True),
+                ('', 'ctimer_set(&delay, 3, later, NULL);', True)):
             with self.subTest(body + lines):
                 notes = self.remarks('broadcast_open(&bc, 129, &calls); %s;' % body, above.replace('LINES', lines), '')
                 self.assertEqual('fill the buffer directly before each send' in notes, is_seen, notes)
-        text, _ = translation(in_process('  broadcast_open(&bc, 129, &calls);', above.replace('LINES', 'out();')))
-        self.assertIn('send data;', text or '')
+        lines = 'if(m) { %s out(); } else { out(); }' % fill
+        text, _ = translation(in_process('  broadcast_open(&bc, 129, &calls);', above.replace('LINES', lines)))
+        self.assertEqual(re.findall('send .*;', text or ''), ['send payload;', 'send data;'])
         for length, is_seen in (1, True), (2, False):
             notes = self.remarks('%s packetbuf_set_datalen(%d); %s' % (fill, length, send), above, '')
             self.assertEqual('`packetbuf_set_datalen` doesn\'t change it' in notes, is_seen)

@@ -174,6 +174,7 @@ class Calls(Chance):
             if pointer.kind == 'data':
                 return self.whole('data')
             if pointer.kind == 'packet':
+                self.need_packet(line)
                 return self.whole('packet')
             if pointer.kind == 'place' and pointer.place is not None:
                 self.remark(line, OF_DATA)

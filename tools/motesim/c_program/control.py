@@ -7,7 +7,8 @@ from typing import NamedTuple, Union
 from motesim.c_program.base import joined_limits
 from motesim.c_program.calls import TIMER
 from motesim.c_program.constants import constant_of
-from motesim.c_program.radio import Radio
+from motesim.c_program.places import INTACT
+from motesim.c_program.radio import FILLED, Radio
 from motesim.c_program.tree import Expression, Statement, Variable
 from motesim.c_program.types import INT
 from motesim.c_program.knowledge import LoopLimits
@@ -135,20 +136,25 @@ class Control(Radio):
             inner = it._replace(expressions=(test.parts[1],), comments=())
             it, test = it._replace(body=(inner,)), test.parts[0]
         value = self.settled_test(test)
-        known = dict(self.known)
+        known, buffer = dict(self.known), self.buffer
         self.refine(test, True)
         self.note_expired(test)
         with self.into([]) as then:
             first = ENDS if value.constant == 0 else self.run(it.body)
-        ends, self.known = self.known, dict(known)
+        ends, self.known, of_then, self.buffer = self.known, dict(known), self.buffer, buffer
         self.refine(test, False)
         self.note_expired(test, False)
         with self.into([]) as other:
             second = ENDS if value.constant not in (0, None) else self.run(it.others)
         self.unit.temporaries, self.unit.flags = temporaries, flags
         both_ends = [(first, then, ends), (second, other, self.known)]
+        self.join_buffers([it for flow, it in ((first, of_then), (second, self.buffer)) if flow.falls])
         self.out.append(If(value, then, other))
         return self.behind(both_ends, rest)
+
+    def join_buffers(self, buffers: list[Value | None]) -> None:
+        """The packet buffer at a place that is reached in several ways."""
+        self.buffer = buffers[0] if buffers and all(it == buffers[0] for it in buffers) else None
 
     def needs_statements(self, above: Expression, it: Expression) -> bool:
         """Returns whether the right side of an `&&` needs statements of its own."""
@@ -172,6 +178,9 @@ class Control(Radio):
         if not falling:
             return Flow(False, targets)
         self.known = dict(falling[0][2]) if len(falling) == 1 else joined_limits(ends, others)
+        if len(falling) == 2 and (INTACT in ends) != (INTACT in others):
+            # (the buffer has the packet that arrived, or another value)
+            self.known.pop(FILLED, None)
         if not targets:
             flow = self.run(rest)
             return flow
@@ -404,9 +413,9 @@ class Control(Radio):
         if len(defaults) > 1:
             raise self.refuse(defaults[1][0][0].line, 'A `switch` has only one `default`.')
         last = defaults[0] if defaults else None
-        out = self.out
+        out, buffer = self.out, self.buffer
         for labels, begin in [group for group in groups if group is not last]:
-            self.known = dict(known)
+            self.known, self.buffer = dict(known), buffer
             test = self.case_test(it, labels, value)
             if value is None and any(constant_of(one.expressions[0]) == TIMER for one in labels if one.expressions[0]):
                 self.known |= self.only_timer()
@@ -416,10 +425,10 @@ class Control(Radio):
             other: Block = []
             self.out.append(If(test, then, other))
             self.out = other
-        self.known = dict(known)
+        self.known, self.buffer = dict(known), buffer
         flows.append(self.run(body_from(it, last[1])) if last else FALLS)
         ends.append(self.known)
-        self.out = out
+        self.out, self.buffer = out, None
         falling = [one for one, flow in zip(ends, flows) if flow.falls]
         self.known = known if not falling else falling[0]
         for one in falling[1:]:

@@ -11,7 +11,7 @@ from motesim.c_program.control import ENDS, FALLS, Control, Flow, has_wait
 from motesim.c_program.places import (
     INTACT, NO_MOTE, OF_ADDRESS, OF_CHANGE, OF_EVENTS, OF_RESULT, ONE_BYTE, Path, Place, Pointer,
 )
-from motesim.c_program.radio import FILLED
+from motesim.c_program.radio import FILLED, SENDS
 from motesim.c_program.refusal import Refusal
 from motesim.c_program.tree import Expression, Function, Statement, Variable
 from motesim.c_program.types import INT, Type, leaves_of
@@ -53,6 +53,7 @@ class Functions(Control):
         self.aliases = {}
         self.past = set()
         self.either = {}
+        self.uses_packet = set()
         self.values = {}
         self.threads: dict[str, str] = {}
         self.effects: dict[str, set[str]] = {}
@@ -230,8 +231,10 @@ class Functions(Control):
             return direct
         bound = self.bind(function, it)
         self.flush()
-        if self.unit.may_spawn and not bound and self.may_be_thread(function):
+        if self.unit.may_spawn and not bound and self.may_be_thread(function) and not self.sends_from_above(function):
             name = self.thread(function)
+            if function.name in self.uses_packet:
+                self.need_packet(it.line)
             self.emit('spawn %s;' % name)
             self.note_effects(self.effects[function.name])
         else:
@@ -243,6 +246,12 @@ class Functions(Control):
             self.buffer = None
             self.known |= {} if FILLED in self.effects.get(function.name, ()) else {FILLED: (1, 1)}
         return self.result_of(function)
+
+    def sends_from_above(self, function: Function) -> bool:
+        """Returns whether a function sends the packet buffer, but doesn't fill it: it is written at each call."""
+        calls = {it.text for it in all_parts(function.body) if it.kind == 'call'}
+        return not calls.isdisjoint(SENDS) and 'packetbuf_copyfrom' not in calls or any(
+            self.sends_from_above(self.file.functions[it]) for it in calls if it in self.file.functions)
 
     def touches_buffer(self, function: Function) -> bool:
         return any(it.kind == 'call' and it.text.startswith('packetbuf_') for it in all_parts(function.body))

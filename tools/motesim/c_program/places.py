@@ -38,7 +38,8 @@ ONLY_BYTE = 'The packets of this program have one byte: there is no byte %d.'
 TO_FILL = ('A packet is filled by a copy of a variable here: write the value into a variable `x`, and then '
            '`packetbuf_copyfrom(&x, sizeof(x));`.')
 NO_CHANGE = 'A packet that has arrived can\'t be changed: use a variable.'
-NO_PACKET = 'The packet is known only in the function that is called for packets: keep its value in a variable.'
+NO_PACKET = ('The packet and its sender are known only in the function that is called for packets: keep their values '
+             'in variables.')
 OF_ADDRESS = 'An address is one number: the motes are numbered from 0, in the order of the scenario.'
 NO_MOTE = 255
 ONE_BYTE = 'Only the first byte of an address, `u8[0]`, has a value here: the other bytes are 0, and aren\'t assigned.'
@@ -302,6 +303,7 @@ class Places(Base):
             return self.read(self.place(it), it.line)
         pointer = self.pointer(it)
         if pointer.kind == 'sender':
+            self.need_packet(it.line)
             return Value('from', ADDRESS, 0, 65_535)
         if pointer.value:
             return pointer.value
@@ -355,10 +357,19 @@ class Places(Base):
     def note_read(self, place: Place, line: int) -> None:
         """Notes that a variable is read."""
 
+    # The parts of the code that use a packet or its sender.
+    uses_packet: set[str]
+
+    def need_packet(self, line: int) -> None:
+        """Refuses the use of a packet or of its sender outside of the function for packets."""
+        if not self.unit.is_callback:
+            raise self.refuse(line, NO_PACKET)
+        self.uses_packet.add(self.unit.name)
+
     def received(self, place: Place, line: int) -> Value:
         """The value of a packet or of an event, or a field of it."""
-        if place.source == 'packet' and not self.unit.is_callback:
-            raise self.refuse(line, NO_PACKET)
+        if place.source == 'packet':
+            self.need_packet(line)
         if place.source == 'packet' and INTACT not in self.known:
             self.remark(line, OVERWRITTEN)
         its = place.root

@@ -8,7 +8,7 @@ from motesim.c_program.allocation import at_start_of
 from motesim.c_program.base import OF_LONG, Program, Unit
 from motesim.c_program.calls import ELAPSED
 from motesim.c_program.functions import Functions, without_last_exit
-from motesim.c_program.places import Pointer
+from motesim.c_program.places import OF_EVENTS, Pointer
 from motesim.c_program.tree import Expression, Function, Statement, Variable
 from motesim.c_program.types import INT, Type, leaves_of
 from motesim.c_program.usage import GLOBAL
@@ -261,7 +261,7 @@ class ProcessWriter(Functions):
             self.values[variable] = value
             return
         pointer = self.pointer(it)
-        if pointer.place is not None and pointer.place.chosen is not None:
+        if pointer.kind in OF_EVENTS or pointer.place is not None and pointer.place.chosen is not None:
             raise self.refuse(it.line, OF_POINTER)
         self.aliases[variable] = pointer
 

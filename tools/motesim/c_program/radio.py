@@ -83,6 +83,8 @@ class Radio(Calls):
             return
         pointer = self.pointer(source)
         if pointer.kind in ('packet', 'data'):
+            if pointer.kind == 'packet':
+                self.need_packet(it.line)
             self.fill(self.whole(pointer.kind), it)
             return
         if pointer.kind != 'place' or pointer.place is None:
@@ -132,6 +134,7 @@ class Radio(Calls):
         if self.buffer is not None:
             return self.buffer
         if self.unit.is_callback and INTACT in self.known:
+            self.uses_packet.add(self.unit.name)
             return self.whole('packet')
         kept = self.payload()
         return Value(kept, UNSIGNED, *self.limits(kept, UNSIGNED), frozenset([kept]))
