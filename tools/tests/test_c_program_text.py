@@ -680,6 +680,14 @@ PROCESS_THREAD(app, ev, data) { PROCESS_BEGIN(); while(1) { PROCESS_YIELD(); pri
         self.assertIsNone(text)
         self.assertRegex(notes, r'The program is too large for a mote: the process `p` would have 6. variables, and 64')
 
+    def test_a_later_send_sends_the_value_that_filled_the_buffer(self) -> None:
+        above = 'static struct broadcast_conn bc;'
+        fill, send, wait = 'packetbuf_copyfrom(&u, 2); ', 'broadcast_send(&bc); ', 'PROCESS_YIELD(); '
+        for body, lines in ((fill + send + wait + send, ['payload = u;', 'send payload;', 'yield;', 'send payload;']),
+                            (fill + send + wait + fill + send, ['send u;', 'yield;', 'send u;'])):
+            text, notes = translation(in_process('  u = node_id; ' + body, above, VARIABLES))
+            self.assertEqual(body_of(text)[1:], lines, notes)
+
     def test_a_file_without_a_process_is_refused(self) -> None:
         for source in ('int main(void) { return 0; }', 'static int n;', ''):
             self.assertIn('No process is here', translation(source)[1])

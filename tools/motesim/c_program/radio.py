@@ -96,13 +96,13 @@ class Radio(Calls):
         self.fill(self.packed(places, it.line), it, form)
 
     def fill(self, value: Value, it: Expression, form: str = '') -> None:
-        """Fills the buffer: the value is kept up to the send, unless this is the next statement."""
+        """Fills the buffer: the value is kept, unless the next statement sends it, and no later one does."""
         if form == 'byte' and 'pair' in self.forms('packet'):
             value = multiplied(as_type(value, UNSIGNED), number(256, UNSIGNED))
         self.flush()
         self.known.pop(INTACT, None)
         self.known[FILLED] = (1, 1)
-        if self.next_sends:
+        if self.next_sends and 'kept %s' % self.process not in self.program.knowledge.forms:
             self.buffer = value
             return
         kept = self.payload()
@@ -137,6 +137,8 @@ class Radio(Calls):
             self.uses_packet.add(self.unit.name)
             return self.whole('packet')
         kept = self.payload()
+        # (then each value that fills the buffer is kept)
+        self.program.knowledge.new_forms.add('kept %s' % self.process)
         return Value(kept, UNSIGNED, *self.limits(kept, UNSIGNED), frozenset([kept]))
 
     def send(self, it: Expression, value: Value) -> None:
