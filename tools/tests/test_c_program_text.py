@@ -873,6 +873,20 @@ static const struct broadcast_callbacks calls = { recv };'''
                 self.assertEqual(wanted if 'Tmote Sky, `%' in notes else '', wanted, notes)
                 self.assertIn(wanted, notes)
 
+    def test_a_connection_that_is_never_opened_has_a_remark(self) -> None:
+        above = 'static struct broadcast_conn bc, other;'
+        for opened, is_seen in ('bc', False), ('other', True):
+            body = 'broadcast_open(&%s, 129, NULL); packetbuf_copyfrom(&u, 2); broadcast_send(&bc);' % opened
+            notes = self.remarks(body, above)
+            self.assertEqual('`bc` is never opened by `broadcast_open`' in notes, is_seen)
+
+    def test_a_comparison_of_a_random_number_has_a_remark(self) -> None:
+        for body, is_seen in (
+                ('if(random_rand() > RANDOM_RAND_MAX / 2) x = 1;', True), ('u = random_rand() / 6554;', True),
+                ('u = random_rand() % 10;', False), ('if(random_rand() % 2 == 0) x = 1;', False),
+                ('if((random_rand() & 1) == 0) x = 1;', False)):
+            self.assertEqual('at most 32,767' in self.remarks(body), is_seen, body)
+
     def test_data_that_counts_as_null_has_a_remark(self) -> None:
         for first, posted, is_seen in (('= 0', '&k', True), ('= 0', '(void *)k', False), ('= 4', '&k', False)):
             notes = self.remarks('process_post(&p, PROCESS_EVENT_MSG, %s); PROCESS_YIELD(); if(data != NULL) { x = 1; }'

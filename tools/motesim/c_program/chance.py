@@ -2,7 +2,7 @@
 from __future__ import annotations
 
 from motesim.c_program.constants import constant_of
-from motesim.c_program.expressions import Expressions
+from motesim.c_program.expressions import COMPARES, Expressions
 from motesim.c_program.tree import Expression
 from motesim.c_program.types import INT, UNSIGNED
 from motesim.c_program.values import HALF, Value, added, divided, multiplied, number
@@ -14,6 +14,9 @@ OF_CHANCE = ('A mote has no random numbers: each run is the same. `dice` is a ge
              'at most 255 motes, unless `random_init` sets another seed. Each step of `dice` makes 8 random bits, '
              '`(dice / 256)`, so a value of `random_rand()` needs two steps if 8 bits aren\'t enough. '
              'docs/use/LOSSES.md has a pattern for packets that are lost by chance.')
+OF_HALF = ('On the Tmote Sky, `random_rand()` is at most 32,767, although `RANDOM_RAND_MAX` is 65535. Here, it is at '
+           'most 65,535, so a comparison or a division of it has other results: use the remainder, such as '
+           '`random_rand() % 10`.')
 OF_SAME_SEED = 'The seed is the same on all motes, so all of them draw the same numbers, as in Contiki.'
 OF_OTHER_PROCESS = ('Each process has a random generator of its own here, and `random_init` sets only that of `%s`: '
                     'call it in the process that draws the numbers.')
@@ -31,6 +34,9 @@ class Chance(Expressions):
     needs_byte = False
 
     def _binary(self, it: Expression) -> Value:
+        if it.text in (*COMPARES, '/', '>>') and any(
+                one.kind == 'call' and one.text == 'random_rand' for one in map(without_casts, it.parts)):
+            self.remark(it.line, OF_HALF)
         self.needs_byte = is_draw(without_casts(it.parts[0])) and self.keeps_byte(it)
         return super()._binary(it)
 

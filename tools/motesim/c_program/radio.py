@@ -8,7 +8,7 @@ from motesim.c_program.places import INTACT, NO_MOTE, OF_PACKET, Place, shown_ty
 from motesim.c_program.tree import Expression, Statement
 from motesim.c_program.types import UNSIGNED, leaves_of, size_of
 from motesim.c_program.values import MOST, Value, added, as_type, multiplied, number
-from motesim.c_program.walk import without_casts
+from motesim.c_program.walk import all_parts, base_of, without_casts
 from motesim.c_program.written import Line, While
 
 SENDS = ('broadcast_send', 'abc_send', 'unicast_send')
@@ -24,6 +24,8 @@ OF_SENT = 'In Contiki, `%s` is called when the send has ended. Here, its stateme
 TOO_LARGE = 'A packet to one mote has 8 bits for its value: this one has more.'
 OF_BYTES = 'These %d bytes aren\'t whole variables: assign the values one by one.'
 OF_TYPES = 'The values that are copied here have other sizes than those they are copied to: assign them one by one.'
+NEVER_OPEN = ('The connection `%s` is never opened by `%s_open`. So in Contiki, it can\'t send; here, the packet is '
+              'sent: open `%s` by `%s_open` at the beginning of the process.')
 OF_LENGTH = 'A packet is one number of 16 bits here, so `packetbuf_set_datalen` doesn\'t change it.'
 # The name under which it is known that the packet buffer has the value to send.
 FILLED = 'value to send'
@@ -144,6 +146,7 @@ class Radio(Calls):
     def send(self, it: Expression, value: Value) -> None:
         if FILLED not in self.known:
             self.remark(it.line, KEPT)
+        self.check_open(self.first(it))
         self.note_effects([FILLED])
         self.emit('send %s;' % value.text)
         self.flush()
@@ -151,6 +154,15 @@ class Radio(Calls):
         if sent is not None:
             self.remark(it.line, OF_SENT % sent.name)
             self.call_of_sent(it)
+
+    def check_open(self, it: Expression) -> None:
+        """Notes that a connection that sends isn't opened anywhere."""
+        units = (*self.file.bodies.values(), *self.file.functions.values())
+        opened = {base_of(it.parts[0]) for one in units for it in all_parts(one.body)
+                  if it.kind == 'call' and it.text.endswith('_open') and it.parts}
+        variable = base_of(it)
+        if variable is not None and variable.type.kind == 'connection' and variable not in opened:
+            self.remark(it.line, NEVER_OPEN % ((variable.name, variable.type.name) * 2))
 
     def call_of_sent(self, it: Expression) -> None:
         raise NotImplementedError
