@@ -476,6 +476,17 @@ PROCESS_THREAD(p, ev, data)
             if name:
                 self.assertIn('line 21: `%s` points to a packet, its sender or the data' % name, notes)
 
+    def test_a_loop_that_only_waits_for_a_time_is_refused(self) -> None:
+        for body, is_busy in (
+                ('while(!timer_expired(&t));', True), ('while(clock_time() - u < 10) { printf("%d", 1); }', True),
+                ('do { } while(clock_seconds() < 5);', True), ('while(!timer_expired(&t)) { PROCESS_PAUSE(); }', False),
+                ('while(!timer_expired(&t)) { if(n++ > 5) break; }', False),
+                ('while(n++ < 5) u = clock_time();', False),
+                ('while(clock_time() - u < 10) { u -= 2; }', False),
+                ('while(clock_time() < 9) { timer_set(&t, 3); }', False)):
+            text, notes = translation(in_process('  ' + body, 'static struct timer t;', VARIABLES))
+            self.assertEqual((text is None, 'so this loop never ends' in notes), (is_busy, is_busy), body + notes)
+
     def test_a_packet_is_known_only_in_the_function_for_packets(self) -> None:
         above = '''static struct broadcast_conn bc; static struct ctimer delay; static uint16_t n;
 static void show(void) { printf("%d", *(uint16_t *)packetbuf_dataptr()); }

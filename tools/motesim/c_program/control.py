@@ -13,12 +13,18 @@ from motesim.c_program.tree import Expression, Statement, Variable
 from motesim.c_program.types import INT
 from motesim.c_program.knowledge import LoopLimits
 from motesim.c_program.values import Limits, Value, both, compared, is_true, negated, number, united
-from motesim.c_program.walk import all_parts, has_jump
+from motesim.c_program.walk import all_parts, assigned_in, has_jump, parts_of
 from motesim.c_program.written import Block, Comment, Flag, If, Line, Target, While
 
 # A test whose statements are at most so many is written twice: above its loop, and at the end of its block.
 MOST_TWICE = 4
 WAIT_IN_SWITCH = 'A process of Contiki can\'t wait inside of a `switch`: use `if` and `else`.'
+BUSY = ('No time passes here in a loop that doesn\'t wait, so this loop never ends. Let the process wait for an '
+        'etimer: `etimer_set(&et, 10); PROCESS_WAIT_EVENT_UNTIL(etimer_expired(&et));`.')
+# Calls whose results depend on the time, and calls after which a loop has the same test.
+TIMES = frozenset(('clock_time', 'clock_seconds', 'timer_expired', 'stimer_expired', 'timer_remaining',
+                   'stimer_remaining', 'stimer_elapsed'))
+HARMLESS = frozenset((*TIMES, 'printf', 'watchdog_periodic', 'leds_on', 'leds_off', 'leds_toggle'))
 NO_BREAK = 'There is no loop around this `%s`.'
 YIELDS = ('PROCESS_YIELD', 'PROCESS_WAIT_EVENT', 'PT_YIELD')
 WAITS = ('PROCESS_YIELD', 'PROCESS_WAIT_EVENT', 'PROCESS_PAUSE', 'PROCESS_WAIT_EVENT_UNTIL', 'PROCESS_WAIT_UNTIL',
@@ -239,6 +245,7 @@ class Control(Radio):
             if inner is not None and inner.kind == 'call' and inner.text in YIELDS:
                 self.spawn(test, self.first(test))
                 return FALLS
+        self.check_busy(it, test)
         return self.loop(it, it.expressions[0], None)
 
     def of_for(self, it: Statement) -> Flow:
@@ -253,6 +260,7 @@ class Control(Radio):
             return self.once(it)
         if constant_of(test) is not None:
             return self.loop(it, None, None)
+        self.check_busy(it, test)
         return self.loop(it, None, None, test)
 
     def once(self, it: Statement) -> Flow:
@@ -307,6 +315,17 @@ class Control(Radio):
             self.after_loop(posts, targets)
         is_endless = value.constant not in (0, None) and target not in targets
         return Flow(not is_endless, frozenset(outer))
+
+    def check_busy(self, it: Statement, test: Expression | None) -> None:
+        """Refuses a loop that only waits for a time: no time passes in it here."""
+        asked = {one.text for one in parts_of(test) if one.kind == 'call'} if test else set()
+        if not test or asked.isdisjoint(TIMES) or has_jump(it.body, 'break') or has_jump(it.body, 'return'):
+            return
+        calls = {one.text for one in all_parts(it.body) if one.kind == 'call'}
+        changed = {*assigned_in(it.body)} & {one.variable for one in parts_of(test) if one.variable}
+        is_plain = not any(one.kind in ('assign', 'postfix') or one.text in ('++', '--') for one in parts_of(test))
+        if asked <= TIMES and calls <= HARMLESS and not changed and is_plain:
+            raise self.refuse(it.line, BUSY)
 
     def tested(self, test: Expression | None) -> tuple[Block, Value]:
         """The statements that a test needs, and its value."""
