@@ -307,17 +307,19 @@ class Forms(unittest.TestCase):
         self.assertIn('A second has 10 moments here, so `CLOCK_SECOND` is 10. `end`', notes)
 
     def test_a_random_number_has_16_bits_unless_8_are_enough(self) -> None:
-        step = 'dice = ((dice * 25173) + 13849);'
+        step = ['dice = ((dice * 25173) + 13849);', 'luck = ((luck * 225) % 239);']
+        total = '(dice + (luck * 257))'
+        whole = '((t * 256) + (%s / 256))' % total
+        two = [*step, 't = (%s / 256);' % total, *step]
         for drawn, lines in (
-                ('random_rand() % 8', [step, 'u = ((dice / 256) % 8);']),
-                ('random_rand() & 0x7f', [step, 'u = ((dice / 256) % 128);']),
-                ('random_rand() % CLOCK_SECOND', [step, 'u = ((dice / 256) % 128);']),
-                ('random_rand() % 1000', [step, 't = (dice / 256);', step, 'u = (((t * 256) + (dice / 256)) % 1000);']),
-                ('random_rand()', [step, 't = (dice / 256);', step, 'u = ((t * 256) + (dice / 256));']),
-                ('rand() % 100', [step, 't = (dice / 256);', step,
-                                  'u = ((((t * 256) + (dice / 256)) % 32768) % 100);']),
-                ('random_rand() < RANDOM_RAND_MAX / 4', [step, 't = (dice / 256);', step,
-                                                         'u = (((t * 256) + (dice / 256)) < 16383);'])):
+                ('random_rand() % 8', [*step, 'u = (%s / 8192);' % total]),
+                ('random_rand() & 1', [*step, 'u = (%s / 32768);' % total]),
+                ('random_rand() & 0x7f', [*step, 'u = (%s / 512);' % total]),
+                ('random_rand() % CLOCK_SECOND', [*step, 'u = (%s / 512);' % total]),
+                ('random_rand() % 1000', [*two, 'u = (%s %% 1000);' % whole]),
+                ('random_rand()', [*two, 'u = %s;' % whole]),
+                ('rand() % 100', [*two, 'u = ((%s %% 32768) %% 100);' % whole]),
+                ('random_rand() < RANDOM_RAND_MAX / 4', [*two, 'u = (%s < 16383);' % whole])):
             with self.subTest(drawn):
                 text, _ = translation(in_process('  u = %s;' % drawn, '', VARIABLES))
                 self.assertEqual(body_of(text)[-len(lines):], lines)

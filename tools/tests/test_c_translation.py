@@ -143,13 +143,17 @@ static void tick(void *p) {
     def test_random_numbers_are_spread_over_their_range(self) -> None:
         need_program(self)
         body = ('  for(u = 0; u < 200; u++) { for(i = 0; i < 20; i++) { n = random_rand() % 1000; if(n < 300) low++;'
-                ' if(n >= 900) high++; } PROCESS_PAUSE(); } printf("%d %d", low, high);')
-        text, notes = translation(in_process(body, 'static uint16_t low, high, u, n, i;'))
+                ' if(n >= 900) high++; if((random_rand() & 1) == (random_rand() & 1)) same++;'
+                ' if(random_rand() % 10 == random_rand() % 10) pairs++; } PROCESS_PAUSE(); }'
+                ' printf("%d %d %d %d", low, high, same, pairs);')
+        text, notes = translation(in_process(body, 'static uint16_t low, high, same, pairs, u, n, i;'))
         self.assertIsNotNone(text, notes)
         report = Report.parse(answer((SCENARIO % (END, text)).encode()).report)
-        low, high = [it.value or 0 for it in report.lines('print') if it.mote == 0]
-        # (of 4,000 draws, 1,200 and 400 on average; four standard deviations are 116 and 76)
-        self.assertTrue(1_084 < low < 1_316 and 324 < high < 476, (low, high))
+        # (of 4,000 draws each; the bounds are four standard deviations from the mean)
+        for mote in range(3):
+            for value, chance in zip([it.value or 0 for it in report.lines('print') if it.mote == mote],
+                                     (0.3, 0.1, 0.5, 0.1), strict=True):
+                self.assertLess(abs(value - 4_000 * chance), 4 * (4_000 * chance * (1 - chance)) ** 0.5)
 
 
 class Random(OnHost):

@@ -7,17 +7,22 @@ from motesim.c_program.tree import Expression
 from motesim.c_program.types import INT, UNSIGNED
 from motesim.c_program.values import HALF, Value, added, divided, multiplied, number
 from motesim.c_program.walk import all_parts, without_casts
-from motesim.from_c.expressions import DRAWN, MIXED, STEP
+from motesim.from_c.expressions import MIXED, STEP
 
 DRAWS = ('random_rand', 'rand')
-OF_CHANCE = ('A mote has no random numbers: each run is the same. `dice` is a generator. Its seed differs by mote, for '
-             'at most 255 motes, unless `random_init` sets another seed. Each step of `dice` makes 8 random bits, '
-             '`(dice / 256)`, so a value of `random_rand()` needs two steps if 8 bits aren\'t enough. '
+# The steps of the two generators, and their sum, a number of 16 bits whose upper bits are good.
+STEPS = STEP, 'luck = ((luck * 225) % 239);'
+SUM = '(dice + (luck * 257))'
+OF_CHANCE = ('A mote has no random numbers: each run is the same. `dice` and `luck` are generators. The seed of `dice` '
+             'differs by mote, for at most 255 motes, unless `random_init` sets another seed. A step of both makes 8 '
+             'random bits, so a value of `random_rand()` needs two steps if fewer bits aren\'t enough. '
              'docs/use/LOSSES.md has a pattern for packets that are lost by chance.')
 OF_HALF = ('On the Tmote Sky, `random_rand()` is at most 32,767, although `RANDOM_RAND_MAX` is 65535. Here, it is at '
            'most 65,535, so a comparison or a division of it has other results: use the remainder, such as '
            '`random_rand() % 10`.')
 OF_SAME_SEED = 'The seed is the same on all motes, so all of them draw the same numbers, as in Contiki.'
+OF_SUM = ('If you add the number of a run to this seed, as in `random_init(node_id + RUN)`, mote 1 of run 2 draws the '
+          'same numbers as mote 2 of run 1. For a sweep over seeds, use `((self * 257) + ${seed})` instead.')
 OF_OTHER_PROCESS = ('Each process has a random generator of its own here, and `random_init` sets only that of `%s`: '
                     'call it in the process that draws the numbers.')
 
@@ -27,42 +32,54 @@ def is_draw(it: Expression) -> bool:
     return it.kind == 'call' and it.text in DRAWS
 
 
+def named(text: str, names: tuple[str, str]) -> str:
+    """A text about the generators with the names of their variables."""
+    return text.replace('dice', names[0]).replace('luck', names[1])
+
+
 class Chance(Expressions):
     """Translates random numbers."""
-
-    # Whether 8 random bits are enough for the expression that is translated next.
-    needs_byte = False
 
     def _binary(self, it: Expression) -> Value:
         if it.text in (*COMPARES, '/', '>>') and any(
                 one.kind == 'call' and one.text == 'random_rand' for one in map(without_casts, it.parts)):
             self.remark(it.line, OF_HALF)
-        self.needs_byte = is_draw(without_casts(it.parts[0])) and self.keeps_byte(it)
-        return super()._binary(it)
+        bits = self.bits_of(it) if is_draw(without_casts(it.parts[0])) else None
+        if bits is None:
+            return super()._binary(it)
+        self.note_draw(it.line)
+        return self.drawn(bits)
 
-    def keeps_byte(self, it: Expression) -> bool:
-        """Returns whether the upper 8 bits of the left side don't change the result."""
-        number_right = constant_of(it.parts[1], self.program.second)
-        if number_right is None or number_right < 1:
-            return False
-        return it.text == '%' and 256 % number_right == 0 or it.text == '&' and number_right < 256
+    def bits_of(self, it: Expression) -> int | None:
+        """The number of random bits that an operation keeps, if these are at most 8 and it keeps no others."""
+        right = constant_of(it.parts[1], self.program.second)
+        values = {'%': right, '&': None if right is None else right + 1}.get(it.text)
+        return values.bit_length() - 1 if values in (2, 4, 8, 16, 32, 64, 128, 256) else None
+
+    def note_draw(self, line: int) -> None:
+        self.remark(line, OF_CHANCE)
+        self.code.is_random = True
 
     def value_random_rand(self, it: Expression) -> Value:
-        """A random number of 16 bits, or of 8 bits if these are enough."""
-        self.remark(it.line, OF_CHANCE)
-        self.code.is_random = True
-        name = self.dice()
-        needs_byte, self.needs_byte = self.needs_byte, False
-        if needs_byte:
-            return self.random_byte(name)
-        upper = self.temporary(self.random_byte(name))
-        return added(multiplied(upper._replace(type=UNSIGNED), number(256, UNSIGNED)), self.random_byte(name), '+')
+        """A random number of 16 bits."""
+        self.note_draw(it.line)
+        upper = self.temporary(self.drawn(8))
+        return added(multiplied(upper._replace(type=UNSIGNED), number(256, UNSIGNED)), self.drawn(8), '+')
 
-    def random_byte(self, name: str) -> Value:
-        """The upper 8 bits of the generator after one step."""
-        self.emit(STEP.replace('dice', name))
-        self.log.append(name)
-        return Value(DRAWN.replace('dice', name), UNSIGNED, 0, 255, frozenset([name]))
+    def drawn(self, bits: int) -> Value:
+        """The upper bits of the generators' sum after one step."""
+        names = self.generators()
+        for step in STEPS:
+            self.emit(named(step, names))
+        self.log += names
+        text = '(%s / %d)' % (named(SUM, names), 1 << 16 - bits)
+        return Value(text, UNSIGNED, 0, (1 << bits) - 1, frozenset(names))
+
+    def generators(self) -> tuple[str, str]:
+        """The names of the generators' variables."""
+        dice, luck = (self.declare(self.extra.setdefault(it, self.extra.get(it) or self.new_name(it)), 1)
+                      for it in ('dice', 'luck'))
+        return dice, luck
 
     def call_random_init(self, it: Expression) -> None:
         """Sets the seed, if this process draws numbers."""
@@ -74,20 +91,18 @@ class Chance(Expressions):
             return
         if seed.constant is not None:
             self.remark(it.line, OF_SAME_SEED)
-        for text in self.seeding(seed.text):
+        elif seed.text != 'self':
+            self.remark(it.line, OF_SUM)
+        for text in (*self.seeding(seed.text), named('luck = 1;', self.generators())):
             self.emit(text)
-        self.log.append(self.dice())
-
-    def dice(self) -> str:
-        """The name of the generator's variable."""
-        return self.declare(self.extra.setdefault('dice', self.extra.get('dice') or self.new_name('dice')), 1)
+        self.log += self.generators()
 
     def seeding(self, seed: str = 'self') -> list[str]:
-        """The statements that set the generator to a seed, and mix it."""
+        """The statements that set the first generator to a seed, and mix it."""
         first, *others = [it.strip() + ';' for it in MIXED.split(';') if it.strip()]
-        return [it.replace('dice', self.dice()) for it in (first.replace('self', seed), *others)]
+        return [named(it, self.generators()) for it in (first.replace('self', seed), *others)]
 
     def value_rand(self, it: Expression) -> Value:
         """A random number of 15 bits."""
         found = self.value_random_rand(it)
-        return found if found.high < 256 else (divided(found, number(HALF, UNSIGNED), '%') or found)._replace(type=INT)
+        return (divided(found, number(HALF, UNSIGNED), '%') or found)._replace(type=INT)
