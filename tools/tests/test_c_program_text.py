@@ -843,6 +843,9 @@ static void late(void *ptr) { printf("%d", 1); }'''
                 ('ctimer_set(&c, 3, late, NULL); ctimer_reset(&c);', True), (wait % reset, False),
                 ('etimer_set(&other, 3);' + wait % reset, True), ('process_poll(&p);' + wait % reset, True),
                 ('etimer_set(&other, 3);' + wait % ('if(data == &et) { %s }' % reset), False),
+                ('etimer_set(&other, 3);' + wait % ('if(ev == PROCESS_EVENT_TIMER) { if(data == &other) k++; else %s }'
+                                                    % reset), False),
+                ('etimer_set(&other, 3);' + wait % ('if(data == &other) k++; else ' + reset), True),
                 (wait % ('switch(ev) { case PROCESS_EVENT_TIMER: %s break; }' % reset), False),
                 ('process_poll(&p);' + wait % ('if(ev == PROCESS_EVENT_TIMER) { %s }' % reset), False),
                 ('process_poll(&p);' + wait % ('if(!etimer_expired(&et)) continue; ' + reset), False),

@@ -68,7 +68,7 @@ OF_RADIO_TIMER = ('In Contiki, the function that is called for packets, and the 
                   'radio. In the translation, `%s` gets the event.')
 OF_RESET = ('In Contiki, a timer that is reset before it has expired expires at once, because its next interval begins '
             'in the future. Here, `%s` expires at the end of that interval. To start it from now, use `%s_restart`.')
-# The name under which it is known that a timer has expired.
+# The name under which it is known that a timer has expired; without a timer, that the event is that of a timer.
 ELAPSED = 'end of '
 NO_CLOSE = 'A connection isn\'t closed here: `%s` runs for each packet up to the end.'
 NOT_OPEN = 'A connection isn\'t opened here: `%s` runs for each packet from the start.'
@@ -361,19 +361,28 @@ class Calls(Chance):
             self.note_expired(self.either[shown(test)])
         elif test.kind == 'call' and test.text in ('etimer_expired', 'ctimer_expired') and is_true_here:
             self.known[ELAPSED + self.timer(self.first(test), 'etimer', 'ctimer')] = (1, 1)
-        elif test.kind == 'binary' and test.text == ('==' if is_true_here else '!='):
+        elif test.kind == 'binary' and test.text in ('==', '!='):
             for one, other in (test.parts, test.parts[::-1]):
-                if self.is_event(one) and constant_of(other) == TIMER:
-                    self.known |= self.only_timer()
-                elif self.is_data(one) and without_casts(other).kind == 'unary':
-                    pointer = self.pointer(other)
-                    if pointer.kind == 'timer':
-                        self.known[ELAPSED + self.timer(other, 'etimer')] = (1, 1)
+                self.note_event(one, other, (test.text == '==') == is_true_here)
+
+    def note_event(self, one: Expression, other: Expression, is_equal: bool) -> None:
+        """Notes the timers that have expired if the event or its data is something, or if it isn't."""
+        if self.is_event(one) and constant_of(other) == TIMER and is_equal:
+            self.known |= {ELAPSED: (1, 1), **self.only_timer()}
+        elif self.is_data(one) and without_casts(other).kind == 'unary' and self.pointer(other).kind == 'timer':
+            name = self.timer(other, 'etimer')
+            others = [it for it in self.etimers() if it != name]
+            if is_equal or ELAPSED in self.known and len(others) == 1:
+                self.known[ELAPSED + (name if is_equal else others[0])] = (1, 1)
+
+    def etimers(self) -> list[str]:
+        """The names of the etimers of the process."""
+        return [self.named(it, path) for it in self.use.variables for path, its in leaves_of(it.type)
+                if its.kind == 'etimer']
 
     def only_timer(self) -> dict[str, Limits]:
         """The timer that has expired when the event of a timer arrives, if the process has only one etimer."""
-        found = [self.named(it, path) for it in self.use.variables for path, its in leaves_of(it.type)
-                 if its.kind == 'etimer']
+        found = self.etimers()
         return {ELAPSED + found[0]: (1, 1)} if len(found) == 1 else {}
 
     @property

@@ -450,7 +450,7 @@ class Functions(Control):
         self.is_first = False
         self.fresh = {one for one in self.fresh if one.is_static}
         self.buffer, self.either = None, {}
-        self.note_effects([FILLED])
+        self.note_effects([FILLED, ELAPSED])
         self.forget_pointers()
 
     def waits(self, it: Expression, test: Expression | None) -> None:
