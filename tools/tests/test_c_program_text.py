@@ -362,6 +362,12 @@ PROCESS_THREAD(q, ev, data) { static int n; PROCESS_BEGIN(); n = random_rand(); 
         for first in 'var s = 65535;', 'var u = 44;', 'var n = 65532;':
             self.assertIn(first, text or '')
 
+    def test_an_address_of_zeros_is_that_of_no_mote(self) -> None:
+        for first, value in ('', 255), (' = {{0, 0}}', 255), (' = {{3, 0}}', 3):
+            body = '  printf("%d", linkaddr_cmp(&parent, &linkaddr_null)); PROCESS_YIELD(); parent.u8[0] = n;'
+            text, notes = translation(in_process(body, 'static linkaddr_t parent%s;' % first, VARIABLES))
+            self.assertIn('var parent = %d;' % value, text or notes)
+
     def test_an_address_that_is_not_set_has_the_bytes_0(self) -> None:
         above = 'static linkaddr_t parent; static linkaddr_t own;'
         body = ('  if(parent.u8[0] == 0) printf("%d", linkaddr_null.u8[0]); own.u8[0] = 3; printf("%d", own.u8[0]);'

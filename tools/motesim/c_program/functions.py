@@ -9,7 +9,7 @@ from motesim.c_program.calls import ELAPSED
 from motesim.c_program.constants import constant_of
 from motesim.c_program.control import ENDS, FALLS, Control, Flow, has_wait
 from motesim.c_program.places import (
-    INTACT, NO_MOTE, OF_ADDRESS, OF_CHANGE, OF_EVENTS, OF_RESULT, ONE_BYTE, Path, Place, Pointer,
+    INTACT, NO_MOTE, OF_ADDRESS, OF_CHANGE, OF_EVENTS, OF_NULL, OF_RESULT, ONE_BYTE, Path, Place, Pointer,
 )
 from motesim.c_program.radio import FILLED, SENDS
 from motesim.c_program.refusal import Refusal
@@ -81,7 +81,8 @@ class Functions(Control):
     def first_value(self, variable: Variable, it: Expression, its: Type) -> int:
         value = constant_of(it, self.program.second)
         if its.kind == 'address':
-            self.remark(variable.line, OF_ADDRESS)
+            self.remark(variable.line, OF_NULL if value == 0 else OF_ADDRESS)
+            value = NO_MOTE if value == 0 else value
         if value is None:
             raise self.refuse(variable.line, NO_STATIC % variable.name)
         return converted(number(value), its).low % 65_536 if its.is_number else value % 65_536
