@@ -895,6 +895,14 @@ static const struct broadcast_callbacks calls = { recv };'''
                 self.assertEqual(wanted if 'Tmote Sky, `%' in notes else '', wanted, notes)
                 self.assertIn(wanted, notes)
 
+    def test_a_ctimer_that_is_restarted_before_it_is_set_has_a_remark(self) -> None:
+        above = 'static struct ctimer c; static void tick(void *ptr) { printf("%d", 1); }'
+        start, again = 'ctimer_set(&c, 3, tick, NULL); ', 'ctimer_restart(&c); '
+        for body, is_early in (
+                (again + start, True), (start + again, False), ('while(1) { %s }' % (again + start), False)):
+            notes = self.remarks(body, above)
+            self.assertEqual('`c` has no function before the first `ctimer_set`' in notes, is_early)
+
     def test_a_connection_that_is_never_opened_has_a_remark(self) -> None:
         above = 'static struct broadcast_conn bc, other;'
         for opened, is_seen in ('bc', False), ('other', True):

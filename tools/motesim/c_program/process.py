@@ -28,6 +28,8 @@ IN_CIRCLE = ('The functions of ctimers set each other. Here, a ctimer may set on
              'set them.')
 LATE_RECEIVER = ('In Contiki, `%s` runs for all packets after the connection was opened. Here, it runs in `%s`, whose '
                  'variables it uses, and packets that arrive before `%s` starts are dropped.')
+NOT_SET = ('In Contiki, `%s` has no function before the first `ctimer_set`, so nothing runs when it expires. Here, its '
+           'function runs.')
 NO_CALLBACK = 'The function of a ctimer is expected here.'
 OF_POINTER = 'The last value of `ctimer_set` is NULL, a constant, or the address of a variable here.'
 
@@ -227,6 +229,13 @@ class ProcessWriter(Functions):
             self.blocks.setdefault(name, []).append([])
             block = self.callback_block(name, self.file.functions[target.name], pointer)
             self.blocks[name][known.index(called)] = block
+
+    def changed_timer(self, it: Expression, word: str, *kinds: str) -> None:
+        super().changed_timer(it, word, *kinds)
+        name = self.timer(self.first(it), *kinds)
+        if kinds[0] == 'ctimer' and word != 'stop' and self.unit.name == 'body' and not self.open_loops \
+                and name not in self.callbacks:
+            self.remark(it.line, NOT_SET % name)
 
     def function_of(self, timer: str) -> str:
         """The variable that says which function a callback timer runs."""
