@@ -100,8 +100,9 @@ def check_sides(sides: Sides, wish: Wish) -> None:
         raise Fault('there is no measure %s on both sides; there are: %s' % (
             wish.measure, ', '.join(it for it in measures_of(rows) if it in measures_of(others))))
     if wish.against == wish.pair.partition('=')[0]:
-        raise Fault('--pair compares two values of %s, so --against needs another parameter: %s' % (
-            wish.against, ', '.join(kept) or 'there is none'))
+        raise Fault('--pair compares two values of %s, so --against needs another parameter: %s. For one row over all '
+                    'runs, add a parameter with one value to the plan, such as `all = 1`, sweep it into another file, '
+                    'and name it with --against' % (wish.against, ', '.join(kept) or 'there is none'))
     for name in filter(None, [wish.against, wish.by]):
         if name not in kept:
             raise Fault('there is no parameter %s on both sides; there are: %s' % (name, ', '.join(kept)))
