@@ -186,6 +186,16 @@ class Command(unittest.TestCase):
             self.assertEqual(status, 2)
             self.assertIn('clock-second', err)
 
+    def test_a_file_that_is_there_already_is_kept_under_another_name(self) -> None:
+        output, name = self.folder / 'net.toml', self.written('b.c', C)
+        output.write_text('# my net\n')
+        _, out, _ = self.run_on(name, '--apply', str(output))
+        self.assertIn('%s had another text, which is in %s~ now.' % (output, output), out)
+        self.assertEqual((self.folder / 'net.toml~').read_text(), '# my net\n')
+        # (the same file once more changes nothing)
+        self.assertNotIn('had another text', self.run_on(name, '--apply', str(output))[1])
+        self.assertEqual((self.folder / 'net.toml~').read_text(), '# my net\n')
+
     def test_quotes_in_a_program_are_refused(self) -> None:
         name = self.written('q.mote', "process a; // '''\n")
         status, _, err = self.run_on(name, '--apply', str(self.folder / 'q.toml'))

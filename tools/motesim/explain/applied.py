@@ -45,6 +45,7 @@ NOT_TRANSLATED = '%s, line %d: %s'
 NO_FILE = 'No file is written: tools/explain translates a program in C only if it can do so as a whole.'
 IN_NET = '%s is a program: %s has it in a net of two motes that hear each other.'
 IN_C = 'Program %s is in C: it is translated as a whole.'
+KEPT = '%s had another text, which is in %s now.'
 NO_CHANGE = 'No line was changed: the %s.'
 QUOTES = "%s has three single quotes in a row, which end the text of a program in a scenario: leave them out."
 
@@ -134,7 +135,7 @@ def apply(name: str, output: str, run: Callable[[bytes], Answer], second: int = 
     for number, (change, text) in enumerate(changes(text, second), 1):
         print('\n'.join(change.shown(number, known)))
         known.add(change.hint)
-    write_whole(output, [text.encode()])
+    write_and_keep(output, text.encode())
     no_change = 'first error has no corrected line' if find_fault(text.encode()) else 'text has no other error' if (
         text.encode() != data) else 'text has no error'
     print('\n%s' % ('%s: %d change%s' % (one_line(output), number, 's' * (number != 1)) if number
@@ -156,12 +157,21 @@ def translate(name: str, text: str, output: str, run: Callable[[bytes], Answer],
         print('\n'.join(refused(name, text, refusal)))
         return 1
     data = in_net(first_process(found.text), with_comment(found.text, 'C'), SECONDS * second).encode()
-    write_whole(output, [data])
+    write_and_keep(output, data)
     print(IN_NET % (one_line(name), one_line(output)))
     for it in found.remarks:
         print('\n'.join(['', *wrapped(NOT_TRANSLATED % (one_line(name), it.line, it.text))]))
     print()
     return shown_explanation(output, data, run)
+
+
+def write_and_keep(output: str, data: bytes) -> None:
+    """Writes a file. A copy of a file of this name with another text is kept, with `~` at the end of its name."""
+    before = Path(output).read_bytes() if Path(output).is_file() else data
+    if before != data:
+        write_whole(output + '~', [before])
+        print(KEPT % (one_line(output), one_line(output + '~')))
+    write_whole(output, [data])
 
 
 def first_process(program: str) -> str:
