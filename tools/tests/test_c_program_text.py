@@ -324,6 +324,11 @@ class Forms(unittest.TestCase):
                 text, _ = translation(in_process('  u = %s;' % drawn, '', VARIABLES))
                 self.assertEqual(body_of(text)[-len(lines):], lines)
 
+    def test_a_remainder_of_rand_is_an_int_and_one_of_random_rand_has_no_sign(self) -> None:
+        for draw, test in ('rand', '>= 32768'), ('random_rand', '< 0'):
+            text, _ = translation(in_process('  if(%s() %% 8 - 4 < 0) { x = 1; }' % draw, '', VARIABLES))
+            self.assertIn('if ((((dice + (luck * 257)) / 8192) - 4) %s) {' % test, body_of(text))
+
     def test_the_seed_of_a_program_is_kept(self) -> None:
         mixed = ['dice = (dice * ((2 * dice) + 1));', 'dice = (dice + (dice / 256));',
                  'dice = (dice * ((2 * dice) + 1));']

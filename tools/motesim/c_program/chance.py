@@ -44,11 +44,13 @@ class Chance(Expressions):
         if it.text in (*COMPARES, '/', '>>') and any(
                 one.kind == 'call' and one.text == 'random_rand' for one in map(without_casts, it.parts)):
             self.remark(it.line, OF_HALF)
-        bits = self.bits_of(it) if is_draw(without_casts(it.parts[0])) else None
+        draw = without_casts(it.parts[0])
+        bits = self.bits_of(it) if is_draw(draw) else None
         if bits is None:
             return super()._binary(it)
         self.note_draw(it.line)
-        return self.drawn(bits)
+        # (in C, `rand()` is an `int`, and `random_rand()` has no sign)
+        return self.drawn(bits)._replace(type=INT if draw.text == 'rand' else UNSIGNED)
 
     def bits_of(self, it: Expression) -> int | None:
         """The number of random bits that an operation keeps, if these are at most 8 and it keeps no others."""

@@ -2,12 +2,11 @@
 from __future__ import annotations
 
 from collections.abc import Sequence
-from functools import lru_cache
 
 from motesim.c_program.constants import SECOND
-from motesim.c_program.program import Translation, translated
+from motesim.c_program.program import Translation
 from motesim.c_program.refusal import Refusal
-from motesim.explain.whole import with_comment
+from motesim.explain.whole import line_at, translation_of, with_comment
 from motesim.faults import Fault
 from motesim.terminal import one_line
 
@@ -17,9 +16,8 @@ class NotTranslated(Fault):
 
     def __init__(self, refusal: Refusal, source: str):
         super().__init__('its line %d can\'t be translated from C' % refusal.line)
-        rows = source.split('\n')
-        row = rows[refusal.line - 1].strip() if refusal.line <= len(rows) else ''
-        self.lines = ('line %d:%s' % (refusal.line, ' ' + one_line(row) if row else ''), refusal.reason)
+        row = one_line(line_at(source, refusal.line))
+        self.lines = ('line %d:%s' % (refusal.line, ' ' + row if row else ''), refusal.reason)
 
 
 def of_seconds(names: Sequence[str], ends: Sequence[int]) -> list[str]:
@@ -32,20 +30,19 @@ def of_seconds(names: Sequence[str], ends: Sequence[int]) -> list[str]:
     return ['a second of a program in C has %d moments, so the nets run for %s seconds' % (SECOND, length)]
 
 
-@lru_cache(maxsize=4)
-def translation_of(source: str) -> Translation:
-    """A program in C in the notation, with the remarks about differences."""
-    try:
-        return translated(source)
-    except Refusal as refusal:
-        raise NotTranslated(refusal, source) from None
+def made_of(source: str) -> Translation:
+    """The translation of a program in C, with the remarks about differences."""
+    found = translation_of(source)
+    if isinstance(found, Refusal):
+        raise NotTranslated(found, source)
+    return found
 
 
 def notation_of(source: str) -> str:
     """The text of a program in C in the notation."""
-    return with_comment(translation_of(source).text, 'C')
+    return with_comment(made_of(source).text, 'C')
 
 
 def remarks_of(source: str) -> tuple[str, ...]:
     """The remarks about differences between a program in C and its translation."""
-    return tuple('line %d in C: %s' % (it.line, it.text) for it in translation_of(source).remarks)
+    return tuple('line %d in C: %s' % (it.line, it.text) for it in made_of(source).remarks)
