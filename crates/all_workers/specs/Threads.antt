@@ -1,4 +1,4 @@
--- The workers before their threads and after them.
+-- The workers before their threads start, and after their threads have ended.
 use Rattle.std.specs.Prelude.{◌≡◌, true, List, map}
 use Rattle.std.specs.List.{zip, AllByRecursion as Each, AllZip}
 use Rattle.copy_inbox.specs.Handles.{InboxId, TakerView}

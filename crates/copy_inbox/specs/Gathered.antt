@@ -1,4 +1,4 @@
--- The senders that a taker gathered, and the taker's knowledge of the items that they pushed.
+-- The senders that a taker has got back, and its knowledge of the items that these senders pushed.
 use Rattle.std.specs.Prelude.{◌≡◌, ℕ, ◌<◌, ◌≤◌, ◌==◌, Bool, false, List, [], ◌∷◌, length, drop}
 use Rattle.std.specs.List.{AllByRecursion as Each, list_any, sum_by}
 use Rattle.copy_inbox.specs.declared.items.Carried.{Carried}

@@ -1,4 +1,4 @@
--- The rule of an inbox: a property of its queue and its passes that holds between any two atomic steps.
+-- The invariant of an inbox: a property of its queue and its passes that holds between any two atomic steps.
 use Rattle.std.specs.Prelude.{◌≡◌, ℕ, ◌^◌, ◌<◌, ◌≤◌, false, List, [], ◌∷◌, ◌++◌, length, Option, Some, None}
 use Rattle.std.specs.List.{AllByRecursion as Each}
 use mathlib.Core.Option.{some}

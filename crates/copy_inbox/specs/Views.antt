@@ -1,4 +1,4 @@
--- The view that a pass of the queue has at first, and how each step of the queue changes it.
+-- The views of a queue's passes: the first view of a pass, and its view after each step of the queue.
 use Rattle.std.specs.Prelude.{ℕ, ◌+◌, Bool, true, false, List, [], ◌∷◌, ◌++◌}
 use Rattle.copy_inbox.specs.declared.items.Carried.{Carried}
 use Rattle.copy_inbox.specs.declared.items.Item.{Item}

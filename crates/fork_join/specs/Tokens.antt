@@ -1,4 +1,4 @@
--- A worker that stopped has tokens, which show that it had seen the stop flag.
+-- The ghost tokens of a worker that stopped: they show that the worker had seen the stop flag.
 use Rattle.std.specs.Prelude.{◌≡◌, ◌<◌, ◌%◌, ℕ, Bool, true, false, Result, Ok, Err}
 use Rattle.fork_join.specs.declared.work.WorkerError.{WorkerError}
 use Rattle.fork_join.specs.declared.work.WorkerError.TheVariants.{Memory, Thread, Stopped}

@@ -1,2 +1,2 @@
--- The promises of the steps of a turn: they are about a kernel and its output.
+-- The promises of a turn's steps, for a kernel and its output.
 pub use Rattle.process_kernel.specs.GoesOn.{underway_in, GoesOn}

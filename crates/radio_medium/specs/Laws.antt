@@ -1,4 +1,4 @@
--- The properties of the copies of packets, and of the lookahead of a medium without an error.
+-- The copies of a packet in any medium, and the lookahead of a medium without an error.
 use Rattle.std.specs.Prelude.{◌≡◌, ℕ, ◌+◌, ◌<◌, ◌≤◌, true, length, map, None}
 use Rattle.std.specs.List.{AllByRecursion}
 use Rattle.std.specs.List.Sorted.{IsStrictlyIncreasing}

@@ -1,5 +1,5 @@
--- Reports that name only processes and events that exist, and programs in which no two targets of events, and no two
--- events, have the same name.
+-- Two properties: in a report, all processes and events exist; in a program, no two targets of events have the same
+-- name, and no two events have the same name.
 use Rattle.std.specs.Prelude.{◌≡◌, ◌⊎◌, ℕ, ◌+◌, ◌^◌, ◌<◌, ◌≤◌, List, [], ◌∷◌, length, Option, Some, None}
 use Rattle.std.specs.List.{AllByRecursion as Each}
 use Rattle.program_tree.specs.Code.{Tree}

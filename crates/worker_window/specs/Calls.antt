@@ -1,4 +1,4 @@
--- The motes that a window calls, and the copies that arrive at each of them.
+-- The motes that have an event in a window, and the copies that arrive at each of these motes.
 use Rattle.std.specs.Prelude.{ℕ, ◌≡◌, Bool, true, not, ◌&&◌, ◌==◌, nat_lt, if◌then◌else◌}
 use Rattle.std.specs.Prelude.{zero, suc, ◌<◌, List, [], ◌∷◌, length, Option, Some, None, is_some, option_map, Vec}
 use Rattle.std.specs.List.{filter, list_any}

@@ -1,4 +1,4 @@
--- The results of a worker's slots.
+-- The slots of a worker, each of which runs one lent mote in a window, and the results of the slots.
 use Rattle.std.specs.Prelude.{◌≡◌, ℕ, Bool, true, false, List, [], ◌∷◌, Option, Result, Ok, Err, Vec}
 use Rattle.std.specs.List.{AllZip, AllByRecursion, list_all}
 use Rattle.std.specs.declared.alloc.Global.{Global}

@@ -1,4 +1,4 @@
--- A mote's window after a poll of the future that runs it. The mote may have failed before the poll.
+-- A mote's window after one poll of the Rust future that runs this window. The mote may have failed before.
 use Rattle.std.specs.Prelude.{◌≡◌, ◌⊎◌, ℕ, true, Option, Some, None, Result, Ok, Err, IfSome, IsSomeAnd, MatchOption}
 use Rattle.mote_node.specs.declared.mote.MoteError.{MoteError}
 use Rattle.mote_node.specs.declared.mote.MoteError.TheVariants.{Failed, Memory, Past}
