@@ -193,7 +193,7 @@ FORMS = (
 # Statements that aren't translated, and a part of the reason.
 REFUSALS = (
     ('frobnicate(3);', 'motesim has no `frobnicate`.'), ('goto out;', 'There is no `goto`'),
-    ('x = unknown;', 'motesim has no `unknown`.'), ('runicast_send(&rc, &to, 3);', 'the receiver sends an answer'),
+    ('x = unknown;', 'motesim has no `unknown`.'), ('runicast_send(&rc, &to, 3);', 'Use `unicast_send`'),
     ('x = PT_SCHEDULE(sub(&pt));', '`PT_SCHEDULE` is translated only'), ('x = 1.5;', 'Numbers are whole'),
     ('switch(n) { case 1: PROCESS_YIELD(); }', 'can\'t wait inside of a `switch`'),
     ('process_start(&p, (void *)3);', 'passes no value'), ('process_exit(&p);', 'ends itself by `PROCESS_EXIT()`'),
@@ -218,7 +218,7 @@ REFUSALS = (
     ('memset(a, 0, 3);', 'These 3 bytes aren\'t whole'), ('int *q = &n; n = *q++;', 'or is NULL: use an index'),
     ('int *q, *r; q = a; r = &n; q++; q = r; r = a;', 'or is NULL: use an index'),
     ('static struct { int *next; } s; s.next = &n;', 'Only a variable is a pointer here, not `next`'),
-    ('list_init(&s);', 'Use an array of structures'), ('n = packetbuf_attr(3);', 'use a constant instead'),
+    ('list_init(&s);', 'use an array of structures'), ('n = packetbuf_attr(3);', 'use a constant instead'),
     ('int *q = best(); n = *q;', 'let `best` return the index of a member'),
     ('struct etimer *q = data; etimer_reset(q);', 'a timer is set only by its name'),
     ('static process_event_t e; e = PROCESS_EVENT_MSG;', '`e` gets its event only by `process_alloc_event()`'),
@@ -233,7 +233,7 @@ REFUSALS = (
     ('packetbuf_copyfrom(&n, 0);', '`n` doesn\'t fit'),
     ('x = latr();', 'motesim has no `latr`. Do you mean `later`?'), ('bt++;', 'motesim has no `bt`.'),
     ('bytez[0] = 1;', 'Do you mean `bytes`?'), ('frobnicate(x);', 'motesim has no `frobnicate`.'),
-    ('sprintf(bytes, "%d", n);', 'a packet is a number: send the number itself'),
+    ('sprintf(bytes, "%d", n);', 'a packet is a number: use the number itself'),
     ('void (*g[2])(void) = {later};', 'An array of functions has no counterpart'),
     ('static int k[] = {[70] = 1};', 'There is no member 70.'),
     ('void (*g)(void) = later; g();', 'A pointer to a function is called here'),

@@ -5,6 +5,7 @@ from collections.abc import Iterable, Iterator
 from contextlib import contextmanager
 from dataclasses import dataclass, field
 
+from motesim.c_program.absent import absent, advice_for
 from motesim.c_program.knowledge import Knowledge, LoopLimits
 from motesim.c_program.names import fresh, is_changed
 from motesim.c_program.refusal import Refusal
@@ -13,9 +14,8 @@ from motesim.c_program.types import INT, Type
 from motesim.c_program.usage import Usage
 from motesim.c_program.values import Limits, Value, converted, united
 from motesim.c_program.written import Block, Line, Target
-from motesim.from_c.scope import nearest
+from motesim.from_c.scope import is_misspelt, nearest
 
-NO_NAME = 'motesim has no `%s`.'
 LIKE = ' Do you mean `%s`?'
 OF_LONG = 'Values have 16 bits here: those of this type above 65,535 wrap.'
 
@@ -115,11 +115,13 @@ class Base:
     def refuse(self, line: int, reason: str) -> Refusal:
         return Refusal(line, reason)
 
-    def absent(self, name: str, line: int, names: Iterable[str], advice: str = '') -> Refusal:
-        """A name that isn't declared, with a similar one that is."""
-        known = {it.lower(): it for it in names if it and it != name}
-        like = nearest(name, known)
-        return Refusal(line, NO_NAME % name + (advice or (LIKE % known[like] if like else '')))
+    def absent(self, name: str, line: int, names: Iterable[str], calls: Iterable[str] = ()) -> Refusal:
+        """A name that isn't declared, with what to write instead, or with a similar name. `calls`: names of Contiki,
+        of which this name may be one with a mistake."""
+        own = {it.lower(): it for it in names if it and it != name}
+        known = {it.lower(): it for it in calls if is_misspelt(name, it)} or own
+        like = known.get(nearest(name, known) or '')
+        return Refusal(line, absent(name) + (LIKE % like if like and not advice_for(name) else ''))
 
     def absent_variable(self, name: str, line: int) -> Refusal:
         return self.absent(name, line, (it.name for it in (*self.file.variables, *self.use.variables)))

@@ -4,24 +4,25 @@ from __future__ import annotations
 import re
 from collections.abc import Callable, Sequence
 
+from motesim.c_program.absent import WHOLE
 from motesim.c_program.chance import Chance
 from motesim.c_program.constants import EVENT_NUMBERS, constant_of
 from motesim.c_program.expressions import COMPARES
+from motesim.c_program.parse_expressions import OF_FUNCTION_POINTER
 from motesim.c_program.places import OF_DATA, TEXTS, Place, Pointer, has_effects
 from motesim.c_program.tree import Expression, Function
 from motesim.c_program.types import INT, UNSIGNED, leaves_of
 from motesim.c_program.values import MOST, NOTHING, Limits, Value, added, as_type, compared, number
 from motesim.c_program.walk import all_parts, parts_of, shown, without_casts
 from motesim.c_program.written import Block, If, Line
-from motesim.from_c.absent import MULTIHOP, NO_LISTS, NO_SENSORS, RUNICAST
 
 CONVERSION = re.compile(r'%(?:%|[-+ #0]*[0-9]*(?:\.[0-9]+)?(?P<size>hh|h|ll|l|z|j|t)?(?P<kind>[a-zA-Z]))')
 WIDTH = re.compile(r'%[-+ #0]*[0-9]*\.?\*')
 OF_WIDTH = 'A `%*d` has no counterpart: write a number instead of the `*`, such as `%3d`.'
 # Calls that have no effect here.
 IGNORED = ('broadcast_open', 'unicast_open', 'abc_open', 'leds_init', 'packetbuf_set_attr', 'PT_INIT',
-           'PROCESS_BEGIN', 'PROCESS_END', 'PT_BEGIN', 'PT_END', 'watchdog_periodic', 'packetbuf_clear',
-           'packetbuf_set_datalen')
+           'PROCESS_BEGIN', 'PROCESS_END', 'PT_BEGIN', 'PT_END', 'watchdog_start', 'watchdog_stop',
+           'watchdog_periodic', 'packetbuf_clear', 'packetbuf_set_datalen')
 TIMER = EVENT_NUMBERS['PROCESS_EVENT_TIMER']
 LEDS = ('leds_on', 'leds_off', 'leds_toggle', 'leds_blink', 'leds_invert')
 OF_LEDS = 'A mote has no LEDs: a `print` shows the moment in the report.'
@@ -30,26 +31,16 @@ OF_TEXT = ('There are no texts: each number of a `printf` has a `print`, whose c
            'is from: if this matters, print numbers that differ, such as `1000 + n`.')
 OF_CHOSEN_TEXT = ('Which text this `printf` prints depends on `%s`, but texts aren\'t printed here: print the number '
                   '`%s`, too.')
-OF_BUILT_TEXT = 'There are no texts here, and a packet is a number: send the number itself, such as `n`.'
 BY_NAME = 'The data of an event is compared with a timer here, but a timer is set only by its name, such as `&et`.'
 LONGEST_LABEL = 40
-# The beginnings of names of calls that motesim doesn't have, and advice.
-ADVICE = (
-    (('runicast_', 'simple_udp'), RUNICAST),
-    (('mesh_', 'collect_', 'netflood_', 'trickle_', 'multihop_'), MULTIHOP),
-    (('list_', 'memb_', 'queuebuf_'), NO_LISTS), (('sprintf', 'snprintf', 'str'), OF_BUILT_TEXT),
-    (('packetbuf_attr',), 'All packets arrive with the same strength: use a constant instead.'),
-    (('clock_delay', 'clock_wait'), 'Let the process wait for an etimer.'),
-    (('rtimer_',), 'Use a ctimer: `ctimer_set(&c, 10, f, NULL);` calls `f` after 10 ticks.'),
-    (('memcmp',), 'Compare the values one by one.'),
-)
 OF_BELOW = 'This value may be below 0. Then it is printed as a number that is 65,536 above it.'
 OF_BITS = ('On the Tmote Sky, `%s` of a `printf` reads %d bits, but this value has %d. So the node prints wrong '
            'numbers: write `%s`. Here, the value itself is printed.')
 # The functions of Contiki whose results have 32 bits.
 LONG_CALLS = ('clock_time', 'clock_seconds', 'timer_remaining', 'stimer_remaining', 'stimer_elapsed')
-NO_DATA = ('`process_start` passes no value here: post the value to `%s` after the start, and let it wait for this '
-           'event.')
+NO_DATA = ('`process_start` passes no value here. Post the value, `process_start(&%s, NULL); process_post(&%s, '
+           'PROCESS_EVENT_MSG, (process_data_t)n);`, and let `%s` wait for it, `PROCESS_WAIT_EVENT_UNTIL(ev == '
+           'PROCESS_EVENT_MSG);`, before it uses `data`.')
 OF_ITSELF = 'A process ends itself by `PROCESS_EXIT()`: `process_exit` of the current process is refused here.'
 TO_ITSELF = 'The event `%s` can\'t be posted: only the kernel posts it.'
 FROM_CALLBACK = ('In Contiki, the function that is called for packets runs in a process of the radio, and %s `%s` '
@@ -137,11 +128,12 @@ class Calls(Chance):
 
     def unknown(self, it: Expression) -> Exception:
         if it.variable is not None:
-            return self.refuse(it.line, 'A pointer to a function is called here: call the function by its name.')
-        advice = next((' ' + text for names, text in ADVICE if it.text.startswith(names)), '')
-        if 'sensor' in it.text.lower():
-            advice = ' ' + NO_SENSORS
-        return self.absent(it.text, it.line, self.file.functions, advice)
+            return self.refuse(it.line, OF_FUNCTION_POINTER)
+        return self.absent(it.text, it.line, self.file.functions, self.calls())
+
+    def calls(self) -> list[str]:
+        """The calls of Contiki that are translated."""
+        return [*IGNORED, *(it.partition('_')[2] for it in dir(self) if it.startswith(('call_', 'value_')))]
 
     def own_call(self, it: Expression, is_value: bool) -> Value:
         raise NotImplementedError
@@ -235,7 +227,7 @@ class Calls(Chance):
     def call_process_start(self, it: Expression) -> None:
         name = self.target_process(self.first(it))
         if len(it.parts) > 1 and constant_of(without_casts(it.parts[1])) != 0:
-            raise self.refuse(it.line, NO_DATA % name)
+            raise self.refuse(it.line, NO_DATA % (name, name, name))
         if any(self.program.names[one] == name for one in self.file.autostart):
             self.program.asks_for_end.setdefault(name, it.line)
         self.note_end(it.line)
@@ -521,7 +513,7 @@ class Calls(Chance):
                 self.skip_text(part)
                 continue
             if kind in 'feg':
-                raise self.refuse(it.line, 'Numbers are whole here, with 16 bits.')
+                raise self.refuse(it.line, WHOLE)
             self.printed(part, kind in 'di', label)
         for at, (one, part) in enumerate(zip(found, it.parts[1:])):
             self.check_bits(one, part, at + 1 == len(found))

@@ -1,12 +1,12 @@
 """Tests about the event that a process was called with, and about addresses and processes."""
 from __future__ import annotations
 
+from motesim.c_program.absent import absent
 from motesim.c_program.constants import EVENT_NUMBERS, constant_of
 from motesim.c_program.places import OF_ADDRESS, Places, Pointer
 from motesim.c_program.tree import Expression, Variable
 from motesim.c_program.types import INT
 from motesim.c_program.values import NOTHING, Value, both, compared, negated, number
-from motesim.from_c.absent import NO_SENSORS
 
 KERNEL = {129: 'init', 130: 'poll', 131: 'exit', 133: 'continue', 134: 'msg', 135: 'exited', 136: 'timer', 137: 'com'}
 NO_EVENT = ('The event of a call is compared with events here: `ev == PROCESS_EVENT_TIMER`, or an event of the '
@@ -14,6 +14,9 @@ NO_EVENT = ('The event of a call is compared with events here: `ev == PROCESS_EV
 OF_ZERO = ('In Contiki, the data of an event that was posted with the address of a variable isn\'t NULL. Here, it is '
            'the value of the variable, so it counts as NULL if this value is 0.')
 NO_DATA = 'The data of an event is compared with a number, with `&` and a timer, or with `&` and a process here.'
+OF_CONNECTION = ('A packet goes to all motes in range, whatever connection their programs open, so `%s` isn\'t known '
+                 'here: if the program has one connection, leave this test out. If it has several ones, let a field of '
+                 'the packet say its kind.')
 NO_KERNEL_EVENT = 'motesim has no event with the number %d.'
 
 
@@ -42,8 +45,7 @@ class Events(Places):
             return self.program.event_variables[it.variable]
         value = constant_of(it)
         if value is None and it.kind == 'name' and it.variable is None:
-            is_sensor = 'sensor' in it.text or 'button' in it.text
-            raise self.refuse(it.line, 'motesim has no `%s`.%s' % (it.text, ' ' + NO_SENSORS if is_sensor else ''))
+            raise self.refuse(it.line, absent(it.text))
         if value is None:
             raise self.refuse(it.line, NO_EVENT)
         if value in KERNEL:
@@ -93,6 +95,9 @@ class Events(Places):
         """A comparison of data with the address of a timer, of a process, or with NULL; or of a pointer with NULL."""
         if self.is_data(one):
             return self.data_is(other)
+        pointed = self.type_of(one).of
+        if pointed is not None and pointed.kind == 'connection' and one.kind == 'name':
+            raise self.refuse(one.line, OF_CONNECTION % one.text)
         if not self.is_pointer(one):
             return None
         if constant_of(other) == 0:

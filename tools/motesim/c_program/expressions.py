@@ -152,8 +152,6 @@ class Expressions(Events):
         assert its is not None
         if its.kind in ('pointer', 'data', 'void'):
             return self.evaluate(it.parts[0])
-        if its.kind == 'real':
-            raise self.refuse(it.line, 'Numbers are whole here, with 16 bits.')
         if its.kind == 'int' and its.bits > 16:
             self.remark(it.line, OF_LONG)
         return converted(self.evaluate(it.parts[0]), its)

@@ -4,11 +4,12 @@ from __future__ import annotations
 from collections.abc import Iterator
 from typing import NamedTuple
 
+from motesim.c_program.absent import WHOLE, absent
 from motesim.c_program.parse_expressions import Expressions
 from motesim.c_program.refusal import Refusal
 from motesim.c_program.tree import Expression, File, Variable
 from motesim.c_program.types import (
-    CHARACTER, INT, NAMED, REAL, STRUCTURES, VOID, Type, has_empty, members_of, pointer_to,
+    CHARACTER, INT, NAMED, STRUCTURES, VOID, Type, has_empty, members_of, pointer_to,
 )
 
 QUALIFIERS = ('static', 'const', 'volatile', 'extern', 'inline', 'register', 'auto', '__inline', 'CC_INLINE')
@@ -65,6 +66,8 @@ class Declarations(Expressions):
                 found = self.named_type()
             else:
                 break
+        if 'float' in words or 'double' in words:
+            raise Refusal(line, WHOLE)
         if found is None and not words:
             raise Refusal(line, 'A type is expected here, not `%s`.' % self.token.text)
         return found or of_words(words), qualifiers
@@ -229,15 +232,14 @@ class Declarations(Expressions):
 
     def declare(self, one: Declared, qualifiers: set[str], initial: Expression | None) -> Variable:
         """A new variable of the innermost scope."""
-        if one.type.kind == 'void' or one.type.kind == 'real':
-            raise Refusal(one.line, 'Numbers are whole here, with 16 bits: `%s` has another type.' % one.name)
+        if one.type.kind == 'void':
+            raise Refusal(one.line, 'A variable has another type than `void`.')
         if not one.name:
             raise Refusal(one.line, 'A name is expected here, behind its type.')
         if has_empty(one.type):
             raise Refusal(one.line, 'An array has at least one member.')
         if one.type.kind == 'struct' and not one.type.fields:
-            raise Refusal(one.line, '`%s` has a type that motesim doesn\'t have: `struct %s`.' % (
-                one.name, one.type.name))
+            raise Refusal(one.line, absent('struct ' + one.type.name))
         if members_of(one.type) > MOST_MEMBERS and one.type.of and one.type.of.name != 'char':
             raise Refusal(one.line, 'A process has at most 64 variables, so `%s` has too many members.' % one.name)
         is_static = not self.function or 'static' in qualifiers
@@ -316,8 +318,6 @@ def of_words(words: list[str]) -> Type:
     """The type of words such as `unsigned long int`."""
     if 'void' in words:
         return VOID
-    if 'float' in words or 'double' in words:
-        return REAL
     signed = 'unsigned' not in words
     if 'char' in words:
         return CHARACTER if words == ['char'] else Type('int', 8, signed)

@@ -4,12 +4,12 @@ from __future__ import annotations
 import re
 from collections.abc import Sequence
 
+from motesim.c_program.absent import WHOLE, absent
 from motesim.c_program.constants import NotConstant, value_of
 from motesim.c_program.refusal import Refusal
 from motesim.c_program.tokens import Token
 from motesim.c_program.tree import Expression, Variable
 from motesim.c_program.types import INT, UNSIGNED, Type, size_of
-from motesim.from_c.absent import OF_READING
 
 ASSIGNS = ('=', '+=', '-=', '*=', '/=', '%=', '&=', '|=', '^=', '<<=', '>>=')
 LEVELS = (('||',), ('&&',), ('|',), ('^',), ('&',), ('==', '!='), ('<', '<=', '>', '>='), ('<<', '>>'), ('+', '-'),
@@ -17,6 +17,7 @@ LEVELS = (('||',), ('&&',), ('|',), ('^',), ('&',), ('==', '!='), ('<', '<=', '>
 ESCAPES = {'n': 10, 't': 9, 'r': 13, 'a': 7, 'b': 8, 'f': 12, 'v': 11}
 LONG = Type('int', 32)
 NO_SEMICOLON = 'A `;` is missing at the end of this line.'
+OF_FUNCTION_POINTER = 'A pointer to a function is called here: call each function by its name, in an `if`.'
 OF_CHARACTER = 'This isn\'t one character: %s.'
 
 
@@ -171,11 +172,11 @@ class Expressions:
                 self.need(')')
         self.need(')')
         if function.parts and function.parts[0].text.endswith('_sensor'):
-            raise Refusal(line, OF_READING)
+            raise Refusal(line, absent(function.parts[0].text))
         if function.kind == 'member' and function.parts[0].kind == 'name' and function.parts[0].variable is None:
-            raise Refusal(line, 'motesim has no `%s.%s`.' % (function.parts[0].text, function.text))
+            raise Refusal(line, absent('%s.%s' % (function.parts[0].text, function.text)))
         if function.kind != 'name':
-            raise Refusal(line, 'A pointer to a function is called here: call the function by its name.')
+            raise Refusal(line, OF_FUNCTION_POINTER)
         return Expression('call', function.text, tuple(parts), function.line, function.variable)
 
     def primary(self) -> Expression:
@@ -206,7 +207,8 @@ class Expressions:
             return known._replace(line=it.line)
         if isinstance(known, Type):
             raise Refusal(it.line, '`%s` is a type: an expression is expected here.' % it.text)
-        return Expression('name', it.text, line=it.line, variable=known, origin=it.origin)
+        text = 'CLOCK_SECOND' if it.text == 'CLOCK_CONF_SECOND' else it.text
+        return Expression('name', text, line=it.line, variable=known, origin=it.origin)
 
     def number(self, it: Token) -> Expression:
         plain = it.text.rstrip('uUlL') if it.text[:2].lower() == '0x' else it.text.rstrip('uUlLfF')
@@ -215,7 +217,7 @@ class Expressions:
             is_octal = len(plain) > 1 and plain[0] == '0' and plain.isdigit()
             value = int(plain, 8) if is_octal else int(plain, 0)
         except ValueError:
-            raise Refusal(it.line, 'Numbers are whole here, with 16 bits: `%s` isn\'t.' % it.text) from None
+            raise Refusal(it.line, WHOLE) from None
         is_plain = plain.isdigit() and not is_octal
         its = UNSIGNED if 'u' in suffix or 32767 < value <= 65535 and not is_plain else INT
         if value > (65535 if its == UNSIGNED else 32767) or 'l' in suffix:

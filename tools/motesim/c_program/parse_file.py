@@ -3,6 +3,7 @@ from __future__ import annotations
 
 from collections.abc import Sequence
 
+from motesim.c_program.absent import absent
 from motesim.c_program.constants import constant_of
 from motesim.c_program.parse_declarations import NO_END, Declarations, Declared
 from motesim.c_program.parse_expressions import Expressions
@@ -11,7 +12,6 @@ from motesim.c_program.refusal import Refusal
 from motesim.c_program.tokens import Token
 from motesim.c_program.tree import Expression, File, Function, Statement, Variable
 from motesim.c_program.types import DATA, EVENT, VOID, Type, pointer_to
-from motesim.from_c.absent import NO_LISTS
 
 # Macros of Contiki that are statements, also without a `;`.
 STATEMENTS = ('PROCESS_BEGIN', 'PROCESS_END', 'PT_BEGIN', 'PT_END', 'PROCESS_YIELD', 'PROCESS_WAIT_EVENT',
@@ -21,6 +21,8 @@ OUTSIDE = 'This line is outside of all functions: above it, a `}` is too much, o
 NO_BRACE = 'This `{` has no `}`, or another `{` in its block has none.'
 NO_IF = 'There is no `if` for this `else`: in front of it, there is one statement, or a block in `{ .. }`.'
 NO_STATEMENT = '`%s` is no statement of C that has a block: in front of a `{` there is, for example, an `if`.'
+OF_HANDLER = ('There is no `goto`: write a function with the statements at the label, and call it in the handler, '
+              '`PROCESS_EXITHANDLER(f();)`, and at the end of the process.')
 NO_GOTO = 'There is no `goto`, and no labels: use a `while` with a flag, or an `if`.'
 
 
@@ -53,9 +55,7 @@ class FileReader(Declarations):
             return
         self.at = at
         if self.ahead(1).text == '(' and it.kind == 'name' and not self.is_type():
-            advice = ' ' + NO_LISTS if it.text in ('MEMB', 'LIST') else ''
-            absent = 'motesim has no `%s`.%s' % (it.text, advice)
-            raise Refusal(it.line, OUTSIDE if it.text in (*STATEMENTS, *KEYWORDS) else absent)
+            raise Refusal(it.line, OUTSIDE if it.text in (*STATEMENTS, *KEYWORDS) else absent(it.text))
         if it.text == '}':
             raise Refusal(it.line, OUTSIDE)
         self.declaration(comments)
@@ -263,6 +263,8 @@ class FileReader(Declarations):
         self.need('(')
         found = list[Statement]()
         while not self.is_sign(')'):
+            if self.token.text == 'goto':
+                raise Refusal(it.line, OF_HANDLER)
             if self.is_sign('{', ';') or self.token.text in KEYWORDS:
                 found += self.statement()
                 continue

@@ -3,6 +3,7 @@ from __future__ import annotations
 
 from typing import NamedTuple
 
+from motesim.c_program.absent import absent, advice_for
 from motesim.c_program.base import Base, joined_limits
 from motesim.c_program.tree import Expression, Variable
 from motesim.c_program.types import (
@@ -22,12 +23,15 @@ NO_PLACE = 'A value can\'t be assigned to this.'
 NO_INDEX = 'The array `%s` has the members 0 to %d: there is no member %d.'
 NEXT_INDEX = ('The array `%s` has the members 0 to %d, but `%s` may be %d here: then, C reads or writes something '
               'else. Here, such a member isn\'t written, and has an old value if it is read.')
+OF_TIMER = ('A timer has no fields here: use the timer itself, as in `etimer_expired(&et)`, or note the time in a '
+            'variable when it is set, `start = clock_time();`.')
 NO_FIELD = 'There is no field `%s` here.'
 NO_ROOM = ('`unicast_send` needs 8 of the 16 bits of a packet for the number of the receiver. So 8 bits are left for '
            'the value, but %s has two fields. Send one field, put both into 8 bits, such as `type * 64 + seq %% 64`, '
            'or use `broadcast_send`.')
 OF_PACKET = ('A packet, or the data of an event, is one number of 16 bits: one value, or two fields that are at most '
-             '255. So %s doesn\'t fit: send a packet, or post an event, for each value.')
+             '255. So %s doesn\'t fit: send a packet, or post an event, for each value, or put small values into one '
+             'number, such as `type * 64 + seq %% 64`.')
 OVERWRITTEN = ('Contiki has one packet buffer. So after `packetbuf_copyfrom`, this is a value of the packet that is '
                'sent there; here, it is still the value of the packet that has arrived. Copy the value before.')
 # The name under which it is known that no statement has overwritten the packet buffer.
@@ -109,7 +113,7 @@ class Places(Base):
             base = self.place(it.parts[0]) if it.kind == 'member' else self.pointed(it.parts[0])
             field = dict(base.type.fields).get(it.text)
             if field is None:
-                raise self.refuse(it.line, NO_FIELD % it.text)
+                raise self.refuse(it.line, OF_TIMER if base.type.kind in ('etimer', 'ctimer') else NO_FIELD % it.text)
             return base._replace(type=field, paths=tuple((*path, it.text) for path in base.paths))
         if it.kind == 'unary' and it.text == '*':
             return self.pointed(it.parts[0])
@@ -239,6 +243,8 @@ class Places(Base):
             return Pointer('place', self.member(Expression('index', '[', it.parts, it.line)))
         if it.kind == 'choice' and all(self.pointer(one).kind == 'text' for one in it.parts[1:]):
             return Pointer('text')
+        if advice_for(it.text):
+            raise self.refuse(it.line, absent(it.text))
         raise self.refuse(it.line, NO_POINTER % (it.text if it.kind == 'call' else 'this'))
 
     def is_of_text(self, it: Expression) -> bool:

@@ -21,7 +21,8 @@ KEPT = ('Contiki has one packet buffer: each packet that arrives overwrites it, 
         'change it, too. Here, this statement sends the value of the last `packetbuf_copyfrom`, or of the packet that '
         'arrived: fill the buffer directly before each send.')
 OF_SENT = 'In Contiki, `%s` is called when the send has ended. Here, its statements follow the `send`.'
-TOO_LARGE = 'A packet to one mote has 8 bits for its value: this one has more.'
+TOO_LARGE = ('A packet to one mote has 8 bits for its value, and this one has more: send smaller values, such as a '
+             'quarter of each, or use `broadcast_send`.')
 OF_BYTES = 'These %d bytes aren\'t whole variables: assign the values one by one.'
 OF_TYPES = 'The values that are copied here have other sizes than those they are copied to: assign them one by one.'
 NEVER_OPEN = ('The connection `%s` is never opened by `%s_open`. So in Contiki, it can\'t send; here, the packet is '
@@ -183,7 +184,7 @@ class Radio(Calls):
         value, address = self.sent_value(), self.address(target)
         self.remark(it.line, OF_ONE_MOTE)
         if value.low < 0 or value.high > 255:
-            if 'pair' in self.forms('packet'):
+            if 'pair' in self.forms('packet') or value.low > 255:
                 raise self.refuse(it.line, TOO_LARGE)
             value = Value('(%s %% 256)' % value.text, UNSIGNED, 0, 255, value.reads)
         self.note_packet(value)

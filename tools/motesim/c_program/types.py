@@ -7,7 +7,7 @@ from typing import NamedTuple
 class Type(NamedTuple):
     """A type.
 
-    kind    int, void, real, bool, struct, array, pointer, function, or an object of Contiki: etimer, ctimer, timer,
+    kind    int, void, bool, struct, array, pointer, function, or an object of Contiki: etimer, ctimer, timer,
             stimer, rtimer, semaphore, pt, process, event, data, address, connection, callbacks
     bits    of a whole number: 8, 16, 32 or 64
     signed  whether a whole number may be negative
@@ -44,7 +44,7 @@ class Type(NamedTuple):
 
 INT, UNSIGNED = Type('int'), Type('int', 16, False)
 BYTE, SIGNED_BYTE = Type('int', 8, False), Type('int', 8)
-VOID, REAL, BOOL = Type('void'), Type('real'), Type('bool', 8, False)
+VOID, BOOL = Type('void'), Type('bool', 8, False)
 EVENT, DATA, ADDRESS = Type('event', 8, False), Type('data'), Type('address', 16, False)
 CHARACTER = Type('int', 8, True, name='char')
 # (a time has 32 bits in Contiki since 2.6)

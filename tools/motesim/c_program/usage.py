@@ -17,7 +17,7 @@ SHARED_LOCAL = ('Several processes call functions that use `%s`, a static variab
 IN_CIRCLE = 'The function `%s` calls itself, which a thread can\'t do: use a loop.'
 TWO_CONNECTIONS = ('The program has callbacks for several connections, %s. A packet is one number for all motes that '
                    'hear it, and a program has one receiver: use one connection, and a field of the packet that says '
-                   'its kind.')
+                   'its kind, as in `struct msg { uint8_t kind; uint8_t value; };`.')
 
 
 @dataclass

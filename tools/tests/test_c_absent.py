@@ -1,0 +1,82 @@
+"""Parts of Contiki that motesim doesn't have: the refusal names the part, and what a program in C does instead."""
+import unittest
+
+import here  # noqa: F401
+from translated_c import in_process, translation
+
+ABOVE = 'static struct ctimer t; static rimeaddr_t a; static int later(void) { return 1; }'
+# Statements, and words of the advice.
+ADVICE = (
+    ('NETSTACK_MAC.off(0);', 'motesim has no `NETSTACK_MAC.off`. The radio of a mote always listens'),
+    ('cc2420_set_txpower(3);', 'there is no MAC layer'), ('x = leds_get();', 'note their state in a variable'),
+    ('clock_delay(10);', 'Let the process wait for an etimer.'), ('watchdog_reboot();', 'A mote doesn\'t start again'),
+    ('SENSORS_ACTIVATE(button_sensor);', 'no sensors and no buttons'), ('x = sht11_temp();', 'compute a value'),
+    ('if(data == &button_sensor) x = 1;', 'wait for an etimer instead of a button'),
+    ('x = light_sensor.value(0);', '`20 + (clock_seconds() + node_id) % 13`'),
+    ('energest_init();', 'There is no energy model'), ('powertrace_start(10);', 'count the packets'),
+    ('node_id_restore();', 'The motes are numbered from 0'), ('linkaddr_set_node_addr(&a);', 'numbered from 0'),
+    ('x = rimeaddr_node_addr.u16;', '`linkaddr_node_addr.u8[0]`'), ('x = RTIMER_NOW();', '`clock_time()`'),
+    ('x = packetbuf_attr(PACKETBUF_ATTR_RSSI);', 'the same strength'), ('x = packetbuf_hdrlen();', 'without a header'),
+    ('x = etimer_expiration_time(&et);', 'Note the time in a variable'), ('ctimer_init();', 'leave this line out'),
+    ('x = timer_remaining(&et.timer);', 'A timer has no fields here'), ('polite_open(&c, 129, &cb);', 'an etimer'),
+    ('mesh_open(&c, 132, &cb);', 'There is no routing'), ('announcement_listen(1);', 'Nothing repeats a packet'),
+    ('simple_udp_register(&c, 1, NULL, 1, recv);', 'There is no IP'), ('runicast_open(&c, 1, &cb);', 'Use `uni'),
+    ('char *q = malloc(4);', 'use an array of structures'), ('list_add(l, 0);', 'use an array of structures'),
+    ('x = strcmp("a", "b");', 'There are no texts here'), ('cfs_open("x", 1);', 'A mote has no files'),
+    ('dint();', 'no interrupts'), ('P5DIR |= 16;', 'no registers'), ('serial_line_init();', 'no serial line'),
+    ('PRINTF("%d", x);', '`#define PRINTF(...) printf(__VA_ARGS__)`'), ('srand(3);', 'Use `random_init`.'),
+    ('x = sqrt(2);', 'count in a smaller unit'), ('x = (float)x / 2;', 'count in a smaller unit'),
+    ('exit(1);', '`PROCESS_EXIT();`'), ('etimer_rest(&et);', 'Do you mean `etimer_reset`?'),
+    ('proces_poll(&p);', 'Do you mean `process_poll`?'), ('process_start(&p, &x);', 'process_post(&p, '),
+    ('goto out;', 'use a `while` with a flag'),
+)
+# Declarations, and words of the advice.
+DECLARED = (
+    ('LIST(items);', 'use an array of structures'), ('MEMB(items, struct item, 5);', 'use an array of structures'),
+    ('static struct announcement an;', 'motesim has no `struct announcement`. Nothing repeats'),
+    ('static struct rucb_conn c;', 'No packet is acknowledged'), ('static float g(void) { }', 'smaller unit'),
+    ('struct v { float t; };', 'count in a smaller unit'),
+)
+
+
+class Absent(unittest.TestCase):
+    def assertRefused(self, source: str, line: int, wanted: str) -> None:
+        text, notes = translation(source)
+        self.assertIsNone(text)
+        self.assertTrue(notes.startswith('line %d: ' % line), notes)
+        self.assertIn(wanted, notes)
+
+    def test_a_refusal_says_what_to_write_instead(self) -> None:
+        for statement, wanted in ADVICE:
+            with self.subTest(statement):
+                inside = '  static int x; static struct etimer et;'
+                self.assertRefused(in_process('  x = 1;\n  ' + statement, ABOVE, inside), 10, wanted)
+
+    def test_so_does_the_refusal_of_a_declaration(self) -> None:
+        for declared, wanted in DECLARED:
+            with self.subTest(declared):
+                self.assertRefused(in_process('', declared), 4, wanted)
+
+    def test_names_of_a_program_that_begin_like_those_of_contiki_get_no_advice(self) -> None:
+        for call in ('freeze', 'street', 'exits', 'spread', 'logged', 'sink', 'printed', 'lists', 'rounds'):
+            self.assertEqual('line 9: motesim has no `%s`.' % call, translation(in_process('  %s();' % call))[1])
+
+    def test_a_goto_in_a_handler_becomes_a_function(self) -> None:
+        source = in_process('', '', '  PROCESS_EXITHANDLER(goto out;)')
+        self.assertRefused(source, 7, '`PROCESS_EXITHANDLER(f();)`')
+
+    def test_the_connection_of_a_packet_is_not_known(self) -> None:
+        above = ('static struct broadcast_conn one;\n'
+                 'static void recv(struct broadcast_conn *c, const rimeaddr_t *from) { if(c == &one) printf("1"); }\n'
+                 'static const struct broadcast_callbacks calls = {recv};')
+        self.assertRefused(in_process('  broadcast_open(&one, 129, &calls);', above), 5, 'leave this test out')
+
+    def test_a_packet_to_one_mote_has_no_constant_above_255(self) -> None:
+        body = '  packetbuf_copyfrom(&n, 2);\n  unicast_send(&c, &a);'
+        above = 'static struct unicast_conn c; static rimeaddr_t a; static uint16_t n;'
+        self.assertRefused(in_process('  n = 1000;\n' + body, above), 11, 'send smaller values')
+        self.assertIsNotNone(translation(in_process('  n = 100;\n' + body, above))[0])
+
+    def test_a_second_has_two_names(self) -> None:
+        source = in_process('  printf("%d", CLOCK_CONF_SECOND / 2);')
+        self.assertIn('print 64;', translation(source)[0] or '')
