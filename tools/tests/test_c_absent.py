@@ -80,3 +80,20 @@ class Absent(unittest.TestCase):
     def test_a_second_has_two_names(self) -> None:
         source = in_process('  printf("%d", CLOCK_CONF_SECOND / 2);')
         self.assertIn('print 64;', translation(source)[0] or '')
+
+    def test_the_number_of_a_mote_is_sent_and_received(self) -> None:
+        above = ('static struct broadcast_conn bc;\n'
+                 'static void recv(struct broadcast_conn *c, const rimeaddr_t *from) { %s }\n'
+                 'static const struct broadcast_callbacks calls = {recv};')
+        number = 'printf("%u", *(uint16_t *)packetbuf_dataptr());'
+        address = 'rimeaddr_t *a = packetbuf_dataptr(); printf("%u %d", a->u8[0], rimeaddr_cmp(a, from));'
+        for sent, read, wanted in (
+                ('&node_id, sizeof(node_id)', number, 'print data;'), ('&node_id, 2', number, 'print data;'),
+                ('&rimeaddr_node_addr, sizeof(rimeaddr_t)', address, 'print (data == from);'),
+                ('&linkaddr_node_addr, LINKADDR_SIZE', address, 'print data;')):
+            body = '  broadcast_open(&bc, 129, &calls); packetbuf_copyfrom(%s); broadcast_send(&bc);' % sent
+            text, notes = translation(in_process(body, above % read))
+            self.assertIn('send self;', text or notes)
+            self.assertIn(wanted, text or '')
+        body = '  packetbuf_copyfrom(&node_id, 1);'
+        self.assertRefused(in_process(body), 9, 'These 1 bytes aren\'t whole variables')

@@ -53,7 +53,7 @@ ADVICE = (
     (r'node_id_|(rimeaddr|linkaddr)_set_',
      'The motes are numbered from 0, in the order of the scenario: leave this line out.'),
     (r'(rimeaddr|linkaddr)_node_addr$',
-     'An address is the number in its first byte: `linkaddr_node_addr.u8[0]`.'),
+     'Its number is `linkaddr_node_addr.u8[0]`: copy it into a variable, `me = linkaddr_node_addr.u8[0];`.'),
     (r'watchdog_', 'A mote doesn\'t start again: set the variables to their first values, and use a loop around the '
                    'statements of the process.'),
     (r'PROCESS_CONTEXT_', 'Let the process itself set its timers: poll it by `process_poll(&p);`.'),

@@ -264,6 +264,8 @@ class Places(Base):
                 return Pointer('function', None, it.text)
             if it.text in ADDRESSES:
                 return Pointer('address', value=self.own_address(it))
+            if it.text == 'node_id':
+                return Pointer('address', value=self.evaluate(it))
             raise self.absent_variable(it.text, it.line)
         if variable in self.aliases:
             return self.aliases[variable]
@@ -313,6 +315,8 @@ class Places(Base):
             return Value('from', ADDRESS, 0, 65_535)
         if pointer.value:
             return pointer.value
+        if pointer.kind == 'packet':
+            return self.received(Place('packet', ADDRESS, root=ADDRESS), it.line)
         if pointer.kind == 'null':
             raise self.refuse(it.line, NO_POINTER % 'NULL')
         if pointer.place is None or pointer.place.type.kind != 'address':

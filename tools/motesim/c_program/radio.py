@@ -4,7 +4,7 @@ from __future__ import annotations
 from collections.abc import Sequence
 
 from motesim.c_program.calls import Calls
-from motesim.c_program.places import INTACT, NO_MOTE, OF_PACKET, Place, shown_type
+from motesim.c_program.places import INTACT, NO_MOTE, OF_PACKET, Place, Pointer, shown_type
 from motesim.c_program.tree import Expression, Statement
 from motesim.c_program.types import UNSIGNED, leaves_of, size_of
 from motesim.c_program.values import MOST, Value, added, as_type, multiplied, number
@@ -90,13 +90,22 @@ class Radio(Calls):
                 self.need_packet(it.line)
             self.fill(self.whole(pointer.kind), it)
             return
-        if pointer.kind != 'place' or pointer.place is None:
-            raise self.refuse(it.line, 'The address of a variable is expected here.')
-        places = self.parts_of_packet(pointer.place, it.parts[1] if len(it.parts) > 1 else None, it.line)
+        places = self.copied(pointer, it.parts[1] if len(it.parts) > 1 else None, it.line)
         form = self.note_form('packet', places)
         if {'pair', 'word'} <= self.forms('packet'):
             raise self.refuse(it.line, TWO_FORMS)
-        self.fill(self.packed(places, it.line), it, form)
+        self.fill(pointer.value or self.packed(places, it.line), it, form)
+
+    def copied(self, pointer: Pointer, size: Expression | None, line: int) -> list[Place]:
+        """The variables that a packet is filled with; for the number of the mote, a place of its size."""
+        if pointer.place is not None and pointer.kind == 'place':
+            return self.parts_of_packet(pointer.place, size, line)
+        count = self.evaluate(size).constant if size else 2
+        if pointer.value is None:
+            raise self.refuse(line, 'The address of a variable is expected here.')
+        if count != size_of(pointer.value.type):
+            raise self.refuse(line, OF_BYTES % (count or 0))
+        return [Place('variable', pointer.value.type)]
 
     def fill(self, value: Value, it: Expression, form: str = '') -> None:
         """Fills the buffer: the value is kept, unless the next statement sends it, and no later one does."""
