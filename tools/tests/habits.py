@@ -461,7 +461,7 @@ program = "math"
 
 COMMANDS = r"""# Mote 0 sends commands; the others obey.
 version = 2
-end = 250
+end = 800
 [medium]
 range = 40
 base = 2
@@ -477,7 +477,7 @@ code remote {
   body {
     while (command < 4) {
       command = (command + 1);
-      set gap 40;
+      set gap 128;
       yield_until fired(gap);
       send ((16 * 2) + command);
     }
@@ -803,8 +803,8 @@ HABITS = [
     habit('contiki-is-of-timer', BUFFER, 'yield_until fired(pace);', 'yield_until is(pace);'),
     # Habits of Contiki: timers and the clock.
     habit('contiki-etimer-struct', BLINK, 'etimer et;', 'static struct etimer et;'),
-    habit('contiki-etimer-set-clock-second', BLINK, 'set et 20;', 'etimer_set(&et, CLOCK_SECOND * 2);'),
-    habit('contiki-set-clock-second', COLLECT, 'set period 100;', 'set period (10 * clock_second);',
+    habit('contiki-etimer-set-clock-second', BLINK, 'set et 20;', 'etimer_set(&et, CLOCK_SECOND / 6 - 1);'),
+    habit('contiki-set-clock-second', COLLECT, 'set period 100;', 'set period (clock_second - 28);',
           'set period (50 + (7 * self));'),
     habit('contiki-etimer-reset', AVERAGE, 'reset tick;', 'etimer_reset(&tick);'),
     habit('contiki-ctimer-without-block', WATCHDOG, 'ctimer bite { bites = (bites + 1); poll dog; }', 'ctimer bite;'),
@@ -813,7 +813,7 @@ HABITS = [
           'ctimer bite { bites = (bites + 1); pause; poll dog; }'),
     habit('contiki-rtimer', TOKEN, 'set hold 10;', 'rtimer_set(&hold, RTIMER_NOW() + 10, 1, pass, NULL);',
           'set hold 10;', 2),
-    habit('contiki-stimer', COMMANDS, 'set gap 40;', 'stimer_set(&gap, 4);'),
+    habit('contiki-stimer', COMMANDS, 'set gap 128;', 'stimer_set(&gap, 1);'),
     habit('contiki-clock-time', TOKEN, 'print now;', 'print clock_time();'),
     # Habits of Contiki: the radio, addresses, devices.
     habit('contiki-broadcast-open', PING, 'receiver ping;', 'broadcast_open(&bc, 129, &callbacks);'),

@@ -300,8 +300,8 @@ class FileScope(unittest.TestCase):
                 ('static uint8_t x;', 'print x;', 11, 'var x = 0;'), ('var x = 7;', 'print x;', 11, 'var x = 7;'),
                 ('static int x = 7, y;', 'print (x + y);', 11, 'var x = 7; var y = 0;'),
                 ('#define PERIOD 40', 'set u period;', 11, 'var period = 40;'),
-                ('#define PERIOD (CLOCK_SECOND * 5)', 'set u period;', 11, 'var period = 50;'),
-                ('#define PERIOD 3*CLOCK_SECOND/2 + 1 // ticks', 'set u period;', 11, 'var period = 16;'),
+                ('#define PERIOD (CLOCK_SECOND * 5)', 'set u period;', 11, 'var period = 640;'),
+                ('#define PERIOD 3*CLOCK_SECOND/2 + 1 // ticks', 'set u period;', 11, 'var period = 193;'),
                 ('#define PERIOD (1 << 4)', 'set u period;', 11, 'var period = 16;'),
                 ('static uint8_t x = 7;', 'yield;', 4, 'var x = 7;')):
             with self.subTest(typed):
@@ -363,7 +363,7 @@ class FileScope(unittest.TestCase):
         assert fault
         found = advice(source, fault)
         assert found
-        self.assertIn('Decide how many moments a second has', found.hint)
+        self.assertIn('A second has 128 moments here', found.hint)
 
     def test_a_constant_named_like_a_timer_has_another_name(self) -> None:
         source = self.SOURCE % ('#define U 12', 'set u 5;')
@@ -548,7 +548,7 @@ class Readings(unittest.TestCase):
 
     def test_it_differs_at_the_multiples_of_an_interval(self) -> None:
         value = compile(READING.replace('/', '//'), 'reading', 'eval')
-        # (intervals of 0.1 to 100 seconds with 10 moments each, and with CLOCK_SECOND, 128)
+        # (intervals of 1 to 600 moments, and some of whole seconds)
         for interval in (*range(1, 30), *range(30, 130, 5), *range(150, 601, 50), 128, 256, 512, 1000, 1280):
             with self.subTest(interval):
                 read = {eval(value, {'now': at % 65_536, 'self': 0}) for at in range(0, 40 * interval, interval)}
@@ -559,9 +559,9 @@ class Readings(unittest.TestCase):
     def test_two_corrections_together_leave_a_value_that_changes(self) -> None:
         lines = 'etimer_set(&t, 4 * CLOCK_SECOND);', 'x = sht11_sensor.value(0);'
         written = [Statements(it, Scope({'x': 'variable', 't': 'timer'})).written() for it in lines]
-        self.assertEqual(written, ['set t (4 * 10);', 'x = %s;' % READING])
-        read = [eval(READING.replace('/', '//'), {'now': at, 'self': 1}) for at in range(0, 200, 40)]
-        self.assertEqual(read, [21, 25, 29, 20, 24])
+        self.assertEqual(written, ['set t (4 * 128);', 'x = %s;' % READING])
+        read = [eval(READING.replace('/', '//'), {'now': at, 'self': 1}) for at in range(0, 5 * 512, 512)]
+        self.assertEqual(read, [21, 20, 32, 31, 30])
 
 
 class Arguments(unittest.TestCase):
@@ -748,7 +748,7 @@ class Calls(unittest.TestCase):
 
     def test_no_reason_hides_one_that_says_what_else_to_do(self) -> None:
         seed, step = 'The statements at the start of `body` mix the seed', '`tries = (tries + 1);` at the end of its'
-        second, choice = 'Decide how many moments', '`PERIOD` isn\'t declared: `var period = 20;`, with a value of your'
+        second, choice = 'A second has 128', '`PERIOD` isn\'t declared: `var period = 20;`, with a value of your'
         for lines, line, said in (
                 ('for(tries = 0; tries < DONE; tries++) {\nprint 1;\n}', 'tries = 0; while (tries < done) {', [step]),
                 ('for(tries = 0; tries < 0x10 && done == 0; tries++) {\nprint 1;\n}',
@@ -756,9 +756,9 @@ class Calls(unittest.TestCase):
                 ('tries = DONE + random_rand() % 4;',
                  'dice = ((dice * 25173) + 13849); tries = (done + ((dice / 256) % 4));', [seed]),
                 ('etimer_set(&t, CLOCK_SECOND * 4 + random_rand() % 40);',
-                 'dice = ((dice * 25173) + 13849); set t ((10 * 4) + ((dice / 256) % 40));', [second, seed]),
+                 'dice = ((dice * 25173) + 13849); set t ((128 * 4) + ((dice / 256) % 40));', [second, seed]),
                 ('etimer_set(&t, PERIOD + CLOCK_SECOND * 4 + random_rand() % 40);',
-                 'dice = ((dice * 25173) + 13849); set t ((period + (10 * 4)) + ((dice / 256) % 40));',
+                 'dice = ((dice * 25173) + 13849); set t ((period + (128 * 4)) + ((dice / 256) % 40));',
                  [choice, second, seed]),
                 ('if (tries < 3) { tries++; tries = 0xA; return tries; }',
                  'if (tries < 3) { tries = (tries + 1); tries = 10; exit; }', ['An `exit` passes no value']),

@@ -1,4 +1,4 @@
-"""Times in parts of a second: none is rounded, and their ratios stay."""
+"""Times of `CLOCK_SECOND` in hints: a second has 128 moments, as in a program in C that is translated."""
 import unittest
 
 from follow import followed
@@ -52,28 +52,21 @@ def by_messages(program: str) -> tuple[str, str]:
 
 
 class Seconds(unittest.TestCase):
-    def test_a_short_time_is_not_zero_and_all_times_have_the_ticks_of_c(self) -> None:
+    def test_a_second_has_128_moments(self) -> None:
         sets = '    etimer_set(&t, CLOCK_SECOND / 16);\n    etimer_set(&t, 2 * CLOCK_SECOND);\n    x = clock_seconds();'
         text, messages = by_messages(LINES % ('  etimer t;', sets))
         self.assertIsNone(find_fault(text.encode()))
-        for line in ('set t (128 / 16); // CLOCK_SECOND is 128', 'set t (2 * 128); // CLOCK_SECOND is 128',
-                     'x = (now / 128); // CLOCK_SECOND is 128'):
+        for line in ('set t (128 / 16);', 'set t (2 * 128);', 'x = (now / 128);'):
             self.assertIn(line, text)
-        self.assertIn('so a second has 128 moments here, as in C.', messages)
+        self.assertIn('A second has 128 moments here, as on the Tmote Sky.', messages)
 
-    def test_a_constant_has_the_ticks_of_c_too(self) -> None:
+    def test_a_constant_too(self) -> None:
         text, _ = by_messages('#define RETRY (CLOCK_SECOND / 32)\n' + LINES % ('  etimer t;', '    set t retry;'))
         self.assertIn('var retry = 4;', text)
 
-    def test_a_time_that_10_moments_would_round_has_the_ticks_of_c(self) -> None:
-        for time, line in (('CLOCK_SECOND / 8', 'set t (128 / 8);'),
-                           ('(3 * CLOCK_SECOND) / 4', 'set t ((3 * 128) / 4);')):
-            text, _ = by_messages(LINES % ('  etimer t;', '    etimer_set(&t, %s);' % time))
-            self.assertIn(line, text)
-
-    def test_other_times_stay_with_10_moments(self) -> None:
-        text, _ = by_messages(LINES % ('  etimer t;', '    etimer_set(&t, CLOCK_SECOND / 10);'))
-        self.assertIn('set t (10 / 10);', text)
+    def test_a_unit_too(self) -> None:
+        text, _ = by_messages(LINES % ('  etimer t;', '    set t 3 s;'))
+        self.assertIn('set t (128 * 3);', text)
 
 
 if __name__ == '__main__':

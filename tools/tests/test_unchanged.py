@@ -3,7 +3,6 @@ import unittest
 
 from here import TOOLS  # noqa: F401
 from motesim.explain.lint import Program, of_program
-from motesim.from_c.scope import second_of
 from test_shared_variables import followed
 
 PROGRAM = """event e;
@@ -56,11 +55,6 @@ class Unchanged(unittest.TestCase):
                 for wanted in ('nothing assigns', 'whole numbers', 'never true', 'hardly', 'pause'):
                     self.assertNotIn(wanted, found)
         self.assertEqual(warnings_of('if (now > last) { last = now; }', 0), '')
-
-    def test_parts_of_a_second(self) -> None:
-        for time, wanted in (('CLOCK_SECOND * 5 / 100', 128), ('(CLOCK_SECOND*3)/40', 128), ('CLOCK_SECOND >> 5', 128),
-                             ('CLOCK_SECOND >> 8', 128), ('CLOCK_SECOND * 3 / 2', 10), ('CLOCK_SECOND >> 1', 10)):
-            self.assertEqual(second_of('etimer_set(&t, %s);' % time), wanted)
 
     def test_a_variable_that_is_below_0_at_first(self) -> None:
         code = 'process p;\nautostart p;\ncode p {\n  var x = 5;\n  body {\n    static int y = -1;\n    %s\n  }\n}\n'

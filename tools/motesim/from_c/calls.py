@@ -5,7 +5,7 @@ import re
 
 from motesim.from_c.counts import UNKNOWN, number_for
 from motesim.from_c.declarations import OF_STRUCTURE
-from motesim.from_c.expressions import IN_TICKS, NOT_PRINTED, TICKS, NoCounterpart
+from motesim.from_c.expressions import NOT_PRINTED, TICKS, NoCounterpart
 from motesim.from_c.nodes import MOMENTS_OF_SECOND, Node, value_of
 from motesim.from_c.places import block_of
 from motesim.from_c.scope import allowed
@@ -243,8 +243,8 @@ class Calls(Sends):
             if found[1] == 'interval':
                 return self.writer.interval(part)
             if found[1] == 'seconds':
-                self.why(TICKS if self.scope.second == MOMENTS_OF_SECOND else IN_TICKS)
-                return '(%d * %s)' % (self.scope.second, self.writer.text(part))
+                self.why(TICKS)
+                return '(%d * %s)' % (MOMENTS_OF_SECOND, self.writer.text(part))
             if found[1] == 'event':
                 return self.writer.event(part)
             named = self.writer.of_kind(part, found[1])

@@ -6,10 +6,10 @@ from collections.abc import Iterable
 
 from motesim.from_c.bits import bits_of
 from motesim.from_c.expressions import (
-    BYTES, IN_TICKS, LONG, MOST, NO_ARRAYS, NO_FIELDS, NO_POINTERS, NULL, OF_NULL, QUALIFIERS, SMALL, TICKS,
+    BYTES, LONG, MOST, NO_ARRAYS, NO_FIELDS, NO_POINTERS, NULL, OF_NULL, QUALIFIERS, SMALL, TICKS,
     TOO_LARGE, TYPES, Expressions, NoCounterpart,
 )
-from motesim.from_c.nodes import MOMENTS_OF_SECOND, Node, names_of, number_of, value_of, with_values
+from motesim.from_c.nodes import Node, names_of, number_of, value_of, with_values
 from motesim.from_c.own_names import MISREAD, OTHERS, RENAME, OwnNames
 from motesim.from_c.places import end_of_block
 from motesim.from_c.scope import IN_C, LONGEST, allowed
@@ -157,14 +157,14 @@ class Declarations(OwnNames):
         if any(it not in self.scope.values or it in self.scope.changed for it in names.values()):
             return None
         node = with_values(node, {name: self.scope.values[it] for name, it in names.items()})
-        value = value_of(node, self.scope.second)
+        value = value_of(node)
         value = bits_of(node) if value is None else value
         if reader.token.kind != 'end' or value is None:
             return None
         if abs(value) > MOST:
             raise NoCounterpart(TOO_LARGE)
         if 'CLOCK_SECOND' in text:
-            self.writer.insist(TICKS if self.scope.second == MOMENTS_OF_SECOND else IN_TICKS)
+            self.writer.insist(TICKS)
         return value
 
     def declared(self, name: str, value: str, at: int | None = None, is_static: bool = False) -> str:

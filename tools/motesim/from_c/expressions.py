@@ -56,8 +56,8 @@ TESTS_OF = {'timer': ('fired', 'expired'), 'process': ('gone', 'running'), 'sema
 CALLS = {'etimer_expired': 'expired', 'ctimer_expired': 'expired', 'timer_expired': 'expired',
          'stimer_expired': 'expired',
          'process_is_running': 'running', 'pt_sem_count': 'count', 'sem_count': 'count'}
-SECONDS = ('The moment is `now`. Decide how many moments a second has; with %d, `(now / %d)` is the number of seconds.'
-           % (MOMENTS_OF_SECOND, MOMENTS_OF_SECOND))
+SECONDS = ('The moment is `now`. A second has %d moments here, as on the Tmote Sky, so `(now / %d)` is the number of '
+           'seconds.' % (MOMENTS_OF_SECOND, MOMENTS_OF_SECOND))
 # Calls for which the notation has a word or a value.
 WORDS_OF_CALLS = {
     'clock_time': ('now', 'The moment is `now`.'),
@@ -159,13 +159,8 @@ OF_OCTAL = 'In C, a number with a zero in front is octal: `%s` is %d. If you mea
 TOO_LARGE = ('Numbers have 16 bits, 0 to 65,535: a timer is set to 65535 moments at most. Count larger ones in parts, '
              'such as '
              'thousands in a second variable.')
-TICKS = ('There is no `CLOCK_SECOND`: a timer is set in moments. Decide how many moments a second has; with %d it is '
-         'the line '
-         'below.' % MOMENTS_OF_SECOND)
-IN_TICKS = ('There is no `CLOCK_SECOND`: a timer is set in moments. With %d moments for a second, a time of this '
-            'program would be rounded, so a second has 128 moments here, as in C. Then the ratios of all times stay: '
-            'write 128 for `CLOCK_SECOND` in the other times of the program, too, and note that `end` is also in '
-            'moments.' % MOMENTS_OF_SECOND)
+TICKS = ('There is no `CLOCK_SECOND`: a timer is set in moments. A second has %d moments here, as on the Tmote Sky. '
+         'Note that `end` is also in moments.' % MOMENTS_OF_SECOND)
 OF_ROW = ('`%s` becomes a test of two conditions. C reads it in another way: it compares the result of the first '
           'comparison, which is 0 or 1, with the last value.')
 SMALL_LETTERS = 'Names have small letters'
@@ -510,8 +505,8 @@ class Writer:
             self.why(OF_STATUS)
             return STATUS[lower]
         if lower == 'clock_second' and word not in self.scope.kinds:
-            self.insist(TICKS if self.scope.second == MOMENTS_OF_SECOND else IN_TICKS)
-            return str(self.scope.second)
+            self.insist(TICKS)
+            return str(MOMENTS_OF_SECOND)
         kind = self.scope.kinds.get(word)
         if word in READ_ONLY or kind == 'variable' and word not in self.foreign:
             return word
@@ -583,8 +578,6 @@ class Writer:
         lower, parts = node.text.lower(), node.parts
         if lower in WORDS_OF_CALLS:
             word, reason = WORDS_OF_CALLS[lower]
-            if lower == 'clock_seconds' and self.scope.second != MOMENTS_OF_SECOND:
-                word, reason = '(now / %d)' % self.scope.second, IN_TICKS
             if lower == 'packetbuf_addr' and 'receiver' in ''.join(it.text.lower() for it in parts):
                 return self.refuse(NO_RECEIVER)
             (self.insist if reason == SECONDS else self.why)(reason)

@@ -9,7 +9,7 @@ from typing import NamedTuple
 
 SUMS: dict[str, Callable[[int, int], int]] = {
     '+': operator.add, '-': operator.sub, '*': operator.mul, '/': lambda left, right: int(Fraction(left, right))}
-MOMENTS_OF_SECOND = 10
+MOMENTS_OF_SECOND = 128
 ADDRESSES = ('linkaddr_node_addr', 'rimeaddr_node_addr')
 
 
@@ -124,15 +124,15 @@ def is_difference(node: Node) -> bool:
     return node.kind == 'binary' and node.text == '-' and value_of(node) is None and not is_time
 
 
-def value_of(node: Node, second: int = MOMENTS_OF_SECOND) -> int | None:
+def value_of(node: Node) -> int | None:
     """The value of an expression of numbers, characters, `CLOCK_SECOND` and + - * /; None if it has something else."""
     if node.kind == 'number':
         return number_of(node.text)
     if node == Node('name', 'CLOCK_SECOND'):
-        return second
+        return MOMENTS_OF_SECOND
     if node.kind == 'char' and len(node.text) == 3:
         return ord(node.text[1])
-    values = [value_of(it, second) for it in node.parts]
+    values = [value_of(it) for it in node.parts]
     if node.kind == 'unary' and node.text in '+-' and values[0] is not None:
         return values[0] if node.text == '+' else -values[0]
     if node.kind != 'binary' or node.text not in SUMS or values[0] is None or values[1] is None:

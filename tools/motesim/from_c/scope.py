@@ -31,13 +31,6 @@ OF_HINTS = re.compile(r'\bvar (\w+) = [0-9]+; // ' + ADDED)
 IN_C = '%s is -%d in C'
 BELOW = re.compile(r'// .*\b(\w+) is -[0-9]+ in C')
 LONGEST = 16
-# The moments of a second, here and in C, whose number is used if a part of a second would be 0 moments here; a comment
-# then says so.
-SECOND, TICKS_OF_SECOND = 10, 128
-ALL_TICKS = 'CLOCK_SECOND is 128'
-PART_OF_SECOND = re.compile(r'\bCLOCK_SECOND\s*\)?\s*/\s*([0-9]{1,5})\b')
-MULTIPLE = re.compile(r'\bCLOCK_SECOND\s*\*\s*([0-9]{1,5})\s*\)?\s*/\s*([0-9]{1,5})\b')
-SHIFTED = re.compile(r'\bCLOCK_SECOND\s*\)?\s*>>\s*([0-9])\b')
 # The kinds of which a program may have several with similar names.
 ALIKE = ('variable', 'timer', 'event')
 # The least similarity of a misspelt name to a name of these kinds.
@@ -112,15 +105,6 @@ def set_in(text: str) -> frozenset[str]:
     return changed_in(text) | {it.lower() for it in COPIED.findall(text)}
 
 
-def second_of(text: str) -> int:
-    """The moments of a second that a text of C needs, so that no part of a second is rounded."""
-    parts = [(1, int(it)) for it in PART_OF_SECOND.findall(text)]
-    parts += [(int(times), int(by)) for times, by in MULTIPLE.findall(text)]
-    parts += [(1, 2 ** int(it)) for it in SHIFTED.findall(text)]
-    is_part = any(by and times * SECOND % by for times, by in parts)
-    return TICKS_OF_SECOND if ALL_TICKS in text or is_part else SECOND
-
-
 @dataclass
 class Scope:
     """Names with their kinds: event, semaphore, process, variable, timer, thread.
@@ -135,7 +119,6 @@ class Scope:
     long       the names that are longer than the notation allows
     changed    the names of the variables that a line assigns to
     below      the variables that may be below 0 in C
-    second     the moments of a second
     words      the words of the text, in small letters
     added      the variables that are added by hints
     """
@@ -148,7 +131,6 @@ class Scope:
     values: dict[str, str] = field(default_factory=dict)
     long: frozenset[str] = frozenset()
     changed: frozenset[str] = frozenset()
-    second: int = SECOND
     below: frozenset[str] = frozenset()
     words: frozenset[str] = frozenset()
     added: frozenset[str] = frozenset()
@@ -174,7 +156,7 @@ class Scope:
             kinds.setdefault(name, 'process')
         return cls(kinds, codes, 'receiver' in words, named, tuple(dict.fromkeys([*codes, *named, *macros])),
                    {allowed(name): count for name, count in counts_of(text).items()}, dict(VARIABLE.findall(text)),
-                   frozenset(LONG.findall(text)), changed_in(text), second_of(text),
+                   frozenset(LONG.findall(text)), changed_in(text),
                    frozenset((*Assigned(words).found, *BELOW.findall(text))), frozenset(map(str.lower, words)),
                    frozenset(OF_HINTS.findall(text)))
 

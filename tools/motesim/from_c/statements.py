@@ -13,11 +13,11 @@ from motesim.from_c.calls import CALLS, NO_NAME, Calls
 from motesim.from_c.control import ENDS, Control
 from motesim.from_c.declarations import ABOVE, Declarations
 from motesim.from_c.expressions import (
-    DICE, FIRST, IN_TICKS, MIXED, MOST, NO_BITS, NO_CALLS, NO_CHANCE, NO_FIELDS, NO_POINTERS, NO_SIZES, 
-    QUALIFIERS,    READ_ONLY, SHIFTS, SMALL_LETTERS, STEP, TYPES, NoCounterpart,
+    DICE, FIRST, MIXED, MOST, NO_BITS, NO_CALLS, NO_CHANCE, NO_FIELDS, NO_POINTERS, NO_SIZES, QUALIFIERS,
+    READ_ONLY, SHIFTS, SMALL_LETTERS, STEP, TYPES, NoCounterpart,
 )
 from motesim.from_c.nodes import MOMENTS_OF_SECOND, Node
-from motesim.from_c.scope import ALL_TICKS, allowed, nearest
+from motesim.from_c.scope import allowed, nearest
 from motesim.from_c.sends import BROADCAST, COPIES, NO_COPY, OF_ADDRESS
 from motesim.from_c.tokens import END
 from motesim.notation.faults import MOST_LEVELS, STATEMENTS
@@ -96,8 +96,6 @@ class Statements(Declarations, Calls, Control):
     def written(self) -> str:
         """The lines in the notation, with their comments."""
         text = self.plain()
-        if IN_TICKS in self.writer.reasons:
-            self.comments.append('// ' + ALL_TICKS)
         for comment in self.comments:
             if comment.startswith('/*'):
                 self.why('A comment begins with `//`, and ends with the line.')
@@ -643,8 +641,8 @@ class Statements(Declarations, Calls, Control):
         if unit not in SECONDS:
             self.why('A number has no unit: a timer is set in moments.')
             return value
-        self.why('A number has no unit: a timer is set in moments. Decide how many moments a second has; with %d it is '
-                 'the line below.' % MOMENTS_OF_SECOND)
+        self.why('A number has no unit: a timer is set in moments. A second has %d moments here, as on the Tmote Sky.'
+                 % MOMENTS_OF_SECOND)
         return '(%d * %s)' % (MOMENTS_OF_SECOND, value)
 
     def word_of_event(self) -> str:
