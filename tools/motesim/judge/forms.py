@@ -125,8 +125,8 @@ OTHER = Table('Sentence', 'Is about', ('%s',), (
      'copies that the medium loses; their moment is the one at which the packet was sent'),
     (('at least 90 % of copies arrive', 'at most 5 % of the copies collide at motes 1 to 3', 'every copy arrives',
       'each copy arrives at mote 3', 'all copies arrive'),
-     'a share of all copies, except those that are still on the way at the end. All copies include those that the '
-     'medium loses, even if they would arrive after the end. No WHEN is allowed'),
+     'a share of all copies, except those that are still on the way at the end. The copies that the medium loses '
+     'count too, even those that would arrive after the end. No WHEN is allowed'),
     (('exactly 1 copy is left', 'exactly 2 copies are left'),
      'the last line of the report: the copies on the way at the end'),
     (('exactly 75 packets are sent', 'no packet is sent after 90'), 'lines of the medium'),
