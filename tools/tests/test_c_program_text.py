@@ -167,13 +167,17 @@ FORMS = (
        n = q;
      }'''),
     ('printf("sent %d of %u packets.\\n", n, u); printf("%s: %d\\n", "on", x); printf("%d\\n", x); '
-     'printf("done\\n"); puts("end");', '''
+     'printf("done\\n"); puts("end"); printf("100\\n"); puts("phase 2 ends"); puts("2 of 3"); puts("v1.5 m2");', '''
      print n; // sent
      print u; // of packets
      print x;
      print x;
      print 1; // done
-     print 1; // end'''),
+     print 1; // end
+     print 100; // 100
+     print 2; // phase 2 ends
+     print 1; // 2 of 3
+     print 1; // v1.5 m2'''),
     ('a[n] = 2; a[n] += x; n = 2; a[n] = 3;', '''
      if (n == 0) {
        a = 2;

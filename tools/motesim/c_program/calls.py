@@ -26,9 +26,11 @@ IGNORED = ('broadcast_open', 'unicast_open', 'abc_open', 'leds_init', 'packetbuf
 TIMER = EVENT_NUMBERS['PROCESS_EVENT_TIMER']
 LEDS = ('leds_on', 'leds_off', 'leds_toggle', 'leds_blink', 'leds_invert')
 OF_LEDS = 'A mote has no LEDs: a `print` shows the moment in the report.'
-OF_TEXT = ('There are no texts: each number of a `printf` has a `print`, whose comment has the text, and a `printf` '
-           'without a number prints 1. A line of the report shows the process and the number, but not which `printf` it '
-           'is from: if this matters, print numbers that differ, such as `1000 + n`.')
+OF_TEXT = ('There are no texts: each value of a `printf` has a `print`, whose comment has the text. A `printf` without '
+           'a value prints the number in its text, or 1. A line of the report shows the process and the number, but '
+           'not which `printf` it is from: if this matters, print numbers that differ, such as `1000 + n`.')
+# A number in the text of a `printf`.
+NUMBER_IN_TEXT = re.compile(r'(?<![\w.%-])[0-9]+(?!\w|\.[0-9])')
 OF_CHOSEN_TEXT = ('Which text this `printf` prints depends on `%s`, but texts aren\'t printed here: print the number '
                   '`%s`, too.')
 BY_NAME = 'The data of an event is compared with a timer here, but a timer is set only by its name, such as `&et`.'
@@ -497,7 +499,7 @@ class Calls(Chance):
     # Printing, random numbers, addresses.
 
     def call_printf(self, it: Expression) -> None:
-        """Each number of a text is a line; a text without a number is the number 1."""
+        """Each value of a text is a line; a text without a value is a line, too."""
         if not it.parts or it.parts[0].kind != 'text':
             raise self.refuse(it.line, 'The first argument of `printf` is a text in quotes.')
         if WIDTH.search(it.parts[0].text):
@@ -540,10 +542,10 @@ class Calls(Chance):
         return it.text == 'CLOCK_SECOND' or self.is_long(it)
 
     def print_text(self, it: Expression) -> None:
-        """A text without a number is the number 1."""
+        """A text without a value is the number in it, or 1."""
         self.remark(it.line, OF_TEXT)
         text = it.parts[0].text if it.parts and it.parts[0].kind == 'text' else ''
-        self.emit('print 1;' + comment_of(label_of(text)))
+        self.emit('print %d;%s' % (number_in(text), comment_of(label_of(text))))
 
     def skip_text(self, it: Expression) -> None:
         """Skips a text that is printed: it has no effects."""
@@ -616,6 +618,12 @@ def label_of(text: str) -> str:
     plain = ' '.join(re.sub(r'\\[a-z]', ' ', text).replace('\\', '').replace("'''", '"').replace('%%', '%').split())
     found = plain.strip(' :=,;.-|/()[]<>\'"')
     return found[:LONGEST_LABEL - 2] + '..' if len(found) > LONGEST_LABEL else found
+
+
+def number_in(text: str) -> int:
+    """The only number in a text, up to 65,535; or 1."""
+    found = [int(it) for it in NUMBER_IN_TEXT.findall(text)]
+    return found[0] if len(found) == 1 and found[0] <= MOST else 1
 
 
 def comment_of(label: str) -> str:

@@ -1,12 +1,13 @@
 /*
  * What a program of a student needs of Contiki's libraries besides the kernel:
  * Rime's broadcasts and unicasts, timers in seconds, LEDs, and a printf that
- * prints each number in a line of its own, with the moment and the mote. A
+ * prints each value in a line of its own, with the moment and the mote. A
  * packet has two bytes.
  */
 #ifndef STUDENTS_H_
 #define STUDENTS_H_
 
+#include <ctype.h>
 #include <stdarg.h>
 #include <stdbool.h>
 #include <stddef.h>
@@ -39,11 +40,38 @@ student_line(unsigned value)
   (printf)("%d %lu print %u\n", mote_number(), (unsigned long)clock_time(), value & 0xffff);
 }
 
-/* Each number of a text is a line; a text without a number is the number 1. */
+/* The only number in a text without values, or 1: a word of digits. */
+static unsigned
+student_number(const char *text)
+{
+  const char *at;
+  unsigned value = 1, next;
+  int count = 0;
+
+  for(at = text; *at != '\0'; at++) {
+    if(!isdigit((unsigned char)*at) || (at > text && (isalnum((unsigned char)at[-1]) || strchr("_.-", at[-1])))) {
+      continue;
+    }
+    for(next = 0; isdigit((unsigned char)*at); at++) {
+      next = next * 10 + *at - '0';
+    }
+    if(isalnum((unsigned char)*at) || *at == '_' || (*at == '.' && isdigit((unsigned char)at[1]))) {
+      at--;
+      continue;
+    }
+    value = next;
+    count++;
+    at--;
+  }
+  return count == 1 ? value : 1;
+}
+
+/* Each value of a text is a line; a text without a value is a line, too. */
 static int
 student_print(const char *format, ...)
 {
   va_list values;
+  const char *text = format;
   int count = 0;
 
   va_start(values, format);
@@ -63,7 +91,7 @@ student_print(const char *format, ...)
   }
   va_end(values);
   if(count == 0) {
-    student_line(1);
+    student_line(student_number(text));
   }
   return 0;
 }
