@@ -159,14 +159,20 @@ class Command(unittest.TestCase):
         self.assertIn('\n\nNo file is written', out)
         self.assertFalse((self.folder / 'b.toml').exists())
 
-    def test_a_file_in_another_encoding_is_refused_with_the_command_that_converts_it(self) -> None:
-        path = self.folder / 'latin.c'
+    def test_a_program_in_c_may_be_in_latin_1(self) -> None:
+        path, output = self.folder / 'latin.c', self.folder / 'latin.toml'
         path.write_bytes(('// \u00c4nderung von M\u00fcller\n' + C).encode('latin-1'))
-        status, _, err = self.run_on(str(path), '--apply', str(self.folder / 'latin.toml'))
+        self.assertEqual(self.run_on(str(path), '--apply', str(output))[0], 0)
+        self.assertIn('code blink {', output.read_text())
+
+    def test_a_file_in_another_encoding_is_refused_with_the_command_that_converts_it(self) -> None:
+        path = self.folder / 'wide.c'
+        path.write_bytes(C.encode('utf-16'))
+        status, _, err = self.run_on(str(path), '--apply', str(self.folder / 'wide.toml'))
         self.assertEqual(status, 2)
         self.assertIn('UTF-8', err)
         self.assertIn('iconv -f', err)
-        self.assertFalse((self.folder / 'latin.toml').exists())
+        self.assertFalse((self.folder / 'wide.toml').exists())
 
     def test_the_name_of_the_file_is_not_in_the_scenario(self) -> None:
         output = self.folder / 'solution.toml'

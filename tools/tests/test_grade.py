@@ -178,10 +178,11 @@ PROCESS_THREAD(a, ev, data) {
         for name, value in ('lea.c', '3'), ('max.c', '4'), ('nina.c', 'strlen("abc")'):
             self.hand_in(name, in_c % value)
         self.hand_in('kai.c', '\ufeff' + (in_c % '3').replace('"%d"', '"three %d"'))
+        (self.folder / 'rene.c').write_bytes(('// Ren\u00e9\n' + in_c % '3').encode('latin-1'))
         rows = self.rows('--net', 'task.toml')
         self.assertIn('a second of a program in C has 128 moments, so the nets run for ', self.seen)
         self.assertEqual({name: rows[name] for name in ('kai.c', 'lea.c', 'max.c', 'nina.c')}, {
-            'kai.c': rows['lea.c'], 'lea.c': self.rows('--net', 'task.toml')['lea.c'],
+            'kai.c': rows['rene.c'], 'lea.c': self.rows('--net', 'task.toml')['lea.c'],
             'max.c': '1 of 3  broken: 1, 2', 'nina.c': '0 of 3  its line 6 can\'t be translated from C'})
         self.hand_in('omar.mote', PROGRAM % 3)
         self.assertEqual(rows['lea.c'], self.rows('--net', 'task.toml')['omar.mote'])

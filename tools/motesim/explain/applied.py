@@ -21,7 +21,7 @@ from motesim.explain.whole import in_c, remarks_of, translation_of, with_comment
 from motesim.faults import Fault
 from motesim.files import refuse_inputs, write_whole
 from motesim.runner.run import Answer, read_file
-from motesim.scenario.encodings import decoded
+from motesim.scenario.encodings import decoded, refuse_encoding, text_of_c
 from motesim.scenario.faults import ScenarioError, find_fault
 from motesim.scenario.kinds import begins_as_c, begins_as_scenario, is_program_file
 from motesim.terminal import one_line
@@ -125,7 +125,8 @@ def apply(name: str, output: str, run: Callable[[bytes], Answer], second: int = 
     status of tools/explain for it."""
     refuse_inputs(output, [name], '--apply')
     data = read_file(name)
-    text = decoded(one_line(name), data).removeprefix(MARK)
+    refuse_encoding(one_line(name), data)
+    text = (text_of_c(data) if is_c_file(name, data) else decoded(one_line(name), data)).removeprefix(MARK)
     if is_program_file(name, data):
         text = in_net(name, text)
         print(IN_NET % (one_line(name), one_line(output)))

@@ -233,7 +233,7 @@ class Task:
         marks = replace(self.together(entry.name, found), unused=unused)
         if entry.path.suffix == '.c':
             marks = replace(marks, warned=tuple(OF_LINE.sub(OF_TRANSLATED, it) for it in marks.warned),
-                            of_c=remarks_of(data.decode('utf-8').removeprefix(MARK)))
+                            of_c=remarks_of(encodings.text_of_c(data).removeprefix(MARK)))
         if any(its.is_refused for its in found):
             # (a file whose programs are expected to be refused keeps its marks)
             if any(its.why for its in found) and self.has_c(data, entry.path.name):

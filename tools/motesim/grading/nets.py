@@ -19,6 +19,7 @@ from motesim.plan.text import Net as NetOfPlan
 from motesim.plan.text import scenario_text
 from motesim.runner.run import read_file
 from motesim.scenario import Scenario
+from motesim.scenario.encodings import text_of_c
 from motesim.scenario.faults import LONGEST_TEXT, find_fault
 from motesim.scenario.kinds import has_plan
 from motesim.scenario.scenario import hops_over
@@ -186,7 +187,7 @@ def program_of(data: bytes, name: str, wanted: str) -> str:
     if len(data) > LONGEST_TEXT:
         raise Fault('the file is longer than {:,} bytes'.format(LONGEST_TEXT))
     try:
-        text = data.decode('utf-8')
+        text = text_of_c(data) if name.endswith('.c') else data.decode('utf-8')
     except UnicodeDecodeError:
         raise Fault(NOT_UTF8) from None
     if name.endswith('.mote'):

@@ -80,6 +80,17 @@ def decoded(file: str, data: bytes) -> str:
                     'command converts it: iconv -f WINDOWS-1252 -t UTF-8 %s >NEW' % (file, line, file)) from None
 
 
+def text_of_c(data: bytes) -> str:
+    """The text of a program in C: UTF-8 or Latin-1 (Windows-1252), because only its comments and texts have such letters.
+    Raises a UnicodeDecodeError for other encodings."""
+    try:
+        return data.decode('utf-8')
+    except UnicodeDecodeError:
+        if encoding_of(data):
+            raise
+        return data.decode('cp1252', 'replace')
+
+
 def hint_of_byte(data: bytes) -> str | None:
     """The likely meaning of the first byte that isn't UTF-8, in the encoding of old editors on Windows."""
     try:
