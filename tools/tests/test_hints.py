@@ -292,6 +292,12 @@ class Hints(unittest.TestCase):
                     'three, `%s`.' % quotes, 'Write, as lines 9 to 10:',
                     '  source = %sprocess a;%s' % (quotes, comment), '  code a { body { } }%s' % quotes])
 
+    def test_a_program_that_only_begins_with_one_quote(self) -> None:
+        for quotes in "'''", '"""':
+            text = scenario(program='\nprocess a;\ncode a { body { } }\n').replace('}\n"', '}\n' + quotes)
+            with self.subTest(quotes):
+                self.assertEqual(self.shown(text)[1:-1], ['Write, as line 9:', '  source = ' + quotes])
+
     def test_a_program_without_an_end_is_no_array_without_a_comma(self) -> None:
         text = scenario().replace('"process', "'''\nprocess")
         text = text[:text.index(' }"\n') + 2] + '\n'

@@ -14,6 +14,7 @@ OF_LINES = 'A text in single or double quotes ends on its line: a program of sev
 OF_END = 'The text that begins on line %d ends with the same three quotes, `%s`.'
 # (a line of a program may be before three quotes, but not a key, whose text begins there)
 OTHER_END = re.compile(r'''([^=]*?)(?:"{3}|\'{3}|(?<!\S)["']{2,4})\s*''')
+HEADER = re.compile(r'\s*\[')
 OPENED = re.compile(r'''^(\s*[\w"'-]+\s*=\s*)(["'])(?!\2)(.*)$''')
 
 
@@ -51,10 +52,14 @@ def closed_in_comment(text: str, place: tuple[int, int]) -> tuple[int, str] | No
 
 
 def in_three(rows: list[str], number: int) -> tuple[str, list[str]] | None:
-    """A text of several lines that is in single or double quotes: the quotes that it needs, and its lines with them."""
+    """A text of several lines that is in single or double quotes: the quotes that it needs, and its lines with them, or
+    only its first line if three quotes close the text."""
     opened = OPENED.match(rows[number - 1])
     if not opened or opened[2] in re.sub(r'\\.', '', opened[3]):
         return None
+    closed = next((it.strip() for it in rows[number:] if it.strip() in LONG_QUOTES or HEADER.match(it)), '')
+    if closed in LONG_QUOTES:
+        return closed, [opened[1] + closed + opened[3]]
     last = next((at for at in range(number, len(rows)) if rows[at].rstrip().endswith(opened[2])), None)
     if last is None:
         return None
