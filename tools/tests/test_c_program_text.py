@@ -209,7 +209,7 @@ REFUSALS = (
     ('etimer_set(&et, 7000L * CLOCK_SECOND);', 'at most 65,535 moments'), ('x = strlen("a");', 'no `strlen`'),
     ('packetbuf_copyfrom();', '`packetbuf_copyfrom` needs 1 argument'), ('process_start();', 'needs 1 argument'),
     ('x = sht11_sensor.value(0);', 'A mote has no sensors'), ('SENSORS_ACTIVATE(b);', 'no sensors and no buttons'),
-    ('int *q = (int *)data; PROCESS_YIELD(); x = *q;', 'known only up to the next wait'),
+    ('int *q = (int *)data; PROCESS_YIELD(); x = *q;', '`q` isn\'t static, so its value is lost'),
     ('static int *q; q = data; PROCESS_YIELD(); x = *q;', 'known only up to the next wait'),
     ('if(x { }', 'A `)` is expected here, not `{`.'), ('etimer_set(&et, 5;', 'A `)` is expected here, not `;`.'),
     ('n = 3', 'A `;` is missing at the end of this line.'), ('else n = 2;', 'There is no `if` for this `else`'),
@@ -783,10 +783,6 @@ class Remarks(unittest.TestCase):
             notes = self.remarks('to.u8[0] = 1; to.u8[1] = %s;' % byte, 'static rimeaddr_t to;')
             self.assertEqual('the other bytes are 0' in notes, is_named)
 
-    def test_a_timer_that_is_not_static_is_named(self) -> None:
-        self.assertIn('`local` isn\'t static, so its memory has other values after a wait',
-                      self.remarks('etimer_set(&local, 3); PROCESS_YIELD();', '', '  struct etimer local;'))
-
     def test_numbers_of_32_bits_wrap(self) -> None:
         self.assertIn('above 65,535 wrap', self.remarks('l = 70000;', '', '  static uint32_t l;'))
 
@@ -803,13 +799,6 @@ class Remarks(unittest.TestCase):
         for body, is_named in (('c = 200; if(c > 100) x = 1;', True), ("c = 'a'; if(c == 97) x = 1;", False)):
             found = self.remarks(body, '', VARIABLES + ' char c;')
             self.assertEqual('depends on the compiler' in found, is_named)
-
-    def test_a_value_that_a_wait_loses_is_named(self) -> None:
-        lost = '`l` isn\'t static'
-        self.assertIn(lost, self.remarks('l = 3; PROCESS_YIELD(); printf("%d", l);', '', '  int l;'))
-        self.assertNotIn(lost, self.remarks('l = 3; printf("%d", l); PROCESS_YIELD(); l = 4; printf("%d", l);', '',
-                                            '  int l;'))
-        self.assertNotIn(lost, self.remarks('l = 3; PROCESS_YIELD(); printf("%d", l);', '', '  static int l;'))
 
     def test_a_parameter_of_a_protothread_has_its_value_after_a_wait(self) -> None:
         thread = ('static struct pt pt;\nstatic PT_THREAD(sub(struct pt *pt, int k)) { PT_BEGIN(pt); PT_YIELD(pt); %s '

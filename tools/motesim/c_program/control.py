@@ -45,8 +45,6 @@ Piece = Union[Statement, Callable[[], Flow]]
 class Control(Radio):
     """Translates statements."""
 
-    fresh: set[Variable]
-
     def __init__(self, *arguments: object) -> None:
         super().__init__(*arguments)  # type: ignore[arg-type]
         self.jumps: list[Target] = []
@@ -281,8 +279,6 @@ class Control(Radio):
         target = self.target('again' if last and not has_jump(it.body, 'break') else 'break')
         target.kind = 'break'
         is_again = bool(last) and not has_jump(it.body, 'break')
-        if has_wait(it.body):
-            self.fresh = set()
         known = self.enter_loop()
         self.out.append(Flag(target, int(is_again)))
         above, value = self.tested(test)
@@ -510,9 +506,3 @@ def nested(it: Statement) -> list[Statement]:
 def is_one(it: Value) -> Value:
     """A test that is always true is written as 1."""
     return number(1) if it.constant not in (0, None) else it
-
-
-def has_wait(statements: Sequence[Statement]) -> bool:
-    """Returns whether some statements wait."""
-    return any(it.kind == 'call' and it.text in WAITS for it in all_parts(statements))
-

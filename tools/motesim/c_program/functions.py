@@ -7,7 +7,7 @@ from contextlib import contextmanager
 from motesim.c_program.base import Unit
 from motesim.c_program.calls import ELAPSED
 from motesim.c_program.constants import constant_of
-from motesim.c_program.control import ENDS, FALLS, Control, Flow, has_wait
+from motesim.c_program.control import ENDS, FALLS, Control, Flow
 from motesim.c_program.places import (
     INTACT, NO_MOTE, OF_ADDRESS, OF_CHANGE, OF_EVENTS, OF_NULL, OF_RESULT, ONE_BYTE, Path, Place, Pointer,
 )
@@ -21,10 +21,6 @@ from motesim.c_program.written import Block, Comment, Flag, If, Line, While
 
 OF_MOTE_0 = ('The motes are numbered from 0, so this is the address of mote 0 here. For the address that no mote has, '
              'write `linkaddr_copy(&a, &linkaddr_null)`.')
-LOST_TIMER = ('In C, `%s` isn\'t static, so its memory has other values after a wait, and its event may never come. '
-              'Here, it comes: declare it as `static`.')
-LOST = ('In C, `%s` isn\'t static, so it loses its value when its process waits. Here, it keeps it: declare it as '
-        '`static`.')
 NO_WAIT = ('Only a process and its protothreads can wait in Contiki: write this wait in the process, or make `%s` a '
            'protothread, `PT_THREAD(%s(struct pt *pt))`, that the process runs by `PROCESS_PT_SPAWN(&pt, %s(&pt));`.')
 OF_CALLBACK = ('A callback and a handler can\'t wait in Contiki: let it poll the process, `process_poll(&%s);`, and '
@@ -58,8 +54,7 @@ class Functions(Control):
         self.threads: dict[str, str] = {}
         self.effects: dict[str, set[str]] = {}
         self.inlined: set[str] = set()
-        self.fresh: set[Variable] = set()
-        # Variables that get their value in each call of the process.
+        # Pointers that get their value in each call of the process.
         self.permanent: set[Variable] = set()
 
     # Variables.
@@ -91,9 +86,7 @@ class Functions(Control):
         """A declaration inside of a function: a variable with a value is an assignment, unless it is static."""
         variable = it.variable
         assert variable is not None
-        if variable.type.kind in ('etimer', 'ctimer', 'timer', 'stimer') and not variable.is_static:
-            self.remark(it.line, LOST_TIMER % variable.name)
-        elif variable.type.kind == 'pointer' and variable.initial is not None:
+        if variable.type.kind == 'pointer' and variable.initial is not None:
             # (if the statements of a function are written at each call, they begin with the declaration)
             self.aliases.pop(variable, None)
             self.point(variable, variable.initial, it.line)
@@ -197,23 +190,6 @@ class Functions(Control):
         elif value.constant != 0:
             self.remark(it.line, ONE_BYTE)
         return True
-
-    # Values that a wait loses.
-
-    def note_written(self, place: Place) -> None:
-        if place.variable:
-            self.fresh.add(place.variable)
-
-    def note_read(self, place: Place, line: int) -> None:
-        it = place.variable
-        is_own = it is not None and it.function == self.unit.function.name and not it.is_static
-        if it is not None and is_own and self.unit.may_wait and self.waits_in(self.unit.function) \
-                and it not in self.fresh and self.unit.function.kind != 'function' and not it.is_parameter:
-            self.remark(line, LOST % it.name)
-
-    def waits_in(self, function: Function) -> bool:
-        found: bool = self.__dict__.setdefault('_waits', {}).setdefault(function.name, has_wait(function.body))
-        return found
 
     # Functions.
 
@@ -333,18 +309,18 @@ class Functions(Control):
     @contextmanager
     def unit_of(self, unit: Unit) -> Iterator[None]:
         """Translates another part of the code."""
-        kept = (self.unit, self.known, self.posts, self.jumps, self.in_switch, self.buffer, self.fresh, self.log,
+        kept = (self.unit, self.known, self.posts, self.jumps, self.in_switch, self.buffer, self.log,
                 self.next_sends, self.open_loops, self.is_wait_test)
         self.unit, self.known, self.posts, self.jumps, self.in_switch = unit, {INTACT: (1, 1)}, [], [], 0
         self.known |= {FILLED: (1, 1)} if unit.is_callback else {}
-        self.buffer, self.fresh, self.log, self.open_loops = None, set(), [], []
+        self.buffer, self.log, self.open_loops = None, [], []
         self.is_wait_test = False
         pointers = self.forget_pointers()
         yield
         self.forget_pointers()
         self.aliases |= pointers
         self.effects[unit.function.name] = {*self.log}
-        (self.unit, self.known, self.posts, self.jumps, self.in_switch, self.buffer, self.fresh, self.log,
+        (self.unit, self.known, self.posts, self.jumps, self.in_switch, self.buffer, self.log,
          self.next_sends, self.open_loops, self.is_wait_test) = kept
 
     def thread(self, function: Function) -> str:
@@ -449,7 +425,6 @@ class Functions(Control):
             reason = OF_CALLBACK % self.process if is_called else NO_WAIT % ((self.unit.function.name,) * 3)
             raise self.refuse(it.line, reason)
         self.is_first = False
-        self.fresh = {one for one in self.fresh if one.is_static}
         self.buffer, self.either = None, {}
         self.note_effects([FILLED, ELAPSED])
         self.forget_pointers()

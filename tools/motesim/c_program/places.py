@@ -343,7 +343,6 @@ class Places(Base):
         names = [self.leaf(place, path, line) for path in place.paths]
         if place.chosen is None:
             name = names[0]
-            self.note_read(place, line)
             return Value(name, place.type, *self.limits(name, place.type), frozenset([name]))
         limits = [self.limits(it, place.type) for it in names]
         found = Value('', place.type, min(it[0] for it in limits), max(it[1] for it in limits), frozenset(names))
@@ -363,9 +362,6 @@ class Places(Base):
             part = '(%s * %s)' % (name, compared('==', index, number(at)).text)
             text = '(%s + %s)' % (text, part) if text else part
         return found._replace(text=text, reads=found.reads | index.reads)
-
-    def note_read(self, place: Place, line: int) -> None:
-        """Notes that a variable is read."""
 
     # The parts of the code that use a packet or its sender.
     uses_packet: set[str]
@@ -437,7 +433,6 @@ class Places(Base):
         if place.source != 'variable':
             is_own = place.source == 'packet' and not self.unit.is_callback
             raise self.refuse(line, TO_FILL if is_own else NO_CHANGE)
-        self.note_written(place)
         if place.type.name == 'char' and (value.low < 0 or value.high > 127):
             self.remark(line, OF_CHARACTER)
         if place.chosen is None:
@@ -470,9 +465,6 @@ class Places(Base):
             return
         for test, at in zip(tests, members):
             self.out.append(If(test, blocks[at], []))
-
-    def note_written(self, place: Place) -> None:
-        """Notes that a variable is written."""
 
     # Types.
 

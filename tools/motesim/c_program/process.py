@@ -147,12 +147,6 @@ class ProcessWriter(Functions):
                 value = self.operand(part)
             if value.constant is None or block:
                 raise self.refuse(it.line, EACH_CALL % variable.name)
-        if variable not in self.program.usage.assigned:
-            self.permanent.add(variable)
-
-    def check_wait(self, it: Expression) -> None:
-        super().check_wait(it)
-        self.fresh |= self.permanent
 
     def handler(self, it: Statement) -> None:
         """A block that runs when the process is polled, or when it exits."""

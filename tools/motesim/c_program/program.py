@@ -16,6 +16,7 @@ from motesim.c_program.base import Program
 from motesim.c_program.constants import EVENT_NUMBERS, SECOND, constant_of
 from motesim.c_program.indexes import indexes_for_pointers
 from motesim.c_program.knowledge import Knowledge
+from motesim.c_program.lost import check_locals
 from motesim.c_program.names import fresh
 from motesim.c_program.parse_file import read_file
 from motesim.c_program.process import ProcessWriter
@@ -62,13 +63,14 @@ def translated(text: str, second: int = SECOND) -> Translation:
     try:
         file = read_file(text)
         check_processes(file)
-        indexes = indexes_for_pointers(file)
+        remarks = check_locals((*file.bodies.values(), *file.functions.values()))
+        remarks += indexes_for_pointers(file)
         program, lines = settled(file, second)
         check_ends(program)
         for it in early_posts(file):
             program.remark(it.line, it.remark())
         remark_names(program)
-        for line, remark in indexes:
+        for line, remark in remarks:
             program.remark(line, remark)
     except RecursionError:
         raise Refusal(1, TOO_LARGE % LIMITS[7]) from None
@@ -76,8 +78,7 @@ def translated(text: str, second: int = SECOND) -> Translation:
     fault = find_fault(found)
     if fault is not None:
         raise Refusal(*of_fault(fault, file, found))
-    remarks = sorted(Remark(*it) for it in program.remarks.values())
-    return Translation(found, tuple(remarks))
+    return Translation(found, tuple(sorted(Remark(*it) for it in program.remarks.values())))
 
 
 def remark_names(program: Program) -> None:

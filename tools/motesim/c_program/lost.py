@@ -1,0 +1,328 @@
+"""Local variables of C that are read without a value that C guarantees: those that nothing has assigned yet, and those
+that lose their value, because a process leaves its function when it waits."""
+from __future__ import annotations
+
+from collections.abc import Callable, Iterable, Sequence
+from typing import NamedTuple
+
+from motesim.c_program.constants import constant_of
+from motesim.c_program.control import WAITS
+from motesim.c_program.refusal import Refusal
+from motesim.c_program.tree import Expression, Function, Statement, Variable
+from motesim.c_program.walk import declared_in, without_casts
+
+LOST = ('In C, `%s` isn\'t static, so its value is lost at each wait of its process, and this line reads it after a '
+        'wait: declare it as `static` in line %d.')
+AGAIN = ('In C, `%s` isn\'t static, so each call of its process assigns its first value again, and this line reads it '
+         'after a wait: declare it as `static` in line %d.')
+UNSET = 'In C, `%s` has no value yet in this line: assign one above, or in line %d, which declares it.'
+MAYBE_UNSET = ('In C, `%s` has a value here only if a line above has assigned one. To be sure, assign one in line %d, '
+               'which declares it.')
+LOST_DATA = ('In C, `%s` isn\'t static, so its memory has other values when this address is used: declare it as '
+             '`static` in line %d.')
+NOT_STATIC = ('In C, `%s` isn\'t static, so its memory has other values after a wait, and it doesn\'t work: declare '
+              'it as `static`.')
+# The kinds of objects that are in use after the function that declares them is left.
+LASTING = ('etimer', 'ctimer', 'timer', 'stimer', 'rtimer', 'pt', 'semaphore', 'connection', 'callbacks')
+# Waits that test their condition before they leave the function; and calls that only read what an address points to,
+# and those that read what their second address points to.
+TESTS_FIRST = ('PROCESS_WAIT_UNTIL', 'PROCESS_WAIT_WHILE', 'PT_WAIT_UNTIL', 'PT_WAIT_WHILE')
+READS_ALL = ('packetbuf_copyfrom', 'process_post', 'process_post_synch', 'linkaddr_cmp', 'rimeaddr_cmp', 'memcmp')
+READS_SECOND = ('linkaddr_copy', 'rimeaddr_copy', 'memcpy')
+# Calls that keep an address after the function that calls them is left.
+KEEPS = ('process_post', 'ctimer_set')
+BEGINS, ENDS = ('PROCESS_BEGIN', 'PT_BEGIN'), ('PROCESS_EXIT', 'PT_EXIT', 'PT_RESTART')
+
+
+class State(NamedTuple):
+    """The variables that are assigned at a place.
+
+    certain   those that have a value, whichever way the program has taken
+    possible  those that have a value if it has taken some way
+    waited    whether it may have waited
+    """
+    certain: frozenset[Variable] = frozenset()
+    possible: frozenset[Variable] = frozenset()
+    waited: bool = False
+
+    def with_value(self, it: Variable) -> State:
+        return State(self.certain | {it}, self.possible | {it}, self.waited)
+
+    def without_value(self, it: Variable) -> State:
+        return State(self.certain - {it}, self.possible - {it}, self.waited)
+
+
+def joined(states: Iterable[State | None]) -> State | None:
+    """The state at a place that is reached in several ways; None if no way leads there."""
+    known = [it for it in states if it is not None]
+    return State(frozenset.intersection(*(it.certain for it in known)),
+                 frozenset.union(*(it.possible for it in known)), any(it.waited for it in known)) if known else None
+
+
+class Reading(NamedTuple):
+    """A line that reads a variable without a value, with the message about it."""
+    line: int
+    text: str
+    is_remark: bool
+
+
+class Locals:
+    """Follows the local variables of a function."""
+
+    def __init__(self, function: Function):
+        self.function = function
+        self.state: State | None = State()
+        # The readings of variables without a value, by the places in the tree.
+        self.found: dict[int, Reading] = {}
+        self.breaks: list[list[State | None]] = []
+        self.continues: list[list[State | None]] = []
+        # The variables that get their first value in each call of the function; those that get another one below; and
+        # so, those that a wait keeps.
+        self.above, self.changed, self.kept = frozenset[Variable](), set[Variable](), frozenset[Variable]()
+
+    def check(self) -> list[Reading]:
+        """The readings of variables without a value, in the order of their lines."""
+        for it in declared_in(self.function.body):
+            if it.variable and not it.variable.is_static and it.variable.type.kind in LASTING:
+                raise Refusal(it.line, NOT_STATIC % it.variable.name)
+        self.run(self.function.body)
+        self.kept, self.state = self.above - self.changed, State()
+        self.found.clear()
+        self.run(self.function.body)
+        return sorted(self.found.values())
+
+    # Statements.
+
+    def run(self, statements: Sequence[Statement]) -> None:
+        for it in statements:
+            step: Callable[[Statement], None] = getattr(self, 'of_' + it.kind, self.of_other)
+            step(it)
+
+    def of_other(self, it: Statement) -> None:
+        for one in it.expressions:
+            self.read(one)
+        self.run(it.body)
+
+    def of_declare(self, it: Statement) -> None:
+        variable = it.variable
+        if variable is None or variable.is_static or self.state is None:
+            return
+        self.read(variable.initial)
+        has_value = variable.initial is not None
+        self.state = self.state.with_value(variable) if has_value else self.state.without_value(variable)
+
+    def of_expression(self, it: Statement) -> None:
+        self.of_other(it)
+        call = it.expressions[0]
+        if call is not None and call.text in BEGINS and self.state is not None:
+            self.above = self.state.certain
+        elif call is not None and call.text in ENDS:
+            self.state = None
+
+    def of_handler(self, it: Statement) -> None:
+        state = self.state
+        self.run(it.body)
+        self.state = state
+
+    def of_return(self, it: Statement) -> None:
+        self.of_other(it)
+        self.state = None
+
+    def of_if(self, it: Statement) -> None:
+        self.read(it.expressions[0])
+        before = self.state
+        self.run(it.body)
+        then, self.state = self.state, before
+        self.run(it.others)
+        self.state = joined((then, self.state))
+
+    def of_while(self, it: Statement) -> None:
+        self.loop(it, it.expressions[0], None)
+
+    def of_do(self, it: Statement) -> None:
+        self.loop(it, None, None, it.expressions[0])
+
+    def of_for(self, it: Statement) -> None:
+        self.run(it.others)
+        self.loop(it, it.expressions[0], it.expressions[1])
+
+    def loop(self, it: Statement, test: Expression | None, step: Expression | None, last: Expression | None = None
+             ) -> None:
+        """A loop: it is followed until nothing changes at its head."""
+        head = self.state
+        while True:
+            self.state = head
+            self.breaks.append([])
+            self.continues.append([])
+            self.read(test)
+            ends = [] if is_always(test) else [self.state]
+            self.run(it.body)
+            self.state = joined((self.state, *self.continues.pop()))
+            self.read(step)
+            self.read(last)
+            ends += [*self.breaks.pop(), *([] if is_always(last) else [self.state])]
+            again = joined((head, None if last and constant_of(last) == 0 else self.state))
+            if again == head:
+                break
+            head = again
+        self.state = joined(ends)
+
+    def of_switch(self, it: Statement) -> None:
+        self.read(it.expressions[0])
+        before, self.state = self.state, None
+        self.breaks.append([])
+        for one in it.body:
+            if one.kind in ('case', 'default'):
+                self.state = joined((self.state, before))
+            else:
+                self.run([one])
+        has_default = any(one.kind == 'default' for one in it.body)
+        self.state = joined((self.state, *self.breaks.pop(), *([] if has_default else [before])))
+
+    def of_break(self, it: Statement) -> None:
+        if self.breaks:
+            self.breaks[-1].append(self.state)
+        self.state = None
+
+    def of_continue(self, it: Statement) -> None:
+        if self.continues:
+            self.continues[-1].append(self.state)
+        self.state = None
+
+    # Expressions.
+
+    def read(self, it: Expression | None) -> None:
+        """Follows an expression whose value is used."""
+        if it is None or self.state is None or it.kind == 'sizeof':
+            return
+        if it.kind in ('index', 'member'):
+            self.at_place(it, self.note_read)
+        elif it.kind == 'name':
+            (self.give if is_array(it) else self.note_read)(it)
+        elif it.kind == 'assign':
+            self.assign(it)
+        elif it.kind in ('unary', 'postfix') and it.text in ('++', '--'):
+            self.at_place(it.parts[0], self.note_step)
+        elif it.kind == 'unary' and it.text == '&':
+            self.give(it.parts[0])
+        elif it.kind == 'call':
+            self.call(it)
+        elif it.kind == 'choice' or it.kind == 'binary' and it.text in ('&&', '||'):
+            self.choose(it)
+        else:
+            for one in it.parts:
+                self.read(one)
+
+    def choose(self, it: Expression) -> None:
+        """`a && b`, `a || b` or `a ? b : c`."""
+        self.read(it.parts[0])
+        before, ends = self.state, list[State | None]()
+        for one in it.parts[1:]:
+            self.state = before
+            self.read(one)
+            ends.append(self.state)
+        self.state = joined(ends if it.kind == 'choice' else (before, *ends))
+
+    def assign(self, it: Expression) -> None:
+        self.read(it.parts[1])
+        self.at_place(it.parts[0], self.note_value if it.text == '=' else self.note_step)
+
+    def give(self, it: Expression) -> None:
+        """Follows a place that gets a value."""
+        self.at_place(it, self.note_value)
+
+    def note_value(self, it: Expression) -> None:
+        if it.variable is not None and self.state is not None:
+            self.state = self.state.with_value(it.variable)
+            self.changed.add(it.variable)
+
+    def note_step(self, it: Expression) -> None:
+        """Notes a variable whose new value depends on its old one: if this one is lost, so is the new one."""
+        self.note_read(it)
+        if it.variable is not None:
+            self.changed.add(it.variable)
+
+    def at_place(self, it: Expression, use: Callable[[Expression], None]) -> None:
+        """Follows the parts of a place, and uses its variable: a member or a field counts as the whole variable."""
+        while it.kind in ('index', 'member') and not is_pointer(it.parts[0]):
+            if it.kind == 'index':
+                self.read(it.parts[1])
+            it = it.parts[0]
+        if it.kind == 'name':
+            use(it)
+        else:
+            self.read_parts(it)
+
+    def read_parts(self, it: Expression) -> None:
+        for one in it.parts:
+            self.read(one)
+
+    def call(self, it: Expression) -> None:
+        """A call: a function may assign a variable whose address it gets."""
+        if it.text in WAITS:
+            self.wait(it)
+            return
+        for at, part in enumerate(it.parts):
+            one = without_casts(part)
+            is_address = one.kind == 'unary' and one.text == '&'
+            inner = one.parts[0] if is_address else one
+            if it.text in KEEPS and (is_address or is_array(one)):
+                self.check_data(inner)
+            only_reads = it.text in READS_ALL or it.text in READS_SECOND and at
+            if only_reads and is_array(inner):
+                self.note_read(inner)
+            else:
+                self.read(inner if only_reads else one)
+
+    def check_data(self, it: Expression) -> None:
+        """Checks a variable whose address is the data of an event."""
+        if it.variable and self.is_followed(it.variable):
+            raise Refusal(it.line, LOST_DATA % (it.variable.name, it.variable.line))
+
+    def wait(self, it: Expression) -> None:
+        """A wait: the variables lose their values, and its test is evaluated in later calls of the function."""
+        if it.text in TESTS_FIRST:
+            self.read_parts(it)
+        if self.state is not None:
+            self.state = State(self.kept, self.kept, True)
+        if not it.text.endswith(('PT_SPAWN', 'PT_WAIT_THREAD')):
+            self.read_parts(it)
+
+    def is_followed(self, it: Variable) -> bool:
+        return it.function == self.function.name and not it.is_static and not it.is_parameter
+
+    def note_read(self, it: Expression) -> None:
+        """Notes that a variable is read."""
+        variable = it.variable
+        if variable is None or self.state is None or not self.is_followed(variable):
+            return
+        if variable in self.state.certain:
+            return
+        if self.state.waited:
+            text = AGAIN if variable in self.above else LOST
+        else:
+            text = MAYBE_UNSET if variable in self.state.possible else UNSET
+        self.found[id(it)] = Reading(it.line, text % (variable.name, variable.line), text == MAYBE_UNSET)
+
+
+def is_array(it: Expression) -> bool:
+    return it.kind == 'name' and it.variable is not None and it.variable.type.kind == 'array'
+
+
+def is_pointer(it: Expression) -> bool:
+    return it.variable is not None and it.variable.type.kind in ('pointer', 'data')
+
+
+def is_always(test: Expression | None) -> bool:
+    """Returns whether the test of a loop is always true."""
+    return test is None or constant_of(test) not in (0, None)
+
+
+def check_locals(functions: Iterable[Function]) -> list[tuple[int, str]]:
+    """The remarks about local variables that may have no value. Raises a Refusal for those that certainly have none,
+    or lose it."""
+    readings = [it for function in functions for it in Locals(function).check()]
+    for it in readings:
+        if not it.is_remark:
+            raise Refusal(it.line, it.text)
+    return [(it.line, it.text) for it in readings]

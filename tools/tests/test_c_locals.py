@@ -1,0 +1,74 @@
+"""Local variables of programs in C that lose their values, or have none, are refused."""
+import unittest
+
+from translated_c import in_process, translation
+
+TIMER = '  static struct etimer et; '
+WAIT = 'PROCESS_WAIT_EVENT_UNTIL(etimer_expired(&et));'
+FOR = 'for(i = 0; i < 3; i++) { etimer_set(&et, 5); %s printf("%%d", i); }' % WAIT
+THREAD = 'static struct pt pt;\nstatic PT_THREAD(sub(struct pt *pt)) { %s PT_BEGIN(pt); %s PT_END(pt); }'
+FUNCTION = 'static int last(int n) { %s }'
+
+
+class Locals(unittest.TestCase):
+    def check(self, source: str, wanted: str, is_refused: bool = True) -> None:
+        text, notes = translation(source)
+        with self.subTest(source):
+            self.assertEqual(text is None, is_refused, notes)
+            self.assertIn(wanted, notes)
+
+    def test_a_value_that_a_wait_loses_is_refused(self) -> None:
+        for inside, body, name in (
+                (' int i;', FOR, 'i'), (' int i = 0;', FOR, 'i'),
+                (' int n = 0;', 'while(1) { etimer_set(&et, 5); %s n++; printf("%%d", n); }' % WAIT, 'n'),
+                (' int n = 0;', 'n = 3; etimer_set(&et, 5); PROCESS_WAIT_EVENT_UNTIL(n == 3);', 'n'),
+                (' int n;', 'n = 3; etimer_set(&et, 5); PROCESS_WAIT_UNTIL(n == 3);', 'n'),
+                (' int n;', 'n = 3; PROCESS_PAUSE(); if(n == 3) { printf("%d", 1); }', 'n'),
+                (' uint8_t a[2];', 'a[0] = 1; PROCESS_PAUSE(); printf("%d", a[0]);', 'a'),
+                (' int n;', 'while(1) { PROCESS_YIELD(); if(ev == PROCESS_EVENT_MSG) n = 2; printf("%d", n); }', 'n'),
+                ('', 'int n = 2; if(ev == PROCESS_EVENT_MSG) PROCESS_PAUSE(); else n = 3; printf("%d", n);', 'n'),
+                (' int n;', 'n = 1; do { PROCESS_PAUSE(); } while(n++ < 3);', 'n'),
+                (' int n;', 'n = 1; switch(n) { case 1: break; } PROCESS_PAUSE(); printf("%d", n + 1);', 'n')):
+            self.check(in_process('  ' + body, '', TIMER + inside), '`%s` isn\'t static, so ' % name)
+
+    def test_a_value_that_no_wait_loses_is_translated(self) -> None:
+        for inside, body in (
+                (' static int i;', FOR), (' int n = 4;', 'while(1) { PROCESS_YIELD(); printf("%d", n); }'),
+                (' int i; static int t;', 'while(1) { PROCESS_YIELD(); for(i = 0; i < 3; i++) { t += i; } }'),
+                (' uint16_t m = 7;', 'while(1) { PROCESS_YIELD(); packetbuf_copyfrom(&m, 2); }'),
+                (' int n;', 'while(1) { PROCESS_YIELD(); if(ev == PROCESS_EVENT_MSG) { n = 1; } else { n = 2; } '
+                 'printf("%d", n); }'),
+                (' int n;', 'n = 1; while(1) { n = 2; if(n > 3) break; PROCESS_PAUSE(); } printf("%d", n);'),
+                ('', 'if(ev == PROCESS_EVENT_MSG) { PROCESS_PAUSE(); } else { int n = 3; printf("%d", n); }'),
+                (' uint8_t a[2];', 'PROCESS_PAUSE(); memset(a, 0, 2); printf("%d", a[1]);')):
+            text, notes = translation(in_process('  ' + body, '', TIMER + inside))
+            with self.subTest(body):
+                self.assertIsNotNone(text, notes)
+                self.assertNotIn('static', notes)
+
+    def test_a_protothread_loses_its_values_too(self) -> None:
+        for inside, body, is_refused in (('int n = 0;', 'while(n < 3) { n++; PT_YIELD(pt); }', True),
+                                         ('static int n = 0;', 'while(n < 3) { n++; PT_YIELD(pt); }', False),
+                                         ('int n = 3;', 'PT_YIELD(pt); printf("%d", n);', False)):
+            self.check(in_process('  PROCESS_PT_SPAWN(&pt, sub(&pt));', THREAD % (inside, body)),
+                       '`n` isn\'t static' * is_refused, is_refused)
+
+    def test_a_variable_without_a_value_is_refused(self) -> None:
+        for body, wanted, is_refused in (
+                ('int sum; int i; for(i = 0; i < n; i++) { sum += i; } return sum;', '`sum` has no value yet', True),
+                ('int m; if(n > 2) { m = 1; } return m;', '`m` has a value here only if', False),
+                ('int m; if(n > 2) { m = 1; } else { m = 3; } return m;', '', False),
+                ('int m; switch(n) { case 1: m = 2; break; default: m = 0; } return m;', '', False)):
+            self.check(in_process('  printf("%d", last(3));', FUNCTION % body), wanted, is_refused)
+            if not wanted:
+                self.assertNotIn('has a value here', translation(in_process('  last(3);', FUNCTION % body))[1])
+
+    def test_an_object_that_is_used_after_a_wait_is_static(self) -> None:
+        for inside, body in (('  struct etimer local;', 'etimer_set(&local, 3); PROCESS_YIELD();'),
+                             ('  struct timer local;', 'timer_set(&local, 3); PROCESS_YIELD();'),
+                             ('  int local = 3;', 'process_post(&p, PROCESS_EVENT_MSG, &local); PROCESS_YIELD();')):
+            self.check(in_process('  ' + body, '', inside), '`local` isn\'t static, so its memory has other values')
+
+
+if __name__ == '__main__':
+    unittest.main()
