@@ -260,6 +260,9 @@ class Sentences(unittest.TestCase):
     def test_words_for_but_for_at_most_once_and_for_each_sender(self) -> None:
         for sentence, hint in (
                 ('every mote except 0 sends', 'Did you mean: every mote but 0 sends'),
+                ('mote 1 prints flood 1 to 6 in order', 'Did you mean: mote 1 prints just flood 1 to 6'),
+                ('mote 1 prints just flood 1 to 6 in order', 'Did you mean: mote 1 prints just flood 1 to 6'),
+                ('mote 1 prints flood 1, 2 in this order', 'Did you mean: mote 1 prints just flood 1, 2'),
                 ('mote 1 sends 0 or 1 times', 'Did you mean: mote 1 sends at most once'),
                 ('mote 1 prints flood 0 or 1', "Hint: write `at most once` for 0 or 1 times; for one of two values, "),
                 ('mote 0 receives 1 from all motes', 'Hint: a packet has one sender, so write a sentence for each: ')):

@@ -102,16 +102,24 @@ def redirected(sentence: str, place: int) -> str | None:
     return REDIRECTS.get(word[0].lower()) if word else None
 
 
+# Several values, behind the first; and words that `just` means.
+SEVERAL = r'((, *| ?to )\d+)+'
+IN_ORDER = re.compile(r' in (this |the )?order$')
+
+
 def other_form(sentence: str, place: int, wanted: Sequence[str]) -> str | None:
     """The sentence that was most likely meant, if it has another form: with a process, with `just`, or about a
     copy."""
-    before, rest = sentence[:place], sentence[place:]
+    before, rest = sentence[:place], IN_ORDER.sub('', sentence[place:])
     names = processes_in(wanted)
     if names and re.search(r'\bprints? $', before) and re.match(r'\d+\b(?! times)', rest):
-        return '%s%s %s' % (before, names[-1], rest)
-    of_values = re.fullmatch(r'(.*\bprints? )(\w+ \d+) ?', before)
-    if of_values and re.fullmatch(r'(, *\d+)+', rest):
-        return '%sjust %s%s' % (*of_values.groups(), rest)
+        just = 'just ' if 'just' in wanted and re.match(r'\d+' + SEVERAL, rest) else ''
+        return '%s%s%s %s' % (before, just, names[-1], rest)
+    of_values = re.fullmatch(r'(.*\bprints? )(\w+ \d+)( ?)', before)
+    if of_values and re.fullmatch(SEVERAL, rest):
+        return '%sjust %s%s%s' % (*of_values.groups(), rest)
+    if before.endswith(' in ') and re.fullmatch('(this |the )?order', rest) and ' just ' in before:
+        return before.removesuffix(' in ')
     mote = re.fullmatch(r'(mote \d+) ', before)
     return 'some copy collides at %s' % mote[1] if mote and rest == 'collides' else None
 
