@@ -159,11 +159,13 @@ class PlotTest(unittest.TestCase):
         for words, seen in [
             (('--measure', 'speed', '--against', 'period'), 'there is no measure speed; there are: sent, late'),
             (('--measure', 'sent', '--against', 'none'), 'there is no parameter none; there are: period, density,'),
-            (('--measure', 'sent'), 'nothing is named for the horizontal axis: add --against NAME'),
+            (('--measure', 'sent', '--threshold', '3'), '--threshold needs values on the horizontal axis: add'),
+            (('--measure', 'sent', '--log'), '--log needs values on the horizontal axis: add --against'),
+            (('--measure', 'sent', '--show', 'heat', '--by', 'seed'), '--show heat needs --against: the parameter of'),
             (('--measure', 'sent', '--against', 'perod'), 'density, seed; and the measures: sent, late; did you mean '
              'period?'),
             (('--measure', 'sent', '--against', 'period', '--pair', 'period=1,2'),
-             '--against needs another parameter: density, seed'),
+             '--against needs another parameter: density, seed. For one row over all runs, leave out --against'),
             (('--measure', 'sent', '--against', 'density', '--pair', 'period=1,5'),
              'no run has period = 5; there are: 1, 2, 3, 10'),
             (('--measure', 'sent', '--against', 'density', '--compare', 'net.csv'),

@@ -924,7 +924,8 @@ class Command(unittest.TestCase):
         self.assertIn('a threshold above 0', self.seen)
         (self.folder / 'net.csv').write_text(re.sub(r'^1,(.*),0[.]10', r'1,\1,-0.10', results(), flags=re.M))
         self.plot(*words, status=2)
-        self.assertIn('--log-y needs values above 0, and the median of ratio at period 1 is -0.103', self.seen)
+        self.assertIn('--log-y needs values above 0, and the median of ratio at period 1, density dense '
+                      'is -0.103', self.seen)
         self.assertIn('left out: 5 runs whose ratio isn\'t above 0',
                       [' '.join(row) for row in self.plot(*words[:4], '--log-y', '--show', 'points', *ONE)])
         interpreter_with(self, 'matplotlib')

@@ -312,6 +312,17 @@ def _numbers(places: Sequence[Cell], is_scale: bool) -> list[float]:
     return [float(it) if is_scale and isinstance(it, int | float) else float(at) for at, it in enumerate(places)]
 
 
+def _place_of(point: Point | Difference, wish: Wish) -> Cell:
+    """The place of a point on the horizontal axis: a value of `against` or, without it, the point's curve."""
+    return point.against if wish.against else point.by
+
+
+def _places(found: Sequence[Point] | Sequence[Difference], wish: Wish) -> tuple[list[Cell], bool]:
+    """The places on the horizontal axis, and whether they are numbers on a scale."""
+    places = sorted({_place_of(it, wish) for it in found}, key=order)
+    return places, bool(wish.against) and all(type(it) in (int, float) for it in places)
+
+
 def _scale(axes: Any, places: list[Cell], wish: Wish, is_scale: bool) -> None:
     """The horizontal axis."""
     if is_scale and wish.log:
@@ -320,6 +331,9 @@ def _scale(axes: Any, places: list[Cell], wish: Wish, is_scale: bool) -> None:
         return
     at = _numbers(places, is_scale)
     texts = [number_text(it) if type(it) is float else text_of(it) for it in places]
+    if not wish.against:
+        texts = [dict(wish.labels).get(it, it) for it in texts]
+        axes.set_xlim(-0.5, len(places) - 0.5)
     shown = _fitting(axes, at, texts, wish)
     if not is_scale and not all(shown):
         # (each name needs a label, but a number may lack one)
@@ -396,16 +410,15 @@ def with_gaps(points: list[Point], shown: Shown, places: Sequence[Cell]) -> list
 
 
 def _draw_curves(axes: Any, shown: Shown, wish: Wish) -> None:
-    places = sorted({point.against for point in shown.points}, key=order)
-    is_scale = all(type(it) in (int, float) for it in places)
+    places, is_scale = _places(shown.points, wish)
     if wish.show == 'cdf':
         _draw_steps(axes, shown, wish)
     groups = _groups(shown) if wish.show != 'cdf' else {}
     for number, (by, points) in enumerate(groups.items()):
-        label = _legend_of(wish, by) if wish.by else None
+        label = _legend_of(wish, by) if wish.by and wish.against else None
         points = with_gaps(points, shown, places) if wish.show in ('mean', 'median') else points
-        xs = [it.x if is_scale else float(places.index(it.against)) for it in points]
-        if (wish.show in ('mean', 'points') or not is_scale) and shown.points[0].across is None:
+        xs = [it.x if is_scale else float(places.index(_place_of(it, wish))) for it in points]
+        if wish.against and (wish.show in ('mean', 'points') or not is_scale) and shown.points[0].across is None:
             every = _numbers(places, is_scale)
             moved = dict(zip(every, dodged(every, number, len(groups), wish.log and is_scale)))
             xs = [moved.get(it, it) for it in xs]
@@ -424,7 +437,7 @@ def _draw_curves(axes: Any, shown: Shown, wish: Wish) -> None:
         elif 0 <= 2 * min(lows) < max(highs):
             axes.set_ylim(bottom=0)
     _limit(axes, wish)
-    _name_axes(axes, wish.x or (wish.measure if wish.show == 'cdf' else wish.against),
+    _name_axes(axes, wish.x or (wish.measure if wish.show == 'cdf' else wish.against or wish.by),
                wish.y or ('part of runs' if wish.show == 'cdf' else wish.measure))
     axes.grid(True, color='#dddddd', linewidth=0.6)
     axes.spines[['top', 'right']].set_visible(False)
@@ -509,19 +522,19 @@ def draw_differences(found: Sequence[Difference], wish: Wish, words: str, notes:
     """Draws the differences of a paired comparison, with their intervals; returns whether notes have room below."""
     pyplot = _pyplot(wish)
     figure, axes = _figure(pyplot, wish)
-    places = sorted({it.against for it in found}, key=order)
-    is_scale = all(type(it) in (int, float) for it in places)
+    places, is_scale = _places(found, wish)
     groups = {it.by: [each for each in found if each.by == it.by] for it in found}
     for number, (by, its) in enumerate(groups.items()):
-        moved = dict(zip(places, dodged(_numbers(places, is_scale), number, len(groups), wish.log and is_scale)))
+        every = _numbers(places, is_scale)
+        moved = dict(zip(places, dodged(every, number, len(groups), wish.log) if wish.against else every))
         gaps, look = [it.difference for it in its], _look(number)
-        axes.errorbar([moved[it.against] for it in its], [it.middle for it in gaps], yerr=lengths(gaps), capsize=3,
-                      elinewidth=1, label=_legend_of(wish, by) if wish.by else None,
+        axes.errorbar([moved[_place_of(it, wish)] for it in its], [it.middle for it in gaps], yerr=lengths(gaps),
+                      capsize=3, elinewidth=1, label=_legend_of(wish, by) if wish.by and wish.against else None,
                       **(look if is_scale else {**look, 'linestyle': ''}))
     axes.axhline(0, color='#555555', linewidth=0.8)
     _scale(axes, places, wish, is_scale)
     _limit(axes, wish)
-    _name_axes(axes, wish.x or wish.against, wish.y or 'difference of %s' % wish.measure)
+    _name_axes(axes, wish.x or wish.against or wish.by, wish.y or 'difference of %s' % wish.measure)
     _legend(axes)
     has_room = words_around(figure, size_of(wish.size)[0], wish, words, '\n'.join(notes),
                             _place_of_notes(path, False))

@@ -142,13 +142,13 @@ def pairs_in(one: Sequence[Row], other: Sequence[Row], measure: str, names: Sequ
         known = next((row for row in its if row and row.get(PLACES) is not None), its[0] or its[1] or {})
         net = '' if nets is None else name_of_net(known, nets)
         if any(lacks):
-            place = key[list(names).index(against)]
+            place = known[against] if against else None
             left_out[place, ' and '.join(filter(None, lacks))] += 1
             without[place, net] += nets is not None
             continue
         mine, yours = its[0] or {}, its[1] or {}
         places = mine.get(PLACES), yours.get(PLACES)
-        pairs.append(Pair(mine[against], _number(mine, measure), _number(yours, measure),
+        pairs.append(Pair(mine[against] if against else None, _number(mine, measure), _number(yours, measure),
                           () if nets is None else (net, *places)))
         of_two_nets += None not in places and places[0] != places[1]
     return Paired(pairs, dict(left_out), of_two_nets, +without)

@@ -18,6 +18,8 @@ OF_MEANS = ('mean', 'heat')
 # Runs that differ only in a parameter of this name, or in one that ends in `_seed`, repeat one another.
 SEED, SEEDS = 'seed', '_seed'
 MOST_VALUES = 4
+# What would mix runs if nothing is on the horizontal axis.
+ONE_POINT = 'one point'
 SELECTS = '--where %s=%s selects some'
 # A column about a run's net that can be shown like a measure.
 REJECTED = 'rejected'
@@ -61,6 +63,7 @@ def columns_of_by(by: str, value: Cell) -> dict[str, Cell]:
 class Wish(NamedTuple):
     """A request for a picture or a table, and the texts around it.
 
+    against        a parameter or a measure; '' for one point over all runs of each curve
     by             a parameter, or several with commas between them
     title, footer  the words above and below a picture; None for a text about its content and its runs, '' for no text
     size           the width and the height of a picture in centimetres, `16x10`, or `column`, or nothing
@@ -321,7 +324,8 @@ def check_mixture(rows: Sequence[Row], mixed: Sequence[str], repeats: Sequence[s
     first = mixed[0]
     values = sorted({row[first] for row in rows}, key=order)
     shown = ', '.join(map(text_of, values[:MOST_VALUES])) + (', ..' if len(values) > MOST_VALUES else '')
-    ways = [] if by else ['--by %s separates them' % first]
+    ways = ['--against %s has a point for each value' % first] if what == ONE_POINT else []
+    ways += [] if by else ['--by %s separates them' % first]
     ways += [SELECTS % (first, text_of(values[0])),
              '--over %s mixes them' % ','.join(dict.fromkeys([*repeats, *mixed]))]
     names = ' and '.join(['%s (%s)' % (first, shown), *mixed[1:]])
@@ -419,7 +423,8 @@ def check_pairs(rows: Sequence[Row], wish: Wish, kept: Sequence[str]) -> None:
     good = [row for row in rows if not row['fault']]
     varying = [name for name in kept if name not in (wish.against, wish.by) and len({row[name] for row in good}) > 1]
     repeats = repeats_of(varying, wish.over)
-    check_mixture(good, [it for it in varying if it not in repeats], repeats, wish.by, 'each point', wish.against)
+    check_mixture(good, [it for it in varying if it not in repeats], repeats, wish.by,
+                  'each point' if wish.against else ONE_POINT, wish.against)
 
 
 def crossed_in(names: Sequence[str], points: Iterable[Sequence[tuple[Cell, ...]]]) -> Crossed | None:
@@ -504,7 +509,7 @@ def shown_of(rows: Sequence[Row], wish: Wish) -> Shown:
     over = [name for name in varying if name not in (wish.against, wish.by)]
     repeats = repeats_of(varying, wish.over)
     check_mixture(good, [it for it in over if it not in repeats], repeats, wish.by,
-                  'each point' if wish.against else 'a line', wish.against)
+                  'each point' if wish.against else 'a line' if wish.show == 'cdf' else ONE_POINT, wish.against)
     check_plans(good, [it for it in varying if it not in repeats], wish)
     check_measures(good, wish)
     groups: dict[Place, list[tuple[float, tuple[Cell, ...]]]] = {}

@@ -180,11 +180,16 @@ def csv_of(rows: Sequence[Row]) -> str:
 
 
 def heading(shown: Shown, wish: Wish) -> str:
-    against = ' against %s' % wish.against if wish.against else ''
+    against = of_axis(wish)
     if shown.along and shown.is_ordered and wish.show in ('mean', 'median'):
         against += ', in the order of %s' % shown.along[0]
     nets = ', averaged by net first' if wish.nets else ''
     return '%s%s%s%s%s%s' % (wish.measure, against, selected(wish), of_mixed(shown.mixed), nets, how(shown, wish))
+
+
+def of_axis(wish: Wish) -> str:
+    """The part of a heading that names the horizontal axis."""
+    return ' against %s' % wish.against if wish.against else ''
 
 
 def title(shown: Shown, wish: Wish) -> str:
@@ -224,7 +229,7 @@ def by_methods(methods: Sequence[str]) -> str:
 
 def _at(counts: Mapping[Place, int], wish: Wish, most: int | None) -> str:
     """The number of omitted runs at each point."""
-    if not wish.against or not counts:
+    if not counts or not (wish.against or wish.by):
         return ''
     places = sorted(counts, key=lambda it: (order(it[0]), order(it[1])))
     more = len(places) - len(places[:most])
@@ -301,8 +306,9 @@ def check_log_y(shown: Shown, wish: Wish) -> None:
         return
     low = next((it for it in shown.points if it.estimate.middle <= 0), None)
     if low:
-        raise Fault('--log-y needs values above 0, and the %s of %s at %s %s is %s' % (
-            middle_of(wish)[0], wish.measure, wish.against, text_of(low.against), number_text(low.estimate.middle)))
+        at = of_place((low.by, low.against), wish.by, wish.against)
+        raise Fault('--log-y needs values above 0, and the %s of %s%s is %s' % (
+            middle_of(wish)[0], wish.measure, ' at ' + at if at else '', number_text(low.estimate.middle)))
     threshold = threshold_of(wish)
     if threshold is not None and threshold <= 0:
         raise Fault('--log-y needs a threshold above 0')
@@ -608,7 +614,7 @@ def columns_of_crossing(found: Crossing | None) -> Row:
 def rows_of_differences(found: Sequence[Difference], wish: Wish, one: str, other: str) -> list[Row]:
     """A paired comparison as rows of a table; with nets, also how many there are, and which have missing pairs."""
     is_by_net = wish.nets
-    return [{**wish.columns_of_by(it.by), wish.against: it.against,
+    return [{**wish.columns_of_by(it.by), **({wish.against: it.against} if wish.against else {}),
              **({'nets': it.difference.runs} if is_by_net else {}), 'pairs': it.pairs,
              'left out': it.left_out, one: it.one, other: it.other,
              'difference': it.difference.middle, 'low': it.difference.low, 'high': it.difference.high,
@@ -625,15 +631,15 @@ def of_pairs(paired: Paired, found: Sequence[Difference], against: str, most: in
     lines += of_missing(paired.nets(), '', against, 'pairs', most)
     empty = [place for place in dict.fromkeys(place for place, _ in paired.left_out)
              if all(place != it.against for it in found)]
-    if empty and paired.pairs:
+    if empty and against and paired.pairs:
         lines.append('no pair is left at %s %s' % (against, ', '.join(map(text_of, empty))))
     skewed = [text_of(it.against) for it in found if it.is_skewed and it.difference.runs < ENOUGH_RUNS
               and it.difference.method in ('t', 'within pairs')]
     if skewed:
-        lines.append('at %s %s %s mean difference is from fewer than %d pairs, and they are skewed: its interval '
+        at = 'at %s %s ' % (against, ', '.join(skewed)) if against else ''
+        lines.append('%s%s mean difference is from fewer than %d pairs, and they are skewed: its interval '
                      'contains the true mean less often than its confidence says; make more runs, or use --interval '
-                     'bootstrap-t' % (
-                         against, ', '.join(skewed), 'the' if len(skewed) == 1 else 'each', ENOUGH_RUNS))
+                     'bootstrap-t' % (at, 'the' if len(skewed) == 1 else 'each', ENOUGH_RUNS))
     if paired.of_two_nets:
         lines.append('in %d of %d pairs the motes have different places on the two sides: such a pair compares two '
                      'different nets, so it doesn\'t remove the effect of the net' % (

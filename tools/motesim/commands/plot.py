@@ -1,4 +1,4 @@
-"""Shows a measure of a sweep: tools/plot RESULTS --measure NAME --against NAME
+"""Shows a measure of a sweep: tools/plot RESULTS --measure NAME [--against NAME]
 
   tools/plot net.csv --measure ratio --against period                        a table: medians with quartiles
   tools/plot net.csv --measure ratio --against period --show mean            means with confidence intervals
@@ -6,6 +6,7 @@
   tools/plot net.csv --measure delay --against sent                          a measure on each axis
   tools/plot net.csv --measure delay --by period --show cdf -o delay.svg
   tools/plot a.csv --compare b.csv --measure ratio --against period          differences of runs with equal parameters
+  tools/plot net.csv --measure ratio --pair period=20,40                     one row: the difference over all pairs
   tools/plot net.csv --plan net.plan.toml                                    what the plan's `plot` describes
 
 RESULTS is a file that tools/sweep wrote. Each point of a picture, or row of a table, has the runs with equal values of
@@ -41,7 +42,8 @@ def arguments() -> argparse.Namespace:
     words.register('action', None, Once)
     words.add_argument('results', metavar='RESULTS', help='a file that tools/sweep wrote')
     words.add_argument('--measure', metavar='NAME', help='the measure to show')
-    words.add_argument('--against', metavar='NAME', help='the parameter, or the measure, on the horizontal axis')
+    words.add_argument('--against', metavar='NAME',
+                       help='the parameter, or the measure, on the horizontal axis (one row over all runs)')
     words.add_argument('--by', action='append', default=[], metavar='NAME',
                        help='draw a line for each value of this parameter or, if --by is given twice, for each pair of '
                             'values')

@@ -99,10 +99,9 @@ def check_sides(sides: Sides, wish: Wish) -> None:
     if wish.measure not in measures_of(rows) or wish.measure not in measures_of(others):
         raise Fault('there is no measure %s on both sides; there are: %s' % (
             wish.measure, ', '.join(it for it in measures_of(rows) if it in measures_of(others))))
-    if wish.against == wish.pair.partition('=')[0]:
+    if wish.against and wish.against == wish.pair.partition('=')[0]:
         raise Fault('--pair compares two values of %s, so --against needs another parameter: %s. For one row over all '
-                    'runs, add a parameter with one value to the plan, such as `all = 1`, sweep it into another file, '
-                    'and name it with --against' % (wish.against, ', '.join(kept) or 'there is none'))
+                    'runs, leave out --against' % (wish.against, ', '.join(kept) or 'there is none'))
     for name in filter(None, [wish.against, wish.by]):
         if name not in kept:
             raise Fault('there is no parameter %s on both sides; there are: %s' % (name, ', '.join(kept)))
@@ -137,8 +136,8 @@ def differences_in(groups: Sequence[tuple[Cell, Paired]], wish: Wish) -> list[Di
 def heading_of(found: Sequence[Difference], names: Sequence[str], mixed: Sequence[str], wish: Wish) -> str:
     """The heading of a comparison."""
     by = text.by_methods([it.difference.method for it in found])
-    words = '%s against %s%s%s: %s less %s, %s' % (
-        wish.measure, wish.against, text.selected(wish), text.of_mixed(mixed), names[1], names[0],
+    words = '%s%s%s%s: %s less %s, %s' % (
+        wish.measure, text.of_axis(wish), text.selected(wish), text.of_mixed(mixed), names[1], names[0],
         'run by run, and averaged by net' if wish.nets else 'run by run')
     return words + (', with intervals of %g %% %s' % (wish.confidence, by) if by else '')
 
@@ -155,7 +154,7 @@ def compare(sides: Sides, wish: Wish, source: Source) -> bool:
     made = text.rows_of_differences(found, wish, *sides.names)
     good = [row for row in sides.one if not row['fault']]
     dependent = [] if wish.nets else text.of_dependent(
-        shared_nets(good, [wish.against, *filter(None, [wish.by])], wish.measure), crossed_rows(good, mixed, wish))
+        shared_nets(good, [it for it in (wish.against, wish.by) if it], wish.measure), crossed_rows(good, mixed, wish))
     warnings = warnings_of(runs, [*separated_by(wish), *wish.over.split(',')], False, [wish.measure])
     more = [*note_of_compared(sides), *note_of_measures(sides), *dependent,
             *text.of_intervals([it.difference for it in found], draws=wish.draws), *warnings]

@@ -32,6 +32,8 @@ PLOT = {'file': needed(str), 'measure': needed(str), 'against': optional(str, ''
 NOT_UPWARDS = ('cdf', 'heat')
 # Options that have no effect in a comparison run by run, and are refused; it shows means.
 NOT_IN_PAIRS = ('show', 'threshold', 'log_y')
+# Options that need a parameter or a measure on the horizontal axis, except in a `cdf`.
+NEED_AGAINST = ('threshold', 'log')
 # The options that only a picture needs; and those of them whose value may be empty.
 OF_PICTURE = ('title', 'footer', 'x', 'y', 'label', 'size', 'y_limits')
 MAY_BE_EMPTY = ('title', 'footer')
@@ -107,6 +109,12 @@ class _Plot(NamedTuple):
                              '`log_y` for medians, means and points', False)
         if values['log'] and shown == 'heat':
             raise self.fault('log', 'A plot with this `show` has no axis with a scale.', 'a plot without `log`', False)
+        for key in NEED_AGAINST if not values['against'] and shown != 'cdf' else ():
+            if values[key] not in (False, None):
+                raise self.fault(key, 'This key needs an axis with values.', '`against` as well', False)
+        if shown == 'heat' and not values['against']:
+            raise self.tables.fault(self.path, 'A plot with this `show` needs the key `against`: the parameter of the '
+                                               'horizontal axis.', '`against`: a text', False)
         if values['against'] and shown == 'cdf':
             raise self.fault('against', 'A plot with this `show` has the measure on its horizontal axis.',
                              '`by` for several curves', False)
@@ -149,9 +157,6 @@ class _Plot(NamedTuple):
                    'confidence': CONFIDENCE if confidence is None else confidence}
         wish = Wish(**values)
         self.check_texts(wish)
-        if not wish.against and wish.show != 'cdf':
-            raise self.tables.fault(self.path, 'A plot needs the key `against`, but it is missing.',
-                                    '`against`: a text', False)
         return wish
 
     def check_texts(self, wish: Wish) -> None:
@@ -195,9 +200,10 @@ def text_of_option(value: object) -> str:
 def _refusals(asked: argparse.Namespace) -> Iterator[tuple[bool, str]]:
     """The reasons for which the options of a command line are refused, each with whether it applies."""
     is_paired, is_other = bool(asked.pair or asked.compare), asked.show not in (None, 'mean')
-    yield not asked.measure, 'no measure is named: add --measure NAME --against NAME, or --plan PLAN'
-    yield (not asked.against and asked.show != 'cdf', 'nothing is named for the horizontal axis: add --against NAME, '
-                                                      'with a parameter or a measure; only --show cdf needs none')
+    yield not asked.measure, 'no measure is named: add --measure NAME, or --plan PLAN'
+    for name in NEED_AGAINST if not asked.against and asked.show != 'cdf' else ():
+        yield (bool(getattr(asked, name)), '--%s needs values on the horizontal axis: add --against NAME, or leave it '
+                                           'out' % name)
     yield (bool(asked.against and asked.show == 'cdf'), '--show cdf has the measure on its horizontal axis: leave out '
                                                         '--against; --by NAME draws a curve for each value')
     yield (bool(asked.output and Path(asked.output).suffix not in FORMATS),
@@ -216,6 +222,8 @@ def _refusals(asked: argparse.Namespace) -> Iterator[tuple[bool, str]]:
            '--log is for an axis with a scale, which --show heat doesn\'t have: leave it out')
     yield bool(asked.pair and asked.compare), '--pair and --compare are two comparisons: leave out one'
     yield asked.show == 'heat' and not asked.by, '--show heat needs --by: the parameter of the vertical axis'
+    yield asked.show == 'heat' and not asked.against, ('--show heat needs --against: the parameter of the horizontal '
+                                                       'axis')
     yield (asked.draws is not None and not LEAST_DRAWS <= asked.draws <= MOST_DRAWS,
            '--draws is %d to %d' % (LEAST_DRAWS, MOST_DRAWS))
 
