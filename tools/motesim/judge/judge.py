@@ -14,6 +14,7 @@ from operator import and_
 from typing import NamedTuple
 
 from motesim.judge import relations
+from motesim.judge.hearing import hearing
 from motesim.judge.numbers import TOGETHER, either, has, has_lines, motes_do, there_are, verb
 from motesim.judge.sentences import (
     Copies, Count, Deed, Does, Hears, Lines, MediumLine, Motes, Packets, Pattern, Refused, Sentence, Value, Window,
@@ -230,21 +231,21 @@ class Judge:
             return Broken('%s %d of these %d values' % (verb(self.name(motes), 'print'), len(events), len(values)))
         return None
 
-    def in_any_order(self, deed: Deed, events: list[Event], motes: tuple[int, ...]) -> Broken | None:
-        """Checks that the values of all lines are those of a list, in any order."""
+    def in_any_order(self, deed: Deed, events: list[Event], motes: tuple[int, ...], span: Span) -> Broken | None:
+        """Checks that the values of all lines in a span are those of a list, in any order."""
         left = list(deed.values)
         for event in events:
             if event.line.value not in left:
                 return Broken('%s a value that is not left in the list' % verb(self.name(motes), 'print'), event.row)
             left.remove(event.line.value)
         never = verb(self.name(motes), 'print', 'never ')
-        return Broken('%s %s' % (never, ', '.join(map(str, left)))) if left else None
+        return Broken('%s %s%s' % (never, ', '.join(map(str, left)), span_in_words(span))) if left else None
 
-    def last(self, deed: Deed, events: list[Event], motes: tuple[int, ...]) -> Broken | None:
-        """Checks the value of the last line."""
+    def last(self, deed: Deed, events: list[Event], motes: tuple[int, ...], span: Span) -> Broken | None:
+        """Checks the value of the last line in a span."""
         allowed = self.values(deed.value, motes[0]) if deed.value else set()
         if not events:
-            return Broken('%s no such line' % has(self.name(motes)))
+            return Broken('%s no such line%s' % (has(self.name(motes)), span_in_words(span)))
         if events[-1].line.value in allowed:
             return None
         return Broken('the last such line of %s; wanted: %s' % (self.name(motes), either(allowed)), events[-1].row)
@@ -309,11 +310,11 @@ class Judge:
             elif it.relation:
                 broken = self.related(it, inside, others, name, span)
             elif it.deed.way == 'finally':
-                broken = self.last(it.deed, inside, motes)
+                broken = self.last(it.deed, inside, motes, span)
             elif it.deed.way == 'just':
                 broken = self.ordered(it.deed, inside, motes)
             elif it.deed.way == 'set':
-                broken = self.in_any_order(it.deed, inside, motes)
+                broken = self.in_any_order(it.deed, inside, motes, span)
             else:
                 broken = self.counted(events, it.count, motes, span)
             if broken:
@@ -515,7 +516,7 @@ class Judge:
                 return None
             return Broken('the medium has no such line', self.report.medium_row)
         if isinstance(it, Hears):
-            wrong = [mote for mote in sorted(it.motes) if self.hears(mote, it.other) != it.can]
-            return Broken('in the scenario mote %d %s' % (wrong[0], 'cannot' if it.can else 'can')) if wrong else None
+            wrong = next((mote for mote in sorted(it.motes) if self.hears(mote, it.other) != it.can), None)
+            return None if wrong is None else Broken(hearing(self.scenario, wrong, it.other))
         assert isinstance(it, Refused)
         return Broken('the program writes a report')

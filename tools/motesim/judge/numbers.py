@@ -28,9 +28,14 @@ def has_lines(name: str, number: int) -> str:
     return '%s %d such %s' % (has(name), number, 'line' if number == 1 else 'lines')
 
 
+def in_list(motes: Sequence[int]) -> str:
+    """The numbers of motes, of which the first few are shown."""
+    return ', '.join(map(str, motes[:MOST_MOTES])) + ', ..' * (len(motes) > MOST_MOTES)
+
+
 def motes_do(motes: Sequence[int], one: str) -> str:
     """Motes by their numbers, with a verb, such as `motes 1, 4 do`; `one` is the verb of one mote."""
-    shown = ', '.join(map(str, motes[:MOST_MOTES])) + ', ..' * (len(motes) > MOST_MOTES)
+    shown = in_list(motes)
     return 'mote %s %s' % (shown, one) if len(motes) == 1 else 'motes %s %s' % (shown, one.replace('does', 'do'))
 
 

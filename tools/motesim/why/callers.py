@@ -41,6 +41,8 @@ class Callers:
         """`known` is a process whose start is explained already."""
         self.program, self.end, self.known = program, end, known
         self.of: dict[int, list[Reached]] = {}
+        # (the statements that are reached again after `end`: about these, `never` is only true up to `end`)
+        self.later = {it.statement for it in replay.reached if it.at > end}
         for it in replay.reached:
             if it.at <= end:
                 self.of.setdefault(it.statement, []).append(it)
@@ -54,6 +56,10 @@ class Callers:
     def reached(self, number: int) -> list[Reached]:
         return [it for it in self.of.get(number, []) if it.holds is None]
 
+    def until(self, numbers: Iterable[int]) -> str:
+        """The last moment that counts, in words, if one of these statements is reached after it."""
+        return '' if self.later.isdisjoint(numbers) else ' up to %d' % self.end
+
     def reason(self, number: int, depth: int = 0) -> str:
         """The reason for which a statement was not reached, as `, because ..`, or an empty text."""
         it = self.program.statement(number)
@@ -64,8 +70,8 @@ class Callers:
             for around, its in tests.items():
                 if its and is_it(one.holds == around.is_else for one in its):
                     words = way % ('false' if around.is_else else 'true', its[-1].at)
-                    return ', because %s was tested %s, and %s' % (
-                        in_words(self.program, around.number), times(len(its)), words)
+                    return ', because %s was tested %s%s, and %s' % (
+                        in_words(self.program, around.number), times(len(its)), self.until([around.number]), words)
         return self.of_unit(it, depth) if depth < DEEPEST else ''
 
     def of_unit(self, it: Statement, depth: int) -> str:
@@ -74,20 +80,22 @@ class Callers:
         if any(self.program.statement(number).inside == it.inside for number in self.of):
             return ''
         process = self.program.processes[it.process]
+        until = self.until(number for number, one in enumerate(self.program.statements, 1) if one.inside == it.inside)
         if kind == 'thread':
             thread = name.partition('_')[2]
-            return ', because nothing ran its thread %s%s' % (thread, self.sentence(
+            return ', because nothing ran its thread %s%s%s' % (thread, until, self.sentence(
                 self.numbered(('spawn', 'restart'), thread, it.process), depth))
         if kind == 'callback':
             timer = self.program.timers[int(name)].name
-            return ', because its timer %s was never due%s' % (timer, self.sentence(
+            return ', because its timer %s was never due%s%s' % (timer, until, self.sentence(
                 self.numbered(SETS, timer, it.process), depth))
         if kind == 'onpoll':
-            return ', because nothing polled %s%s' % (process.name, self.sentence(
+            return ', because nothing polled %s%s%s' % (process.name, until, self.sentence(
                 self.numbered(('poll',), process.name), depth))
         if kind == 'body' and it.process not in self.program.autostart:
             is_known = not depth and process.name == self.known
-            return ', because %s never started%s' % (process.name, '' if is_known else self.starts(process.name, depth))
+            return ', because %s never started%s%s' % (
+                process.name, until, '' if is_known else self.starts(process.name, depth))
         return ''
 
     def starts(self, name: str, depth: int = 0) -> str:
@@ -158,10 +166,13 @@ class Callers:
             here = self.reached(number)
             it = self.program.statement(number)
             words = '%s, which %s, was ' % (in_words(self.program, number), DOES.get(it.kind, 'calls it'))
-            if here:
+            if here and number in self.later:
+                words += 'reached at %d, and not again up to %d' % (here[-1].at, self.end)
+            elif here:
                 words += 'last reached at %d%s' % (here[-1].at, self.reason(number, depth + 1))
             else:
-                words += 'never reached%s' % (self.reason(number, depth + 1) or self.waiting(it.process))
+                words += 'never reached%s%s' % (
+                    self.until([number]), self.reason(number, depth + 1) or self.waiting(it.process))
             # (several of these statements may have the same reasons)
             found += words.split('; ')
         return ''.join('; ' + words for words in dict.fromkeys(found))

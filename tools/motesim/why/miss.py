@@ -9,8 +9,10 @@ from __future__ import annotations
 from collections.abc import Iterator
 from typing import Any, NamedTuple
 
+from motesim.judge.hearing import unheard
 from motesim.judge.judge import Judge, Span, span_in_words
-from motesim.judge.sentences import Does, Value
+from motesim.judge.numbers import either, in_list
+from motesim.judge.sentences import Does, Pattern, Value
 from motesim.report import Report
 from motesim.why.callers import Callers, times
 from motesim.why.chain import count, in_words, used_up
@@ -23,6 +25,7 @@ from motesim.why.question import ENDLESS, Asker, Missing
 from motesim.why.replay import Reached, Replay
 from motesim.why.source import At, Found, Source
 from motesim.why.translate import Around, Program
+from motesim.why.unsent import unsent
 
 MOST_COPIES, MOST_OTHERS = 8, 3
 # The fates of a copy that a mote received, but that no process took.
@@ -47,6 +50,14 @@ def last_of(span: Span, source: Source) -> int:
     return source.scenario.end if span[1] is None else min(span[1], source.scenario.end)
 
 
+def sender_of(pattern: Pattern) -> int | None:
+    """The mote from which a line must receive; None if any mote will do."""
+    it = pattern[1] if pattern[0] == 'recv' and len(pattern) > 1 else None
+    if isinstance(it, Value):
+        return it.number
+    return int(it) if it is not None and it.isdecimal() else None
+
+
 class _Misses:
     """Looks for near misses at one mote."""
 
@@ -55,6 +66,7 @@ class _Misses:
         self.sentence: Does = missing.sentence
         self.pattern = missing.sentence.deed.patterns[0]
         self.kind = str(self.pattern[0])
+        self.sender = sender_of(self.pattern)
         self.begin, self.end = missing.span[0], last_of(missing.span, asker.source)
         self.lines = self.source.traces.lines(mote)
         self.replay: Replay | None = None
@@ -65,14 +77,17 @@ class _Misses:
         """All misses, the nearest first."""
         moved = list(self.outside())
         yield from moved
+        yield from self.of_sender()
         yield from self.other_process()
         yield from self.past_the_end()
-        if not moved:
-            yield from self.other_values()
+        others = [] if moved else list(self.other_values())
+        # (a copy that the mote lacks explains more than those that it has)
+        yield from others if self.kind != 'recv' else ()
         yield from self.halted()
         yield from self.refused()
         packets = [*self.kept(), *self.copies(), *self.consumed()]
         yield from (it for it in packets if not it.is_rest)
+        yield from others if self.kind == 'recv' else ()
         yield from self.timers()
         yield from (it for it in packets if it.is_rest)
         yield from self.process()
@@ -103,23 +118,41 @@ class _Misses:
 
     def other_values(self) -> Iterator[Miss]:
         """Lines of the same kind with another value."""
-        if self.kind not in ('print', 'send', 'recv') or not any(isinstance(it, Value) for it in self.pattern):
+        is_of_value = self.sender is not None or any(isinstance(it, Value) for it in self.pattern)
+        if self.kind not in ('print', 'send', 'recv') or not is_of_value:
             return
         process = self.pattern[1] if self.kind == 'print' and len(self.pattern) > 1 else None
         head = 'print %s ' % process if process else self.kind + ' '
         rows = [(place, line.split(' ')) for place, line in enumerate(self.lines)
                 if line.partition(' ')[2].startswith(head)]
-        if self.kind == 'recv' and isinstance(self.pattern[1], Value):
-            rows = [it for it in rows if it[1][2] == str(self.pattern[1].number)]
         verb = {'print': 'prints', 'send': 'sends', 'recv': 'receives'}[self.kind]
         if not rows:
             yield Miss('none', 'it never %s anything%s' % (verb, ' by %s' % process if process else ''))
             return
+        whose = ''
+        if self.sender is not None:
+            own = [it for it in rows if it[1][2] == str(self.sender)]
+            others = sorted({int(words[2]) for _, words in rows})
+            whose = ' from mote %d' % self.sender if own else ' from other motes (%s)' % in_list(others)
+            rows = own or rows
         near = sorted(rows, key=lambda it: abs(int(it[1][0]) - self.end))[:MOST_OTHERS]
         shown = ', '.join('%s at %s' % (words[-1], words[0]) for _, words in sorted(near))
-        yield Miss('value', 'it %s %s: %s%s' % (
-            verb, count(len(rows), 'value'), self.which(len(rows)), shown),
+        yield Miss('value', 'it %s %s%s: %s%s' % (
+            verb, count(len(rows), 'value'), whose, self.which(len(rows)), shown),
             self.source.traces.row(At(self.mote, near[0][0])))
+
+    def of_sender(self) -> Iterator[Miss]:
+        """The reason why no packet of the sender that the sentence names can arrive: it can't be heard, or it didn't
+        send."""
+        if self.sender is None or self.sender >= self.source.traces.motes:
+            return
+        why = unheard(self.source.scenario, self.mote, self.sender)
+        if why:
+            yield Miss('unheard', 'it cannot hear mote %d: %s' % (self.sender, why), is_wanted=True)
+            return
+        words, row = unsent(self.source.traces, self.sender, self.values(), self.end)
+        if words:
+            yield Miss('unsent', words, row)
 
     def other_process(self) -> Iterator[Miss]:
         """The wanted values, printed by another process, if this process never prints."""
@@ -168,8 +201,10 @@ class _Misses:
     # Packets
 
     def sent_to(self) -> Iterator[tuple[int, list[str]]]:
-        """The packets with a copy for this mote, with their lines of the report."""
-        for row, text in self.source.traces.packets(rb'\d+ \d+ \d+ .*\b%d@.*' % self.mote):
+        """The packets with a copy for this mote, with their lines of the report: those of the sender that the sentence
+        names, or of all senders."""
+        sender = rb'\d+' if self.sender is None else b'%d' % self.sender
+        for row, text in self.source.traces.packets(rb'%s \d+ \d+ .*\b%d@.*' % (sender, self.mote)):
             words = text.split(' ')
             if any(it.startswith('%d@' % self.mote) for it in words[4:]):
                 yield row, words
@@ -185,13 +220,17 @@ class _Misses:
         """Copies that this mote didn't get, up to the last moment: the last few copies with a wanted value, and the
         number of the others."""
         values = self.values()
+        is_any = self.sender is not None and not values
         lost: dict[bool, list[tuple[int, list[str], Fate]]] = {True: [], False: []}
+        if self.sender is not None and not self.source.scenario.is_open(self.sender, self.mote):
+            # (another near miss says that the medium loses all of these copies)
+            return
         for row, words in self.sent_to():
             if int(words[0]) > self.end:
                 break
             fate = fate_of(self.source, row, words, self.mote)
-            if fate.is_loss:
-                lost[int(words[3]) in values].append((row, words, fate))
+            if fate.is_loss and not self.is_received(words):
+                lost[int(words[3]) in values or is_any].append((row, words, fate))
         for row, words, fate in lost[True][-MOST_COPIES:]:
             yield Miss(fate.how, 'packet %s of mote %s, with the value %s, was sent at %s: %s' % (
                 words[2], words[1], words[3], words[0], fate.words), fate.row or row, True)
@@ -199,9 +238,16 @@ class _Misses:
             row, words, fate = lost[False][-1]
             is_of_packets = self.kind == 'recv' or lost[True]
             others = ' with other values' if values and is_of_packets else ''
-            yield Miss(fate.how, '%s%s did not reach a process here; the last, packet %s of mote %s, '
-                       'was sent at %s: %s' % (count(len(lost[False]), 'copy', 'copies'), others, words[2], words[1],
-                                               words[0], fate.words), fate.row or row, is_rest=True)
+            came = 'arrive' if self.kind == 'recv' else 'reach a process'
+            yield Miss(fate.how, '%s%s did not %s here; the last, packet %s of mote %s, was sent at %s: %s' % (
+                count(len(lost[False]), 'copy', 'copies'), others, came, words[2], words[1], words[0], fate.words),
+                       fate.row or row, is_rest=True)
+
+    def is_received(self, words: list[str]) -> bool:
+        """Returns whether the sentence wants a line `recv`, and a packet has one here: even if no process took it, it
+        arrived."""
+        place = self.source.traces.arrivals(self.mote).get((int(words[1]), int(words[2])))
+        return self.kind == 'recv' and place is not None and ' recv ' in self.lines[place]
 
     def taken(self) -> list[tuple[Consumed, tuple[Around, ...]]]:
         """Packets that a process took without writing the line, each with the conditions that kept it from the line.
@@ -281,16 +327,21 @@ class _Misses:
 
     def silent(self) -> Iterator[Miss]:
         """Neighbours from which nothing arrived, because they sent nothing."""
-        if self.kind not in ('recv', 'print', 'send'):
+        if self.kind not in ('recv', 'print', 'send') or self.sender is not None:
             return
-        near = self.source.scenario.hearers(self.mote)
+        scenario, traces = self.source.scenario, self.source.traces
+        near = [it for it in scenario.hearers(self.mote) if scenario.is_open(it, self.mote)]
         if not near:
-            yield Miss('alone', 'it hears nobody: no mote is in its range')
+            yield Miss('alone', 'it hears nobody: %s' % (
+                'the medium loses all packets to it' if scenario.hearers(self.mote) else 'no mote is in its range'))
             return
-        quiet = [it for it in near if not self.source.traces.matching(it, rb'send .*')]
+        quiet = [it for it in near if not traces.matching(it, rb'send .*')]
         if quiet:
             yield Miss('silent', 'of the %s that it hears, these never send: %s' % (
                 count(len(near), 'mote'), ', '.join(map(str, quiet[:20])) + (', ..' if len(quiet) > 20 else '')))
+        values = self.values() if self.kind == 'recv' and len(quiet) < len(near) else set()
+        if values and all(unsent(traces, it, values, scenario.end)[0] for it in near):
+            yield Miss('unsent', 'no mote that it hears (%s) ever sends %s' % (in_list(near), either(values)))
 
     # The program
 
@@ -320,14 +371,19 @@ class _Misses:
         """A process that wasn't on the process list."""
         if self.kind not in ('print', 'take') or len(self.pattern) < 2:
             return
-        name, there, row, at = self.pattern[1], False, 0, 0
+        name, there, row, at, later = self.pattern[1], False, 0, 0, 0
         for place, line in enumerate(self.lines):
             words = line.split(' ')
-            if int(words[0]) > self.end:
+            is_about = words[1] in ('start', 'leave') and words[2] == name
+            if is_about and int(words[0]) > self.end:
+                later = place
                 break
-            if words[1] in ('start', 'leave') and words[2] == name:
+            if is_about:
                 there, row, at = words[1] == 'start', self.source.traces.row(At(self.mote, place)), int(words[0])
-        if not there and not row:
+        if later and not there:
+            yield Miss('process', 'its process %s was not there up to %d: it started at %s' % (
+                name, self.end, self.lines[later].partition(' ')[0]), self.source.traces.row(At(self.mote, later)))
+        elif not there and not row:
             program = self.program()
             is_known = any(it.name == name for it in program.processes)
             starts = self.callers(program).starts(str(name)) if is_known else ''

@@ -11,7 +11,8 @@ from collections.abc import Iterable, Sequence
 from dataclasses import dataclass, replace
 
 from motesim.faults import Fault
-from motesim.judge.judge import Apart, Judge, Span, periods
+from motesim.judge.hearing import hearing
+from motesim.judge.judge import Apart, Judge, Span, periods, span_in_words
 from motesim.judge.numbers import either, has, has_lines, there_are, verb
 from motesim.report import FIELDS, Report
 from motesim.judge.sentences import (
@@ -195,8 +196,14 @@ class Asker:
         if isinstance(it, Packets):
             return self.counted(self.packets(), it)
         if isinstance(it, Hears):
-            raise Unasked('who hears whom follows from the scenario: the range, the places and the losses')
+            return self.of_hearing(it)
         raise Unasked('this sentence is about no line of a trace')
+
+    def of_hearing(self, it: Hears) -> Lineless:
+        """The answer to a sentence about who hears whom, for the first mote that breaks it, or for all of them."""
+        scenario, motes = self.source.scenario, sorted(it.motes)
+        wrong = [mote for mote in motes if scenario.is_open(it.other, mote) != it.can]
+        return Lineless(not wrong, '; '.join(hearing(scenario, mote, it.other) for mote in wrong[:1] or motes))
 
     def lacking(self, it: Sentence) -> list[Does]:
         """For each mote that lacks the line of a sentence about several motes: the same sentence about this mote only.
@@ -417,7 +424,8 @@ class Asker:
                                                          ', and the list is over'))
             del left[place]
         if left:
-            never = verb(name, 'print', 'never ')
-            return Missing(it, motes, span, tuple(inside), '%s %s' % (never, ', '.join(map(either, left)))
-                           if it.deed.way == 'set' else '%s %s, the next of the list' % (never, either(left[0])))
+            when = span_in_words(span)
+            lacks = '%s%s' % (', '.join(map(either, left)), when) if it.deed.way == 'set' else (
+                '%s%s, the next of the list' % (either(left[0]), when))
+            return Missing(it, motes, span, tuple(inside), '%s %s' % (verb(name, 'print', 'never '), lacks))
         return Asked(inside[-1].where, True)
