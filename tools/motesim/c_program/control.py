@@ -249,6 +249,8 @@ class Control(Radio):
     def of_for(self, it: Statement) -> Flow:
         for first in it.others:
             self.one(first)
+        if it.expressions[0] is None:
+            self.check_busy(it, None)
         return self.loop(it, it.expressions[0], it.expressions[1])
 
     def of_do(self, it: Statement) -> Flow:
@@ -256,9 +258,9 @@ class Control(Radio):
         assert test is not None
         if constant_of(test) == 0:
             return self.once(it)
+        self.check_busy(it, test)
         if constant_of(test) is not None:
             return self.loop(it, None, None)
-        self.check_busy(it, test)
         return self.loop(it, None, None, test)
 
     def once(self, it: Statement) -> Flow:
@@ -314,13 +316,17 @@ class Control(Radio):
 
     def check_busy(self, it: Statement, test: Expression | None) -> None:
         """Refuses a loop that only waits for a time: no time passes in it here."""
-        asked = {one.text for one in parts_of(test) if one.kind == 'call'} if test else set()
-        if not test or asked.isdisjoint(TIMES) or has_jump(it.body, 'break') or has_jump(it.body, 'return'):
+        is_endless = test is None or constant_of(test) not in (0, None)
+        if not is_endless and (has_jump(it.body, 'break') or has_jump(it.body, 'return')):
             return
-        calls = {one.text for one in all_parts(it.body) if one.kind == 'call'}
-        changed = {*assigned_in(it.body)} & {one.variable for one in parts_of(test) if one.variable}
-        is_plain = not any(one.kind in ('assign', 'postfix') or one.text in ('++', '--') for one in parts_of(test))
-        if asked <= TIMES and calls <= HARMLESS and not changed and is_plain:
+        tests = exits_of(it.body) if is_endless else [test]
+        parts = [one for each in tests if each for one in parts_of(each)]
+        are_of_time = all(each and any(one.text in TIMES for one in parts_of(each)) for each in tests)
+        calls = {one.text for one in (*parts, *all_parts(it.body)) if one.kind == 'call'}
+        changed = {*assigned_in(it.body)} & {one.variable for one in parts if one.variable
+                                             and one.variable.type.kind not in ('timer', 'stimer')}
+        is_plain = not any(one.kind in ('assign', 'postfix') or one.text in ('++', '--') for one in parts)
+        if tests and are_of_time and calls <= HARMLESS and not changed and is_plain:
             raise self.refuse(it.line, BUSY)
 
     def tested(self, test: Expression | None) -> tuple[Block, Value]:
@@ -506,3 +512,9 @@ def nested(it: Statement) -> list[Statement]:
 def is_one(it: Value) -> Value:
     """A test that is always true is written as 1."""
     return number(1) if it.constant not in (0, None) else it
+
+
+def exits_of(statements: Sequence[Statement]) -> list[Expression | None]:
+    """The tests of the `if` statements that leave the loop around them."""
+    return [it.expressions[0] for it in statements if it.kind == 'if' and any(
+        has_jump((*it.body, *it.others), kind) for kind in ('break', 'return'))]

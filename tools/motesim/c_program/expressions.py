@@ -22,6 +22,8 @@ NO_SIGNED_DIVISION = ('`%s` of a value that may be below 0 isn\'t translated her
                       'use an `if`.')
 NO_LONG = ('Values have 16 bits here, so `%s` with %d isn\'t translated: use smaller units, or a value without the '
            'lower bits.')
+OF_SIGN = ('One side of this `%s` may be below 0, and the other side, %d, is above 32,767, which 16 bits with a sign '
+           'can\'t hold: compare with a smaller number, or calculate with `uint16_t`.')
 OF_NUMBER = ('`%s` is an address, but a number is expected here: write the name of a variable without `&`, or a member '
              'of an array such as `a[0]`.')
 OF_FUNCTION = '`%s` is a function, but a number is expected here: call it, `%s(..)`.'
@@ -205,8 +207,8 @@ class Expressions(Events):
         left, right = self.two(it.parts[0], it.parts[1])
         if it.text in COMPARES:
             for one, other in ((it.parts[0], right), (it.parts[1], left)):
-                if one.kind == 'number' and one.number > 32_767 and other.is_negative:
-                    self.remark(it.line, OF_LONG)
+                if one.kind == 'number' and 32_767 < one.number <= MOST and other.is_negative and self.is_long(one):
+                    self.program.refusals.append(self.refuse(it.line, OF_SIGN % (it.text, one.number)))
             self.note_size(it.text, left, right, self.is_long(it), it.line)
             return compared(it.text, left, right)
         self.note_size(it.text, left, right, self.is_long(it), it.line)

@@ -1,0 +1,36 @@
+"""Comparisons and loops of programs in C that would do something else here are refused."""
+import unittest
+
+from translated_c import in_process, translation
+
+TIMER = '  static struct timer t; static int n; static uint16_t u;'
+
+
+class Comparisons(unittest.TestCase):
+    def check(self, body: str, wanted: str) -> None:
+        text, notes = translation(in_process('  ' + body, '', TIMER))
+        with self.subTest(body):
+            self.assertEqual(text is None, bool(wanted), notes)
+            self.assertIn(wanted, notes)
+
+    def test_a_value_below_0_is_not_compared_with_a_number_that_16_bits_cannot_hold(self) -> None:
+        for body, wanted in (('n = -5; if(n < 40000) { printf("%d", 1); }', 'is above 32,767'),
+                             ('n = -5; if(40000 == n) { printf("%d", 1); }', 'is above 32,767'),
+                             ('n = -5; if(n < 40000U) { printf("%d", 1); }', ''),
+                             ('n = 5; if(n < 40000) { printf("%d", 1); }', ''),
+                             ('u = 5; if(u < 40000) { printf("%d", 1); }', '')):
+            self.check(body, wanted)
+
+    def test_a_loop_that_only_a_time_ends_is_refused(self) -> None:
+        for body, is_refused in (('while(1) { if(timer_expired(&t)) break; }', True),
+                                 ('while(1) { u++; if(clock_time() > 50) { printf("%d", 1); break; } }', True),
+                                 ('for(;;) { if(timer_expired(&t)) { break; } }', True),
+                                 ('do { if(timer_expired(&t)) break; } while(1);', True),
+                                 ('while(1) { u++; if(timer_expired(&t) || u > 9) break; }', False),
+                                 ('while(1) { if(timer_expired(&t)) break; PROCESS_PAUSE(); }', False),
+                                 ('while(1) { if(timer_expired(&t)) break; if(n < 3) break; }', False)):
+            self.check(body, 'No time passes here' * is_refused)
+
+
+if __name__ == '__main__':
+    unittest.main()
