@@ -70,8 +70,11 @@ class Repeated(Bed):
         self.sweep(*self.words)
         self.change(self.folder / 'net.csv', 'program', '1.2 unproved')
         self.change(self.folder / 'net.csv', 'kit', '0.1')
-        self.assertEqual(self.check(), (0, SAME % 'net.csv' + (
-            'another build of motesim made the rows of net.csv: other values in program, kit\n'), ''))
+        line = '%s of motesim made the rows of net.csv: other values in program, %s\n'
+        self.assertEqual(self.check(), (0, SAME % 'net.csv' + line % (
+            'the same build (equal program_sha256)', 'kit'), ''))
+        self.change(self.folder / 'net.csv', 'program_sha256', '0123456789abcdef')
+        self.assertEqual(self.check(), (0, SAME % 'net.csv' + line % ('another build', 'program_sha256, kit'), ''))
 
     def test_a_note_about_other_rows_is_not_a_difference(self) -> None:
         (self.folder / 'a.mote').write_text(MOTE.replace('print', 'print 1; print ((self * 257) + ${period}); print'))

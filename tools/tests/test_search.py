@@ -522,6 +522,8 @@ class Searches(unittest.TestCase):
             status, _, seen = search(folder, '--at-most', '0')
             self.assertEqual(status, 2)
             self.assertIn('with at most 0 faults nothing is tried', seen)
+            self.assertIn('there is no file mote 3 prints data: if this is a sentence, write --expect before it',
+                          search(folder, 'mote 3 prints data')[2])
             self.assertIn(search(folder, '--at-most', '0', '--random', '2')[0], (0, 1))
 
     def test_minimal_sets_worked_out_by_hand(self) -> None:

@@ -668,6 +668,15 @@ class Shown(unittest.TestCase):
         self.assertAlmostEqual((across.high or 0) - 12, 4.303 / math.sqrt(3), delta=0.001)
         self.assertEqual(found.over, ['seed'])
 
+    def test_the_interval_on_each_axis_has_a_column(self) -> None:
+        # (the runs of a point differ in `sent`, and are equal in `ratio`)
+        rows = [row(period, seed, 10 * period + seed) for period in (1, 2) for seed in (1, 2, 3)]
+        for wish, of_ratio, of_sent in ((Wish('sent', 'ratio', show='mean'), 'ratio interval', 'interval'),
+                                        (Wish('ratio', 'sent', show='mean'), 'interval', 'sent interval')):
+            first = rows_of(shown_of(rows, wish), wish)[0]
+            self.assertEqual(first[of_ratio], 'none: equal runs')
+            self.assertIn(first[of_sent], ('t', 't, cut at 0'))
+
 
 HEAD = 'period,density,seed,sent,ratio,fault,parameters\n'
 ONE = '--where', 'density=thin'

@@ -68,7 +68,7 @@ def rows_of(shown: Shown, wish: Wish) -> list[Row]:
             rows.append({**row, 'first quartile': low, 'median': middle, 'third quartile': high})
         else:
             rows.append({**row, 'mean': middle, 'low': low, 'high': high,
-                         'interval': ' and '.join(dict.fromkeys(OF_ROW[it.method] for it in point.estimates))})
+                         'interval': OF_ROW[point.estimate.method]})
     return rows
 
 
@@ -164,6 +164,8 @@ def _of_against(point: Point, wish: Wish) -> Row:
     if point.across:
         ends = ('first quartile', 'third quartile') if wish.show == 'median' else ('low', 'high')
         row.update(zip(('%s %s' % (wish.against, it) for it in ends), (point.across.low, point.across.high)))
+        if wish.show != 'median':
+            row['%s interval' % wish.against] = OF_ROW[point.across.method]
     return row
 
 

@@ -15,7 +15,8 @@ from motesim.experiments.sweep import Sweeper, request_of
 from motesim.faults import INTERRUPTED, Fault
 
 # The columns about the build of motesim with which a row was made.
-BUILD = ('program', 'program_sha256', 'kit')
+DIGEST = 'program_sha256'
+BUILD = ('program', DIGEST, 'kit')
 
 
 class Finished:
@@ -86,7 +87,8 @@ class Compared:
                 ', %d of them with a fault' % self.faults if self.faults else '')]
         build = [it for it in BUILD if it in self.counts]
         if build:
-            lines.append('another build of motesim made the rows of %s: other values in %s' % (path, ', '.join(build)))
+            which = 'another build' if DIGEST in build else 'the same build (equal %s)' % DIGEST
+            lines.append('%s of motesim made the rows of %s: other values in %s' % (which, path, ', '.join(build)))
         if self.finished.repeated():
             count = self.finished.repeated()
             lines.append('%s: %d row%s of the same run as another row' % (path, count, 's are' if count > 1 else ' is'))

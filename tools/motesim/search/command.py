@@ -78,6 +78,8 @@ def sentences_of(words: argparse.Namespace, names: Names) -> tuple[list[str], li
         if not words.expectations and scenario.exists() and not path.exists():
             raise Fault('there is no file %s next to %s: name another, or give sentences with --expect' % (path,
                                                                                                          scenario))
+        if ' ' in str(path) and not path.exists():
+            raise Fault('there is no file %s: if this is a sentence, write --expect before it' % path)
         name, texts = str(path), parts_of(text_of(path), str(path))[0].sentences
     try:
         read = read_all(texts, names)
