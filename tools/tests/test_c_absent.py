@@ -8,7 +8,7 @@ ABOVE = 'static struct ctimer t; static rimeaddr_t a; static int later(void) { r
 # Statements, and words of the advice.
 ADVICE = (
     ('NETSTACK_MAC.off(0);', 'motesim has no `NETSTACK_MAC.off`. The radio of a mote always listens'),
-    ('cc2420_set_txpower(3);', 'there is no MAC layer'), ('x = leds_get();', 'note their state in a variable'),
+    ('cc2420_set_txpower(3);', 'there is no MAC layer'), ('leds_blink();', 'use `leds_on`, `leds_off`'),
     ('clock_delay(10);', 'Let the process wait for an etimer.'), ('watchdog_reboot();', 'A mote doesn\'t start again'),
     ('SENSORS_ACTIVATE(button_sensor);', 'no sensors and no buttons'), ('x = sht11_temp();', 'compute a value'),
     ('if(data == &button_sensor) x = 1;', 'wait for an etimer instead of a button'),
@@ -28,7 +28,9 @@ ADVICE = (
     ('x = sqrt(2);', 'count in a smaller unit'), ('x = (float)x / 2;', 'count in a smaller unit'),
     ('exit(1);', '`PROCESS_EXIT();`'), ('etimer_rest(&et);', 'Do you mean `etimer_reset`?'),
     ('proces_poll(&p);', 'Do you mean `process_poll`?'), ('process_start(&p, &x);', 'process_post(&p, '),
-    ('goto out;', 'use a `while` with a flag'),
+    ('goto out;', 'use a `while` with a flag'), ('sleep(1);', 'Let the process wait for an etimer.'),
+    ('cnt++;', '`cnt` isn\'t declared above this line.'), ('y = 1;', 'isn\'t declared'),
+    ('PROCESS_WAIT_EVENT_UNTIL(ev = PROCESS_EVENT_TIMER);', 'write `ev == ..` for a comparison'),
 )
 # Declarations, and words of the advice.
 DECLARED = (
@@ -97,3 +99,14 @@ class Absent(unittest.TestCase):
             self.assertIn(wanted, text or '')
         body = '  packetbuf_copyfrom(&node_id, 1);'
         self.assertRefused(in_process(body), 9, 'These 1 bytes aren\'t whole variables')
+
+    def test_a_change_of_leds_prints_those_that_are_on(self) -> None:
+        for statements, wanted in (
+                ('leds_on(LEDS_RED); leds_on(LEDS_GREEN);', ['if !(leds / 4) {', 'if !(leds % 2) {', 'print leds;']),
+                ('leds_toggle(LEDS_GREEN);', ['leds = ((leds + 1) - (2 * leds));', 'print leds;']),
+                ('leds_on(LEDS_RED); leds_off(LEDS_ALL);', ['leds = ((leds / 8) * 8);', 'print leds;']),
+                ('leds_set(5); printf("%d", leds_get());', ['leds = 5;', 'print leds;'])):
+            text, notes = translation(in_process('  ' + statements))
+            for line in wanted:
+                self.assertIn('    %s\n' % line, text or notes)
+            self.assertIn('1 for green, 2 for yellow or blue, and 4 for red', notes)

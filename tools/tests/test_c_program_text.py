@@ -197,7 +197,7 @@ FORMS = (
 # Statements that aren't translated, and a part of the reason.
 REFUSALS = (
     ('frobnicate(3);', 'motesim has no `frobnicate`.'), ('goto out;', 'There is no `goto`'),
-    ('x = unknown;', 'motesim has no `unknown`.'), ('runicast_send(&rc, &to, 3);', 'Use `unicast_send`'),
+    ('x = unknown;', '`unknown` isn\'t declared above'), ('runicast_send(&rc, &to, 3);', 'Use `unicast_send`'),
     ('x = PT_SCHEDULE(sub(&pt));', '`PT_SCHEDULE` is translated only'), ('x = 1.5;', 'Numbers are whole'),
     ('switch(n) { case 1: PROCESS_YIELD(); }', 'can\'t wait inside of a `switch`'),
     ('process_start(&p, (void *)3);', 'passes no value'), ('process_exit(&p);', 'ends itself by `PROCESS_EXIT()`'),
@@ -216,7 +216,7 @@ REFUSALS = (
     ('whlie(n) { }', '`whlie` is no statement of C that has a block'), ('case 3: n = 4;', 'A `case` is in the block'),
     ('printf("%d, n);', 'A text has no end in this line: a `"` is missing.'), ("n = 'ab';", 'isn\'t one character'),
     ('n = n & & 3;', 'Behind the sign `&` for an address, there is a variable.'),
-    ('if(ev == sensors_event) n = 1;', 'A mote has no sensors'), ('if(ev == tcpip) n = 1;', 'has no `tcpip`'),
+    ('if(ev == sensors_event) n = 1;', 'A mote has no sensors'), ('if(ev == tcpip) n = 1;', '`tcpip` isn\'t'),
     ('memcpy(&u, bytes, 2);', 'have other sizes'), ('u = *(uint16_t *)bytes;', '`bytes` is read with another type'),
     ('memset(bytes, 0, n);', 'The number of the bytes is a constant'),
     ('memset(a, 0, 3);', 'These 3 bytes aren\'t whole'), ('int *q = &n; n = *q++;', 'or is NULL: use an index'),
@@ -235,7 +235,7 @@ REFUSALS = (
     ('static int k[];', 'An array has at least one member'), ('static int [3];', 'A name is expected here'),
     ('switch(n) { default: n = 1; break; default: n = 2; }', 'only one `default`'),
     ('packetbuf_copyfrom(&n, 0);', '`n` doesn\'t fit'),
-    ('x = latr();', 'motesim has no `latr`. Do you mean `later`?'), ('bt++;', 'motesim has no `bt`.'),
+    ('x = latr();', 'motesim has no `latr`. Do you mean `later`?'), ('bt++;', '`bt` isn\'t declared'),
     ('bytez[0] = 1;', 'Do you mean `bytes`?'), ('frobnicate(x);', 'motesim has no `frobnicate`.'),
     ('sprintf(bytes, "%d", n);', 'a packet is a number: use the number itself'),
     ('void (*g[2])(void) = {later};', 'An array of functions has no counterpart'),

@@ -30,7 +30,7 @@ def translation(source: str, second: int = SECOND) -> tuple[str | None, str]:
         found = translated(source, second)
     except Refusal as refusal:
         return None, 'line %d: %s' % (refusal.line, refusal.reason)
-    return found.text, '\n'.join('line %d: %s' % it for it in found.remarks)
+    return found.text, '\n'.join('line %d: %s' % (it.line, it.text) for it in found.remarks)
 
 
 def body_of(text: str | None) -> list[str]:

@@ -16,6 +16,7 @@ from motesim.c_program.values import Limits, Value, converted, united
 from motesim.c_program.written import Block, Line, Target
 from motesim.from_c.scope import is_misspelt, nearest
 
+NOT_DECLARED = '`%s` isn\'t declared above this line.'
 LIKE = ' Do you mean `%s`?'
 OF_LONG = 'Values have 16 bits here: those of this type above 65,535 wrap.'
 
@@ -33,7 +34,7 @@ class Program:
     event_variables: dict[Variable, str] = field(default_factory=dict)
     semaphores: dict[Variable, str] = field(default_factory=dict)
     counts: dict[Variable, int] = field(default_factory=dict)
-    remarks: dict[str, tuple[int, str]] = field(default_factory=dict)
+    remarks: dict[str, tuple[int, str, bool]] = field(default_factory=dict)
     # The processes that wait for packets instead of ending, each with its function for packets; and for each process
     # the first line that depends on its end.
     endless: dict[str, str] = field(default_factory=dict)
@@ -48,9 +49,9 @@ class Program:
     # The names of C that the notation can't have, with their lines and the names here.
     renamed: dict[str, tuple[int, str]] = field(default_factory=dict)
 
-    def remark(self, line: int, text: str) -> None:
-        """Notes what differs from C, once for each cause."""
-        self.remarks.setdefault(text, (line, text))
+    def remark(self, line: int, text: str, is_mistake: bool = False) -> None:
+        """Notes what differs from C, once for each cause. `is_mistake`: on a node, the program is probably wrong."""
+        self.remarks.setdefault(text, (line, text, is_mistake))
 
     def note_name(self, name: str, found: str, line: int) -> None:
         """Notes that a name of C isn't one of the notation."""
@@ -115,19 +116,23 @@ class Base:
     def refuse(self, line: int, reason: str) -> Refusal:
         return Refusal(line, reason)
 
-    def absent(self, name: str, line: int, names: Iterable[str], calls: Iterable[str] = ()) -> Refusal:
-        """A name that isn't declared, with what to write instead, or with a similar name. `calls`: names of Contiki,
-        of which this name may be one with a mistake."""
-        own = {it.lower(): it for it in names if it and it != name}
-        known = {it.lower(): it for it in calls if is_misspelt(name, it)} or own
-        like = known.get(nearest(name, known) or '')
-        return Refusal(line, absent(name) + (LIKE % like if like and not advice_for(name) else ''))
+    def absent_call(self, name: str, line: int, calls: Iterable[str]) -> Refusal:
+        """A function that the program doesn't have, with what to write instead, or with a similar name. `calls`: names
+        of Contiki, of which this name may be one with a mistake."""
+        names = [it for it in calls if is_misspelt(name, it)] or self.file.functions
+        return Refusal(line, absent(name) + ('' if advice_for(name) else similar(name, names)))
 
     def absent_variable(self, name: str, line: int) -> Refusal:
-        return self.absent(name, line, (it.name for it in (*self.file.variables, *self.use.variables)))
+        """A name that isn't declared, with what to write instead, or with a similar name."""
+        names = [it.name for it in (*self.file.variables, *self.use.variables)]
+        return Refusal(line, absent(name) if advice_for(name) else NOT_DECLARED % name + similar(name, names))
 
     def remark(self, line: int, text: str) -> None:
         self.program.remark(line, text)
+
+    def remark_mistake(self, line: int, text: str) -> None:
+        """Notes a line that works here, but probably not on a node."""
+        self.program.remark(line, text, True)
 
     # Names.
 
@@ -264,6 +269,13 @@ class Base:
                 inner = '(%s || %s)' % (inner, name)
             text = '!' + inner
         return Value(text, INT, 0, 1, frozenset(names), ('!1' if len(names) == 1 else '!', names[0], ''))
+
+
+def similar(name: str, names: Iterable[str]) -> str:
+    """A question that names the most similar one of some names; an empty text if none is similar."""
+    known = {it.lower(): it for it in names if it and it != name}
+    found = known.get(nearest(name, known) or '')
+    return LIKE % found if found else ''
 
 
 def joined_limits(a: dict[str, Limits], b: dict[str, Limits]) -> dict[str, Limits]:

@@ -10,8 +10,8 @@ from motesim.c_program.constants import EVENT_NUMBERS, constant_of
 from motesim.c_program.expressions import COMPARES
 from motesim.c_program.parse_expressions import OF_FUNCTION_POINTER
 from motesim.c_program.places import OF_DATA, TEXTS, Place, Pointer, has_effects
-from motesim.c_program.tree import Expression, Function
-from motesim.c_program.types import INT, UNSIGNED, leaves_of
+from motesim.c_program.tree import Expression, Function, Variable
+from motesim.c_program.types import BYTE, INT, UNSIGNED, leaves_of
 from motesim.c_program.values import MOST, NOTHING, Limits, Value, added, as_type, compared, number
 from motesim.c_program.walk import all_parts, parts_of, shown, without_casts
 from motesim.c_program.written import Block, If, Line
@@ -24,8 +24,11 @@ IGNORED = ('broadcast_open', 'unicast_open', 'abc_open', 'leds_init', 'packetbuf
            'PROCESS_BEGIN', 'PROCESS_END', 'PT_BEGIN', 'PT_END', 'watchdog_start', 'watchdog_stop',
            'watchdog_periodic', 'packetbuf_clear', 'packetbuf_set_datalen')
 TIMER = EVENT_NUMBERS['PROCESS_EVENT_TIMER']
-LEDS = ('leds_on', 'leds_off', 'leds_toggle', 'leds_blink', 'leds_invert')
-OF_LEDS = 'A mote has no LEDs: a `print` shows the moment in the report.'
+# The calls that change LEDs, and the assignments to the number that has a bit for each of them.
+LEDS = {'leds_on': '|=', 'leds_off': '&=', 'leds_toggle': '^=', 'leds_invert': '^=', 'leds_set': '='}
+LIT = Variable('leds', BYTE, 0)
+OF_LEDS = ('A mote has no LEDs: each change prints those that this process has switched on, as a sum of 1 for green, '
+           '2 for yellow or blue, and 4 for red.')
 OF_TEXT = ('There are no texts: each value of a `printf` has a `print`, whose comment has the text. A `printf` without '
            'a value prints the number in its text, or 1. A line of the report shows the process and the number, but '
            'not which `printf` it is from: if this matters, print numbers that differ, such as `1000 + n`.')
@@ -98,8 +101,7 @@ class Calls(Chance):
             self.note_buffer(it)
             return
         if it.text in LEDS:
-            self.remark(it.line, OF_LEDS)
-            self.emit('print %d;' % (it.text != 'leds_off'))
+            self.change_leds(it)
             return
         made: Callable[[Expression], None] | None = getattr(self, 'call_' + it.text, None)
         if made is None:
@@ -108,6 +110,23 @@ class Calls(Chance):
             self._call(it)
             return
         made(it)
+
+    def change_leds(self, it: Expression) -> None:
+        """Changes the LEDs, and prints them."""
+        leds = self.lit(it.line)
+        mask = self.arguments(it, 1)[0]
+        if it.text == 'leds_off':
+            mask = Expression('unary', '~', (mask,), it.line)
+        self.effect(Expression('assign', LEDS[it.text], (leds, mask), it.line))
+        self.emit('print %s;' % self.evaluate(leds).text)
+
+    def value_leds_get(self, it: Expression) -> Value:
+        return self.evaluate(self.lit(it.line))
+
+    def lit(self, line: int) -> Expression:
+        """The LEDs that are switched on."""
+        self.remark(line, OF_LEDS)
+        return Expression('name', LIT.name, line=line, variable=LIT)
 
     def note_buffer(self, it: Expression) -> None:
         """Notes that a call changes the packet buffer."""
@@ -131,7 +150,7 @@ class Calls(Chance):
     def unknown(self, it: Expression) -> Exception:
         if it.variable is not None:
             return self.refuse(it.line, OF_FUNCTION_POINTER)
-        return self.absent(it.text, it.line, self.file.functions, self.calls())
+        return self.absent_call(it.text, it.line, self.calls())
 
     def calls(self) -> list[str]:
         """The calls of Contiki that are translated."""
@@ -295,14 +314,14 @@ class Calls(Chance):
 
     def note_callback_timer(self, name: str, line: int) -> None:
         if self.unit.of_radio:
-            self.remark(line, OF_RADIO_TIMER % (name, self.code.name))
+            self.remark_mistake(line, OF_RADIO_TIMER % (name, self.code.name))
 
     def changed_timer(self, it: Expression, word: str, *kinds: str) -> None:
         name = self.timer(self.arguments(it, 1)[0], *kinds)
         if kinds[0] == 'etimer' and word != 'stop':
             self.note_callback_timer(name, it.line)
         if word == 'reset' and ELAPSED + name not in self.known:
-            self.remark(it.line, OF_RESET % (name, kinds[0]))
+            self.remark_mistake(it.line, OF_RESET % (name, kinds[0]))
         self.emit('%s %s;' % (word, name))
         self.note_running(name)
 
@@ -530,7 +549,7 @@ class Calls(Chance):
         is_long = self.is_printed_long(it)
         if kind in 'diuxXo' and is_long != is_read_long and not (is_long and is_last):
             bits = (32, 16) if is_read_long else (16, 32)
-            self.remark(it.line, OF_BITS % (conversion[0], *bits, '%' + 'l' * is_long + kind))
+            self.remark_mistake(it.line, OF_BITS % (conversion[0], *bits, '%' + 'l' * is_long + kind))
 
     def is_printed_long(self, it: Expression) -> bool:
         """Returns whether a value has 32 bits on a node."""

@@ -43,7 +43,7 @@ class Chance(Expressions):
     def _binary(self, it: Expression) -> Value:
         if it.text in (*COMPARES, '/', '>>') and any(
                 one.kind == 'call' and one.text == 'random_rand' for one in map(without_casts, it.parts)):
-            self.remark(it.line, OF_HALF)
+            self.remark_mistake(it.line, OF_HALF)
         draw = without_casts(it.parts[0])
         bits = self.bits_of(it) if is_draw(draw) else None
         if bits is None:

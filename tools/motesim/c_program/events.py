@@ -1,7 +1,6 @@
 """Tests about the event that a process was called with, and about addresses and processes."""
 from __future__ import annotations
 
-from motesim.c_program.absent import absent
 from motesim.c_program.constants import EVENT_NUMBERS, constant_of
 from motesim.c_program.places import OF_ADDRESS, Places, Pointer
 from motesim.c_program.tree import Expression, Variable
@@ -45,7 +44,7 @@ class Events(Places):
             return self.program.event_variables[it.variable]
         value = constant_of(it)
         if value is None and it.kind == 'name' and it.variable is None:
-            raise self.refuse(it.line, absent(it.text))
+            raise self.absent_variable(it.text, it.line)
         if value is None:
             raise self.refuse(it.line, NO_EVENT)
         if value in KERNEL:

@@ -222,7 +222,7 @@ class Expressions(Events):
         is_certain = sign == '*' and common(left, right).signed and min(left.low, right.low) > 0 and \
             left.low * right.low >= HALF
         if not is_long and (is_compared or is_certain):
-            self.remark(line, OF_OVERFLOW)
+            self.remark_mistake(line, OF_OVERFLOW)
 
     def check_size(self, sign: str, parts: Sequence[Expression], line: int) -> None:
         """Refuses an operation whose result depends on more than the lower 16 bits of its operands."""

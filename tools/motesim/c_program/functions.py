@@ -25,6 +25,7 @@ NO_WAIT = ('Only a process and its protothreads can wait in Contiki: write this 
            'protothread, `PT_THREAD(%s(struct pt *pt))`, that the process runs by `PROCESS_PT_SPAWN(&pt, %s(&pt));`.')
 OF_CALLBACK = ('A callback and a handler can\'t wait in Contiki: let it poll the process, `process_poll(&%s);`, and '
                'let the process wait.')
+OF_COMPARISON = '`%s = ..` would change the event of this call: write `%s == ..` for a comparison.'
 OF_ALLOCATED = ('`%s` gets its event only by `process_alloc_event()` here: name another event at the place that needs '
                 'it.')
 NO_EXIT = 'Only a process and its protothreads can exit so: use `return;` in `%s`.'
@@ -153,6 +154,8 @@ class Functions(Control):
             return self.byte_assigned(it)
         value = it.parts[1]
         if its.kind == 'event':
+            if target.variable and target.variable.is_parameter:
+                raise self.refuse(it.line, OF_COMPARISON % ((target.text,) * 2))
             if value.kind != 'call' or value.text != 'process_alloc_event':
                 raise self.refuse(it.line, OF_ALLOCATED % (target.text or 'this'))
             return True

@@ -143,7 +143,7 @@ class Places(Base):
         elif index.low == index.high:
             return base._replace(type=of, paths=tuple((*path, index.low) for path in base.paths))
         if index.high == size and it.parts[1].kind == 'name':
-            self.remark(it.line, NEXT_INDEX % (array.text, size - 1, it.parts[1].text, size))
+            self.remark_mistake(it.line, NEXT_INDEX % (array.text, size - 1, it.parts[1].text, size))
         # (another call of a function in the same statement changes its result)
         if not index.is_simple or any(part.kind == 'call' for part in parts_of(it.parts[1])):
             index = self.temporary(index, 'at')
@@ -377,7 +377,7 @@ class Places(Base):
         if place.source == 'packet':
             self.need_packet(line)
         if place.source == 'packet' and INTACT not in self.known:
-            self.remark(line, OVERWRITTEN)
+            self.remark_mistake(line, OVERWRITTEN)
         its = place.root
         parts = leaves_of(its)
         path = place.paths[0]

@@ -229,7 +229,7 @@ class ProcessWriter(Functions):
         name = self.timer(self.first(it), *kinds)
         if kinds[0] == 'ctimer' and word != 'stop' and self.unit.name == 'body' and not self.open_loops \
                 and name not in self.callbacks:
-            self.remark(it.line, NOT_SET % name)
+            self.remark_mistake(it.line, NOT_SET % name)
 
     def function_of(self, timer: str) -> str:
         """The variable that says which function a callback timer runs."""

@@ -47,9 +47,10 @@ LIMITS = {7: 'blocks or brackets are nested more than 32 deep.',
 
 
 class Remark(NamedTuple):
-    """A difference from C, with the line in C."""
+    """A difference from C, with the line in C. `is_mistake`: the line works here, but probably not on a node."""
     line: int
     text: str
+    is_mistake: bool = False
 
 
 class Translation(NamedTuple):
@@ -68,7 +69,7 @@ def translated(text: str, second: int = SECOND) -> Translation:
         program, lines = settled(file, second)
         check_ends(program)
         for it in early_posts(file):
-            program.remark(it.line, it.remark())
+            program.remark(it.line, it.remark(), True)
         remark_names(program)
         for line, remark in remarks:
             program.remark(line, remark)

@@ -155,7 +155,7 @@ class Radio(Calls):
 
     def send(self, it: Expression, value: Value) -> None:
         if FILLED not in self.known:
-            self.remark(it.line, KEPT)
+            self.remark_mistake(it.line, KEPT)
         self.check_open(self.first(it))
         self.note_effects([FILLED])
         self.emit('send %s;' % value.text)
@@ -172,7 +172,7 @@ class Radio(Calls):
                   if it.kind == 'call' and it.text.endswith('_open') and it.parts}
         variable = base_of(it)
         if variable is not None and variable.type.kind == 'connection' and variable not in opened:
-            self.remark(it.line, NEVER_OPEN % ((variable.name, variable.type.name) * 2))
+            self.remark_mistake(it.line, NEVER_OPEN % ((variable.name, variable.type.name) * 2))
 
     def call_of_sent(self, it: Expression) -> None:
         raise NotImplementedError

@@ -29,9 +29,10 @@
 #define LEDS_YELLOW 2
 #define LEDS_RED    4
 #define LEDS_ALL    7
-#define leds_on(leds)     student_print("%d", 1)
-#define leds_off(leds)    student_print("%d", 0)
-#define leds_toggle(leds) student_print("%d", 1)
+#define leds_on(leds)     student_leds(lit | (leds))
+#define leds_off(leds)    student_leds(lit & ~(leds))
+#define leds_toggle(leds) student_leds(lit ^ (leds))
+#define leds_get()        lit
 #define printf(...)       student_print(__VA_ARGS__)
 
 static void
@@ -94,6 +95,16 @@ student_print(const char *format, ...)
     student_line(student_number(text));
   }
   return 0;
+}
+
+/* Each change of the LEDs prints them. */
+static unsigned char lit;
+
+static void
+student_leds(int leds)
+{
+  lit = (unsigned char)leds;
+  student_print("%d", lit);
 }
 /*---------------------------------------------------------------------------*/
 typedef union { unsigned char u8[2]; } rimeaddr_t;
