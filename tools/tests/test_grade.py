@@ -195,6 +195,29 @@ PROCESS_THREAD(a, ev, data) {
         self.assertIn('// Translated from C', written)
         self.assertEqual(self.rows()['lea.c'], '0 of 3  a program needs a net: name one with --net')
 
+    def test_lines_in_c_that_may_do_something_else_on_a_node_are_named(self) -> None:
+        in_c = '''#include "contiki.h"
+PROCESS(a, "a");
+AUTOSTART_PROCESSES(&a);
+PROCESS_THREAD(a, ev, data) {
+  static struct etimer et;
+  PROCESS_BEGIN();
+  printf("%d", 3);
+  etimer_set(&et, 5);
+  RESET
+  printf("%ld", 4);
+  PROCESS_END();
+}
+'''
+        self.hand_in('lea.c', in_c.replace('RESET', '').replace('%ld', '%d'))
+        self.hand_in('max.c', in_c.replace('RESET', 'etimer_reset(&et);'))
+        rows = self.rows('--net', 'task.toml')
+        self.assertNotIn('on a node', rows['lea.c'])
+        self.assertTrue(rows['max.c'].endswith('on a node, lines 9 and 10 may do something else'), rows['max.c'])
+        self.grade('--net', 'task.toml', '-o', 'marks.html')
+        page = (self.folder.parent / 'marks.html').read_text()
+        self.assertEqual(page.count('line 9 in C: In Contiki, a timer that is reset before it has expired'), 1)
+
     def test_files_that_are_no_solutions_have_no_mark_and_do_not_count(self) -> None:
         (self.folder / 'Emil_4712_file').mkdir()
         self.hand_in('Emil_4712_file/emil.mote', PROGRAM % 4)

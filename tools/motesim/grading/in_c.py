@@ -4,7 +4,7 @@ from __future__ import annotations
 from collections.abc import Sequence
 
 from motesim.c_program.constants import SECOND
-from motesim.c_program.program import Translation
+from motesim.c_program.program import Remark, Translation
 from motesim.c_program.refusal import Refusal
 from motesim.explain.whole import line_at, translation_of, with_comment
 from motesim.faults import Fault
@@ -43,6 +43,19 @@ def notation_of(source: str) -> str:
     return with_comment(made_of(source).text, 'C')
 
 
-def remarks_of(source: str) -> tuple[str, ...]:
+def remarks_of(source: str) -> tuple[Remark, ...]:
     """The remarks about differences between a program in C and its translation."""
-    return tuple('line %d in C: %s' % (it.line, it.text) for it in made_of(source).remarks)
+    return made_of(source).remarks
+
+
+def shown(remark: Remark) -> str:
+    """A remark with its line."""
+    return one_line('line %d in C: %s' % (remark.line, remark.text))
+
+
+def on_node(remarks: Sequence[Remark]) -> str:
+    """The words that name the lines of a program in C that work here, but probably not on a node; an empty text if no
+    line is one of these."""
+    lines = ['%d' % it for it in sorted({it.line for it in remarks if it.is_mistake})]
+    listed = ' and '.join(filter(None, [', '.join(lines[:-1]), *lines[-1:]]))
+    return 'on a node, line%s %s may do something else' % ('s' * (len(lines) > 1), listed) if lines else ''

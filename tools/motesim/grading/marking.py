@@ -7,6 +7,7 @@ from dataclasses import dataclass, replace
 from pathlib import Path
 from typing import NamedTuple
 
+from motesim.c_program.program import Remark
 from motesim.explain.explanation import explanation, of_program as fault_of_program, of_program_file, tables_or_none
 from motesim.explain.lint import (
     ZERO_GIVEN, Program, by_cause, of_moments, of_net, of_program, of_run, of_seeds, of_start, programs_of,
@@ -120,7 +121,7 @@ class Marks:
     shown_halts: str = ''
     warned: tuple[str, ...] = ()
     unused: str = ''
-    of_c: tuple[str, ...] = ()
+    of_c: tuple[Remark, ...] = ()
 
     @property
     def has_mark(self) -> bool:
@@ -133,7 +134,7 @@ class Marks:
                       for it in self.marks)
         lacks = tuple(cut(one_line(it), LONGEST_WHY) for it in self.lacks)
         return replace(self, marks=marks, why=cut(one_line(self.why), LONGEST_WHY), lacks=lacks,
-                       fix=lines_of(self.fix), of_c=lines_of(self.of_c), unused=cut(one_line(self.unused), LONGEST_WHY))
+                       fix=lines_of(self.fix), unused=cut(one_line(self.unused), LONGEST_WHY))
 
     @property
     def short_name(self) -> str:

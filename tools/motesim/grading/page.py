@@ -5,6 +5,7 @@ from collections.abc import Sequence
 from html import escape
 from urllib.parse import quote
 
+from motesim.grading.in_c import shown
 from motesim.grading.marking import Marks
 from motesim.grading.own import OF_PAGE
 from motesim.grading.tables import count_of, holds, required_of
@@ -41,10 +42,10 @@ def _colour(marks: Marks, count: int) -> str:
 def _first_failed(marks: Marks, folder: str) -> str:
     """The first sentence that fails, linked to the run that shows it, and why it fails. If this sentence fails only in
     hidden nets, the first sentence that fails in another net is below it, with the link."""
-    place = marks.first_failed
+    place, mistakes = marks.first_failed, [shown(it) for it in marks.of_c if it.is_mistake]
     if marks.why or place is None:
-        return escape(marks.why) + ('<pre>%s</pre>' % escape('\n'.join(marks.fix)) if marks.fix else '')
-    below = [*marks.warned, *(it for it in (marks.shown_halts, marks.unused, marks.no_page) if it)]
+        return escape(marks.why) + _lines(marks.fix) + _lines(mistakes)
+    below = [*marks.warned, *(it for it in (marks.shown_halts, marks.unused, marks.no_page) if it), *mistakes]
     other = marks.pictured if marks.pictured is not None and marks.pictured > place else None
     first = _failed(marks, place, '' if other is not None else folder)
     rest = '' if other is None else '\n' + _failed(marks, other, folder)

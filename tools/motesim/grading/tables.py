@@ -7,6 +7,7 @@ import shlex
 import unicodedata
 from collections.abc import Sequence
 
+from motesim.grading.in_c import on_node, shown
 from motesim.grading.marking import Marks
 from motesim.grading.own import COLUMNS, OF_TOML
 from motesim.judge.expectations import REQUIRED
@@ -46,9 +47,9 @@ def table(marked: Sequence[Marks], sentences: Sequence[str]) -> list[str]:
         broken = ', '.join('%d%s' % (number, REQUIRED * one.is_required) for number, one in enumerate(it.marks, 1)
                            if not one.holds)
         count = count_of(it, len(sentences))
-        parts = broken and 'broken: %s' % broken, it.fault, it.halts, broken and it.unused
-        shown = it.why or '; '.join(one for one in parts if one)
-        rows.append(('%s  %s  %s' % (it.short_name.ljust(width), count, shown)).rstrip())
+        parts = broken and 'broken: %s' % broken, it.fault, it.halts, broken and it.unused, on_node(it.of_c)
+        words = it.why or '; '.join(one for one in parts if one)
+        rows.append(('%s  %s  %s' % (it.short_name.ljust(width), count, words)).rstrip())
     return rows
 
 
@@ -152,4 +153,4 @@ def why(marks: Marks) -> list[str]:
     lines += ['%s: it used up its work there, maybe in a loop without a wait' % marks.halts] if marks.halts else []
     if marks.first_failed is not None:
         lines += [*marks.warned, *([marks.unused, UNUSED] if marks.unused else [])]
-    return [*lines, *([RENAMED] * any(marks.lacks)), *marks.of_c]
+    return [*lines, *([RENAMED] * any(marks.lacks)), *map(shown, marks.of_c)]
