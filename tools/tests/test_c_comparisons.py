@@ -1,4 +1,4 @@
-"""Comparisons and loops of programs in C that would do something else here are refused."""
+"""Comparisons, loops and arrays of programs in C that would do something else here are refused."""
 import unittest
 
 from translated_c import in_process, translation
@@ -30,6 +30,11 @@ class Comparisons(unittest.TestCase):
                                  ('while(1) { if(timer_expired(&t)) break; PROCESS_PAUSE(); }', False),
                                  ('while(1) { if(timer_expired(&t)) break; if(n < 3) break; }', False)):
             self.check(body, 'No time passes here' * is_refused)
+
+    def test_an_array_of_a_structure_that_is_not_declared_is_refused(self) -> None:
+        text, notes = translation(in_process('', 'static struct piont places[] = {1, 2};'))
+        self.assertIsNone(text)
+        self.assertIn('`struct piont`', notes)
 
 
 if __name__ == '__main__':

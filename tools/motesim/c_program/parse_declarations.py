@@ -238,8 +238,9 @@ class Declarations(Expressions):
             raise Refusal(one.line, 'A name is expected here, behind its type.')
         if has_empty(one.type):
             raise Refusal(one.line, 'An array has at least one member.')
-        if one.type.kind == 'struct' and not one.type.fields:
-            raise Refusal(one.line, absent('struct ' + one.type.name))
+        its = one.type.of if one.type.kind == 'array' and one.type.of else one.type
+        if its.kind == 'struct' and not its.fields:
+            raise Refusal(one.line, absent('struct ' + its.name))
         if members_of(one.type) > MOST_MEMBERS and one.type.of and one.type.of.name != 'char':
             raise Refusal(one.line, 'A process has at most 64 variables, so `%s` has too many members.' % one.name)
         is_static = not self.function or 'static' in qualifiers
@@ -304,7 +305,7 @@ def next_value(values: list[Expression], its: Type) -> Expression:
     first = values[0]
     is_copy = its.kind == 'struct' and first.variable is not None and first.variable.type.kind == 'struct'
     is_whole = first.kind in ('list', 'text') or is_copy and first.kind == 'name'
-    if its.kind not in ('array', 'struct') or is_whole:
+    if its.kind not in ('array', 'struct') or is_whole or not members_of(its):
         one = values.pop(0)
         return with_braces(one, its) if one.kind == 'list' else one
     parts, line = list[Expression](), values[0].line
