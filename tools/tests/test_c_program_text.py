@@ -460,6 +460,19 @@ class Refusals(unittest.TestCase):
                 self.assertIn(old, source)
                 self.assertIn(wanted, translation(source.replace(old, new))[1])
 
+    def test_a_file_that_a_compiler_refuses_is_refused(self) -> None:
+        source = in_process('  do {\n    n++;\n    PROCESS_PAUSE();\n  } while(n < 3);', FUNCTIONS, VARIABLES)
+        self.assertIsNotNone(translation(source)[0])
+        for old, new, wanted in (
+                ('  PROCESS_END();\n', '', '`p` has no `PROCESS_END();`'),
+                ('  PROCESS_BEGIN();\n', '', '`p` has no `PROCESS_BEGIN();`'),
+                ('  PROCESS_END();\n', '  if(n) { PROCESS_END(); }\n', 'has no `PROCESS_END();` that isn\'t inside'),
+                ('PROCESS_PAUSE();', 'PROCESS_PAUSE()', 'A `;` is missing at the end of this line'),
+                ('while(n < 3);', 'while(n < 3)', 'A `;` is missing at the end of this line')):
+            with self.subTest(old):
+                self.assertIn(old, source)
+                self.assertIn(wanted, translation(source.replace(old, new))[1])
+
     def test_a_pointer_to_an_event_is_known_only_in_its_function_up_to_the_next_wait(self) -> None:
         source = '''PROCESS(p, "p");
 AUTOSTART_PROCESSES(&p);

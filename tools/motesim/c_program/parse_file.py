@@ -13,9 +13,11 @@ from motesim.c_program.tokens import Token
 from motesim.c_program.tree import Expression, File, Function, Statement, Variable
 from motesim.c_program.types import DATA, EVENT, VOID, Type, pointer_to
 
-# Macros of Contiki that are statements, also without a `;`.
-STATEMENTS = ('PROCESS_BEGIN', 'PROCESS_END', 'PT_BEGIN', 'PT_END', 'PROCESS_YIELD', 'PROCESS_WAIT_EVENT',
-              'PROCESS_PAUSE', 'PROCESS_EXIT', 'PROCESS_WAIT_EVENT_UNTIL', 'PROCESS_WAIT_UNTIL')
+# Macros of Contiki that are statements also without a `;`; and further ones.
+FRAMES = ('PROCESS_BEGIN', 'PROCESS_END', 'PT_BEGIN', 'PT_END')
+FRAMES_OF = {'process': ('PROCESS_BEGIN();', 'PROCESS_END();'), 'thread': ('PT_BEGIN(pt);', 'PT_END(pt);')}
+STATEMENTS = (*FRAMES, 'PROCESS_YIELD', 'PROCESS_WAIT_EVENT', 'PROCESS_PAUSE', 'PROCESS_EXIT',
+              'PROCESS_WAIT_EVENT_UNTIL', 'PROCESS_WAIT_UNTIL')
 HANDLERS = {'PROCESS_POLLHANDLER': 'onpoll', 'PROCESS_EXITHANDLER': 'onexit'}
 OUTSIDE = 'This line is outside of all functions: above it, a `}` is too much, or a `{` is missing.'
 NO_BRACE = 'This `{` has no `}`, or another `{` in its block has none.'
@@ -23,6 +25,7 @@ NO_IF = 'There is no `if` for this `else`: in front of it, there is one statemen
 NO_STATEMENT = '`%s` is no statement of C that has a block: in front of a `{` there is, for example, an `if`.'
 OF_HANDLER = ('There is no `goto`: write a function with the statements at the label, and call it in the handler, '
               '`PROCESS_EXITHANDLER(f();)`, and at the end of the process.')
+NO_FRAME = '`%s` has no `%s` that isn\'t inside of another statement.'
 NO_GOTO = 'There is no `goto`, and no labels: use a `while` with a flag, or an `if`.'
 
 
@@ -36,6 +39,9 @@ class FileReader(Declarations):
     def read(self) -> File:
         while self.token.kind != 'end':
             self.external()
+        # (a missing brace has been named by now)
+        for it in (*self.file.bodies.values(), *self.file.functions.values()):
+            check_frame(it)
         return self.file
 
     # Declarations outside of functions.
@@ -72,7 +78,7 @@ class FileReader(Declarations):
             elif it.kind == 'end':
                 self.need(')')
             self.accept(',')
-        self.accept(';')
+        self.need(';')
         if word.text == 'AUTOSTART_PROCESSES':
             self.file.autostart, self.file.autostart_line = names, word.line
         for name in names[:1] if word.text != 'AUTOSTART_PROCESSES' else ():
@@ -183,7 +189,7 @@ class FileReader(Declarations):
         value = self.expression()
         if value.kind == 'call' and self.is_sign('{'):
             raise Refusal(it.line, NO_STATEMENT % value.text)
-        if value.text not in STATEMENTS or value.kind not in ('call', 'name') or self.is_sign(';'):
+        if value.text not in FRAMES or value.kind not in ('call', 'name') or self.is_sign(';'):
             self.need(';')
         return [Statement('expression', it.line, it.comments, (value,))]
 
@@ -211,7 +217,7 @@ class FileReader(Declarations):
         body = self.body()
         self.need('while')
         test = self.test()
-        self.accept(';')
+        self.need(';')
         return Statement('do', 0, (), (test,), body)
 
     def _for(self) -> Statement:
@@ -304,3 +310,12 @@ def read_file(text: str) -> File:
     found.comments = reading.tokens[0].comments
     return found
 
+
+def check_frame(it: Function) -> None:
+    """Refuses a process or a protothread without one of the macros at its beginning and at its end, as a compiler
+    does."""
+    first = [one.expressions[0] for one in it.body if one.kind == 'expression']
+    found = [one.text for one in first if one]
+    for word in FRAMES_OF.get(it.kind, ()):
+        if word.partition('(')[0] not in found:
+            raise Refusal(it.line, NO_FRAME % (it.name, word))

@@ -19,7 +19,6 @@ from motesim.c_program.written import Block, Flag, If, Line, lines_of
 IF_OTHER = 'if ((data / 256) != self) { exit; }'
 OF_ORDER = ('`%s` polls `%s` and also posts to it. In Contiki, the posted event arrives before the poll if the queue '
             'was empty; here, the poll arrives first.')
-NO_BEGIN = 'The process `%s` has no `PROCESS_BEGIN();` that isn\'t inside of another statement.'
 BEFORE_BEGIN = ('In C, this statement runs in each call of the process, because it is above `PROCESS_BEGIN();`. Only '
                 'declarations and handlers are translated there.')
 EACH_CALL = ('In C, `%s` gets this value in each call of the process, because it is above `PROCESS_BEGIN();`. Only a '
@@ -113,13 +112,9 @@ class ProcessWriter(Functions):
         """The statements above PROCESS_BEGIN, and those between it and PROCESS_END."""
         first = [it.expressions[0] if it.kind == 'expression' else None for it in function.body]
         names = [it.text if it else '' for it in first]
-        if 'PROCESS_BEGIN' not in names:
-            raise self.refuse(function.line, NO_BEGIN % function.name)
-        begin = names.index('PROCESS_BEGIN')
-        end = names.index('PROCESS_END') if 'PROCESS_END' in names else len(names)
-        heading = [Statement('empty', function.line, function.body[begin].comments)]
-        ending = [Statement('empty', function.line, function.body[end].comments)] if end < len(names) else []
-        return [*function.body[:begin], *heading], [*function.body[begin + 1:end], *ending]
+        begin, end = names.index('PROCESS_BEGIN'), names.index('PROCESS_END')
+        heading, ending = (Statement('empty', function.line, function.body[it].comments) for it in (begin, end))
+        return [*function.body[:begin], heading], [*function.body[begin + 1:end], ending]
 
     def before_begin(self, it: Statement) -> None:
         """A statement above PROCESS_BEGIN."""
