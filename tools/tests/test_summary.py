@@ -15,7 +15,7 @@ from unittest import mock
 from here import TOOLS
 from motesim.summary import counts as summary
 from motesim.faults import Fault
-from motesim.summary.flows import flow_rows
+from motesim.summary.flows import FlowFault, flow_rows, read_flow
 from motesim.explain.lint import of_moments
 from motesim.report import Report
 from motesim.runner.run import Run
@@ -176,6 +176,18 @@ from to copies received lost ring collided halted late ratio delay
             self.assertEqual((done.returncode, done.stderr), (0, 'summary: the report has no line %s\n' % seen))
             self.assertTrue(done.stdout.startswith('origin sent'))
         self.say('--flow', 'recv')
+
+    def test_a_flow_without_a_value_says_why(self) -> None:
+        for words, seen in [
+                ('print node 1001 to 1511 -> print node 1 to 511',
+                 'no value is in both ranges, 1001 to 1511 and 1 to 511. A flow recognises a message by its value'),
+                ('print node 7 -> recv 8', 'no value is in both ranges, 7 and 8'),
+                ('print node 9 to 3', 'no value is from 9 to 3; write the smaller number first'),
+                ('recv 70000', 'values are 0 to 65535, and 70000 is greater')]:
+            with self.subTest(words), self.assertRaisesRegex(FlowFault, re.escape('no flow: %r: %s' % (words, seen))):
+                read_flow(words)
+        self.assertEqual([str(it) for it in read_flow('print node 5 to 9 -> recv 9 to 70000')],
+                         ['print node 9', 'recv 9'])
 
     def test_packets_of_one_moment_that_collide_are_counted_and_have_a_warning(self) -> None:
         text = ('mote 0 talker\n4 send 0 7\n4 send 1 8\n6 send 2 7\n6 send 3 8\n9 send 4 7\nmote 1 hearer\n'

@@ -37,6 +37,13 @@ SAME_LINES = ('. In this flow, the same lines begin messages and deliver them: t
               'need different lines for their beginning and their delivery, as in `print source -> print sink`')
 
 
+# The faults of flows without a value.
+BACKWARDS = 'no flow: %r: no value is from %d to %d; write the smaller number first'
+TOO_GREAT = 'no flow: %%r: values are 0 to %d, and %%d is greater' % MOST_WORD
+DISJOINT = ('no flow: %r: no value is in both ranges, %s and %s. A flow recognises a message by its value, so the line '
+            'that begins a message and the lines that deliver it must print or send the same value')
+
+
 class FlowFault(Fault):
     """A text that doesn't describe a flow."""
 
@@ -80,10 +87,15 @@ def read_flow(words: str) -> tuple[Mark, Mark]:
                         'followed by values such as `1 to 99` if you don\'t mean all' % words)
     found = [Mark(it[1] or 'print', it[2], int(it[3] or 0), int(it[4] or it[3] or MOST_WORD)) for it in marks if it]
     # (a message has one value, so a value that its end excludes doesn't begin one)
+    for mark in found:
+        if mark.least > mark.most:
+            raise FlowFault(BACKWARDS % (words, mark.least, mark.most))
+        if mark.least > MOST_WORD:
+            raise FlowFault(TOO_GREAT % (words, mark.least))
     begin, end = (found[0], found[1]) if len(found) == 2 else (Mark('send'), found[0])
     least, most = max(begin.least, end.least), min(begin.most, end.most)
     if least > most:
-        raise FlowFault('no flow: %r has no value' % words)
+        raise FlowFault(DISJOINT % (words, begin.values, end.values))
     return begin._replace(least=least, most=most), end._replace(least=least, most=most)
 
 
