@@ -1,5 +1,4 @@
--- Two properties: in a report, all processes and events exist; in a program, no two targets of events have the same
--- name, and no two events have the same name.
+-- Names in reports: each process and each event that a report names exists, and no other has the same name.
 use Rattle.std.specs.Prelude.{◌≡◌, ◌⊎◌, ℕ, ◌+◌, ◌^◌, ◌<◌, ◌≤◌, List, [], ◌∷◌, length, Option, Some, None}
 use Rattle.std.specs.List.{AllByRecursion as Each}
 use Rattle.program_tree.specs.Code.{Tree}
