@@ -505,7 +505,7 @@ class Misses(unittest.TestCase):
         self.assertIn('it receives 1 value: 8 at 7', self.misses('mote 1 receives 9'))
 
     def test_a_process_that_left_or_never_started(self) -> None:
-        self.assertIn('c had left at 4', self.misses('mote 0 prints c 9'))
+        self.assertIn('c had left at 4: a, line 13: `kill c`', self.misses('mote 0 prints c 9'))
         report = REPORT.replace('4 start c', '')
         self.assertIn('it runs hearer, which has no process b', self.misses('mote 1 prints b 9'))
         self.assertNotEqual(report, REPORT)
@@ -653,7 +653,7 @@ code p { etimer t; body {
                 ('mote 1 prints p 8 by 5', []),
                 ('mote 1 prints p 9 at least twice', [other % ' with another value']),
                 ('mote 1 prints p at least twice', [other % '']),
-                ('mote 1 sends 8', [eight]),
+                ('mote 1 sends 8', []),  # (p has no `send`)
                 ('mote 1 receives 5', [])):
             asker = Asker(run)
             missing = asker.about(question)
@@ -921,7 +921,7 @@ code taker { body { while 1 { acquire items; print 7; } } }
                       self.misses('mote 0 prints late 7', found))
 
     def test_silent_neighbours(self) -> None:
-        self.assertIn('of the 1 mote that it hears, these never send: 1', self.misses('mote 0 receives 9'))
+        self.assertIn('the only mote that it hears, 1, never sends', self.misses('mote 0 receives 9'))
         alone = source(SCENARIO.replace('x = 10', 'x = 11'), REPORT[:REPORT.index('7 recv')] +
                        'medium\n4 0 0 8\nleft 0\n')
         self.assertIn('it hears nobody: no mote is in its range', self.misses('mote 1 receives 8', alone))
@@ -1139,7 +1139,7 @@ class Runs(unittest.TestCase):
     def test_an_event_for_a_process_that_is_not_on_the_process_list(self) -> None:
         run = self.run_of('broadcast.toml')
         self.assertEqual(because(run, At(0, 10)), 'event 0 was dropped: b was not on the process list')
-        self.assertIn('event 0 was dropped at 0, because c was not on the process list',
+        self.assertIn('the event msg 1 for c was dropped at 0, because c was not on the process list',
                       self.near('processes.toml', 'mote 0 prints c 1'))
         left = source(report=REPORT.replace('7 take 0 h', '7 drop 0 h'))
         self.assertEqual(after_post(left, At(1, 5)).words,

@@ -4,6 +4,7 @@ import unittest
 from here import TOP
 import skips
 from motesim.judge.judge import Judge
+from motesim.judge.remarks import remark_of
 from motesim.judge.sentences import names_of, read_sentence
 from motesim.report import Report
 from motesim.runner.run import answer
@@ -43,6 +44,24 @@ code late {
   thread deep { print 4; }
   onpoll { print 5; }
   body { set c 5; print 1; spawn deep; yield_until 0; }
+}'''
+# All motes send at the same moments.
+MEETING = '''process p; autostart p;
+code p { etimer t; body { set t 20; while 1 { yield_until fired(t); reset t; send self; } } }'''
+# Process src posts 10, 11 and 12 at 10, kills sink at 20, and then posts 50.
+KILLER = '''process src, sink; autostart src, sink;
+code src {
+  etimer t;
+  body {
+    set t 10; yield_until fired(t);
+    post sink msg 10; post sink msg 11; post sink msg 12; reset t; yield_until fired(t);
+    kill sink; post sink msg 50; yield;
+  }
+}
+code sink {
+  body {
+    while 1 { yield; if is(msg) { print data; } }
+  }
 }'''
 
 
@@ -154,6 +173,78 @@ class Claims(unittest.TestCase):
                          'the sentence holds: %s, so there is no line to ask about' % near)
         self.assertEqual(self.verdict(self.flooding(), 'mote 12 can hear mote 0'), far)
         self.assertEqual(self.verdict(self.flooding(), 'mote 1 cannot hear mote 0'), near)
+
+
+    def test_copies_are_counted_by_their_fates(self) -> None:
+        data = line_of_motes(MEETING, end=100).replace(b'collide = false', b'collide = true')
+        self.assertEqual(self.near(data, 'mote 1 receives'), [
+            '10 copies did not arrive here: 8 collided, 2 would come after the end; the last that collided, packet 3 '
+            'of mote 2, was sent at 80: it collided at 83 with packet 3 of mote 0'])
+        self.assertIn('there are 8 such copies of 16; wanted: at least 100 %; packet 0 of mote 0 did not arrive at '
+                      'mote 1: it collided at 23 with packet 0 of mote 2 (line 37 of the report); packet 0 of mote 2 ',
+                      self.said(data, 'every copy arrives'))
+
+    def test_the_wanted_event_comes_before_other_refused_events(self) -> None:
+        data = line_of_motes(KILLER, 1)
+        said = self.near(data, 'mote 0 prints sink 50')
+        self.assertEqual(said[1:4], [
+            'the event msg 50 for sink was dropped at 20, because sink was not on the process list',
+            'sink had left at 20: src, line 7: `kill sink`', said[3]])
+        full = data.replace(b'[programs]', b'[queue]\np = 1\n[programs]')
+        self.assertEqual(self.near(full, 'mote 0 prints sink 11')[1:4], [
+            'the event msg 11 for sink was refused at 10, because the queue was full',
+            'the event msg 12 for sink was refused at 10, because the queue was full',
+            'the event msg 50 for sink was dropped at 20, because sink was not on the process list'])
+
+    def test_a_line_that_no_statement_writes(self) -> None:
+        data = line_of_motes(KILLER, 1)
+        self.assertEqual(self.near(data, 'mote 0 prints src'), ['its process src has no `print`'])
+        self.assertEqual(self.near(data, 'mote 0 sends 5'), ['its program p has no `send`', 'it never sends anything'])
+
+    def test_lines_of_processes_and_halts(self) -> None:
+        data = line_of_motes(KILLER, 1)
+        for question, first in (
+                ('mote 0 leaves src', 'src did not leave the process list'),
+                ("mote 0 writes 'take 5 sink'", 'sink had left at 20: src, line 7: `kill sink`'),
+                ('mote 0 halts', 'it did not halt, but ran until the end, at 60'),
+                ("mote 0 writes 'collide'", 'the scenario has no `collide = true`, so no copy collides in any run'),
+                ('mote 0 starts ctimer after 0', '`start ctimer`, at 0: 1 moment too early')):
+            with self.subTest(question):
+                self.assertEqual(self.near(data, question)[0], first)
+        self.assertIn('src has waited at line 7: `yield` since 20, and nothing has called it since',
+                      self.near(data, 'mote 0 leaves src'))
+
+    def test_tests_of_a_condition_are_counted_in_the_time_of_the_sentence(self) -> None:
+        data = line_of_motes('process p; autostart p; code p { var n = 0; etimer t; body { while 1 {\n'
+                             'set t 10; yield_until fired(t); n = (n + 1);\nif (n == 99) {\nprint n; } } } }', 1)
+        self.assertIn('line 4: `print n` was never reached, because line 3: `if (n == 99)` was tested once at 20, and '
+                      'was never true, the last time at 20', self.near(data, 'mote 0 prints p 99 at 20'))
+
+    def test_a_question_that_says_never_names_the_question_to_ask(self) -> None:
+        data = line_of_motes(SENDER)
+        for question, other in (('mote 2 never sends', 'mote 2 sends'), ('motes 0 and 1 never print p 9',
+                                                                         'motes 0 and 1 print p 9'),
+                                ('no mote prints p 9', 'some mote prints p 9')):
+            self.assertTrue(self.said(data, question).endswith(
+                'so there is no line to ask about; ask "%s" to see what was missing' % other))
+        self.assertTrue(self.said(data, 'no copy collides').endswith('so there is no line to ask about'))
+
+    def test_some_mote(self) -> None:
+        missing = self.asker(line_of_motes(SENDER)).about('some mote prints p 9')
+        assert isinstance(missing, Missing)
+        self.assertEqual(missing.remark, '0 motes do; wanted: at least 1; the first that does not: mote 0 has 0 such '
+                                         'lines; wanted: at least 1')
+
+    def test_copies_that_the_scenario_does_not_have(self) -> None:
+        data = line_of_motes(SENDER)
+        self.assertEqual(self.said(data, 'some copy is lost'), (
+            'there are 0 such copies; wanted: at least 1; no link of the scenario loses a packet, so no copy is lost '
+            'in any run'))
+        scenario = Scenario.parse(data)
+        judge = Judge(Report.parse(answer(data).report), scenario)
+        text = 'some copy collides'
+        self.assertEqual(remark_of(text, read_sentence(text), judge, False),
+                         'the scenario has no `collide = true`, so no copy collides in any run')
 
 
 if __name__ == '__main__':

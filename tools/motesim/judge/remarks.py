@@ -27,7 +27,9 @@ EXACTLY = re.compile(r'\b(?:exactly )?(?:once|twice)\b|\bexactly (\d+)(?: times?
 
 def remark_of(text: str, sentence: Sentence, judge: Judge, holds: bool) -> str:
     """The remark on a sentence; an empty text if there is none. Most remarks are only about sentences that hold."""
-    return remark_on(text, sentence, judge) if holds else of_certain(sentence, judge)
+    if holds:
+        return remark_on(text, sentence, judge)
+    return of_certain(sentence, judge) or (outcome_never(sentence, judge) if isinstance(sentence, Copies) else '')
 
 
 def remark_on(text: str, sentence: Sentence, judge: Judge) -> str:
@@ -44,11 +46,14 @@ def remark_on(text: str, sentence: Sentence, judge: Judge) -> str:
 
 def of_copies(it: Copies, judge: Judge) -> str:
     """The remark that no copy can have the outcome of a sentence, or that a share is one of no copies."""
+    return outcome_never(it, judge) or (NO_COPIES if it.count.is_part and not judge.due(it) else '')
+
+
+def outcome_never(it: Copies, judge: Judge) -> str:
+    """The remark that no copy can have the outcome of a sentence in any run of the scenario."""
     if it.outcome == 'collided' and not judge.scenario.collide:
         return NO_COLLISIONS
-    if it.outcome == 'lost' and not judge.scenario.losses:
-        return NO_LOSSES
-    return NO_COPIES if it.count.is_part and not judge.due(it) else ''
+    return NO_LOSSES if it.outcome == 'lost' and not judge.scenario.losses else ''
 
 
 def of_events(it: Does, judge: Judge) -> str:

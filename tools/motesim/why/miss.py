@@ -12,15 +12,17 @@ from typing import Any, NamedTuple
 from motesim.judge.hearing import unheard
 from motesim.judge.judge import Judge, Span, span_in_words
 from motesim.judge.numbers import either, in_list
+from motesim.judge.remarks import NO_COLLISIONS
 from motesim.judge.sentences import Does, Pattern, Value
 from motesim.report import Report
 from motesim.why.callers import Callers, times
-from motesim.why.chain import count, in_words, used_up
+from motesim.why.chain import chain, count, in_words, used_up
 from motesim.why.consumed import (
     Consumed, Ignored, because_of, consumed, ignored_in_one_wait, ignored_timers, in_a_wait, in_one_wait, kept,
     kept_from,
 )
 from motesim.why.fate import Fate, fate_of
+from motesim.why.fates import commonest
 from motesim.why.question import ENDLESS, Asker, Missing
 from motesim.why.replay import Reached, Replay
 from motesim.why.source import At, Found, Source
@@ -30,6 +32,8 @@ from motesim.why.unsent import unsent
 MOST_COPIES, MOST_OTHERS = 8, 3
 # The fates of a copy that a mote received, but that no process took.
 DROPPED = ('dropped', 'deaf', 'full')
+# The place of the process among the words of a line.
+PLACE_OF_PROCESS = {'print': 1, 'start': 1, 'leave': 1, 'take': 2}
 
 
 class Miss(NamedTuple):
@@ -81,6 +85,12 @@ class _Misses:
         yield from self.other_process()
         yield from self.past_the_end()
         others = [] if moved else list(self.other_values())
+        absent = self.absent()
+        if absent:
+            # (so packets, timers and conditions don't matter)
+            yield from (absent, *others, *self.halted(), *self.refused(), *self.process())
+            return
+        yield from self.of_kind()
         # (a copy that the mote lacks explains more than those that it has)
         yield from others if self.kind != 'recv' else ()
         yield from self.halted()
@@ -178,23 +188,46 @@ class _Misses:
             yield Miss('halted', '; '.join(['it halted at %s' % last[0], *used_up(self.source, self.mote)]),
                        self.source.traces.row(At(self.mote, len(self.lines) - 1)))
 
+    def absent(self) -> Miss | None:
+        """The fact that no statement of the program could write the line, if it has none."""
+        if self.kind not in ('print', 'send'):
+            return None
+        program = self.program()
+        processes = self.processes(program)
+        if not processes or any(it.kind == self.kind and it.process in processes for it in program.statements):
+            return None
+        whose = 'process %s' % self.pattern[1] if self.kind == 'print' and len(self.pattern) > 1 else (
+            'program %s' % self.source.traces.programs[self.mote])
+        return Miss('statement', 'its %s has no `%s`' % (whose, self.kind), is_wanted=True)
+
+    def of_kind(self) -> Iterator[Miss]:
+        """The reason why there is no line about a halt or a collision."""
+        if self.kind == 'halt' and not self.source.traces.halts(self.mote):
+            yield Miss('running', 'it did not halt, but ran until the end, at %d' % self.source.scenario.end)
+        elif self.kind == 'collide' and not self.source.scenario.collide:
+            yield Miss('no_collisions', NO_COLLISIONS)
+
     def refused(self) -> Iterator[Miss]:
         """Events for the process that were refused or dropped up to the last moment: a few of them, those with a wanted
         value preferred to the others, and late ones to early ones."""
         if self.kind != 'print' or len(self.pattern) < 2:
             return
         name, values, found = self.pattern[1], self.values(), []
+        posted = dict[str, tuple[str, ...]]()
         for place, line in enumerate(self.lines):
             words = line.split(' ')
             if int(words[0]) > self.end:
                 break
-            if words[1] == 'full' and words[2] in (name, 'all'):
+            if words[1] == 'post':
+                posted[words[2]] = tuple(words[3:])
+            elif words[1] == 'full' and words[2] in (name, 'all'):
                 found.append((int(words[4]) in values, place, 'the event %s %s for %s was refused at %s, because the '
                               'queue was full' % (words[3], words[4], words[2], words[0])))
             elif words[1] == 'drop' and words[3] == name:
-                found.append((False, place, 'event %s was dropped at %s, because %s was not on the process list' % (
-                    words[2], words[0], name)))
-        for is_wanted, place, said in sorted(found)[-MOST_OTHERS:]:
+                to, event, word = posted[words[2]]
+                found.append((int(word) in values, place, 'the event %s %s for %s was dropped at %s, because %s was '
+                              'not on the process list' % (event, word, to, words[0], name)))
+        for is_wanted, place, said in sorted(sorted(found)[-MOST_OTHERS:], key=lambda it: not it[0]):
             yield Miss('full' if ' was refused ' in said else 'dropped', said,
                        self.source.traces.row(At(self.mote, place)), is_wanted)
 
@@ -235,13 +268,14 @@ class _Misses:
             yield Miss(fate.how, 'packet %s of mote %s, with the value %s, was sent at %s: %s' % (
                 words[2], words[1], words[3], words[0], fate.words), fate.row or row, True)
         if lost[False]:
-            row, words, fate = lost[False][-1]
+            how, last = commonest([fate for _, _, fate in lost[False]])
+            row, words, fate = lost[False][last]
             is_of_packets = self.kind == 'recv' or lost[True]
             others = ' with other values' if values and is_of_packets else ''
             came = 'arrive' if self.kind == 'recv' else 'reach a process'
-            yield Miss(fate.how, '%s%s did not %s here; the last, packet %s of mote %s, was sent at %s: %s' % (
-                count(len(lost[False]), 'copy', 'copies'), others, came, words[2], words[1], words[0], fate.words),
-                       fate.row or row, is_rest=True)
+            yield Miss(fate.how, '%s%s did not %s here%s, packet %s of mote %s, was sent at %s: %s' % (
+                count(len(lost[False]), 'copy', 'copies'), others, came, how, words[2], words[1], words[0],
+                fate.words), fate.row or row, is_rest=True)
 
     def is_received(self, words: list[str]) -> bool:
         """Returns whether the sentence wants a line `recv`, and a packet has one here: even if no process took it, it
@@ -337,8 +371,9 @@ class _Misses:
             return
         quiet = [it for it in near if not traces.matching(it, rb'send .*')]
         if quiet:
-            yield Miss('silent', 'of the %s that it hears, these never send: %s' % (
-                count(len(near), 'mote'), ', '.join(map(str, quiet[:20])) + (', ..' if len(quiet) > 20 else '')))
+            yield Miss('silent', 'the only mote that it hears, %d, never sends' % near[0] if len(near) == 1 else (
+                'of the %d motes that it hears, these never send: %s' % (
+                    len(near), ', '.join(map(str, quiet[:20])) + (', ..' if len(quiet) > 20 else ''))))
         values = self.values() if self.kind == 'recv' and len(quiet) < len(near) else set()
         if values and all(unsent(traces, it, values, scenario.end)[0] for it in near):
             yield Miss('unsent', 'no mote that it hears (%s) ever sends %s' % (in_list(near), either(values)))
@@ -363,34 +398,40 @@ class _Misses:
 
     def processes(self, program: Program) -> list[int]:
         """The processes that could write the line."""
-        if self.kind == 'print' and len(self.pattern) > 1:
+        if self.kind in ('print', 'leave') and len(self.pattern) > 1:
             return [it.number for it in program.processes if it.name == self.pattern[1]]
         return [it.number for it in program.processes]
 
     def process(self) -> Iterator[Miss]:
         """A process that wasn't on the process list."""
-        if self.kind not in ('print', 'take') or len(self.pattern) < 2:
+        place_of_name = PLACE_OF_PROCESS.get(self.kind, len(self.pattern))
+        name = self.pattern[place_of_name] if place_of_name < len(self.pattern) else None
+        if name is None:
             return
-        name, there, row, at, later = self.pattern[1], False, 0, 0, 0
-        for place, line in enumerate(self.lines):
-            words = line.split(' ')
-            is_about = words[1] in ('start', 'leave') and words[2] == name
-            if is_about and int(words[0]) > self.end:
-                later = place
-                break
-            if is_about:
-                there, row, at = words[1] == 'start', self.source.traces.row(At(self.mote, place)), int(words[0])
-        if later and not there:
-            yield Miss('process', 'its process %s was not there up to %d: it started at %s' % (
-                name, self.end, self.lines[later].partition(' ')[0]), self.source.traces.row(At(self.mote, later)))
-        elif not there and not row:
-            program = self.program()
-            is_known = any(it.name == name for it in program.processes)
-            starts = self.callers(program).starts(str(name)) if is_known else ''
-            yield Miss('process', 'its process %s never started%s' % (name, starts) if is_known else
-                       'it runs %s, which has no process %s' % (self.source.traces.programs[self.mote], name))
-        elif not there:
-            yield Miss('process', '%s had left at %d' % (name, at), row)
+        rows = [(place, line.split(' ')) for place, line in enumerate(self.lines)]
+        its = [(int(words[0]), words[1] == 'start', At(self.mote, place)) for place, words in rows
+               if words[1] in ('start', 'leave') and words[2] == name]
+        before = [it for it in its if it[0] <= self.end]
+        at, is_there, where = before[-1] if before else (0, False, None)
+        if is_there and self.kind == 'leave':
+            yield Miss('process', '%s did not leave the process list%s' % (name, span_in_words(self.missing.span)))
+            yield from self.waits(self.program(), self.replayed(), self.processes(self.program())[0])
+        elif where and not is_there and self.kind != 'leave':
+            left = chain(self.source, where)[0].because
+            yield Miss('process', '%s had left at %d: %s' % (name, at, left), self.source.traces.row(where))
+        elif its and not before and self.kind != 'start':
+            yield Miss('process', 'its process %s was not there up to %d: it started at %d' % (
+                name, self.end, its[0][0]), self.source.traces.row(its[0][2]))
+        elif not its:
+            yield self.unstarted(str(name))
+
+    def unstarted(self, name: str) -> Miss:
+        """A process that never started, or that the program doesn't have."""
+        program = self.program()
+        if not any(it.name == name for it in program.processes):
+            return Miss('process', 'it runs %s, which has no process %s' % (
+                self.source.traces.programs[self.mote], name))
+        return Miss('process', 'its process %s never started%s' % (name, self.callers(program).starts(name)))
 
     def statements(self) -> Iterator[Miss]:
         """The statements that could write the line: how often they were reached, and the reason if they weren't."""
@@ -414,13 +455,14 @@ class _Misses:
         time = span_in_words(self.missing.span) if outside else ''
         words = '%s was %s%s' % (in_words(program, number), self.reached(len(here)), time)
         if here:
-            return Miss('reached', words + ', at ' + self.moments(here) + self.kept_last(program, replay, number))
+            at = ', at ' + self.moments(here) if not time or self.begin < self.end else ''
+            return Miss('reached', words + at + self.kept_last(program, replay, number))
         for around in program.statement(number).around:
             every = [it for it in replay.reached if it.statement == around.number and it.holds is not None]
             tests, wanted = self.inside(every), 'false' if around.is_else else 'true'
             right = [it for it in tests if it.holds != around.is_else]
             if tests and not right:
-                time = span_in_words(self.missing.span) if any(it.holds != around.is_else for it in every) else ''
+                time = span_in_words(self.missing.span) if len(tests) < len(every) else ''
                 because = ', because %s was tested %s%s, and was never %s, the last time at %d' % (
                     in_words(program, around.number), times(len(tests)), time, wanted, tests[-1].at)
                 return Miss('condition', words + because + outside)
@@ -541,7 +583,7 @@ def rows(missing: Missing, found: list[tuple[int, list[Miss]]]) -> list[str]:
         for it in its:
             lines.append('  %s%s' % (it.words, ' (line %d of the report)' % it.row if it.row else ''))
         if not its:
-            lines.append('  nothing: no such line, no lost copy, and no statement that could write it')
+            lines.append('  nothing that happened at this mote is similar')
     return lines
 
 

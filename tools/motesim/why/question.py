@@ -13,18 +13,22 @@ from dataclasses import dataclass, replace
 from motesim.faults import Fault
 from motesim.judge.hearing import hearing
 from motesim.judge.judge import Apart, Judge, Span, periods, span_in_words
+from motesim.judge.remarks import outcome_never
 from motesim.judge.numbers import either, has, has_lines, there_are, verb
 from motesim.report import FIELDS, Report
 from motesim.judge.sentences import (
     Copies, Count, Does, Hears, Motes, Packets, Pattern, Sentence, Value, names_of, read_sentence,
 )
+from motesim.why.fates import undelivered
 from motesim.why.source import At, Found, Source, Traces
 
 LINE = re.compile(r'\s*(?:(?:mote\s+)?(\d+)\s*:\s*)?(?:line\s+)?(\d+)\s*', re.I)
 TEXT = re.compile(r'\s*(?:mote\s+)?(\d+)\s*:\s*(\d+ [a-z]+.*?)\s*', re.I)
 BARE = re.compile(r'\s*(\d+ [a-z]+(?: \S+)*)\s*')
 KINDS = {'collided': b'collide', 'received': b'recv', 'full': b'lost'}
-ENDLESS = 1_000_000
+ENDLESS, MOST_COPIES = 1_000_000, 3
+# The words that say that a line isn't there, and what a question about this line has instead.
+NEGATIVE = (re.compile(r'\bnever '), ''), (re.compile(r'^\s*no mote\b'), 'some mote')
 # The kinds of sentences about motes of which each one by itself can have the line or lack it.
 EACH_ITSELF = ('each', 'some', 'count')
 
@@ -179,7 +183,25 @@ class Asker:
         where = line_asked(self.traces, question)
         if where:
             return Asked(where, True)
-        return self.of_sentence(self.read(question))
+        try:
+            return self.of_sentence(self.read(question))
+        except Unasked as unasked:
+            positive = self.positive(question) if unasked.holds else ''
+            if not positive:
+                raise
+            raise Unasked('%s; ask "%s" to see what was missing' % (unasked, positive), True) from None
+
+    def positive(self, question: str) -> str:
+        """The sentence about a line that a question says isn't there, such as `mote 1 sends` for `mote 1 never sends`;
+        an empty text if this sentence has a line, or if the question is no such sentence."""
+        for negative, other in NEGATIVE:
+            words = negative.sub(other, question, count=1)
+            try:
+                if words != question and isinstance(self.answer(self.read(words)), Missing):
+                    return words
+            except Fault:
+                pass
+        return ''
 
     def of_sentence(self, it: Sentence) -> Asked | Missing:
         found = self.answer(it)
@@ -192,7 +214,8 @@ class Asker:
         if isinstance(it, Does):
             return self.of_motes(it)
         if isinstance(it, Copies) and it.outcome != 'left':
-            return self.counted(self.of_losses(it) if it.outcome == 'lost' else self.of_copies(it), it)
+            found = self.counted(self.of_losses(it) if it.outcome == 'lost' else self.of_copies(it), it)
+            return self.with_reason(found, it) if isinstance(found, Lineless) and not found.holds else found
         if isinstance(it, Packets):
             return self.counted(self.packets(), it)
         if isinstance(it, Hears):
@@ -221,6 +244,15 @@ class Asker:
     def packets(self) -> list[Found]:
         """The lines that send packets."""
         return sorted(line for mote in range(self.traces.motes) for line in self.traces.matching(mote, rb'send .*'))
+
+    def with_reason(self, answer: Lineless, it: Copies) -> Lineless:
+        """An answer about too few copies, with the reason in the scenario, or with the first copies that didn't
+        arrive."""
+        reason = outcome_never(it, self.judge)
+        if not reason and it.outcome == 'received':
+            motes = range(self.traces.motes) if it.motes is None else it.motes
+            reason = '; '.join(list(undelivered(self.source, motes))[:MOST_COPIES])
+        return Lineless(False, '%s; %s' % (answer.why, reason)) if reason else answer
 
     def of_losses(self, it: Copies) -> list[Found]:
         """The lines that send the packets that the medium loses, once for each lost copy."""
@@ -372,7 +404,9 @@ class Asker:
                 return Lineless(False, why)
             does_so = 'mote %d does%s' % (here[0].where.mote, '' if unshown else ', first of all')
             return Asked(here[0].where, False, why if count.most else does_so)
-        return first_with_line([one for one in asked if not does(one)]) or Lineless(False, why)
+        lacking = first_with_line([one for one in asked if not does(one)]) or Lineless(False, why)
+        return replace(lacking, remark='%s; the first that does not: %s' % (why, lacking.remark)) if isinstance(
+            lacking, Missing) else lacking
 
     def of_unit(self, it: Does, motes: tuple[int, ...]) -> Answer:
         """The line of a sentence about one mote, or about several motes together."""
