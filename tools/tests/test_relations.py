@@ -324,13 +324,62 @@ class Sentences(unittest.TestCase):
                  'every mote finally prints a its distance from mote 2'),
                 ('all motes halt never', 'all motes never halt'), ('no packets collide', 'no copy collides'),
                 ('there are no collisions', 'no copy collides'),
-                ('node 1 doesn\'t receive a packet before moment 5', 'mote 1 never receives before 5')):
+                ('node 1 doesn\'t receive a packet before moment 5', 'mote 1 never receives before 5'),
+                ('mote1 sends', 'mote 1 sends'), ('mote 1 and mote 2 send 1', 'motes 1 and 2 send 1'),
+                ('mote 1 outputs a 1', 'mote 1 prints a 1'), ('no mote crashes', 'no mote halts'),
+                ('every mote runs a', 'every mote starts a'), ('mote 1 prints "a 1" by 20', 'mote 1 prints a 1 by 20'),
+                ('mote 1 prints a=1', 'mote 1 prints a 1'), ('mote 1 prints a: 1', 'mote 1 prints a 1'),
+                ('mote 1 sends exactly one time', 'mote 1 sends exactly once'),
+                ('mote 1 sends two times', 'mote 1 sends twice'),
+                ('mote 1 sends three times', 'mote 1 sends exactly 3 times'),
+                ('mote 1 sends minimum 3 packets', 'mote 1 sends at least 3 times'),
+                ('mote 1 sends max. 3 times', 'mote 1 sends at most 3 times'),
+                ('mote 1 sends up to 3 times', 'mote 1 sends at most 3 times'),
+                ('half of the motes send', 'at least 50 % of motes send'),
+                ('most motes send', 'more than 50 % of motes send'), ('all packets arrive', 'every copy arrives'),
+                ('total of 3 packets sent', 'exactly 3 packets are sent'),
+                ('mote 1 sends nothing', 'mote 1 never sends'),
+                ('mote 1 never prints nothing', 'mote 1 never prints'),
+                ("mote 1 doesn't print anything", 'mote 1 never prints'),
+                ('mote 1 hears from mote 0', 'mote 1 receives from mote 0'),
+                ('mote 1 gets message 1 by 60', 'mote 1 receives 1 by 60'),
+                ('mote 1 receives 1 from 0', 'mote 1 receives 1 from mote 0'),
+                ('mote 1 receives at least 3 from mote 0', 'mote 1 receives from mote 0 at least 3 times'),
+                ('mote 1 receives 2 packets from mote 0', 'mote 1 receives from mote 0 exactly 2 times'),
+                ('mote 1 prints a 1 at most 6 moments after mote 0 sends',
+                 'mote 1 prints a 1 within 6 of mote 0 sends'),
+                ('mote 1 prints a 1 not before 46', 'mote 1 never prints a 1 before 46'),
+                ('mote 1 prints a 1 no earlier than 46', 'mote 1 never prints a 1 before 46'),
+                ('mote 1 prints a 1 not later than 46', 'mote 1 prints a 1 by 46'),
+                ('mote 1 prints a 1 in 10 moments', 'mote 1 prints a 1 by 10'),
+                ('mote 1 sends between moments 4 and 5', 'mote 1 sends between 4 and 5'),
+                ('mote 1 prints only a 1, 2', 'mote 1 prints just a 1, 2'),
+                ('mote 1 prints a 1 and 2', 'mote 1 prints just a 1, 2'),
+                ('mote 1 prints a 1, then a 2 and a 3', 'mote 1 prints just a 1, 2, 3'),
+                ('mote 1 last prints a 1', 'mote 1 finally prints a 1'),
+                ('mote 1 prints a 1 at the end', 'mote 1 finally prints a 1'),
+                ('mote 1 ends with a 1', 'mote 1 finally prints a 1'),
+                ('mote 1 sends as often as mote 2', 'mote 1 sends exactly 1 times as often as mote 2'),
+                ('mote 1 sends more packets than mote 2', 'mote 1 sends more than 1 times as often as mote 2'),
+                ('fewer packets than 8 are sent', 'fewer than 8 packets are sent'),
+                ('mote 1 has printed a 1', 'mote 1 prints a 1')):
             with self.subTest(sentence):
                 with self.assertRaises(SentenceFault) as caught:
                     read_sentence(sentence, names)
                 self.assertIn('  Did you mean: %s' % like, caught.exception.explained.splitlines())
                 if like != 'before':
                     read_sentence(like, names)
+
+    def test_advice_on_a_word_is_better_than_a_word_that_looks_like_it(self) -> None:
+        names = names_of(self.scenario)
+        for sentence, advice in (('at least 3 motes out of 5 send', 'a share of motes is in per cent, as in'),
+                                 ('mote 1 has sends 1', 'write only the verb'),
+                                 ('mote 1 prints a 1 then mote 2 sends', 'two events are put in order by')):
+            with self.assertRaises(SentenceFault) as caught:
+                read_sentence(sentence, names)
+            said = caught.exception.explained
+            self.assertTrue(advice in said or 'Did you mean: mote 1 sends 1' in said, said)
+            self.assertNotRegex(said, r'Did you mean: \w+$')
 
     def test_what_is_refused(self) -> None:
         for sentence, seen in REFUSED:

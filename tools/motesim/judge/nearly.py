@@ -36,7 +36,59 @@ def _bound(found: re.Match[str]) -> str:
     return 'at %s' % like[0] if like else str(found[0])
 
 
+def _just(found: re.Match[str]) -> str:
+    """Several values of a process, such as `prints flood 1 and 2`, as the list of all its values."""
+    return 'prints just %s %s' % (found['process'], ', '.join(re.findall(r'\d+', found['values'])))
+
+
+def _often(found: re.Match[str]) -> str:
+    """A comparison of two counts, such as `more packets than mote 1`."""
+    return '%s than 1 times as often as ' % found[1].lower().replace('less', 'fewer')
+
+
+# Forms that have other words than sentences have.
+OTHER_WORDS: list[tuple[str, Replaced]] = [
+    (r'\b(motes?|nodes?)(?=\d)', r'\1 '),
+    (r'\b(?:mote|node) (\d+) (?:and|&) (?:(?:mote|node) )?(?=\d)', r'motes \1 and '),
+    (r'\b(?:output|display|show)(s?)\b', r'print\1'),
+    (r'\b(?:crash|die|abort)(?:e?s)?\b', 'halts'),
+    (r'\bruns? (?=[a-z]\w*$)', 'starts '),
+    (r'''\b(prints?) ["'`](\w+ \d+)["'`]''', r'\1 \2'),
+    (r'\b(prints? [a-z]\w*) ?[:=] ?(?=\d)', r'\1 '),
+    (r'\bone time\b', 'once'),
+    (r'\btwo times\b', 'twice'),
+    (r'\b(%s) times\b' % '|'.join(NUMBERS[3:]), lambda it: '%d times' % NUMBERS.index(it[1].lower())),
+    (r'\b(?:a )?min(?:imum|imally|imal|\.)?(?: of)? (?=\d|once|twice)', 'at least '),
+    (r'\b(?:a )?max(?:imum|imally|imal|\.)?(?: of)? (?=\d|once|twice)', 'at most '),
+    (r'\bup to (?=\d+ (?:time|packet|message)s?\b)', 'at most '),
+    (r'^(?:at least )?half (?:of )?(?:the |all )?(?:the )?motes', 'at least 50 % of motes'),
+    (r'^most (?:of )?(?:the |all )?(?:the )?motes', 'more than 50 % of motes'),
+    (r'^(?:all|every|each) (?:packet|message)s? (?:(?:is|are) )?(?:arrives?|received|delivered)\b',
+     'every copy arrives'),
+    (r'^(?:a )?total of (?=\d)', 'exactly '),
+    (r'\bpackets sent\b', 'packets are sent'),
+    (r'\b(?:never )?((?:%s)s?) nothing\b' % VERBS, r'never \1'),
+    (r'\b(?:gets?|hears?) (?:(?:something|anything|a packet|packets|a message|messages) )?(?=from\b)', 'receives '),
+    (r'\b(?:gets?|hears?|receives?) (?:the |a )?(?:message|value|number) (?=\d)', 'receives '),
+    (r'\b(receives?(?: \d+)?) from (\d+)\b(?! to\b| on\b)', r'\1 from mote \2'),
+    (r'\b(receives?) ((?:at least|at most|exactly|more than|fewer than) \d+) (from mote \d+)', r'\1 \3 \2 times'),
+    (r'\bat most (\d+) moments? after (?!\d)', r'within \1 of '),
+    (r'\b((?:%s)s?\b.*?) (?:not before|not? earlier than|earliest at) (?=\d)' % VERBS, r'never \1 before '),
+    (r'\b(?:not later than|latest at|at the latest at) (?=\d)', 'by '),
+    (r'\b(?:with)?in (?:the first )?(\d+) moments?$', r'by \1'),
+    (r'\b(between|from) moments (?=\d)', r'\1 '),
+    (r'\bprints? only (?=[a-z]\w* \d)', 'prints just '),
+    (r'\bprints? (?:just )?(?P<process>[a-z]\w*) (?P<values>\d+(?:(?:,? (?:and |then )?|,)(?:(?P=process) )?\d+)+)$',
+     _just),
+    (r'\b(?:last|lastly|in the end) (prints?)\b', r'finally \1'),
+    (r'\b(prints? [a-z]\w* \d+) (?:last|(?:at|in) the end)$', r'finally \1'),
+    (r'\bends with (?=[a-z])', 'finally prints '),
+    (r'(?<!times )(?<!% )\bas (?:often|many (?:packets|messages|times)) as\b', 'exactly 1 times as often as'),
+    (r'\b(more|fewer|less) (?:packets|messages|often|times) than (?=motes? |it\b)', _often),
+    (r'\b(more|fewer|less) (packets|copies|motes) than (\d+)\b', r'\1 than \3 \2'),
+]
 FORMS: list[tuple[str, Replaced]] = [
+    *OTHER_WORDS,
     (r'\bnode(s?)\b', r'mote\1'),
     (r'''["'`](\w+)["'`]''', r'\1'),
     (r'\b(?:gets|gots|hears) (?=\d|a packet|packet)', 'receives '),
@@ -73,12 +125,15 @@ FORMS: list[tuple[str, Replaced]] = [
     (r"\b(?:doesn't|does not|must not|should not|shall not|will not|won't|can't) (%s)\b" % VERBS, r'never \1s'),
     (r"\b(?:don't|do not) (%s)\b" % VERBS, r'never \1'),
     (r'\b(?:should|must|shall|will|has to) (%s)\b' % VERBS, r'\1s'),
+    (r'\b(never (?:%s)s?) (?:anything|any (?:packet|message|value)s?)\b' % VERBS, r'\1'),
+    (r'\b(?:has|have) (?=(?:%s)s\b)' % VERBS, ''),
     (r'\b(?:its|the) (?:(?:least|shortest|smallest) )?(?:(?:number|count) of hops|hop(?: ?count|s| distance)?|distance)'
      r'(?: in hops)? (?:from|to) (?:mote )?(?=\d)', 'its distance from mote '),
     (r'\bhears (?=(?:every |no |some )?motes?\b)', 'can hear '),
     (r"\b(?:doesn't|does not) hear (?=motes?\b)", 'cannot hear '),
     (r'\b(?P<verb>sends?|receives?) (?P<bound>exactly |at least |at most |more than |fewer than )?'
      r'(?P<number>\d+|%s) (?:packet|message|copie|copy|value)s?\b' % '|'.join(NUMBERS), _times),
+    (r'\b(receives?) (%s) (from mote \d+)' % TIMES, r'\1 \3 \2'),
     (r'\b(sends?|receives?) (?:a|an|the|any) (?:packet|message|copy)\b', r'\1'),
     (r'\b(?:there (?:is|are) )?no (?:collisions?|(?:packet|message|copie)s? (?:ever )?collides?)'
      r'(?: happens?| occurs?)?\b', 'no copy collides'),

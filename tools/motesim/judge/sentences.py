@@ -74,6 +74,7 @@ REDIRECTS = {
     'message': 'write `packet`, or `copy` of each receiver.',
     'messages': 'write `packets`, or `copies` of each receiver.',
     'not': 'write `mote 3 never prints ..`, or `no mote ..`.',
+    'out': 'a share of motes is in per cent, as in `at least 60 % of motes`.',
 }
 REDIRECTS.update(dict.fromkeys(('average', 'mean', 'median'), 'a sweep measures it (docs/use/EXPERIMENTS.md).'))
 REDIRECTS.update(dict.fromkeys(('first', 'then', 'until', 'while', 'when', 'whenever', 'if'),
@@ -139,13 +140,14 @@ class SentenceFault(Fault):
 
     def __init__(self, sentence: str, place: int, wanted: list[str], hint: str = '', like: str | None = None):
         self.sentence, self.place, self.wanted, self.hint = sentence, place, wanted, hint
-        shown = ['"%s"' % it if it.startswith(',') else it for it in wanted]
+        shown = ['"%s"' % it if it.startswith(',') else it.replace(' ,', ',') for it in wanted]
         may = textwrap.wrap('Allowed here: ' + ', '.join(shown), WIDTH, break_on_hyphens=False)
-        like = like or other_form(sentence, place, wanted) or meant(sentence[place:], wanted)
+        advice = redirected(sentence, place)
+        like = like or other_form(sentence, place, wanted) or (None if advice else meant(sentence[place:], wanted))
         lines = [sentence, ' ' * place + '^', *may]
         lines += ['Did you mean: %s' % like] if like else []
         hints = textwrap.wrap('Hint: %s' % hint, WIDTH, break_on_hyphens=False) if hint else []
-        more = redirected(sentence, place) or (None if like else unknown_process(sentence[place:], wanted))
+        more = advice or (None if like else unknown_process(sentence[place:], wanted))
         lines += hints or ['Hint: %s' % it for it in [more] if it]
         # (the sentence with a mark under the word, and the allowed words)
         self.explained = '  ' + '\n  '.join(lines)
