@@ -21,10 +21,11 @@ class Line:
 
 @dataclass(frozen=True)
 class Value:
-    """kind: number, own, greatest, distance, hears, linked or nearer."""
+    """kind: number, any (of `values`), own, greatest, distance, hears, linked or nearer."""
     kind: str
     number: int = 0
     but: frozenset[int] = frozenset()
+    values: frozenset[int] = frozenset()
 
 
 @dataclass(frozen=True)
@@ -156,6 +157,8 @@ class PageJudge:
 
     def values(self, value: Value, mote: int) -> set[int]:
         """The numbers that a value may be, for a mote."""
+        if value.kind == 'any':
+            return set(value.values)
         heard = {s for r, s in self.hears if r == mote}
         if value.kind in ('distance', 'nearer'):
             hops = self.hops(value.number, mote)

@@ -116,6 +116,8 @@ class Sentences:
         return self.chance.choice((
             (str(number), Value('number', number)), (str(number), Value('number', number)),
             (str(number), Value('number', number)), ('its number', Value('own')),
+            ('any of 1 to %d' % (number + 1), Value('any', values=frozenset(range(1, number + 2)))),
+            ('any of 0, 2 or %d' % number, Value('any', values=frozenset((0, 2, number)))),
             ('the greatest mote number', Value('greatest')),
             ('its distance from mote %d' % mote, Value('distance', mote)),
             ('the set of motes that it hears' + text, Value('hears', but=but)),

@@ -105,6 +105,9 @@ HOLDS = [
     'mote 1 receives 1 from mote 0', 'mote 0 receives from mote 1', 'mote 0 receives at most 1',
     'mote 1 prints just flood 1, 2', 'mote 1 prints just hears 1, 5', 'mote 1 prints just flood 2, 1 in any order',
     'mote 1 prints just flood 1 to 2 in any order', 'mote 1 prints just flood 1 by 60',
+    'mote 1 prints flood any of 1 to 511 exactly 2 times', 'mote 1 prints flood any of 0, 2 or 9 once',
+    'mote 1 receives any of 1 and 2 from mote 0', 'mote 1 never sends any of 2 to 65535',
+    'mote 1 finally prints flood any of 2 to 5', 'mote 1 prints just flood any of 1 to 2 by 60',
     'mote 1 finally prints hears the set of motes that it hears',
     'mote 2 finally prints hears the set of motes that it hears',
     'mote 2 finally prints hears the set of motes linked with it', 'mote 1 finally prints hears 1 by 45',
@@ -133,6 +136,8 @@ BROKEN = [
     ('every mote but 0 prints flood 1 by 45', 15), ('exactly 1 mote prints flood 2', 13),
     ('at least 3 motes print flood 2', None), ('some mote prints flood 3', None),
     ('mote 1 prints just flood 1', 13), ('mote 1 prints just flood 2', 8),
+    ('mote 1 prints just flood any of 1 to 2', 13), ('mote 1 finally prints flood any of 0 to 1', 13),
+    ('mote 1 prints flood any of 3 to 9 or 511', None), ('mote 1 never sends any of 0 to 3', 10),
     ('mote 1 prints just flood 1, 2, 3', None), ('mote 1 prints just flood 2, 2 in any order', 8),
     ('mote 1 prints just flood 1, 2, 3 in any order', None),
     ('mote 2 finally prints hears the set of motes that it hears but 1', 16),
@@ -265,6 +270,9 @@ class Sentences(unittest.TestCase):
                 ('mote 1 prints flood 1, 2 in this order', 'Did you mean: mote 1 prints just flood 1, 2'),
                 ('mote 1 sends 0 or 1 times', 'Did you mean: mote 1 sends at most once'),
                 ('mote 1 prints flood 0 or 1', "Hint: write `at most once` for 0 or 1 times; for one of two values, "),
+                ('mote 1 prints flood 0 or 1', 'Did you mean: mote 1 prints flood any of 0 or 1'),
+                ('mote 1 sends 1 to 9 by 60', 'Did you mean: mote 1 sends any of 1 to 9 by 60'),
+                ('mote 1 prints flood 1 to 9 by 60', 'Did you mean: mote 1 prints flood any of 1 to 9 by 60'),
                 ('mote 0 receives 1 from all motes', 'Hint: a packet has one sender, so write a sentence for each: ')):
             with self.assertRaises(SentenceFault) as caught:
                 read_sentence(sentence, Names(('flood',), 3))

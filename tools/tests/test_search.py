@@ -485,7 +485,8 @@ class QuickJudging(unittest.TestCase):
             "every mote writes 'start etimer'", 'mote 1 receives 1 from mote 0', 'some copy overflows',
             'every mote sends its number', 'every mote sends its distance from mote 0', 'mote 0 never sends 1',
             'at least 50 % of the motes send', 'mote 1 sends after mote 0 sends',
-            'every mote sends the greatest mote number',
+            'every mote sends the greatest mote number', 'no mote sends any of 2 to 511',
+            'mote 0 receives any of 1, 3 or 5 at least twice',
             'every mote receives at 12 plus 4 for each hop from mote 0', 'no mote but 0 sends its number']
 
     def test_of_examples_with_faults(self) -> None:

@@ -105,6 +105,7 @@ MEASURES: list[tuple[str, str, Cell]] = [
     ('delay: mote 2 prints a -> mote 1 prints a', 'delay: mote 2 prints a -> mote 1 prints a', 3),
     ('delay: mote 1 prints a twice -> mote 2 prints a', 'delay: mote 1 prints a twice -> mote 2 prints a', None),
     ('ratio = delivery: mote 1 prints a -> mote 2 prints a', 'ratio', 0.5),
+    ('ratio = delivery: mote 1 prints a any of 1 to 7 before 9 -> mote 2 prints a', 'ratio', 1.0),
     ('pdr = delivery: mote 0 sends -> every mote but 0 prints a', 'pdr', 1.0),
     ('pdr = delivery: mote 1 sends -> motes 0 and 2 print a', 'pdr', 0.5),
     ('pdr = delivery: motes 1 and 2 print a -> mote 1 prints a after 3', 'pdr', 0.333333333333),

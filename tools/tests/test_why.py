@@ -1,6 +1,7 @@
 """The causes of lines that tools/why reports. The chains are worked out by hand from the scenarios."""
 import json
 import os
+import re
 import subprocess
 import sys
 import tempfile
@@ -28,7 +29,7 @@ from motesim.why.fate import after_post, fate_of
 from motesim.why.lines_of_file import ScenarioFile
 from motesim.why import miss
 from motesim.why.miss import _Misses, misses
-from motesim.why.question import Asked, Asker, Missing, Unasked
+from motesim.why.question import Asked, Asker, Missing, Unasked, one_of
 from motesim.why.replay import Parted, Reached, Replay
 from motesim.why.source import At, Source
 from motesim.why.translate import translated
@@ -475,6 +476,14 @@ class Questions(unittest.TestCase):
     def test_sentences_that_want_a_line(self) -> None:
         for question in 'mote 1 prints h 9', 'mote 1 prints h 8 by 6', 'mote 0 sends twice', 'every mote sends':
             self.assertIsInstance(self.about(question), Missing, question)
+
+    def test_sentences_about_any_of_several_values(self) -> None:
+        self.assertEqual(self.where('mote 1 prints h any of 1 to 65535'), At(1, 7))
+        self.assertIsInstance(self.about('mote 1 prints h any of 9 to 511 or 7'), Missing)
+        values = frozenset((7, *range(9, 512)))
+        form = re.compile(one_of(frozenset(map(str, values))))
+        self.assertLess(len(form.pattern), 200)
+        self.assertEqual({it for it in range(20_000) if form.fullmatch(str(it))}, values)
 
     def test_sentences_about_no_line(self) -> None:
         for question in 'no mote halts', 'mote 1 can hear mote 0', 'the report has 9 lines', 'no copy collides':

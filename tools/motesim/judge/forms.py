@@ -71,6 +71,7 @@ DEED = Table('DEED', 'Lines of the report', ('mote 1 %s',), (
 ))
 VALUE = Table('VALUE', 'Is', ('mote 1 prints p %s',), (
     (('7',), 'this number'),
+    (('any of 1 to 511', 'any of 1, 3 and 5'), 'any of these numbers'),
     (('its number',), 'the number of the mote'),
     (('the greatest mote number',), 'the number of the last mote of the net, as in an election of a leader'),
     (('its distance from mote 0',),

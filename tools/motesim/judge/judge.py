@@ -5,7 +5,7 @@
 from __future__ import annotations
 
 from bisect import bisect_left, bisect_right
-from collections.abc import Iterator, Sequence
+from collections.abc import Iterator, Sequence, Set
 from dataclasses import replace
 from functools import cached_property
 from itertools import compress, repeat
@@ -122,10 +122,12 @@ class Judge:
             raise Apart('mote %d is not reached from mote %d' % (mote, root))
         return self.hops_from[root][mote]
 
-    def values(self, value: Value, mote: int) -> set[int]:
+    def values(self, value: Value, mote: int) -> Set[int]:
         """The numbers that a value may be, for a mote."""
         if value.kind == 'number':
             return {value.number}
+        if value.kind == 'any':
+            return value.values
         if value.kind == 'self':
             return {mote}
         if value.kind == 'greatest':
@@ -145,12 +147,12 @@ class Judge:
         trace, kind = self.report.trace, str(pattern[0])
         place, fields = trace.place(mote, kind), trace.of[kind]
         # (a value may be unknown for this mote, whether or not it has such lines)
-        wanted = [set(map(str, self.values(it, mote))) if isinstance(it, Value) else it and {it} for it in pattern[1:]]
+        wanted = [self.values(it, mote) if isinstance(it, Value) else it for it in pattern[1:]]
         count: int = place.stop - place.start
         found = bytes([len(wanted) <= len(fields)]) * count
-        for words, (field, column) in zip(wanted, fields.items()):
-            if words is not None and any(found):
-                allowed = trace.numbers_of(field, words)
+        for its, (field, column) in zip(wanted, fields.items()):
+            if its is not None and any(found):
+                allowed = trace.numbers_of(field, [its]) if isinstance(its, str) else its
                 found = bytes(map(and_, found, map(allowed.__contains__, column[place])))
         return found
 
@@ -213,7 +215,7 @@ class Judge:
         later = [event for event in events if event.line.at > span[0] and not _within(event.line.at, span)]
         return Broken(why + '; the next is', later[0].row) if later else Broken(why)
 
-    def listed(self, deed: Deed, mote: int) -> list[set[int]]:
+    def listed(self, deed: Deed, mote: int) -> list[Set[int]]:
         """The wanted values of all lines, in the order of the lines: for each line, the numbers that its value may
         be."""
         return [self.values(deed.value, mote)] if deed.value else [{value} for value in deed.values]

@@ -19,8 +19,15 @@ def has(name: str) -> str:
 
 
 def either(values: Iterable[int]) -> str:
-    """Numbers of which any is right."""
-    return ' or '.join(map(str, sorted(values))) or 'any value'
+    """Numbers of which any is right, such as `1 or 5 to 9`."""
+    runs: list[list[int]] = []
+    for value in sorted(values):
+        if runs and value == runs[-1][-1] + 1:
+            runs[-1].append(value)
+        else:
+            runs.append([value])
+    return ' or '.join('%d to %d' % (run[0], run[-1]) if len(run) > 2 else ' or '.join(map(str, run))
+                       for run in runs) or 'any value'
 
 
 def has_lines(name: str, number: int) -> str:

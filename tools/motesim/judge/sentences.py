@@ -68,7 +68,7 @@ REDIRECTS = {
     'node': 'write `mote`.', 'nodes': 'write `motes`.',
     'always': 'write what must not happen, `mote 3 never halts`, or `in each 120 from 0 to 1199`.',
     'eventually': 'leave it out: a sentence without TIMES and WHEN says that it happens at least once.',
-    'or': 'write `at most once` for 0 or 1 times; for one of two values, `writes \'print a 0\' or \'print a 1\'`.',
+    'or': 'write `at most once` for 0 or 1 times; for one of two values, `prints a any of 0 or 1`.',
     'only': '`prints just P 1, 2, 3` says that these are all of the values.',
     'last': '`finally prints P VALUE` is about the last line.',
     'message': 'write `packet`, or `copy` of each receiver.',
@@ -119,6 +119,9 @@ def other_form(sentence: str, place: int, wanted: Sequence[str]) -> str | None:
     of_values = re.fullmatch(r'(.*\bprints? )(\w+ \d+)( ?)', before)
     if of_values and re.fullmatch(SEVERAL, rest):
         return '%sjust %s%s%s' % (*of_values.groups(), rest)
+    of_any = re.fullmatch(r'(.*\b(?:prints? \w+|sends?|receives?) )(\d+ )', before)
+    if of_any and re.match(r'(to|or) \d+', rest):
+        return '%sany of %s%s' % (*of_any.groups(), rest)
     if before.endswith(' in ') and re.fullmatch('(this |the )?order', rest) and ' just ' in before:
         return before.removesuffix(' in ')
     mote = re.fullmatch(r'(mote \d+) ', before)
@@ -219,14 +222,15 @@ class Window:
 class Value:
     """A value: a number, or a value that differs by mote or by net.
 
-    kind   number, self, greatest (the greatest number of a mote), distance (hops from `number`), heard (the set of the
-           motes that it hears), linked (the set of those that also hear it), nearer (a mote that it hears, one hop
-           nearer to `number`)
+    kind   number, any (of `values`), self, greatest (the greatest number of a mote), distance (hops from `number`),
+           heard (the set of the motes that it hears), linked (the set of those that also hear it), nearer (a mote that
+           it hears, one hop nearer to `number`)
     but    motes that aren't counted in a set
     """
     kind: str
     number: int = 0
     but: frozenset[int] = frozenset()
+    values: frozenset[int] = frozenset()
 
 
 # The words of a line after its moment, up to the last one that matters. None means any word.
@@ -419,13 +423,13 @@ class _Reader:
         motes = MOST_MOTES if self.names.motes is None else self.names.motes
         return self.number('a mote', motes - 1, least)
 
-    def ranges(self, one: Callable[[int], int]) -> list[int]:
-        """Numbers, and ranges of numbers, with commas or `and` between them."""
+    def ranges(self, one: Callable[[int], int], *between: str) -> list[int]:
+        """Numbers, and ranges of numbers, with commas, `and` or one of these other words between them."""
         found: list[int] = []
         while True:
             begin = one(0)
             found += range(begin, one(begin) + 1) if self.accept('to') else [begin]
-            if not self.accept(',', 'and'):
+            if not self.accept(',', 'and', *between):
                 return found
 
     def mote_list(self) -> frozenset[int]:
@@ -497,8 +501,13 @@ class _Reader:
         number = self.maybe_number('a value', MOST_WORD)
         return self.calculated() if number is None else Value('number', number)
 
+    def one_value(self, least: int) -> int:
+        return self.number('a value', MOST_WORD, least)
+
     def calculated(self) -> Value | None:
-        """A value that differs by mote or by net, if one is next."""
+        """A value that differs by mote or by net, or any of several, if one is next."""
+        if self.accept('any of'):
+            return Value('any', values=frozenset(self.ranges(self.one_value, 'or')))
         if self.accept('its number'):
             return Value('self')
         if self.accept('the greatest mote number'):
@@ -583,7 +592,7 @@ class _Reader:
             own = self.calculated()
             if own:
                 return Deed((('print', process),), 'just', own)
-            values = self.ranges(lambda least: self.number('a value', MOST_WORD, least))
+            values = self.ranges(self.one_value)
             return Deed((('print', process),), 'set' if self.accept('in any order') else 'just', values=tuple(values))
         printer = self.process()
         if printer is None:

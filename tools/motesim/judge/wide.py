@@ -4,13 +4,13 @@ The set of the motes that a mote hears is such a value if the mote hears a mote 
 """
 from __future__ import annotations
 
-from collections.abc import Callable, Iterable, Iterator
+from collections.abc import Callable, Iterable, Iterator, Set
 
 from motesim.judge.sentences import Deed, Does, Motes, Sentence, Value
 from motesim.report import MOST_WORD
 
 SETS = ('heard', 'linked')
-ValuesOf = Callable[[Value, int], set[int]]
+ValuesOf = Callable[[Value, int], Set[int]]
 
 
 def sets_of(deed: Deed) -> list[Value]:

@@ -7,9 +7,9 @@ broken, and leaves forms of sentences that it doesn't know to `motesim.judge`.
 from __future__ import annotations
 
 import re
-from collections.abc import Callable, Iterable
+from collections.abc import Callable, Iterable, Set
 from dataclasses import fields, is_dataclass
-from functools import cache, cached_property, partial
+from functools import cache, cached_property, lru_cache, partial
 
 from motesim.judge.judge import Judge, periods
 from motesim.report import FIELDS, Report
@@ -51,10 +51,12 @@ class Hops:
             raise NotReached
         return self.found[root][mote]
 
-    def values(self, value: Value, mote: int) -> set[int]:
+    def values(self, value: Value, mote: int) -> Set[int]:
         """The numbers that a value may be, for a mote."""
         if value.kind == 'number':
             return {value.number}
+        if value.kind == 'any':
+            return value.values
         if value.kind == 'self':
             return {mote}
         if value.kind == 'greatest':
@@ -163,7 +165,7 @@ class _Unknown(Exception):
 # to `motesim.judge`.
 LOOKED_AT: dict[type, frozenset[str]] = {kind: frozenset(names.split()) for kind, names in {
     Does: 'motes deed count window is_counted', Motes: 'kind numbers but count', Deed: 'patterns way value values',
-    Count: 'compare number', Window: 'begin end hop root every', Value: 'kind number but',
+    Count: 'compare number', Window: 'begin end hop root every', Value: 'kind number but values',
     Copies: 'count outcome motes window', Packets: 'count window', Lines: 'count', Hears: 'motes can other'}.items()}
 
 
@@ -201,9 +203,14 @@ def _lines_of(pattern: Pattern) -> LinesOf:
     return partial(_lines_with, kind, fields)
 
 
+@lru_cache
+def _words_of(values: frozenset[int]) -> frozenset[str]:
+    return frozenset(map(str, values))
+
+
 def _lines_with(kind: str, fields: Pattern, seen: Seen, mote: int) -> list[Row]:
     """The lines of a mote with these words; None means any word, and a value depends on the mote."""
-    allowed = [(index, set(map(str, seen.links.values(it, mote))) if isinstance(it, Value) else {it})
+    allowed = [(index, _words_of(frozenset(seen.links.values(it, mote))) if isinstance(it, Value) else {it})
                for index, it in enumerate(fields) if it is not None]
     found = []
     for row in seen.rows(mote, kind):

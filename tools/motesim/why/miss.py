@@ -6,7 +6,7 @@ list, a condition that wasn't true, a neighbour that didn't send.
 """
 from __future__ import annotations
 
-from collections.abc import Iterator
+from collections.abc import Iterator, Set
 from typing import Any, NamedTuple
 
 from motesim.judge.hearing import unheard
@@ -242,7 +242,7 @@ class _Misses:
             if any(it.startswith('%d@' % self.mote) for it in words[4:]):
                 yield row, words
 
-    def values(self) -> set[int]:
+    def values(self) -> Set[int]:
         """The values that are wanted."""
         wanted = next((it for it in reversed(self.pattern) if isinstance(it, Value)), None)
         if wanted is None or (self.kind == 'recv' and len(self.pattern) < 4):

@@ -9,6 +9,7 @@ from __future__ import annotations
 import re
 from collections.abc import Iterable, Sequence
 from dataclasses import dataclass, replace
+from functools import lru_cache
 
 from motesim.faults import Fault
 from motesim.judge.hearing import hearing
@@ -128,6 +129,20 @@ def within(found: list[Found], span: Span) -> list[Found]:
     return [it for it in found if span[0] <= it.at <= last]
 
 
+@lru_cache
+def one_of(words: frozenset[str]) -> str:
+    """A regular expression that matches these words. Words that differ only in one character share their ends, so that
+    the expression for many numbers is short."""
+    ends: dict[str, set[str]] = {}
+    for word in words - {''}:
+        ends.setdefault(word[0], set()).add(word[1:])
+    firsts: dict[frozenset[str], list[str]] = {}
+    for first, its in sorted(ends.items()):
+        firsts.setdefault(frozenset(its), []).append(first)
+    forms = ['[%s]%s' % (re.escape(''.join(its)), one_of(end)) for end, its in firsts.items()]
+    return '(?:%s)' % '|'.join([*forms, *[''] * ('' in words)]) if words != {''} else ''
+
+
 class Asker:
     """Looks for the lines that sentences are about."""
 
@@ -146,10 +161,10 @@ class Asker:
         words = [re.escape(str(pattern[0]).encode())]
         for it in pattern[1:]:
             if isinstance(it, Value):
-                allowed = sorted(self.judge.values(it, mote))
+                allowed = self.judge.values(it, mote)
                 if not allowed:
                     return None
-                words.append(b'(?:%s)' % b'|'.join(b'%d' % value for value in allowed))
+                words.append(one_of(frozenset(map(str, allowed))).encode())
             else:
                 words.append(rb'\S+' if it is None else re.escape(it.encode()))
         words += [rb'\S+'] * (1 + len(fields) - len(pattern))
