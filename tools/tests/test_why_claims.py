@@ -9,7 +9,7 @@ from motesim.judge.sentences import names_of, read_sentence
 from motesim.report import Report
 from motesim.runner.run import answer
 from motesim.scenario import Scenario
-from motesim.why.miss import misses
+from motesim.why.miss import misses, value_elsewhere
 from motesim.why.question import Asker, Missing, Unasked
 from motesim.why.source import Source
 
@@ -63,6 +63,20 @@ code sink {
     while 1 { yield; if is(msg) { print data; } }
   }
 }'''
+# Mote 0 sends 20, 21 and 22 at 10; mote 1 passes on a packet to its process `log` 3 moments after it took it.
+RELAY = '''process s, relay, log; autostart s, relay, log; receiver relay;
+code s { etimer t; body { if (self == 0) { set t 10; yield_until fired(t); send 20; send 21; send 22; } } }
+code relay {
+  var seen = 0;
+  etimer gap;
+  body {
+    while 1 {
+      yield_until is(packet); seen = data; set gap 3;
+      yield_until fired(gap); post log msg seen;
+    }
+  }
+}
+code log { body { while 1 { yield_until is(msg); print data; } } }'''
 
 
 class Claims(unittest.TestCase):
@@ -245,6 +259,31 @@ class Claims(unittest.TestCase):
         text = 'some copy collides'
         self.assertEqual(remark_of(text, read_sentence(text), judge, False),
                          'the scenario has no `collide = true`, so no copy collides in any run')
+
+
+    def test_a_packet_that_another_process_took_at_another_wait(self) -> None:
+        """The receiver takes 21 and 22 while it waits for its timer, so it doesn't pass them on to `log`."""
+        data = line_of_motes(RELAY, 2)
+        lost = 'packet 1 of mote 0, with the value 21, was sent at 10: relay took it at 13, but the packet did not ' \
+               'end the wait at line 9: `yield_until fired(gap)`'
+        self.assertIn(lost, self.near(data, 'mote 1 prints log 21'))
+        # (packet 0 did lead to a line, by another event)
+        said = '\n'.join(self.near(data, 'mote 1 prints log 20 at least twice'))
+        self.assertNotIn('packet 0 of mote 0', said)
+        self.assertIn('2 packets with other values did not end the wait at line 9', said)
+
+    def test_a_value_that_the_mote_received_did_not_stop_at_another_mote(self) -> None:
+        asker = self.asker(line_of_motes(RELAY, 2))
+        missing = asker.about('mote 1 prints log 20 at least twice')
+        assert isinstance(missing, Missing)
+        self.assertIsNone(value_elsewhere(asker, missing, misses(asker, missing)))
+
+    def test_a_timer_that_was_set_again_is_not_due_elsewhere(self) -> None:
+        data = line_of_motes('process p; autostart p; code p { etimer t; body {\n'
+                             'set t 10; yield_until fired(t);\nreset t; yield_until fired(t); } }', 1)
+        said = '\n'.join(self.near(data, 'mote 0 leaves p by 15'))
+        self.assertIn('line 3: `reset t`, which sets the timer, was last reached at 10', said)
+        self.assertNotIn('its event was taken', said)
 
 
 if __name__ == '__main__':

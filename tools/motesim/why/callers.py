@@ -39,7 +39,7 @@ class Callers:
 
     def __init__(self, program: Program, replay: Replay, end: int, known: str = ''):
         """`known` is a process whose start is explained already."""
-        self.program, self.end, self.known = program, end, known
+        self.program, self.replay, self.end, self.known = program, replay, end, known
         self.of: dict[int, list[Reached]] = {}
         # (the statements that are reached again after `end`: about these, `never` is only true up to `end`)
         self.later = {it.statement for it in replay.reached if it.at > end}
@@ -135,7 +135,7 @@ class Callers:
             return '; %s is a ctimer: its event goes to the process ctimer, which runs its block, so `fired(%s)` is ' \
                    'never true here; an etimer posts its event to its own process' % (name, name)
         # (the wait of the process before each of its calls)
-        before, said = 0, ''
+        before, said, taken = 0, '', 0
         for it in self.calls_of:
             if it.frame.process != process:
                 continue
@@ -144,8 +144,10 @@ class Callers:
             elif (it.frame.event, it.frame.word) == ('timer', number) and before and it.at <= since:
                 said = '' if before == waits else ELSEWHERE % (
                     name, it.at, self.program.processes[process].name, in_words(self.program, before))
+                taken = it.place
         # (a timer that was set again after that event needs another explanation)
-        return said
+        sets = self.numbered(SETS, name, process)
+        return '' if any(it.statement in sets for it in self.replay.reached[taken:]) else said
 
     def waiting(self, process: int) -> str:
         """The place at which a process waits, as the reason why it reached no statement after that place."""

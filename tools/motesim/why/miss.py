@@ -143,7 +143,8 @@ class _Misses:
         if self.sender is not None:
             own = [it for it in rows if it[1][2] == str(self.sender)]
             others = sorted({int(words[2]) for _, words in rows})
-            whose = ' from mote %d' % self.sender if own else ' from other motes (%s)' % in_list(others)
+            whose = ' from mote %d' % self.sender if own else ' from %s (%s)' % (
+                'another mote' if len(others) == 1 else 'other motes', in_list(others))
             rows = own or rows
         near = sorted(rows, key=lambda it: abs(int(it[1][0]) - self.end))[:MOST_OTHERS]
         shown = ', '.join('%s at %s' % (words[-1], words[0]) for _, words in sorted(near))
@@ -291,12 +292,21 @@ class _Misses:
             if self.kind in ('print', 'send') and any(' recv ' in line for line in self.lines):
                 replay, values = self.replayed(), self.values()
                 own = {it.where.place for it in self.missing.found if it.where.mote == self.mote}
-                for it in consumed(replay, self.processes(self.program()), self.end):
+                asked = self.processes(replay.program)
+                for it in consumed(replay, self.takers(asked), self.end):
+                    if it.process not in asked and (it.is_end and (own or it.value not in values)):
+                        # (the process of the sentence may have got this packet by another event)
+                        continue
                     if it.value not in values:
                         self.took.append((it, ()))
                     elif own.isdisjoint(it.lines):
                         self.took.append((it, kept(replay, it, self.kind, values) if it.is_end else ()))
         return self.took
+
+    def takers(self, asked: list[int]) -> list[int]:
+        """The processes that could write the line, and the receiver, which may pass a packet on to them."""
+        receiver = self.program().receiver
+        return asked if receiver is None or receiver in asked else [*asked, receiver]
 
     def kept(self) -> Iterator[Miss]:
         """Packets with a wanted value that a process took while a condition kept it from the statement."""
@@ -540,12 +550,14 @@ def misses(asker: Asker, missing: Missing) -> list[tuple[int, list[Miss]]]:
 
 
 def value_elsewhere(asker: Asker, missing: Missing, found: list[tuple[int, list[Miss]]]) -> int | None:
-    """A value that a mote lacks and that other motes sent, if no near miss of this mote is about this value: the value
-    may have stopped on its way over several hops."""
+    """A value that a mote lacks and that other motes sent, if the mote received no packet with this value, and no near
+    miss of it is about this value: the value may have stopped on its way over several hops."""
     for mote, its in found:
         if not any(it.is_wanted for it in its):
             for value in sorted(_Misses(asker, missing, mote).values()):
                 packets = asker.source.traces.packets(rb'\d+ \d+ %d(?: .*)?' % value)
+                if asker.source.traces.matching(mote, rb'recv \d+ \d+ %d' % value):
+                    continue
                 if any(int(text.split(' ')[1]) != mote for _, text in packets):
                     return value
     return None
