@@ -1,5 +1,5 @@
--- A program in which no two targets of events, and no two events, have the same name; and two different reports that
--- have the same text, because their processes have no names.
+-- Two examples: a program in which all names differ; and two different reports with the same text, whose processes have
+-- no names.
 use Rattle.std.specs.Prelude.{◌≡◌, ℕ, List, [], ◌∷◌, codes, None, false}
 use Rattle.program_tree.specs.Code.{Tree}
 use Rattle.program_tree.specs.declared.event.Proc.TheVariants.{Own}
