@@ -616,17 +616,31 @@ PROCESS_THREAD(p, ev, data)
   PROCESS_END();
 }
 '''
-        in_radio = 'So the event of `et`, which is set here, goes to the process of the radio.'
         text, notes = translation(source % 'etimer_set(&et, 3);')
-        self.assertIsNotNone(text)
+        self.assertIsNone(text)
         self.assertIn('line 6: In Contiki, the function that is called for packets', notes)
-        self.assertIn(in_radio, notes)
+        self.assertIn('write `PROCESS_CONTEXT_BEGIN(&p);` above this line', notes)
         text, notes = translation(source % 'process_post(PROCESS_CURRENT(), PROCESS_EVENT_MSG, NULL);')
         self.assertIsNone(text)
         self.assertIn('the current process is one of the radio', notes)
         other = source.replace('ctimer_set(&ct, 5, late, NULL);', '').replace(
             '  PROCESS_YIELD();', '  ctimer_set(&ct, 5, late, NULL); PROCESS_YIELD();')
-        self.assertNotIn(in_radio, translation(other % 'etimer_set(&et, 3);')[1])
+        self.assertIsNotNone(translation(other % 'etimer_set(&et, 3);')[0])
+        between = 'PROCESS_CONTEXT_BEGIN(%s); %s PROCESS_CONTEXT_END(&p);'
+        text, notes = translation(source % between % ('&p', 'etimer_set(&et, 3);'))
+        self.assertIn('set et 3;', text or notes)
+        for process, statements, wanted in (
+                ('&bc', 'etimer_set(&et, 3);', 'The process `` isn\'t in this file'),
+                ('&p', 'if(v == NULL) return; etimer_set(&et, 3);', 'let them run up to their end'),
+                ('&p', 'while(v == NULL) { return; }', 'let them run up to their end'),
+                ('&p', 'ctimer_set(&ct, 5, late, NULL);', 'set the ctimer outside of'),
+                ('&p', 'PROCESS_YIELD();', 'let it poll the process')):
+            text, notes = translation(source % between % (process, statements))
+            self.assertIsNone(text, statements)
+            self.assertIn('line 6: ', notes)
+            self.assertIn(wanted, notes)
+        self.assertIn('There is no `PROCESS_CONTEXT_END` below', translation(source % 'PROCESS_CONTEXT_BEGIN(&p);')[1])
+        self.assertIn('There is no `PROCESS_CONTEXT_BEGIN` above', translation(source % 'PROCESS_CONTEXT_END(&p);')[1])
 
     def test_the_end_of_a_process_with_a_callback_for_packets_is_refused(self) -> None:
         source = '''PROCESS(sink, "sink"); PROCESS(boss, "boss");

@@ -56,7 +56,6 @@ ADVICE = (
      'Its number is `linkaddr_node_addr.u8[0]`: copy it into a variable, `me = linkaddr_node_addr.u8[0];`.'),
     (r'watchdog_', 'A mote doesn\'t start again: set the variables to their first values, and use a loop around the '
                    'statements of the process.'),
-    (r'PROCESS_CONTEXT_', 'Let the process itself set its timers: poll it by `process_poll(&p);`.'),
     (r'serial_|uart\d|slip_|shell_|getchar$', NO_SERIAL),
     (r'cfs_|xmem_|coffee_|eeprom_', 'A mote has no files: keep the values in variables, and print them.'),
     (r'(dint|eint|DINT|EINT|_BI[SC]_SR|__?BI[SC]_\w+|asm|__asm__|spl\w+)$|lpm_|LPM|P\d(DIR|OUT|IN|SEL|IE|IFG)$',

@@ -70,6 +70,8 @@ class Unit:
     is_callback: bool = False
     # True if it runs in a process of the radio in Contiki.
     of_radio: bool = False
+    # True between the macros that name the process in which the statements run.
+    is_context: bool = False
     temporaries: int = 0
     flags: int = 0
 

@@ -60,8 +60,9 @@ OF_NOW = ('Here, a time has 16 bits, so `%s()` begins again at 0 after each 65,5
 OF_CHANNEL = ('Connections have no channels here: a packet goes to all motes in range, whatever channel or kind of '
               'connection their programs open.')
 OF_RADIO_TIMER = ('In Contiki, the function that is called for packets, and the functions of the ctimers that it sets, '
-                  'run in a process of the radio. So the event of `%s`, which is set here, goes to the process of the '
-                  'radio. In the translation, `%s` gets the event.')
+                  'run in a process of the radio. So this process gets the event of `%s`, which is set here, and `%s` '
+                  'waits for it in vain: write `PROCESS_CONTEXT_BEGIN(&%s);` above this line, and '
+                  '`PROCESS_CONTEXT_END(&%s);` below it.')
 OF_RESET = ('In Contiki, a timer that is reset before it has expired expires at once, because its next interval begins '
             'in the future. Here, `%s` expires at the end of that interval. To start it from now, use `%s_restart`.')
 # The name under which it is known that a timer has expired; without a timer, that the event is that of a timer.
@@ -308,18 +309,19 @@ class Calls(Chance):
     def call_etimer_set(self, it: Expression) -> None:
         timer, interval = self.arguments(it, 2)
         name = self.timer(timer, 'etimer')
-        self.note_callback_timer(name, it.line)
+        self.check_owner(name, it.line)
         self.emit('set %s %s;' % (name, self.interval(interval)))
         self.note_running(name)
 
-    def note_callback_timer(self, name: str, line: int) -> None:
+    def check_owner(self, name: str, line: int) -> None:
+        """Refuses an etimer whose event another process gets: the one that sets it."""
         if self.unit.of_radio:
-            self.remark_mistake(line, OF_RADIO_TIMER % (name, self.code.name))
+            raise self.refuse(line, OF_RADIO_TIMER % (name, *(self.process,) * 3))
 
     def changed_timer(self, it: Expression, word: str, *kinds: str) -> None:
         name = self.timer(self.arguments(it, 1)[0], *kinds)
         if kinds[0] == 'etimer' and word != 'stop':
-            self.note_callback_timer(name, it.line)
+            self.check_owner(name, it.line)
         if word == 'reset' and ELAPSED + name not in self.known:
             self.remark_mistake(it.line, OF_RESET % (name, kinds[0]))
         self.emit('%s %s;' % (word, name))

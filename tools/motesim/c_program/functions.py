@@ -3,6 +3,7 @@ from __future__ import annotations
 
 from collections.abc import Iterator
 from contextlib import contextmanager
+from dataclasses import replace
 
 from motesim.c_program.base import Unit
 from motesim.c_program.calls import ELAPSED
@@ -16,11 +17,15 @@ from motesim.c_program.refusal import Refusal
 from motesim.c_program.tree import Expression, Function, Statement, Variable
 from motesim.c_program.types import INT, Type, leaves_of
 from motesim.c_program.values import Value, converted, negated, number
-from motesim.c_program.walk import all_parts
+from motesim.c_program.walk import all_parts, has_jump
 from motesim.c_program.written import Block, Comment, Flag, If, Line, While
 
 OF_MOTE_0 = ('The motes are numbered from 0, so this is the address of mote 0 here. For the address that no mote has, '
              'write `linkaddr_copy(&a, &linkaddr_null)`.')
+OTHER_CONTEXT = ('Here, the event of a timer goes to the process whose functions use it, which is `%s`: name this '
+                 'process in `PROCESS_CONTEXT_BEGIN`.')
+LEFT_CONTEXT = ('A jump out of the statements of a `PROCESS_CONTEXT_BEGIN` leaves out its `PROCESS_CONTEXT_END`: let '
+                'them run up to their end.')
 NO_WAIT = ('Only a process and its protothreads can wait in Contiki: write this wait in the process, or make `%s` a '
            'protothread, `PT_THREAD(%s(struct pt *pt))`, that the process runs by `PROCESS_PT_SPAWN(&pt, %s(&pt));`.')
 OF_CALLBACK = ('A callback and a handler can\'t wait in Contiki: let it poll the process, `process_poll(&%s);`, and '
@@ -410,6 +415,18 @@ class Functions(Control):
         self.remark(self.unit.function.line, OF_END % self.receiving)
         self.program.endless[self.code.name] = self.receiving
         self.forever()
+
+    def of_context(self, it: Statement) -> Flow:
+        """The statements between `PROCESS_CONTEXT_BEGIN` and `PROCESS_CONTEXT_END`, which run as this process."""
+        process, unit = it.expressions[0] if it.expressions else None, self.unit
+        if process is None or self.target_process(process) != self.code.name:
+            raise self.refuse(it.line, OTHER_CONTEXT % self.process)
+        self.unit = replace(unit, may_wait=False, may_spawn=False, of_radio=False, is_context=True)
+        if any(has_jump(it.body, word) for word in ('return', 'break', 'continue')) or self.run(it.body).targets:
+            raise self.refuse(it.line, LEFT_CONTEXT)
+        unit.temporaries, unit.flags = self.unit.temporaries, self.unit.flags
+        self.unit = unit
+        return FALLS
 
     # Waits.
 

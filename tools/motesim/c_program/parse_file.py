@@ -26,6 +26,10 @@ NO_STATEMENT = '`%s` is no statement of C that has a block: in front of a `{` th
 OF_HANDLER = ('There is no `goto`: write a function with the statements at the label, and call it in the handler, '
               '`PROCESS_EXITHANDLER(f();)`, and at the end of the process.')
 NO_FRAME = '`%s` has no `%s` that isn\'t inside of another statement.'
+# The macros around statements that run as another process.
+CONTEXT, CONTEXT_END = 'PROCESS_CONTEXT_BEGIN', 'PROCESS_CONTEXT_END'
+NO_CONTEXT = 'There is no `PROCESS_CONTEXT_BEGIN` above this line in the same block.'
+NO_CONTEXT_END = 'There is no `PROCESS_CONTEXT_END` below this line in the same block.'
 NO_GOTO = 'There is no `goto`, and no labels: use a `while` with a flag, or an `if`.'
 
 
@@ -187,11 +191,29 @@ class FileReader(Declarations):
             found_all = [Statement('declare', it.line, (), (), (), (), one) for one in self.declared_variables()]
             return [one._replace(comments=it.comments if not at else ()) for at, one in enumerate(found_all)]
         value = self.expression()
+        if value.text in (CONTEXT, CONTEXT_END):
+            return [self.context(value, it.comments)]
         if value.kind == 'call' and self.is_sign('{'):
             raise Refusal(it.line, NO_STATEMENT % value.text)
         if value.text not in FRAMES or value.kind not in ('call', 'name') or self.is_sign(';'):
             self.need(';')
         return [Statement('expression', it.line, it.comments, (value,))]
+
+    def context(self, begin: Expression, comments: tuple[str, ...]) -> Statement:
+        """The statements that run as another process."""
+        if begin.text == CONTEXT_END:
+            raise Refusal(begin.line, NO_CONTEXT)
+        self.need(';')
+        self.scopes.append({})
+        found = list[Statement]()
+        while self.token.text != CONTEXT_END:
+            if self.is_sign('}', ')') or self.token.kind == 'end':
+                raise Refusal(begin.line, NO_CONTEXT_END)
+            found += self.statement()
+        self.expression()
+        self.accept(';')
+        self.scopes.pop()
+        return Statement('context', begin.line, comments, begin.parts, tuple(found))
 
     def body(self) -> tuple[Statement, ...]:
         """The statement that belongs to an `if` or a loop, as a block."""

@@ -29,6 +29,8 @@ LATE_RECEIVER = ('In Contiki, `%s` runs for all packets after the connection was
                  'variables it uses, and packets that arrive before `%s` starts are dropped.')
 NOT_SET = ('In Contiki, `%s` has no function before the first `ctimer_set`, so nothing runs when it expires. Here, its '
            'function runs.')
+OF_CONTEXT = ('The function of a ctimer gets no event: set the ctimer outside of `PROCESS_CONTEXT_BEGIN` and '
+              '`PROCESS_CONTEXT_END`.')
 NO_CALLBACK = 'The function of a ctimer is expected here.'
 OF_POINTER = 'The last value of `ctimer_set` is NULL, a constant, or the address of a variable here.'
 
@@ -201,6 +203,8 @@ class ProcessWriter(Functions):
         """A ctimer is set: its block has the statements of its function."""
         timer, interval, function, pointer = self.arguments(it, 4)
         name = self.timer(timer, 'ctimer')
+        if self.unit.is_context:
+            raise self.refuse(it.line, OF_CONTEXT)
         self.emit('set %s %s;' % (name, self.interval(interval)))
         self.note_running(name)
         target = self.pointer(function)
