@@ -584,10 +584,12 @@ class Files(unittest.TestCase):
             ('expect = ["the report has 100 lines"]', 'Did you mean: the report has exactly 100 lines\n'),
             ('expect = ["6 packets are sent"]', 'Did you mean: exactly 6 packets are sent\n'),
             ('expect = ["1 copy is lost"]', 'Did you mean: exactly 1 copy is lost\n'),
-            ('', 'expects nothing'), ('expect = "x"', 'is not an array'), ('wanted = []', 'has a key wanted'),
+            ('', 'expects nothing: write sentences, such as `expect = ["mote 0 sends twice", "no mote halts"]`'),
+            ('no mote halts', 'each sentence is in quotes, with commas between them: `expect = ["mote 0 sends'),
+            ('expect = "x"', 'is not an array'), ('wanted = []', 'has a key wanted'),
             ('expct = []', 'did you mean expect?'),
             ('version = 1', 'has a key version, as a scenario has;'),
-            ('expect = [1]', 'must contain only texts'),
+            ('expect = ["no mote halts", 5]', 'must contain only texts, which are in quotes, but has 5'),
             (change, 'has no table replace'), (change + 'replace = { "no such text" = "" }', 'has no text'),
         ]:
             out, err, code = self.said(text)

@@ -29,9 +29,10 @@ MOST_UNKNOWN = 10
 REFUSED = 'the scenario is refused'
 WHOLE = 'the report is the expected one'
 KEYS = {'expect': list, 'required': list, 'report': str, 'change': list, 'about': str, 'replace': dict}
+EXAMPLE = '`expect = ["mote 0 sends twice", "no mote halts"]`'
 # For each key, the kind of its value, and its form.
 WRITTEN = {
-    'expect': 'an array of sentences, such as `expect = ["mote 0 sends twice"]`', 'report': 'a text',
+    'expect': 'an array of sentences, such as %s' % EXAMPLE, 'report': 'a text',
     'required': 'an array of sentences, such as `required = ["every mote prints"]`',
     'change': 'an array of tables: each begins with a line `[[change]]`',
     'about': 'a text, such as `about = "a late end"`',
@@ -85,10 +86,11 @@ def part_of(table: dict[str, Any], name: str, keys: set[str]) -> Part:
             raise Fault('%s of %s is not %s' % (key, name, WRITTEN[key]))
     required, replace = table.get('required', []), table.get('replace', {})
     sentences = required + table.get('expect', [])
-    if not all(type(it) is str for it in [*sentences, *replace.values()]):
-        raise Fault('%s must contain only texts' % name)
+    other = next((it for it in [*sentences, *replace.values()] if type(it) is not str), None)
+    if other is not None:
+        raise Fault('%s must contain only texts, which are in quotes, but has %s' % (name, other))
     if not sentences and 'report' not in table:
-        raise Fault('%s expects nothing' % name)
+        raise Fault('%s expects nothing: write sentences, such as %s' % (name, EXAMPLE))
     return Part(table.get('about', name), sentences, table.get('report'), replace, len(required))
 
 
@@ -97,7 +99,8 @@ def parts_of(text: str, name: str) -> list[Part]:
     try:
         tables = read_toml(text)
     except NoToml as fault:
-        raise Fault('%s is not TOML: %s' % (name, fault)) from None
+        raise Fault('%s is not TOML: %s; each sentence is in quotes, with commas between them: %s' % (
+            name, fault, EXAMPLE)) from None
     parts = [part_of(tables, name, {'expect', 'required', 'report', 'change'})]
     for number, table in enumerate(tables.get('change', []), 1):
         if type(table) is not dict or not table.get('replace'):

@@ -22,7 +22,7 @@ def _times(found: re.Match[str]) -> str:
     many = number if number.isdecimal() else str(NUMBERS.index(number))
     if many == '0' and bound == 'exactly ':
         return 'never ' + verb
-    return '%s %s%s' % (verb, bound, 'once' if (many, bound) == ('1', 'exactly ') else many + ' times')
+    return '%s %s%s' % (verb, bound, 'once' if many == '1' else many + ' times')
 
 
 def _below_0(found: re.Match[str]) -> str:
@@ -41,6 +41,11 @@ def _just(found: re.Match[str]) -> str:
     return 'prints just %s %s' % (found['process'], ', '.join(re.findall(r'\d+', found['values'])))
 
 
+def _received(found: re.Match[str]) -> str:
+    """A packet to one mote, as that mote receives it."""
+    return 'mote %s receives%s from mote %s' % (found['to'], found['value'] or '', found['sender'])
+
+
 def _often(found: re.Match[str]) -> str:
     """A comparison of two counts, such as `more packets than mote 1`."""
     return '%s than 1 times as often as ' % found[1].lower().replace('less', 'fewer')
@@ -55,6 +60,12 @@ OTHER_WORDS: list[tuple[str, Replaced]] = [
     (r'\bruns? (?=[a-z]\w*$)', 'starts '),
     (r'''\b(prints?) ["'`](\w+ \d+)["'`]''', r'\1 \2'),
     (r'\b(prints? [a-z]\w*) ?[:=] ?(?=\d)', r'\1 '),
+    (r'^the (?=motes? \d)', ''),
+    (r'\s*\([^()]*\)$', ''),
+    (r'(?<=\w), (?=(?:at|by|before|after|between|from|within|in) )', ' '),
+    (r'\b(motes?|prints? [a-z]\w*|sends?|receives?) (%s)\b(?! (?:time|packet|message|cop|value))' % (
+        '|'.join(NUMBERS[1:])),
+     lambda it: '%s %d' % (it[1], NUMBERS.index(it[2].lower()))),
     (r'\bone time\b', 'once'),
     (r'\btwo times\b', 'twice'),
     (r'\b(%s) times\b' % '|'.join(NUMBERS[3:]), lambda it: '%d times' % NUMBERS.index(it[1].lower())),
@@ -77,7 +88,16 @@ OTHER_WORDS: list[tuple[str, Replaced]] = [
     (r'\b(?:not later than|latest at|at the latest at) (?=\d)', 'by '),
     (r'\b(?:with)?in (?:the first )?(\d+) moments?$', r'by \1'),
     (r'\b(between|from) moments (?=\d)', r'\1 '),
-    (r'\bprints? only (?=[a-z]\w* \d)', 'prints just '),
+    (r'^report has\b', 'the report has'),
+    (r'\bjust (?=once|twice)', 'exactly '),
+    (r'\bonly (?=(?:after|before|within) )', ''),
+    (r'\b(prints? [a-z]\w*) (?:the )?values? (?=\d)', r'\1 '),
+    (r'\b(sends?|receives?) (?:packets|messages)(?= from mote \d|$)', r'\1'),
+    (r'^mote (?P<sender>\d+) sends?(?P<value> \d+)? to mote (?P<to>\d+)', _received),
+    (r'\b(?:prints? (?:only|exactly)|only prints?) (?=[a-z]\w* \d)', 'prints just '),
+    (r'\bprints? (?P<process>[a-z]\w*) (?:just |only |exactly )?(?P<begin>\d+) ?(?:-|\.\.|to) ?(?P<end>\d+)$',
+     r'prints just \g<process> \g<begin> to \g<end>'),
+    (r'\bprints? (?P<process>[a-z]\w*) (?:just|only|exactly) (?P<values>\d+(?:, ?\d+)*)$', _just),
     (r'\bprints? (?:just )?(?P<process>[a-z]\w*) (?P<values>\d+(?:(?:,? (?:and |then )?|,)(?:(?P=process) )?\d+)+)$',
      _just),
     (r'\b(?:last|lastly|in the end) (prints?)\b', r'finally \1'),

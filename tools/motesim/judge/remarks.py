@@ -21,15 +21,21 @@ NO_COLLISIONS = 'the scenario has no `collide = true`, so no copy collides in an
 NO_LOSSES = 'no link of the scenario loses a packet, so no copy is lost in any run'
 NO_COPIES = 'no copy was due in this run, so this sentence checks nothing'
 OF_COPIES = 'a share is 0 to 100 %%, so `%s` is %s true'
+OF_LINES = '`%s` is the number of lines, and not their value: write `times` after it, or `%s 1` for a value'
+# A number of lines without `times`, which looks like a value.
+UNCLEAR = re.compile(r'\b(prints? [a-z]\w*) ((?:at least|at most|exactly|more than|fewer than) \d+)\b'
+                     r'(?! ?(?:time|%|per))')
 # The forms of an exact number in sentences.
 EXACTLY = re.compile(r'\b(?:exactly )?(?:once|twice)\b|\bexactly (\d+)(?: times?)?\b')
 
 
 def remark_of(text: str, sentence: Sentence, judge: Judge, holds: bool) -> str:
     """The remark on a sentence; an empty text if there is none. Most remarks are only about sentences that hold."""
+    of_any = of_lines(text, sentence)
     if holds:
-        return remark_on(text, sentence, judge)
-    return of_certain(sentence, judge) or (outcome_never(sentence, judge) if isinstance(sentence, Copies) else '')
+        return remark_on(text, sentence, judge) or of_any
+    return of_any or of_certain(sentence, judge) or (
+        outcome_never(sentence, judge) if isinstance(sentence, Copies) else '')
 
 
 def remark_on(text: str, sentence: Sentence, judge: Judge) -> str:
@@ -42,6 +48,13 @@ def remark_on(text: str, sentence: Sentence, judge: Judge) -> str:
     if isinstance(sentence, Copies):
         return of_copies(sentence, judge)
     return of_programs(sentence, judge) or of_events(sentence, judge) or of_number(text, sentence, judge)
+
+
+def of_lines(text: str, sentence: Sentence) -> str:
+    """The remark that a number after a process, as in `prints a at least 5`, isn't the value of the lines."""
+    found = UNCLEAR.search(text)
+    is_plain = isinstance(sentence, Does) and sentence.deed.way == 'any' and not sentence.than
+    return OF_LINES % (found[2], found[1]) if found and is_plain else ''
 
 
 def of_copies(it: Copies, judge: Judge) -> str:

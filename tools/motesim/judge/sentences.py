@@ -76,6 +76,12 @@ REDIRECTS = {
     'not': 'write `mote 3 never prints ..`, or `no mote ..`.',
     'out': 'a share of motes is in per cent, as in `at least 60 % of motes`.',
 }
+REDIRECTS.update(dict.fromkeys(('s', 'sec', 'second', 'seconds', 'ms', 'milliseconds', 'minutes', 'ticks'), (
+    'write the number of a moment; a program translated from C has 128 moments in a second.')))
+REDIRECTS.update(dict.fromkeys(('packet', 'packets'), (
+    'a packet is named by its value, as in `sends 1`, or packets are counted, as in `sends twice`.')))
+REDIRECTS['.'] = 'numbers are whole.'
+REDIRECTS.update(dict.fromkeys(('and', ';'), 'write two sentences, each in its own quotes.'))
 REDIRECTS.update(dict.fromkeys(('average', 'mean', 'median'), 'a sweep measures it (docs/use/EXPERIMENTS.md).'))
 REDIRECTS.update(dict.fromkeys(('first', 'then', 'until', 'while', 'when', 'whenever', 'if'),
                                'two events are put in order by `after`, `before` and `within 10 of`, as in '
@@ -97,8 +103,8 @@ FROM_EACH = 'a packet has one sender, so write a sentence for each: `mote 3 rece
 
 def redirected(sentence: str, place: int) -> str | None:
     """Advice on what to write instead of the word at a place, if sentences don't have it there."""
-    word = re.match(r'[A-Za-z]+', sentence[place:])
-    if word and word[0] in ('all', 'each', 'every') and sentence[:place].endswith('from '):
+    word = re.match(r'[A-Za-z]+|;|[.](?=\d)', sentence[place:])
+    if word and word[0] in ('all', 'each', 'every', 'motes') and sentence[:place].endswith('from '):
         return FROM_EACH
     return REDIRECTS.get(word[0].lower()) if word else None
 
