@@ -362,17 +362,16 @@ class PagePlot:
             its = [it for it in rows if it[self.asked.measure] and it[self.asked.against]]
             if not its:
                 continue
-            methods, more = [], {}
+            more = {}
             for name in (self.asked.measure, self.asked.against):
                 self.set_kind(name)
                 values = [float(it[name]) for it in its]
                 low, high, method = self.interval(values)
-                methods.append(method)
-                more[name] = statistics.fmean(values), low, high
+                more[name] = statistics.fmean(values), low, high, method
             x, y = more[self.asked.against], more[self.asked.measure]
             found.append({**row, self.asked.against: x[0], self.asked.against + ' low': x[1],
-                          self.asked.against + ' high': x[2], 'runs': float(len(its)), 'mean': y[0], 'low': y[1],
-                          'high': y[2], 'interval': ' and '.join(dict.fromkeys(methods))})
+                          self.asked.against + ' high': x[2], self.asked.against + ' interval': x[3],
+                          'runs': float(len(its)), 'mean': y[0], 'low': y[1], 'high': y[2], 'interval': y[3]})
         return found
 
     def middles(self) -> list[dict[str, Cell | None]]:
