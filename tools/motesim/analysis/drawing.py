@@ -12,6 +12,7 @@ from typing import Any
 
 from motesim.analysis.around import dodged, folded, labelled, points_of, width_of, words_around
 from motesim.analysis.estimates import Estimate
+from motesim.analysis.limits import limits_of
 from motesim.analysis.origin import origin_path
 from motesim.analysis.paired import Difference
 from motesim.analysis.points import Point, Shown, Wish, order
@@ -80,23 +81,6 @@ def size_of(text: str) -> tuple[float, float]:
         raise Fault('the size of a picture is WIDTHxHEIGHT in centimetres, %d to %d each, such as 16x10, or column, '
                     'and not %r' % (LEAST_SIDE, MOST_SIDE, text))
     return float(found[1]), float(found[2])
-
-
-def limits_of(wish: Wish) -> tuple[float, float] | None:
-    """The ends of the vertical axis; None if the picture chooses them."""
-    if not wish.y_limits:
-        return None
-    try:
-        low, high = map(float, wish.y_limits.split(':'))
-    except ValueError:
-        low = high = math.nan
-    if not -math.inf < low < high < math.inf:
-        raise Fault('the limits of the vertical axis are LOW:HIGH, two numbers such as 0:1, and not %r' % wish.y_limits)
-    if wish.log_y and low <= 0:
-        raise Fault('with a logarithmic vertical axis its limits are above 0, and not %s' % wish.y_limits)
-    if wish.show == 'heat':
-        raise Fault('a map (heat) has no vertical axis with limits')
-    return low, high
 
 
 def _limit(axes: Any, wish: Wish) -> None:

@@ -12,6 +12,7 @@ from motesim.analysis.crossings import Crossing, Middle, Runs, crossing, share_t
 from motesim.analysis.crossings import Place as CrossingPlace
 from motesim.analysis.estimates import BOUNDED, DRAWS, ENOUGH_RUNS, LEAST_RUNS, NAMES, NEARER, OF_ROW, RANGE
 from motesim.analysis.estimates import Estimate, is_skewed_near_an_end, words_of
+from motesim.analysis.limits import beyond
 from motesim.analysis.paired import Difference, Paired, reasons
 from motesim.analysis.points import Crossed, Curve, Net, Place, Point, Shown, Wish, columns_of_by, order
 from motesim.experiments.measures import Cell
@@ -321,7 +322,7 @@ def remarks(shown: Shown, wish: Wish) -> list[str]:
     has_crossing = any(it and it.low is not None for it in crossings_of(shown, wish).values()) or any(
         it is not None for it in shares_that_cross(shown, wish).values())
     found = of_dependent(shown.shared, shown.crossed) if wish.has_means or wish.threshold and wish.show != 'cdf' else []
-    found += [*of_bars(shown, wish), *shown.warnings]
+    found += [*of_bars(shown, wish), *beyond(shown, wish), *shown.warnings]
     if not wish.has_means:
         return [*([words_of(wish.draws)] if has_crossing else []), *found]
     found += of_intervals([it for point in shown.points for it in point.estimates], has_crossing, wish.draws)

@@ -11,6 +11,7 @@ from typing import NamedTuple
 
 from motesim.analysis import drawing, text
 from motesim.analysis.drawing import FORMATS
+from motesim.analysis.limits import estimates_beyond
 from motesim.analysis.origin import origin_of, origin_path
 from motesim.analysis.paired import Difference, Paired, differences, pairs_in, pairs_of
 from motesim.analysis.points import Wish, check_measures, check_pairs, check_plans, is_repeat, measures_of, mixed_in
@@ -26,6 +27,7 @@ from motesim.experiments.wishes import WHERE, check_by, table_path, wishes
 from motesim.faults import Fault
 from motesim.files import refuse_inputs
 from motesim.summary.counts import table
+from motesim.terminal import has_one_output
 
 
 class Source(NamedTuple):
@@ -56,7 +58,10 @@ def write_tables(picture: Path, made: Sequence[text.Row], source: Source, rows: 
 
 
 def warn(lines: Sequence[str], dependent: Sequence[str], warnings: Sequence[str]) -> None:
-    """Prints on standard error, too, those of the lines that are about runs that aren't independent."""
+    """Prints the warnings on standard error, too, unless standard output, which has them all, is the same terminal or
+    file."""
+    if has_one_output():
+        return
     for line in [*dependent, *warnings]:
         if line in lines:
             print('plot: %s' % line, file=sys.stderr)
@@ -157,6 +162,7 @@ def compare(sides: Sides, wish: Wish, source: Source) -> bool:
         shared_nets(good, [it for it in (wish.against, wish.by) if it], wish.measure), crossed_rows(good, mixed, wish))
     warnings = warnings_of(runs, [*separated_by(wish), *wish.over.split(',')], False, [wish.measure])
     more = [*note_of_compared(sides), *note_of_measures(sides), *dependent,
+            *estimates_beyond([it.difference for it in found], wish),
             *text.of_intervals([it.difference for it in found], draws=wish.draws), *warnings]
     notes = of_groups(groups, found, wish) + more
     warn(notes, dependent, warnings)

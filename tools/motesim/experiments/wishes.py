@@ -10,6 +10,7 @@ from typing import Any, NamedTuple
 from motesim.analysis import drawing, text
 from motesim.analysis.drawing import FORMATS
 from motesim.analysis.estimates import AUTO, DRAWS, LEAST_DRAWS, MEANS, MOST_DRAWS
+from motesim.analysis.limits import limits_of
 from motesim.analysis.points import MEDIAN, OF_MEANS, SHOWS, Wish
 from motesim.faults import Fault
 from motesim.plan.plan import Plan
@@ -165,7 +166,7 @@ class _Plot(NamedTuple):
             key, may = 'size', '`size`: a text such as `"16x10"`'
             drawing.size_of(wish.size)
             key, may = 'y_limits', '`y_limits`: a text such as `"0:1"`'
-            drawing.limits_of(wish)
+            limits_of(wish)
             key, may = 'threshold', '`threshold`: a number'
             text.threshold_of(wish)
         except Fault as fault:
@@ -245,7 +246,7 @@ def wishes(asked: argparse.Namespace) -> list[Wish]:
                 log_y=asked.log_y, nets=asked.nets, pair=asked.pair or '', compare=asked.compare or '',
                 labels=labels_of(asked.label), is_count=asked.count, y_limits=asked.y_limits,
                 draws=asked.draws or DRAWS)
-    drawing.limits_of(wish)
+    limits_of(wish)
     text.threshold_of(wish)
     return [wish]
 
