@@ -325,6 +325,14 @@ PROCESS_THREAD(a, ev, data) {
         self.assertIn('<td>every mote prints a 3 (required)</td>', self.page())
         self.assertIn('If a required sentence doesn\'t hold, the mark is 0, whatever else holds.</p>', self.page())
 
+    def test_solutions_that_are_not_in_a_folder(self) -> None:
+        file = self.top / 'anna.toml'
+        file.write_text('')
+        for folder, said in (file, 'anna.toml is a file: name the folder of the solutions'), (
+                self.top / 'none', 'there is no folder'):
+            with self.assertRaisesRegex(Fault, said):
+                entries_of(folder)
+
 
 class Nets(Folder):
     def test_the_net_is_the_teachers(self) -> None:

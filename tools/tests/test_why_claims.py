@@ -285,6 +285,20 @@ class Claims(unittest.TestCase):
         self.assertIn('line 3: `reset t`, which sets the timer, was last reached at 10', said)
         self.assertNotIn('its event was taken', said)
 
+    def test_an_event_that_no_statement_makes(self) -> None:
+        head = 'process q, p; autostart q, p; code q { body { yield; } } code p { body { '
+        waits = head + 'yield_until is(msg); print 1; } }'
+        said = self.near(line_of_motes(waits, 1), 'mote 0 prints p 1')
+        self.assertIn('p has waited at line 1: `yield_until is(msg)` since 0, and nothing has called it since; no '
+                      'statement posts the event msg to p', said)
+        self.assertFalse([it for it in said if 'hears nobody' in it])
+        for made in 'post p msg 1;', 'broadcast msg 1;', 'synch p msg 1;':
+            said = self.near(line_of_motes(waits.replace('yield; ', 'yield; ' + made), 1), 'mote 0 prints p 1')
+            self.assertNotIn('no statement posts', '\n'.join(said))
+            self.assertIn('line 1: `%s`, which calls it, was never reached' % made[:-1], '\n'.join(said))
+        polled = head + 'yield_until is(poll); print 1; } }'
+        self.assertIn('; no statement polls p', '\n'.join(self.near(line_of_motes(polled, 1), 'mote 0 prints p 1')))
+
     def test_a_number_of_lines_that_looks_like_a_value(self) -> None:
         data = line_of_motes(SENDER)
         scenario = Scenario.parse(data)

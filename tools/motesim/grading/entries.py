@@ -93,7 +93,8 @@ def _entries(folder: Path, top: Path, depth: int) -> Iterator[Entry]:
 def entries_of(folder: Path) -> list[Entry]:
     """All entries of a folder, by name. Hidden files, expectations and marks are left out."""
     if not folder.is_dir():
-        raise Fault('%s is not a folder' % folder)
+        raise Fault('%s is a file: name the folder of the solutions' % folder if folder.exists() else
+                    'there is no folder %s' % folder)
     found: list[Entry] = []
     for entry in _entries(folder, folder, 0):
         found.append(entry)

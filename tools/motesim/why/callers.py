@@ -118,11 +118,22 @@ class Callers:
             said += why
             found += [] if why else [self.numbered(SETS, timer, process)]
         for event in events:
-            wanted = () if event in OF_KERNEL else ('poll',) if event == 'poll' else ('post', 'synch')
-            found.append([one for one in self.numbered(wanted, name) if (
-                event in ('poll', 'msg') or ' %s' % event in self.program.statement(one).text)])
+            found.append(self.makers(event, name))
+            if not found[-1] and event not in OF_KERNEL:
+                said += '; no statement %s %s' % (
+                    'polls' if event == 'poll' else 'posts the event %s to' % event, name)
         return said + ''.join(self.sentence([one for one in its if one != waits and not any(
             here.at > since for here in self.reached(one))], 0) for its in found)
+
+    def makers(self, event: str, name: str) -> list[int]:
+        """The statements that make an event for a process; none for the events of the kernel."""
+        if event in OF_KERNEL:
+            return []
+        if event == 'poll':
+            return self.numbered(('poll',), name)
+        posts = [one for one in self.numbered(('post', 'synch'), name)
+                 if event == 'msg' or ' %s' % event in self.program.statement(one).text]
+        return [*posts, *self.numbered(('broadcast',), event)]
 
     def of_timer(self, process: int, name: str, waits: int, since: int) -> str:
         """The event of the timer for which a process waits went to another place: to the timer's block, or to another

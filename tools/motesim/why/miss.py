@@ -371,7 +371,8 @@ class _Misses:
 
     def silent(self) -> Iterator[Miss]:
         """Neighbours from which nothing arrived, because they sent nothing."""
-        if self.kind not in ('recv', 'print', 'send') or self.sender is not None:
+        is_of_packets = self.kind == 'recv' or self.kind in ('print', 'send') and self.program().receiver is not None
+        if not is_of_packets or self.sender is not None:
             return
         scenario, traces = self.source.scenario, self.source.traces
         near = [it for it in scenario.hearers(self.mote) if scenario.is_open(it, self.mote)]
