@@ -9,7 +9,7 @@ from motesim.judge.sentences import names_of, read_sentence
 from motesim.report import Report
 from motesim.runner.run import answer
 from motesim.scenario import Scenario
-from motesim.why.miss import misses, value_elsewhere
+from motesim.why.miss import misses, rows, value_elsewhere
 from motesim.why.question import Asker, Missing, Unasked
 from motesim.why.source import Source
 
@@ -298,6 +298,20 @@ class Claims(unittest.TestCase):
             self.assertIn('line 1: `%s`, which calls it, was never reached' % made[:-1], '\n'.join(said))
         polled = head + 'yield_until is(poll); print 1; } }'
         self.assertIn('; no statement polls p', '\n'.join(self.near(line_of_motes(polled, 1), 'mote 0 prints p 1')))
+
+    def test_a_block_that_only_a_kill_would_run(self) -> None:
+        kills = 'process q, p; autostart q, p; code q { body {\nyield;\nkill p; } } ' \
+                'code p { onexit {\nprint 9; } body { yield; } }'
+        said = self.near(line_of_motes(kills, 1), 'mote 0 prints p 9')
+        self.assertIn('line 4: `print 9` was never reached, because nothing killed p; line 3: `kill p`, which kills '
+                      'it, was never reached, because q has waited at line 2: `yield` since 0', said)
+
+    def test_a_mote_that_has_all_it_could_have_is_not_described(self) -> None:
+        asker = self.asker(line_of_motes(SENDER))
+        missing = asker.about('motes 1 and 2 together receive at least 9 times')
+        assert isinstance(missing, Missing)
+        # (mote 2 received all packets of its only neighbour)
+        self.assertEqual(rows(missing, misses(asker, missing))[-2:], ['Near misses at mote 2:', '  none was found'])
 
     def test_a_number_of_lines_that_looks_like_a_value(self) -> None:
         data = line_of_motes(SENDER)

@@ -16,8 +16,8 @@ MOST_CALLERS, DEEPEST = 3, 3
 SENDS, SETS = ('post', 'synch', 'poll'), ('set', 'reset', 'restart_timer')
 OF_EVENT, OF_TIMER, OF_SEMAPHORE = (re.compile(form % r'\(\s*(\w+)\s*\)') for form in ('is%s', 'fired%s', 'count%s'))
 # The effect of a statement on the process, its thread, timer or semaphore, if the statement isn't a call.
-DOES = {'start': 'starts it', 'spawn': 'runs it', 'restart': 'runs it', 'signal': 'adds 1 to the semaphore',
-        **dict.fromkeys(SETS, 'sets the timer')}
+DOES = {'start': 'starts it', 'kill': 'kills it', 'spawn': 'runs it', 'restart': 'runs it',
+        'signal': 'adds 1 to the semaphore', **dict.fromkeys(SETS, 'sets the timer')}
 NEVER, LAST = 'was never %s, the last time at %d', 'was not %s the last time, at %d'
 ELSEWHERE = '; timer %s was due at %d: its event was taken while %s waited at %s'
 # Events that only the kernel makes, never a statement.
@@ -92,6 +92,9 @@ class Callers:
         if kind == 'onpoll':
             return ', because nothing polled %s%s%s' % (process.name, until, self.sentence(
                 self.numbered(('poll',), process.name), depth))
+        if kind == 'onexit':
+            return ', because nothing killed %s%s%s' % (process.name, until, self.sentence(
+                self.numbered(('kill',), process.name), depth))
         if kind == 'body' and it.process not in self.program.autostart:
             is_known = not depth and process.name == self.known
             return ', because %s never started%s%s' % (

@@ -596,7 +596,7 @@ def rows(missing: Missing, found: list[tuple[int, list[Miss]]]) -> list[str]:
         for it in its:
             lines.append('  %s%s' % (it.words, ' (line %d of the report)' % it.row if it.row else ''))
         if not its:
-            lines.append('  nothing that happened at this mote is similar')
+            lines.append('  none was found')
     return lines
 
 
