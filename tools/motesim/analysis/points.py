@@ -123,8 +123,8 @@ class Wish(NamedTuple):
         if self.nets and kind == 'yes or no':
             # (the mean of a net is a share)
             kind = measured(values)
-        # (a column with the name of a count, but with parts of 1, is a share that somebody named so)
-        is_named = name == REJECTED or is_count(name) and kind != 'share'
+        # (only if no file shows the measure's text; and parts of 1 are a share that somebody named like a count)
+        is_named = name == REJECTED or name not in self.kinds and is_count(name) and kind != 'share'
         if kind == 'count' or self.is_count and name == self.measure or is_named:
             return 'count' if min(values, default=0) >= 0 else 'any'
         return kind
@@ -263,14 +263,16 @@ def kinds_of(rows: Sequence[Row]) -> dict[str, Measured]:
     values = {name: [row[name] for row in rows if row[name] is not None] for name in measures_of(rows)}
     kinds = {name: measured([float(it) for it in its if isinstance(it, int | float)]) for name, its in values.items()
              if its and not any(isinstance(it, str) for it in its)}
-    counts = _counts_by_text(rows)
+    counts = _counts(rows)
     return {name: 'count' if name in counts and kind != 'share' else kind for name, kind in kinds.items()}
 
 
-def _counts_by_text(rows: Sequence[Row]) -> set[str]:
-    """The names of the measures that are counts by the texts of all rows, also of those that the author named."""
+def _counts(rows: Sequence[Row]) -> set[str]:
+    """The names of the measures that are counts in all rows: by the measures' texts or, in rows of older sweeps, which
+    have no texts, by their names."""
     texts = {text_of(row.get(TEXTS)) for row in rows}
-    names = [{name_of(it) for it in text.split('; ') if is_count(it)} for text in texts]
+    names = [{name_of(it) for it in (text.split('; ') if text else measures_of(rows)) if is_count(it)}
+             for text in texts]
     return set.intersection(*names) if names else set()
 
 
