@@ -203,7 +203,7 @@ REFUSALS = (
     ('process_start(&p, (void *)3);', 'passes no value'), ('process_exit(&p);', 'ends itself by `PROCESS_EXIT()`'),
     ('x = a[4];', 'the members 0 to 2'), ('n = -1; a[n] = 3;', 'the members 0 to 2'),
     ('x = ev;', 'is compared with events'), ('return;', '`return` in a process'),
-    ('while(n) { PT_SEM_INIT(&s, 1); }', 'is set once'), ('x = ;', 'An expression is expected here, not `;`.'),
+    ('while(n--) { PT_SEM_INIT(&s, 1); }', 'is set once'), ('x = ;', 'An expression is expected here, not `;`.'),
     ('static int *q = &n; q = &x;', 'or is NULL: use an index'),
     ('x = *(int *)packetbuf_dataptr();', 'The packet and its sender are known only in the function'),
     ('etimer_set(&et, 7000L * CLOCK_SECOND);', 'at most 65,535 moments'), ('x = strlen("a");', 'no `strlen`'),
@@ -506,6 +506,24 @@ PROCESS_THREAD(p, ev, data)
             if name:
                 self.assertIn('line 21: `%s` points to a packet, its sender or the data' % name, notes)
 
+    def test_a_loop_whose_test_never_changes_is_refused(self) -> None:
+        above = ('static int acked, x, k[2]; static void count(void) { acked++; } static void say(int n) '
+                 '{ printf("%d", n + x); }\nstatic void set(int *q) { *q = 1; }')
+        for body, wanted in (
+                ('while(acked != 1);', 'Once the test of this loop is true'), ('while(1);', 'This loop never ends'),
+                ('for(;;) { x++; }', 'This loop never ends'), ('do { say(2); } while(acked < 2);', 'Once the test'),
+                ('while(!etimer_expired(&et));', 'Once the test'), ('while(1) { if(x) { say(1); break; } }', 'Once'),
+                ('for(x = 0; acked == 0; x++) { say(x); }', 'Once the test'),
+                ('while(x) { if(acked) { say(1); } }', 'Once the test'),
+                ('while(acked < 3) { count(); }', ''), ('while(x < 3) { x++; }', ''), ('while(!x) { set(&x); }', ''),
+                ('while(1) { if(x) { if(acked++) break; } }', ''), ('while(1) { x++; if(x > 4) PROCESS_EXIT(); }', ''),
+                ('while(acked) { PROCESS_YIELD(); }', ''), ('while(0);', ''), ('do { x++; } while(0);', ''),
+                ('while(k[0]) { k[0]--; }', ''), ('while(random_rand() % 6);', ''), ('while(x) { break; }', ''),
+                ('while(1) { switch(x) { default: PROCESS_EXIT(); } }', ''),
+                ('while(!etimer_expired(&et)) { etimer_stop(&et); x++; if(x > 3) break; }', '')):
+            text, notes = translation(in_process('  ' + body, above, '  static struct etimer et;'))
+            self.assertEqual((text is None, wanted in notes), (bool(wanted), True), body + notes)
+
     def test_a_loop_that_only_waits_for_a_time_is_refused(self) -> None:
         for body, is_busy in (
                 ('while(!timer_expired(&t));', True), ('while(clock_time() - u < 10) { printf("%d", 1); }', True),
@@ -513,7 +531,7 @@ PROCESS_THREAD(p, ev, data)
                 ('while(!timer_expired(&t)) { if(n++ > 5) break; }', False),
                 ('while(n++ < 5) u = clock_time();', False),
                 ('while(clock_time() - u < 10) { u -= 2; }', False),
-                ('while(clock_time() < 9) { timer_set(&t, 3); }', False)):
+                ('while(clock_time() < 9) { timer_set(&t, 3); }', True)):
             text, notes = translation(in_process('  ' + body, 'static struct timer t;', VARIABLES))
             self.assertEqual((text is None, 'so this loop never ends' in notes), (is_busy, is_busy), body + notes)
 
@@ -924,7 +942,8 @@ static const struct broadcast_callbacks calls = { recv };'''
         above = 'static struct ctimer c; static void tick(void *ptr) { printf("%d", 1); }'
         start, again = 'ctimer_set(&c, 3, tick, NULL); ', 'ctimer_restart(&c); '
         for body, is_early in (
-                (again + start, True), (start + again, False), ('while(1) { %s }' % (again + start), False)):
+                (again + start, True), (start + again, False),
+                ('while(1) { PROCESS_PAUSE(); %s }' % (again + start), False)):
             notes = self.remarks(body, above)
             self.assertEqual('`c` has no function before the first `ctimer_set`' in notes, is_early)
 

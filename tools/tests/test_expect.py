@@ -245,6 +245,14 @@ class Sentences(unittest.TestCase):
             read_sentence('mote 0 prints 9 times', Names(('p',), 3))
         self.assertNotIn('prints p 9 times', str(caught.exception))
 
+    def test_a_process_may_have_its_name_in_c(self) -> None:
+        names = Names(('etimer', 'ctimer', 'radio', 'hell_worl_proc'), 3)
+        for sentence in 'mote 0 prints %s 3', 'every mote prints %s its number', 'mote 0 never starts %s':
+            self.assertEqual(read_sentence(sentence % 'hello_world_process', names),
+                             read_sentence(sentence % 'hell_worl_proc', names))
+        with self.assertRaises(SentenceFault):
+            read_sentence('mote 0 prints hello_moon_process 3', names)
+
     def test_an_unknown_process_has_a_hint_with_the_processes_of_the_programs(self) -> None:
         names = Names(('etimer', 'ctimer', 'radio', 'node', 'clock'), 3)
         hint = 'Hint: no program has a process `%s`; there are: node, clock.'

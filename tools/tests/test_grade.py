@@ -190,6 +190,12 @@ PROCESS_THREAD(a, ev, data) {
         self.assertIn('line 6: printf("%d", strlen("abc"));', said)
         self.assertIn('\nline 6 in C: ', self.grade('--net', 'task.toml', '--why', 'kai.c'))
         self.assertIn('motesim has no `strlen`', said)
+        pauses = 'etimer_set(&et, 5); while(!etimer_expired(&et)) { PROCESS_PAUSE(); } printf("%d", 4);'
+        timer = '  static struct etimer et;\n  PROCESS_BEGIN();'
+        self.hand_in('pia.c', (in_c % 4).replace('  PROCESS_BEGIN();', timer).replace('printf("%d", 4);', pauses))
+        self.assertIn('(at `while !expired(et) {` of the translated program)',
+                      self.grade('--net', 'task.toml', '--why', 'pia.c'))
+        (self.folder / 'pia.c').unlink()
         self.grade('--net', 'task.toml', '--write', 'scenarios')
         written = (self.folder.parent / 'scenarios' / 'lea.c_in_task.toml').read_text()
         self.assertIn('// Translated from C', written)
@@ -217,6 +223,11 @@ PROCESS_THREAD(a, ev, data) {
         self.grade('--net', 'task.toml', '-o', 'marks.html')
         page = (self.folder.parent / 'marks.html').read_text()
         self.assertEqual(page.count('line 9 in C: In Contiki, a timer that is reset before it has expired'), 1)
+        self.grade('--net', 'task.toml', '-o', 'marks.csv', '-o', 'marks.toml')
+        named = 'on a node, lines 9 and 10 may do something else'
+        self.assertIn('"max.c",3,3,"%s",' % named, (self.folder.parent / 'marks.csv').read_text())
+        faults = [it.get('fault') for it in tomllib.loads(self.page('marks.toml'))['solution']]
+        self.assertEqual(faults, [None, None, named])
 
     def test_files_that_are_no_solutions_have_no_mark_and_do_not_count(self) -> None:
         (self.folder / 'Emil_4712_file').mkdir()

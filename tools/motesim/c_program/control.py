@@ -1,7 +1,7 @@
 """Translates statements: blocks, branches, loops, and jumps by flags."""
 from __future__ import annotations
 
-from collections.abc import Callable, Sequence
+from collections.abc import Callable, Iterable, Sequence
 from typing import NamedTuple, Union
 
 from motesim.c_program.base import joined_limits
@@ -9,11 +9,11 @@ from motesim.c_program.calls import TIMER
 from motesim.c_program.constants import constant_of
 from motesim.c_program.places import INTACT
 from motesim.c_program.radio import FILLED, Radio
-from motesim.c_program.tree import Expression, Statement, Variable
+from motesim.c_program.tree import Expression, Function, Statement, Variable
 from motesim.c_program.types import INT
 from motesim.c_program.knowledge import LoopLimits
 from motesim.c_program.values import Limits, Value, both, compared, is_true, negated, number, united
-from motesim.c_program.walk import all_parts, assigned_in, has_jump, parts_of
+from motesim.c_program.walk import all_parts, assigned_in, has_jump, parts_of, statements_in
 from motesim.c_program.written import Block, Comment, Flag, If, Line, Target, While
 
 # A test whose statements are at most so many is written twice: above its loop, and at the end of its block.
@@ -21,10 +21,16 @@ MOST_TWICE = 4
 WAIT_IN_SWITCH = 'A process of Contiki can\'t wait inside of a `switch`: use `if` and `else`.'
 BUSY = ('No time passes here in a loop that doesn\'t wait, so this loop never ends. Let the process wait for an '
         'etimer: `etimer_set(&et, 10); PROCESS_WAIT_EVENT_UNTIL(etimer_expired(&et));`.')
-# Calls whose results depend on the time, and calls after which a loop has the same test.
+NEVER_ENDS = ('Once the test of this loop is true, the loop never ends: nothing in it changes the test, and no event '
+              'arrives in a loop that doesn\'t wait. Let the process wait instead, such as by '
+              '`PROCESS_WAIT_EVENT_UNTIL(..);` with the opposite test.')
+NO_END = ('This loop never ends, and no event arrives in a loop that doesn\'t wait: let the process wait in it, such '
+          'as by `PROCESS_YIELD();`, or leave it out.')
+# Calls whose results depend on the time, and calls that return the same in a loop that doesn't wait.
 TIMES = frozenset(('clock_time', 'clock_seconds', 'timer_expired', 'stimer_expired', 'timer_remaining',
                    'stimer_remaining', 'stimer_elapsed'))
-HARMLESS = frozenset((*TIMES, 'printf', 'watchdog_periodic', 'leds_on', 'leds_off', 'leds_toggle'))
+STEADY = frozenset((*TIMES, 'etimer_expired', 'ctimer_expired', 'rimeaddr_cmp', 'linkaddr_cmp', 'packetbuf_datalen'))
+EXITS = ('PROCESS_EXIT', 'PT_EXIT', 'PT_RESTART')
 NO_BREAK = 'There is no loop around this `%s`.'
 YIELDS = ('PROCESS_YIELD', 'PROCESS_WAIT_EVENT', 'PT_YIELD')
 WAITS = ('PROCESS_YIELD', 'PROCESS_WAIT_EVENT', 'PROCESS_PAUSE', 'PROCESS_WAIT_EVENT_UNTIL', 'PROCESS_WAIT_UNTIL',
@@ -249,8 +255,7 @@ class Control(Radio):
     def of_for(self, it: Statement) -> Flow:
         for first in it.others:
             self.one(first)
-        if it.expressions[0] is None:
-            self.check_busy(it, None)
+        self.check_busy(it, it.expressions[0])
         return self.loop(it, it.expressions[0], it.expressions[1])
 
     def of_do(self, it: Statement) -> Flow:
@@ -315,19 +320,45 @@ class Control(Radio):
         return Flow(not is_endless, frozenset(outer))
 
     def check_busy(self, it: Statement, test: Expression | None) -> None:
-        """Refuses a loop that only waits for a time: no time passes in it here."""
-        is_endless = test is None or constant_of(test) not in (0, None)
-        if not is_endless and (has_jump(it.body, 'break') or has_jump(it.body, 'return')):
+        """Refuses a loop that doesn't wait, and changes nothing that its test reads."""
+        steps = tuple(Statement('expression', it.line, (), (one,)) for one in it.expressions[1:])
+        body = (*steps, *it.body)
+        value = constant_of(test) if test else 1
+        tests = exits_of(body) if value else [test] if test and value is None and not leaves(body) else None
+        if tests is None:
             return
-        tests = exits_of(it.body) if is_endless else [test]
-        parts = [one for each in tests if each for one in parts_of(each)]
-        are_of_time = all(each and any(one.text in TIMES for one in parts_of(each)) for each in tests)
-        calls = {one.text for one in (*parts, *all_parts(it.body)) if one.kind == 'call'}
-        changed = {*assigned_in(it.body)} & {one.variable for one in parts if one.variable
-                                             and one.variable.type.kind not in ('timer', 'stimer')}
-        is_plain = not any(one.kind in ('assign', 'postfix') or one.text in ('++', '--') for one in parts)
-        if tests and are_of_time and calls <= HARMLESS and not changed and is_plain:
-            raise self.refuse(it.line, BUSY)
+        parts = [one for each in tests for one in parts_of(each)]
+        if self.waits_in((*parts, *all_parts(body))) or not self.is_steady(parts, body):
+            return
+        is_of_time = any(one.kind == 'call' and one.text in TIMES for one in parts)
+        raise self.refuse(it.line, BUSY if is_of_time else NEVER_ENDS if tests else NO_END)
+
+    @staticmethod
+    def waits_in(parts: Iterable[Expression]) -> bool:
+        return any(one.kind == 'call' and one.text in (*WAITS, 'PT_SCHEDULE') for one in parts)
+
+    def is_steady(self, parts: Sequence[Expression], body: Sequence[Statement]) -> bool:
+        """Returns whether a loop certainly changes nothing that some expressions read."""
+        statements, called = [*body], self.called_in(body)
+        for function in called:
+            statements += function.body
+        changed = {*assigned_in(statements)}
+        read = {one.variable for one in parts if one.variable}
+        is_plain = not any(one.kind in ('assign', 'postfix') or one.text in ('++', '--') or one.kind == 'call'
+                           and one.text not in STEADY for one in parts)
+        has_pointers = any(one.type.kind == 'pointer' for one in (*changed, *read))
+        return is_plain and not has_pointers and not read & changed and not any(it.type.kind == 'array' for it in read)
+
+    def called_in(self, body: Sequence[Statement]) -> list[Function]:
+        """The functions of the program that some statements call, also by other functions."""
+        found, waiting = list[Function](), [body]
+        while waiting:
+            for it in all_parts(waiting.pop()):
+                function = self.file.functions.get(it.text) if it.kind in ('call', 'name') else None
+                if function and function not in found:
+                    found.append(function)
+                    waiting.append(function.body)
+        return found
 
     def tested(self, test: Expression | None) -> tuple[Block, Value]:
         """The statements that a test needs, and its value."""
@@ -514,7 +545,24 @@ def is_one(it: Value) -> Value:
     return number(1) if it.constant not in (0, None) else it
 
 
-def exits_of(statements: Sequence[Statement]) -> list[Expression | None]:
-    """The tests of the `if` statements that leave the loop around them."""
-    return [it.expressions[0] for it in statements if it.kind == 'if' and any(
-        has_jump((*it.body, *it.others), kind) for kind in ('break', 'return'))]
+def exits_of(statements: Sequence[Statement]) -> list[Expression] | None:
+    """The tests of the `if` statements that leave the loop around them; None if other statements leave it, too."""
+    found = list[Expression]()
+    for it in statements:
+        if leaves([it]):
+            inner = exits_of([one for one in (*it.body, *it.others) if not is_jump(one)])
+            if it.kind != 'if' or not it.expressions[0] or inner is None:
+                return None
+            found += [it.expressions[0], *inner]
+    return found
+
+
+def is_jump(it: Statement) -> bool:
+    """Returns whether a statement leaves the loop around it."""
+    value = it.expressions[0] if it.kind == 'expression' else None
+    return it.kind in ('break', 'return') or value is not None and value.kind == 'call' and value.text in EXITS
+
+
+def leaves(statements: Sequence[Statement]) -> bool:
+    """Returns whether some statements may leave the loop around them."""
+    return any(is_jump(it) and it.kind != 'break' for it in statements_in(statements)) or has_jump(statements, 'break')

@@ -1,14 +1,14 @@
 """Pointers that move over the members of one array: each becomes the index of a member, and NULL is -1."""
 from __future__ import annotations
 
-from collections.abc import Iterable, Iterator
+from collections.abc import Iterable
 from dataclasses import dataclass, field, replace
 
 from motesim.c_program.constants import constant_of
 from motesim.c_program.refusal import Refusal
 from motesim.c_program.tree import Expression, File, Function, Statement, Variable
 from motesim.c_program.types import INT
-from motesim.c_program.walk import all_parts, declared_in, parts_of, without_casts
+from motesim.c_program.walk import all_parts, declared_in, parts_of, statements_in, without_casts
 
 MEMBERS = ('int', 'bool', 'struct', 'address')
 TESTS = ('if', 'while', 'do', 'for')
@@ -153,14 +153,6 @@ def is_address(it: Expression) -> bool:
 def is_of_members(it: Variable) -> bool:
     """Returns whether a variable is an array whose members an index may choose, or a pointer to one."""
     return it.type.of is not None and it.type.of.kind in MEMBERS
-
-
-def statements_in(statements: Iterable[Statement]) -> Iterator[Statement]:
-    """All statements in some statements."""
-    for it in statements:
-        yield it
-        yield from statements_in(it.body)
-        yield from statements_in(it.others)
 
 
 class Rewriter:

@@ -56,6 +56,14 @@ def declared_in(statements: Iterable[Statement]) -> Iterator[Statement]:
         yield from declared_in(it.body)
 
 
+def statements_in(statements: Iterable[Statement]) -> Iterator[Statement]:
+    """All statements in some statements."""
+    for it in statements:
+        yield it
+        yield from statements_in(it.body)
+        yield from statements_in(it.others)
+
+
 def base_of(it: Expression) -> Variable | None:
     """The variable of which an expression is a part."""
     while it.kind in ('index', 'member', 'arrow', 'cast', 'unary', 'postfix') and it.parts:

@@ -12,6 +12,7 @@ from motesim.explain.explanation import explanation, of_program as fault_of_prog
 from motesim.explain.lint import (
     ZERO_GIVEN, Program, by_cause, of_moments, of_net, of_program, of_run, of_seeds, of_start, programs_of,
 )
+from motesim.explain.whole import line_at
 from motesim.explain.within import busiest
 from motesim.faults import Fault, tried
 from motesim.files import replace_whole
@@ -52,7 +53,7 @@ BINARY = 'the file is binary: it has bytes that no text has'
 OF_C = 'its program is in C'
 NOT_NOTATION = ', not in the notation of mote programs (tools/explain FILE.c --apply NEW.toml translates it)'
 OF_LINE = re.compile(r'\(line (\d+) of the program\)')
-OF_TRANSLATED = r'(line \1 of the translated program)'
+OF_TRANSLATED = '(at `%s` of the translated program)'
 # The most lines of an error, and the most warnings, that are shown.
 MOST_LINES, MOST_WARNED = 60, 3
 
@@ -83,6 +84,11 @@ class Mark(NamedTuple):
     def words(self) -> str:
         """The sentence, with a remark if it is required."""
         return self.sentence + REQUIRED * self.is_required
+
+
+def in_translation(warning: str, text: str) -> str:
+    """A warning about a translated program: its author knows only the text of a line, not the number."""
+    return OF_LINE.sub(lambda found: OF_TRANSLATED % line_at(text, int(found[1])), warning)
 
 
 def lines_of(rows: Iterable[str]) -> tuple[str, ...]:
@@ -233,7 +239,7 @@ class Task:
         unused = unused_of(data, entry.path.name, self.nets[0]) if self.nets else ''
         marks = replace(self.together(entry.name, found), unused=unused)
         if entry.path.suffix == '.c':
-            marks = replace(marks, warned=tuple(OF_LINE.sub(OF_TRANSLATED, it) for it in marks.warned),
+            marks = replace(marks, warned=tuple(in_translation(it, its[1]) for it in marks.warned),
                             of_c=remarks_of(encodings.text_of_c(data).removeprefix(MARK)))
         if any(its.is_refused for its in found):
             # (a file whose programs are expected to be refused keeps its marks)

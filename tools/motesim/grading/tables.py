@@ -86,6 +86,11 @@ def without_separators(text: str) -> str:
     return text.replace(';', '\\x3b').replace('\t', '\\x09')
 
 
+def fault_of(marks: Marks) -> str:
+    """The reason why a solution has no mark, or the lines in C that may do something else on a node."""
+    return '; '.join(filter(None, (marks.fault, on_node(marks.of_c))))
+
+
 def csv_of(marked: Sequence[Marks], sentences: Sequence[str], is_for_excel: bool = False) -> str:
     """A row for each solution, with 1 for a sentence that holds and otherwise 0; its cells are empty if it isn't
     marked.
@@ -100,7 +105,7 @@ def csv_of(marked: Sequence[Marks], sentences: Sequence[str], is_for_excel: bool
         holds: list[object] = [int(one.holds) for one in it.marks]
         missing = 0 if it.has_mark else ''
         rows.writerow([cell(without_separators(it.name)), it.held if it.has_mark else missing, len(sentences),
-                       cell(without_separators(it.fault)), *(holds or [missing] * len(sentences))])
+                       cell(without_separators(fault_of(it))), *(holds or [missing] * len(sentences))])
     return out.getvalue()
 
 
@@ -129,7 +134,7 @@ def toml_of(marked: Sequence[Marks], sentences: Sequence[str], expectations: str
             lines.append('holds = %d' % it.held)
             lines.append('broken = [%s]' % ', '.join(map(str, broken)))
         lines.append('of = %d' % len(sentences))
-        lines += ['fault = %s' % quoted(it.fault)] if it.fault else []
+        lines += ['fault = %s' % quoted(fault_of(it))] if fault_of(it) else []
         failed = it.first_failed
         if failed is not None and it.marks[failed].more:
             lines.append('first_failed = %s' % quoted('\n'.join(it.marks[failed].more)))

@@ -13,6 +13,7 @@ from collections.abc import Callable, Sequence
 from dataclasses import dataclass
 
 from motesim.faults import Fault
+from motesim.from_c.scope import LONGEST, abbreviated
 from motesim.explain.synonyms import nearest
 from motesim.judge.nearly import rewritten
 from motesim.notation.keywords import SYSTEM
@@ -530,7 +531,8 @@ class _Reader:
 
     def process(self) -> str | None:
         """A process, if one is next."""
-        known, word = self.names.processes, self.word()
+        # (a name that a program in C has is shorter in its translation)
+        known, word = self.names.processes, as_in_notation(self.word())
         if word in known if known is not None else re.fullmatch('[a-z][a-z0-9_]*', word):
             self.at += 1
             return word
@@ -788,6 +790,11 @@ class _Reader:
         if count is None:
             raise self.fault()
         return self.things(count, ('mote', 'motes', 'copy', 'copies', 'packet', 'packets'))
+
+
+def as_in_notation(name: str) -> str:
+    """The name of a process in the notation, which has at most 16 characters."""
+    return abbreviated(name) if len(name) > LONGEST else name
 
 
 def read_sentence(sentence: str, names: Names = Names()) -> Sentence:
