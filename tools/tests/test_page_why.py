@@ -197,7 +197,10 @@ class Runs(unittest.TestCase):
                                   if miss.kind in ('reached', 'condition')) if it}
             self.assertEqual(reached, {(it.line, page.reached(mote, it, first, last)[1])
                                        for it in page.statements(mote, deed, process)})
-        lost = [it for it in page.copies(mote, last) if it.fate not in ('taken', 'waiting')]
+        is_absent = deed != 'recv' and not page.statements(mote, deed, process)
+        received = ('dropped', 'deaf', 'full') if deed == 'recv' else ()
+        lost = [] if is_absent else [it for it in page.copies(mote, last)
+                                     if it.fate not in ('taken', 'waiting', *received)]
         wanted = [it for it in lost if it.value == value][-8:]
         named = [(it.kind, tuple(map(int, match.groups()))) for it in found if it.kind != 'taken'
                  for match in [PACKET.match(it.words)] if match]

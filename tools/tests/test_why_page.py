@@ -70,12 +70,12 @@ class Notes(unittest.TestCase):
             self.assertEqual(note.lines[0], Line('mote 0: its process c prints exactly these values', 11))
         self.assertEqual(self.note('mote 0 prints a 3').lines[0], Line('mote 0: its process c prints this value', 11))
         for sentence in 'mote 0 prints just a 7, 3', 'mote 0 prints just b 7, 3, 2', 'mote 0 prints a 4':
-            self.assertNotIn('its process', str(self.note(sentence)))
+            self.assertNotIn('its process c', str(self.note(sentence)))
 
     def test_a_page_on_values_opens_at_no_lost_copy_with_another_value(self) -> None:
         run = read_run(str(TOP / 'examples/small_network.toml'))
         assert run.scenario
-        rest = 'copies did not reach a process here; the last'
+        rest = 'copies did not reach a process here'
         for sentence, is_shown in (('mote 1 prints echo 99', False), ('mote 1 prints just echo 30, 99', False),
                                    ('mote 1 prints echo more than 9 times', True),
                                    ('mote 1 prints just echo 99, 30 in any order', False)):
