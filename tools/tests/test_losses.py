@@ -17,7 +17,8 @@ from motesim.analysis.estimates import mean_by_t
 from motesim.explain.hints import WISHES
 from motesim.experiments.one_run import warned
 from motesim.explain import resonance
-from motesim.explain.idle import idle_losses
+from motesim.experiments.draws import warnings_in
+from motesim.explain.idle import FEW, idle_losses
 from motesim.explain.lint import SAME_DRAWS, warnings
 from motesim.explain.resonance import RARE, Together, all_at_once, at_least, hit, kinds_of, resonances
 from motesim.explain.same_seed import SAME_SEED
@@ -84,6 +85,19 @@ class Idle(unittest.TestCase):
             nothing + 'a loss loses packets of its mote `from`, but the motes whose links have losses sent no packet'])
         self.assertEqual(idle_losses(Scenario.parse(SCENARIO % 3), report([7, 7, 7], 3)), '')
         self.assertEqual(idle_losses(Scenario.parse(near.split('[[loss]]')[0]), three), '')
+
+
+    def test_losses_that_lose_little_have_a_warning(self) -> None:
+        """Mote 0 sends 20 packets on four links. Their periods imply 20/19 + 20/23 + 20/29 + 20/31 = 3.26 losses, and
+        only the link with the period 19 loses a packet."""
+        net = SCENARIO % 19 + ''.join('[[mote]]\nx = %d\ny = 1\nprogram = "p"\n[[loss]]\nfrom = 0\nto = %d\n'
+                                      'every = %d\n' % (to, to, every) for to, every in ((2, 23), (3, 29), (4, 31)))
+        found = idle_losses(Scenario.parse(net), report([7] * 20, 19))
+        self.assertEqual(found, FEW + ': 1 of 80, a share of 0.013 instead of 0.041. On 3 of these 4 links the sender '
+                         'sent fewer packets than the period. Make the run longer, or use losses by chance')
+        self.assertEqual([*warnings_in('warning: ' + found)], [FEW])
+        # (23 packets have 2 losses instead of 3.75, and that is more than half)
+        self.assertEqual(idle_losses(Scenario.parse(net), report([7] * 23, 19)), '')
 
 
 class Resonances(unittest.TestCase):

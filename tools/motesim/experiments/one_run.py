@@ -173,8 +173,8 @@ def of_measures(names: Sequence[str]) -> str:
 
 def warned(report: Report, known: Scenario, seconds: float) -> list[str]:
     """The warnings about losses in step, about seeds, about packets that a mote sent at one moment, so that they
-    collided, about losses that lost nothing, and about a run in which all motes halt. If finding them lasts longer
-    than a run may last, there are none."""
+    collided, about losses that lost nothing or too little, and about a run in which all motes halt. If finding them
+    lasts longer than a run may last, there are none."""
     try:
         with limited(seconds):
             its = [*of_losses(known, report), *of_seeds(known, programs_of(known)), *of_moments(report)]
