@@ -14,6 +14,7 @@ from motesim.plan.chance import Chance
 from motesim.faults import Fault
 from motesim.plan.places import Crowd, NoPlace, NotConnected, Point
 from motesim.plan.files import CsvTable, Files
+from motesim.plan.hints import of_chance
 from motesim.plan.keys import (
     CORNER, FIRST_OF_COUNTS, LOSS_STREAM, LOSSES, MEDIUM, MOST_BYTES, MOST_LOSSES, MOST_MOTES, MOST_PLACE, OF_TABLE,
     OTHER, PLACES, TOP,
@@ -104,10 +105,12 @@ class Builder:
         if type(table) is not dict:
             raise self.tables.fault(path, '%s is a table with a key `rule`.' % what, 'a table')
         if 'rule' not in table:
-            raise self.tables.fault(path, '%s needs a `rule`.' % what, '`rule`: one of ' + may, False)
+            rule = '%s needs a `rule`.%s' % (what, of_chance(what, table))
+            raise self.tables.fault(path, rule, '`rule`: one of ' + may, False)
         name = self.tables.filled(table['rule'], path + ('rule',))
         if type(name) is not str or name not in rules:
-            raise self.tables.fault(path + ('rule',), '%s has no such rule.' % what, may)
+            rule = '%s has no such rule.%s' % (what, of_chance(what, [name]))
+            raise self.tables.fault(path + ('rule',), rule, may)
         keys = {'rule': needed(str), **rules[name], **more}
         return self.tables.read(table, path, keys, '%s by the rule `%s`' % (what, name))
 
