@@ -320,6 +320,10 @@ class Runs(unittest.TestCase):
         for name in 'a.toml', 'a.txt':
             with self.assertRaisesRegex(Fault, '%s is a scenario itself' % name):
                 read_run(self.write(name, EXAMPLE), scenario)
+        for name, text in ('blink.c', 'x\n'), ('blink.txt', '/* Two */\n#include "contiki.h"\nPROCESS(b, "b");\n'):
+            with self.assertRaisesRegex(Fault, '%s is a file in C, not a scenario: tools/explain .*%s --apply' % (
+                    name, name)):
+                read_run(self.write(name, text))
         with self.assertRaisesRegex(ReportFault, 'b.report: line 1: expected'):
             read_run(self.write('b.report', 'x\n'))
 

@@ -23,7 +23,7 @@ from motesim.files import refuse_inputs, write_whole
 from motesim.runner.run import Answer, read_file
 from motesim.scenario.encodings import decoded, refuse_encoding, text_of_c
 from motesim.scenario.faults import ScenarioError, find_fault
-from motesim.scenario.kinds import begins_as_c, begins_as_scenario, is_program_file
+from motesim.scenario.kinds import is_c_file, is_program_file
 from motesim.terminal import one_line
 from motesim.toml import MARK
 
@@ -142,11 +142,6 @@ def apply(name: str, output: str, run: Callable[[bytes], Answer], second: int = 
     print('\n%s' % ('%s: %d change%s' % (one_line(output), number, 's' * (number != 1)) if number
                     else NO_CHANGE % no_change))
     return shown_explanation(output, text.encode(), run)
-
-
-def is_c_file(name: str, data: bytes) -> bool:
-    """Returns whether a file has a program in C, by its name or by its beginning."""
-    return name.endswith('.c') or begins_as_c(data) and not begins_as_scenario(data)
 
 
 def translate(name: str, text: str, output: str, run: Callable[[bytes], Answer], second: int) -> int:

@@ -35,11 +35,12 @@ from motesim.runner.programs import ProgramFault as ProgramFault
 from motesim.runner.programs import program_path as program_path
 from motesim.report import Report, ReportFault
 from motesim.scenario import Scenario, ScenarioFault
-from motesim.scenario.kinds import begins_as_program, begins_as_results, has_plan
+from motesim.scenario.kinds import begins_as_program, begins_as_results, has_plan, is_c_file
 
 # The beginning of a report; and that of a scenario: a comment, a table or a key.
 OF_REPORT = re.compile(rb'mote 0 ')
 OF_SCENARIO = re.compile(rb'(?:\xef\xbb\xbf)?\s*(?:#|\[|[A-Za-z0-9_"\'-]+\s*=)')
+IN_C = '%s is a file in C, not a scenario: tools/explain %s --apply NEW.toml writes a scenario with this program'
 
 
 class Run(NamedTuple):
@@ -97,6 +98,12 @@ def refuse_others(path: str | Path, data: bytes) -> None:
             path, path))
 
 
+def refuse_c(path: str | Path, data: bytes) -> None:
+    """Raises a fault if a file has a program in C instead of a scenario or a report."""
+    if is_c_file(str(path), data) and not is_report(data):
+        raise Fault(IN_C % (path, path))
+
+
 def read_run(path: str | Path, scenario: str | Path | None = None, limits: Limits = Limits(),
              program: Path | None = None) -> Run:
     """A report from a file, with the scenario from another file if one is named.
@@ -105,6 +112,7 @@ def read_run(path: str | Path, scenario: str | Path | None = None, limits: Limit
     """
     data = read_file(path)
     refuse_others(path, data)
+    refuse_c(path, data)
     is_run, at, found, file = is_scenario(path, data), path, None, None
     if is_run and scenario is not None:
         raise Fault('%s is a scenario itself: leave the other one out' % path)

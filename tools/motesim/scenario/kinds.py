@@ -73,6 +73,11 @@ def is_program_in_c(source: object) -> bool:
     return OF_CONTIKI.search(text) is not None and OF_NOTATION.search(text) is None
 
 
+def is_c_file(name: str, data: bytes) -> bool:
+    """Returns whether a file has a program in C, by its name or by its beginning."""
+    return name.endswith('.c') or begins_as_c(data) and not begins_as_scenario(data)
+
+
 def begins_as_scenario(data: bytes) -> bool:
     """Returns whether a text begins like a TOML document, and not like a program."""
     return SCENARIO.match(data) is not None

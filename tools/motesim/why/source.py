@@ -10,7 +10,7 @@ from typing import NamedTuple
 from motesim.report.belongs import check_motes, check_scenario
 from motesim.faults import Fault
 from motesim.report import Log, Report, Trace
-from motesim.runner.run import NoReport, is_scenario, read_file, refuse_others, run_program
+from motesim.runner.run import NoReport, is_scenario, read_file, refuse_c, refuse_others, run_program
 from motesim.scenario.encodings import refuse_encoding
 from motesim.scenario.scenario import Scenario
 from motesim.why.endless import Endless, LastRun, endless
@@ -266,6 +266,7 @@ def read_traces(path: str | Path, scenario: str | Path | None = None) -> tuple[b
     """The bytes of a report, and the scenario if it is known. The file has a scenario, which is run, or a report."""
     data = read_file(path)
     refuse_others(path, data)
+    refuse_c(path, data)
     if is_scenario(path, data):
         if scenario is not None:
             raise Fault('%s: it is itself a scenario, so no other can be given' % path)
