@@ -28,7 +28,7 @@ class Comparisons(unittest.TestCase):
                                  ('do { if(timer_expired(&t)) break; } while(1);', True),
                                  ('while(1) { u++; if(timer_expired(&t) || u > 9) break; }', False),
                                  ('while(1) { if(timer_expired(&t)) break; PROCESS_PAUSE(); }', False),
-                                 ('while(1) { if(timer_expired(&t)) break; if(n < 3) break; }', False)):
+                                 ('while(1) { if(timer_expired(&t)) break; if(n++ < 3) break; }', False)):
             self.check(body, 'No time passes here' * is_refused)
 
     def test_an_array_of_a_structure_that_is_not_declared_is_refused(self) -> None:

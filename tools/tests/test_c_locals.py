@@ -69,6 +69,20 @@ class Locals(unittest.TestCase):
                              ('  int local = 3;', 'process_post(&p, PROCESS_EVENT_MSG, &local); PROCESS_YIELD();')):
             self.check(in_process('  ' + body, '', inside), '`local` isn\'t static, so its memory has other values')
 
+    def test_the_data_of_an_event_changes_only_after_its_process_has_got_it(self) -> None:
+        above = ('static int n, m; static uint8_t k[2]; static void next(void) { n++; process_post(&p, 6, &n); }\n'
+                 'static void post(void) { process_post(&p, 6, &n); }')
+        post, other = 'process_post(&p, 6, &n); ', 'process_post(&p, 6, k); '
+        for body, is_refused in (
+                (post + 'n++;', True), (post + 'n = 3;', True), ('next(); next();', True), ('post(); n++;', True),
+                ('for(n = 0; n < 3; n++) { %s }' % post, True), (other + 'k[1] = 3;', True),
+                ('if(m) { %s } n = 2;' % post, True), ('while(m--) { next(); }', True),
+                (post + 'PROCESS_PAUSE(); n++;', False), (post + 'm++;', False), (post + 'if(n == 3) m = 1;', False),
+                ('while(1) { n++; %s PROCESS_YIELD(); }' % post, False), (post + post, False), ('next();', False),
+                ('process_post(&p, 6, (process_data_t)n); n++;', False), (other + 'm = k[1];', False),
+                ('process_post_synch(&p, 6, &n); n++;', False), ('n++; post(); PROCESS_YIELD(); next();', False)):
+            self.check(in_process('  ' + body, above), 'is the address of `' * is_refused, is_refused)
+
 
 if __name__ == '__main__':
     unittest.main()

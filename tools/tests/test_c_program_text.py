@@ -512,7 +512,9 @@ PROCESS_THREAD(p, ev, data)
         for body, wanted in (
                 ('while(acked != 1);', 'Once the test of this loop is true'), ('while(1);', 'This loop never ends'),
                 ('for(;;) { x++; }', 'This loop never ends'), ('do { say(2); } while(acked < 2);', 'Once the test'),
-                ('while(!etimer_expired(&et));', 'Once the test'), ('while(1) { if(x) { say(1); break; } }', 'Once'),
+                ('while(!etimer_expired(&et));', 'Once the test'),
+                ('while(1) { if(etimer_expired(&et)) break; }', 'Once the test'),
+                ('while(1) { if(x) { say(1); break; } }', 'Once'),
                 ('for(x = 0; acked == 0; x++) { say(x); }', 'Once the test'),
                 ('while(x) { if(acked) { say(1); } }', 'Once the test'),
                 ('while(acked < 3) { count(); }', ''), ('while(x < 3) { x++; }', ''), ('while(!x) { set(&x); }', ''),

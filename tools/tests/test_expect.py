@@ -508,6 +508,12 @@ class Files(unittest.TestCase):
         # (tools/explain would run the unchanged scenario)
         self.assertNotIn('explain', out)
 
+    def test_a_program_in_c_has_to_be_translated(self) -> None:
+        self.scenario.write_text('#include "contiki.h"\nPROCESS(p, "p");\n')
+        out, _, code = self.said('expect = ["no mote halts"]')
+        self.assertIn('\ntools/explain %s --apply NEW.toml writes a scenario' % self.scenario, out)
+        self.assertEqual(code, 1)
+
     def test_where_the_scenario_is_refused_tools_explain_is_named(self) -> None:
         self.scenario.write_text(self.scenario.read_text().replace('end = 100', 'end = 2000000'))
         out, _, code = self.said('expect = ["some mote halts", "no mote halts"]')

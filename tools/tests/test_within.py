@@ -98,6 +98,14 @@ class Endless(unittest.TestCase):
         self.assertRegex(self.said('explain', 'send', '--seconds', '0.3'),
                          r'Up to moment \d+, mote 0 sends [\d,]+ packets: .* A larger --seconds raises the limit\n$')
 
+    def test_the_message_names_the_mote_of_a_storm(self) -> None:
+        storm = 'process p;\nautostart p;\nreceiver p;\ncode p { body { send 1; while 1 { yield; send 1; } } }\n'
+        motes = ''.join('[[mote]]\nx = %d\ny = 0\nprogram = "p"\n' % x for x in range(1, 10))
+        data = (NET % storm + motes).replace('per = 100', 'per = 40').replace('1000000', '60')
+        self.assertRegex(busiest(data.encode()), (
+            r'^ Up to moment \d+, the motes send [\d,]+ packets, [\d,]+ of them mote \d: does each packet that'))
+        self.assertEqual(busiest(data.replace('while 1', 'if 1').encode()), '')
+
     def test_the_message_names_the_process_that_pauses(self) -> None:
         text = (NET % PAUSES).replace('1000000', '20000')
         with self.assertRaises(ProgramFault) as caught:

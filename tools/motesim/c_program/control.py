@@ -9,11 +9,11 @@ from motesim.c_program.calls import TIMER
 from motesim.c_program.constants import constant_of
 from motesim.c_program.places import INTACT
 from motesim.c_program.radio import FILLED, Radio
-from motesim.c_program.tree import Expression, Function, Statement, Variable
+from motesim.c_program.tree import Expression, Statement, Variable
 from motesim.c_program.types import INT
 from motesim.c_program.knowledge import LoopLimits
 from motesim.c_program.values import Limits, Value, both, compared, is_true, negated, number, united
-from motesim.c_program.walk import all_parts, assigned_in, has_jump, parts_of, statements_in
+from motesim.c_program.walk import all_parts, assigned_in, has_jump, parts_of, statements_in, with_called
 from motesim.c_program.written import Block, Comment, Flag, If, Line, Target, While
 
 # A test whose statements are at most so many is written twice: above its loop, and at the end of its block.
@@ -30,6 +30,7 @@ NO_END = ('This loop never ends, and no event arrives in a loop that doesn\'t wa
 TIMES = frozenset(('clock_time', 'clock_seconds', 'timer_expired', 'stimer_expired', 'timer_remaining',
                    'stimer_remaining', 'stimer_elapsed'))
 STEADY = frozenset((*TIMES, 'etimer_expired', 'ctimer_expired', 'rimeaddr_cmp', 'linkaddr_cmp', 'packetbuf_datalen'))
+TIMERS = ('etimer', 'ctimer', 'timer', 'stimer')
 EXITS = ('PROCESS_EXIT', 'PT_EXIT', 'PT_RESTART')
 NO_BREAK = 'There is no loop around this `%s`.'
 YIELDS = ('PROCESS_YIELD', 'PROCESS_WAIT_EVENT', 'PT_YIELD')
@@ -330,8 +331,8 @@ class Control(Radio):
         parts = [one for each in tests for one in parts_of(each)]
         if self.waits_in((*parts, *all_parts(body))) or not self.is_steady(parts, body):
             return
-        is_of_time = any(one.kind == 'call' and one.text in TIMES for one in parts)
-        raise self.refuse(it.line, BUSY if is_of_time else NEVER_ENDS if tests else NO_END)
+        are_of_time = all(any(one.text in TIMES for one in parts_of(each)) for each in tests)
+        raise self.refuse(it.line, NO_END if not tests else BUSY if are_of_time else NEVER_ENDS)
 
     @staticmethod
     def waits_in(parts: Iterable[Expression]) -> bool:
@@ -339,26 +340,15 @@ class Control(Radio):
 
     def is_steady(self, parts: Sequence[Expression], body: Sequence[Statement]) -> bool:
         """Returns whether a loop certainly changes nothing that some expressions read."""
-        statements, called = [*body], self.called_in(body)
-        for function in called:
-            statements += function.body
-        changed = {*assigned_in(statements)}
+        statements = with_called(body, self.file.functions)
+        calls = {one.text for one in all_parts(statements) if one.kind == 'call'}
+        sets_timer = any('timer_' in one for one in calls - STEADY)
+        changed = {one for one in assigned_in(statements) if sets_timer or one.type.kind not in TIMERS}
         read = {one.variable for one in parts if one.variable}
         is_plain = not any(one.kind in ('assign', 'postfix') or one.text in ('++', '--') or one.kind == 'call'
                            and one.text not in STEADY for one in parts)
         has_pointers = any(one.type.kind == 'pointer' for one in (*changed, *read))
         return is_plain and not has_pointers and not read & changed and not any(it.type.kind == 'array' for it in read)
-
-    def called_in(self, body: Sequence[Statement]) -> list[Function]:
-        """The functions of the program that some statements call, also by other functions."""
-        found, waiting = list[Function](), [body]
-        while waiting:
-            for it in all_parts(waiting.pop()):
-                function = self.file.functions.get(it.text) if it.kind in ('call', 'name') else None
-                if function and function not in found:
-                    found.append(function)
-                    waiting.append(function.body)
-        return found
 
     def tested(self, test: Expression | None) -> tuple[Block, Value]:
         """The statements that a test needs, and its value."""

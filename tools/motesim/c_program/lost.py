@@ -1,15 +1,16 @@
-"""Local variables of C that are read without a value that C guarantees: those that nothing has assigned yet, and those
-that lose their value, because a process leaves its function when it waits."""
+"""Variables of C that are read without a value that C guarantees: local variables that nothing has assigned yet, those
+that lose their value, because a process leaves its function when it waits, and the data of an event, if the variable
+whose address it is changes before a process gets the event."""
 from __future__ import annotations
 
-from collections.abc import Callable, Iterable, Sequence
+from collections.abc import Callable, Collection, Iterable, Sequence
 from typing import NamedTuple
 
 from motesim.c_program.constants import constant_of
 from motesim.c_program.control import WAITS
 from motesim.c_program.refusal import Refusal
 from motesim.c_program.tree import Expression, Function, Statement, Variable
-from motesim.c_program.walk import declared_in, without_casts
+from motesim.c_program.walk import all_parts, assigned_in, declared_in, with_called, without_casts
 
 LOST = ('In C, `%s` isn\'t static, so its value is lost at each wait of its process, and this line reads it after a '
         'wait: declare it as `static` in line %d.')
@@ -20,6 +21,10 @@ MAYBE_UNSET = ('In C, `%s` has a value here only if a line above has assigned on
                'which declares it.')
 LOST_DATA = ('In C, `%s` isn\'t static, so its memory has other values when this address is used: declare it as '
              '`static` in line %d.')
+CHANGED = ('The data of an event that was posted above is the address of `%s`, and this line changes `%s` before a '
+           'process gets the event. So in Contiki, this process reads the new value. Post the value itself, '
+           '`process_post(&p, EVENT, (process_data_t)%s)`, which the other process reads by `(int)data`, or wait '
+           'between the two, such as by `PROCESS_PAUSE();`.')
 NOT_STATIC = ('In C, `%s` isn\'t static, so its memory has other values after a wait, and it doesn\'t work: declare '
               'it as `static`.')
 # The kinds of objects that are in use after the function that declares them is left.
@@ -40,23 +45,26 @@ class State(NamedTuple):
     certain   those that have a value, whichever way the program has taken
     possible  those that have a value if it has taken some way
     waited    whether it may have waited
+    posted    those whose address is the data of an event that no process has got yet
     """
     certain: frozenset[Variable] = frozenset()
     possible: frozenset[Variable] = frozenset()
     waited: bool = False
+    posted: frozenset[Variable] = frozenset()
 
     def with_value(self, it: Variable) -> State:
-        return State(self.certain | {it}, self.possible | {it}, self.waited)
+        return self._replace(certain=self.certain | {it}, possible=self.possible | {it})
 
     def without_value(self, it: Variable) -> State:
-        return State(self.certain - {it}, self.possible - {it}, self.waited)
+        return self._replace(certain=self.certain - {it}, possible=self.possible - {it})
 
 
 def joined(states: Iterable[State | None]) -> State | None:
     """The state at a place that is reached in several ways; None if no way leads there."""
     known = [it for it in states if it is not None]
     return State(frozenset.intersection(*(it.certain for it in known)),
-                 frozenset.union(*(it.possible for it in known)), any(it.waited for it in known)) if known else None
+                 frozenset.union(*(it.possible for it in known)), any(it.waited for it in known),
+                 frozenset.union(*(it.posted for it in known))) if known else None
 
 
 class Reading(NamedTuple):
@@ -67,10 +75,11 @@ class Reading(NamedTuple):
 
 
 class Locals:
-    """Follows the local variables of a function."""
+    """Follows the local variables of a function, and those that it posts. `functions`: those that it may call."""
 
-    def __init__(self, function: Function):
+    def __init__(self, function: Function, functions: Collection[Function]):
         self.function = function
+        self.functions = {it.name: it for it in functions if it.kind == 'function'}
         self.state: State | None = State()
         # The readings of variables without a value, by the places in the tree.
         self.found: dict[int, Reading] = {}
@@ -233,14 +242,20 @@ class Locals:
 
     def note_value(self, it: Expression) -> None:
         if it.variable is not None and self.state is not None:
+            self.note_change(it, it.variable)
             self.state = self.state.with_value(it.variable)
-            self.changed.add(it.variable)
 
     def note_step(self, it: Expression) -> None:
         """Notes a variable whose new value depends on its old one: if this one is lost, so is the new one."""
         self.note_read(it)
         if it.variable is not None:
-            self.changed.add(it.variable)
+            self.note_change(it, it.variable)
+
+    def note_change(self, it: Expression, variable: Variable) -> None:
+        """Notes an expression that changes a variable."""
+        self.changed.add(variable)
+        if self.state is not None and variable in self.state.posted:
+            self.found[id(it)] = Reading(it.line, CHANGED % ((variable.name,) * 3), False)
 
     def at_place(self, it: Expression, use: Callable[[Expression], None]) -> None:
         """Follows the parts of a place, and uses its variable: a member or a field counts as the whole variable."""
@@ -273,6 +288,19 @@ class Locals:
                 self.note_read(inner)
             else:
                 self.read(inner if only_reads else one)
+        if it.text in self.functions:
+            self.own_call(it, self.functions[it.text])
+        elif it.text == 'process_post' and self.state is not None:
+            self.state = self.state._replace(posted=self.state.posted | posted_by(it))
+
+    def own_call(self, it: Expression, function: Function) -> None:
+        """Follows the changes and the posts of a function that is called."""
+        body = with_called(function.body, self.functions)
+        for variable in assigned_in(body):
+            self.note_change(it, variable)
+        if self.state is not None:
+            posted = frozenset[Variable]().union(*map(posted_by, all_parts(body)))
+            self.state = self.state._replace(posted=self.state.posted | posted)
 
     def check_data(self, it: Expression) -> None:
         """Checks a variable whose address is the data of an event."""
@@ -318,10 +346,20 @@ def is_always(test: Expression | None) -> bool:
     return test is None or constant_of(test) not in (0, None)
 
 
-def check_locals(functions: Iterable[Function]) -> list[tuple[int, str]]:
+def posted_by(it: Expression) -> frozenset[Variable]:
+    """The variable whose address an expression posts as the data of an event, if it is a whole variable."""
+    if it.kind != 'call' or it.text != 'process_post' or len(it.parts) != 3:
+        return frozenset()
+    data = without_casts(it.parts[2])
+    inner = data.parts[0] if data.kind == 'unary' and data.text == '&' else data
+    is_address = inner is not data or is_array(data)
+    return frozenset([inner.variable]) if is_address and inner.kind == 'name' and inner.variable else frozenset()
+
+
+def check_locals(functions: Collection[Function]) -> list[tuple[int, str]]:
     """The remarks about local variables that may have no value. Raises a Refusal for those that certainly have none,
     or lose it."""
-    readings = [it for function in functions for it in Locals(function).check()]
+    readings = [it for function in functions for it in Locals(function, functions).check()]
     for it in readings:
         if not it.is_remark:
             raise Refusal(it.line, it.text)

@@ -1,9 +1,9 @@
 """Walks over the tree of a program."""
 from __future__ import annotations
 
-from collections.abc import Iterable, Iterator
+from collections.abc import Iterable, Iterator, Mapping
 
-from motesim.c_program.tree import Expression, Statement, Variable
+from motesim.c_program.tree import Expression, Function, Statement, Variable
 
 ASSIGNING_CALLS = {'memcpy': 0, 'packetbuf_copyto': 0, 'rimeaddr_copy': 0, 'linkaddr_copy': 0, 'memset': 0}
 
@@ -62,6 +62,18 @@ def statements_in(statements: Iterable[Statement]) -> Iterator[Statement]:
         yield it
         yield from statements_in(it.body)
         yield from statements_in(it.others)
+
+
+def with_called(statements: Iterable[Statement], functions: Mapping[str, Function]) -> list[Statement]:
+    """Some statements, and those of all functions of the program that they call or name."""
+    found, names = [*statements], set[str]()
+    # (the list grows in the loop)
+    for it in found:
+        for part in all_parts([it]):
+            if part.text in functions and part.kind in ('call', 'name') and part.text not in names:
+                names.add(part.text)
+                found += functions[part.text].body
+    return found
 
 
 def base_of(it: Expression) -> Variable | None:

@@ -32,6 +32,8 @@ MANY = 20
 DOES = {'print': 'process {0.process} of mote {0.mote} prints {1:,} times', 'send': 'mote {0.mote} sends {1:,} packets',
         'pause': 'process {0.process} of mote {0.mote} pauses {1:,} times',
         'post': 'mote {0.mote} posts {1:,} events to process {0.process}'}
+IS_STORM = (' Up to moment {}, the motes send {:,} packets, {:,} of them mote {}: does each packet that arrives lead '
+            'to another one?')
 IS_ENDLESS = ': does a loop repeat without end?'
 ONLY_PAUSES = ('. A `pause` lets no time pass, so this loop repeats many times in each moment. Let it wait for a timer '
                'instead, such as `set t 10; yield_until fired(t);`.')
@@ -83,7 +85,9 @@ def busiest(data: bytes, file_lines: bool = True) -> str:
         return ''
     its, count = most_of(found[1])
     if count < MANY * (found[0] + 1):
-        return ''
+        packets = sum(1 for _ in found[1].lines('send'))
+        is_storm = its.kind == 'send' and packets >= MANY * (found[0] + 1)
+        return IS_STORM.format(found[0], packets, count, its.mote) if is_storm else ''
     if its.kind not in ('print', 'pause'):
         return ' Up to moment %d, %s%s' % (found[0], DOES[its.kind].format(its, count), IS_ENDLESS)
     where, only_pauses = lines_of(data, its, file_lines)

@@ -20,6 +20,7 @@ from motesim.runner.run import Answer, answer, read_file, refuse_others
 from motesim.scenario import Scenario, ScenarioFault
 from motesim.scenario.encodings import decoded
 from motesim.scenario.faults import TOP
+from motesim.scenario.kinds import begins_as_c
 from motesim.judge.sentences import Names, Refused, Sentence, SentenceFault, lacking, names_of, read_sentence
 from motesim.toml import NoToml, read_toml
 
@@ -45,6 +46,8 @@ def beside(scenario: Path) -> Path:
     return scenario.with_suffix('.expect.toml')
 # The remark after a required sentence.
 REQUIRED = ' (required)'
+SHOWS = 'tools/explain %s shows the place of the error, and what you may write there'
+TRANSLATES = 'tools/explain %s --apply NEW.toml writes a scenario with this program in C'
 
 
 def text_of(path: Path) -> str:
@@ -257,5 +260,5 @@ def expect(scenario: Path, expectations: Path, is_quiet: bool = False,
                 print('\n          '.join(['broken  %s' % words, *it.more, *filter(None, [it.remark])]))
         has_fault |= not part.replace and any(it.is_refused and not it.holds for it in verdicts)
     if has_fault:
-        print('tools/explain %s shows the place of the error, and what you may write there' % scenario)
+        print((TRANSLATES if begins_as_c(text.encode()) else SHOWS) % scenario)
     return passed, failed
