@@ -79,6 +79,34 @@ class Absent(unittest.TestCase):
         self.assertRefused(in_process('  n = 1000;\n' + body, above), 11, 'send smaller values')
         self.assertIsNotNone(translation(in_process('  n = 100;\n' + body, above))[0])
 
+    def test_what_no_compiler_accepts_is_refused(self) -> None:
+        above = 'static struct broadcast_conn bc; static struct broadcast_conn *pc; static uint16_t n;'
+        for statement, wanted in (
+                ('broadcast_open(&bc, 129);', '`broadcast_open` needs 3 arguments.'),
+                ('broadcast_open(bc, 129, NULL);', 'The address of a `struct broadcast_conn` is expected here.'),
+                ('broadcast_open(&pc, 129, NULL);', 'The address of a `struct broadcast_conn` is expected here.'),
+                ('broadcast_open(&n, 129, NULL);', 'The address of a `struct broadcast_conn` is expected here.'),
+                ('broadcast_close(bc);', 'The address of a `struct broadcast_conn` is expected here.'),
+                ('broadcast_close();', '`broadcast_close` needs 1 argument.'),
+                ('packetbuf_clear(n);', '`packetbuf_clear` needs 0 arguments.'),
+                ('packetbuf_copyfrom(&n, 2); broadcast_send(bc);', 'The address of a `struct broadcast_conn` is'),
+                ('packetbuf_copyfrom(&n, 2); broadcast_send(&bc, &n);', '`broadcast_send` needs 1 argument.'),
+                ('int k; int k = 3;', '`k` is declared twice, also in line 9')):
+            self.assertRefused(in_process('  ' + statement, above), 9, wanted)
+        self.assertRefused(in_process('', 'static int n = 0;\nstatic int n = 1;'), 5, 'declared twice, also in line 4')
+        source = in_process('').replace('(&p)', '(p)')
+        self.assertRefused(source, 3, 'An `&` is missing in front of `p`.')
+        self.assertIsNotNone(translation(in_process('  int i; if(n) { int i = 2; n = i; }', above))[0])
+
+    def test_an_event_that_no_process_allocates_is_refused(self) -> None:
+        above = 'static process_event_t one, other; static const process_event_t fixed = 9;'
+        body = '  one = process_alloc_event();\n  process_post(&p, %s, NULL);'
+        for event in 'one', 'fixed':
+            self.assertIsNotNone(translation(in_process(body % event, above))[0])
+        self.assertRefused(in_process(body % 'other', above), 10, 'write `other = process_alloc_event();`')
+        source = in_process('  PROCESS_YIELD();\n  if(ev == other) n = 1;', above + ' int n;')
+        self.assertRefused(source, 10, '`other` never gets a number')
+
     def test_a_second_has_two_names(self) -> None:
         source = in_process('  printf("%d", CLOCK_CONF_SECOND / 2);')
         self.assertIn('print 64;', translation(source)[0] or '')

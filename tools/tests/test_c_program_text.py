@@ -940,6 +940,16 @@ static const struct broadcast_callbacks calls = { recv };'''
                 self.assertEqual(wanted if 'Tmote Sky, `%' in notes else '', wanted, notes)
                 self.assertIn(wanted, notes)
 
+    def test_a_sum_of_32_bits_may_do_something_else_on_a_node(self) -> None:
+        above = 'static uint32_t s; static uint16_t k[2]; static uint8_t b;'
+        for body, is_mistake in (
+                ('s += k[0];', True), ('s = (uint32_t)k[0] + k[1];', True), ('s = (unsigned long)k[0] * 1000;', True),
+                ('s = 70000;', True), ('s++;', False), ('s = clock_time() + k[0];', False), ('k[0] += k[1];', False),
+                ('s = b; s = (s + 3) * 2;', False)):
+            found = translated(in_process('  k[0] = 40000; k[1] = clock_time(); b = k[1]; ' + body, above))
+            notes = [it.line for it in found.remarks if it.is_mistake]
+            self.assertEqual(notes, [9] * is_mistake, body)
+
     def test_a_ctimer_that_is_restarted_before_it_is_set_has_a_remark(self) -> None:
         above = 'static struct ctimer c; static void tick(void *ptr) { printf("%d", 1); }'
         start, again = 'ctimer_set(&c, 3, tick, NULL); ', 'ctimer_restart(&c); '

@@ -1,4 +1,4 @@
-"""Posts of events that have no number yet: in Contiki, an event has none before `process_alloc_event()`."""
+"""Events without a number: in Contiki, an event of a program has none before `process_alloc_event()`."""
 from __future__ import annotations
 
 from collections.abc import Iterable, Iterator
@@ -6,6 +6,7 @@ from itertools import takewhile
 from typing import NamedTuple
 
 from motesim.c_program.control import WAITS
+from motesim.c_program.refusal import Refusal
 from motesim.c_program.tree import Expression, File, Statement, Variable
 from motesim.c_program.walk import all_parts
 
@@ -16,6 +17,10 @@ EARLY = ('In Contiki, `%s` has no number of its own until `%s` calls `process_al
          'start.')
 
 
+NEVER = ('`%s` never gets a number, so in Contiki it is the event 0, like each other event without one: write '
+         '`%s = process_alloc_event();` at the beginning of the process that posts it.')
+
+
 class Early(NamedTuple):
     """A post of an event before its allocation."""
     line: int
@@ -24,6 +29,16 @@ class Early(NamedTuple):
 
     def remark(self) -> str:
         return EARLY % (self.event, self.allocator, self.event)
+
+
+def check_allocated(file: File) -> None:
+    """Refuses an event that no process allocates."""
+    parts = [it for one in (*file.bodies.values(), *file.functions.values()) for it in all_parts(one.body)]
+    found = allocated(parts)
+    for it in parts:
+        its = it.variable
+        if its and its.type.kind == 'event' and not its.is_parameter and not its.initial and its not in found:
+            raise Refusal(it.line, NEVER % (its.name, its.name))
 
 
 def early_posts(file: File) -> Iterator[Early]:

@@ -51,7 +51,8 @@ class Program:
 
     def remark(self, line: int, text: str, is_mistake: bool = False) -> None:
         """Notes what differs from C, once for each cause. `is_mistake`: on a node, the program is probably wrong."""
-        self.remarks.setdefault(text, (line, text, is_mistake))
+        if text not in self.remarks or is_mistake and not self.remarks[text][2]:
+            self.remarks[text] = line, text, is_mistake
 
     def note_name(self, name: str, found: str, line: int) -> None:
         """Notes that a name of C isn't one of the notation."""

@@ -19,10 +19,13 @@ from motesim.c_program.written import Block, If, Line
 CONVERSION = re.compile(r'%(?:%|[-+ #0]*[0-9]*(?:\.[0-9]+)?(?P<size>hh|h|ll|l|z|j|t)?(?P<kind>[a-zA-Z]))')
 WIDTH = re.compile(r'%[-+ #0]*[0-9]*\.?\*')
 OF_WIDTH = 'A `%*d` has no counterpart: write a number instead of the `*`, such as `%3d`.'
-# Calls that have no effect here.
-IGNORED = ('broadcast_open', 'unicast_open', 'abc_open', 'leds_init', 'packetbuf_set_attr', 'PT_INIT',
-           'PROCESS_BEGIN', 'PROCESS_END', 'PT_BEGIN', 'PT_END', 'watchdog_start', 'watchdog_stop',
-           'watchdog_periodic', 'packetbuf_clear', 'packetbuf_set_datalen')
+# Calls that have no effect here, with the numbers of their arguments.
+IGNORED = {
+    'broadcast_open': 3, 'unicast_open': 3, 'abc_open': 3, 'broadcast_close': 1, 'unicast_close': 1, 'abc_close': 1,
+    'leds_init': 0, 'packetbuf_set_attr': 2, 'packetbuf_clear': 0, 'packetbuf_set_datalen': 1, 'PT_INIT': 1,
+    'PROCESS_BEGIN': 0, 'PROCESS_END': 0, 'PT_BEGIN': 1, 'PT_END': 1, 'watchdog_start': 0, 'watchdog_stop': 0,
+    'watchdog_periodic': 0,
+}
 TIMER = EVENT_NUMBERS['PROCESS_EVENT_TIMER']
 # The calls that change LEDs, and the assignments to the number that has a bit for each of them.
 LEDS = {'leds_on': '|=', 'leds_off': '&=', 'leds_toggle': '^=', 'leds_invert': '^=', 'leds_set': '='}
@@ -97,7 +100,8 @@ class Calls(Chance):
         if it.text in self.file.functions and it.variable is None:
             self.own_call(it, False)
             return
-        if it.text in IGNORED or it.text.endswith('_close'):
+        if it.text in IGNORED:
+            self.arguments(it, IGNORED[it.text])
             self.note_connection(it)
             self.note_buffer(it)
             return
@@ -135,6 +139,8 @@ class Calls(Chance):
 
     def note_connection(self, it: Expression) -> None:
         """Notes that packets arrive before a connection is opened, and after it is closed."""
+        if it.text.endswith(('_open', '_close')):
+            self.check_connection(it)
         if it.text.endswith('_open'):
             self.remark(it.line, OF_CHANNEL)
         callback = self.program.usage.callback
@@ -144,6 +150,12 @@ class Calls(Chance):
             self.remark(it.line, NO_CLOSE % callback.name)
         elif it.text.endswith('_open') and not self.is_first:
             self.remark(it.line, NOT_OPEN % callback.name)
+
+    def check_connection(self, it: Expression) -> None:
+        """Refuses a first argument that isn't the address of a connection."""
+        if self.type_of(self.first(it)).kind == 'connection' or self.pointer(self.first(it)).kind != 'connection':
+            name = it.text.partition('_')[0]
+            raise self.refuse(it.line, 'The address of a `struct %s_conn` is expected here.' % name)
 
     # Whether nothing above has waited.
     is_first = True

@@ -66,7 +66,7 @@ class Expressions(Events):
 
     def _number(self, it: Expression) -> Value:
         if it.number > MOST or it.number < -HALF:
-            self.remark(it.line, OF_LONG)
+            self.remark_mistake(it.line, OF_LONG)
         its = it.type if it.type and it.type.bits <= 16 else UNSIGNED if it.number > 32_767 else INT
         return number(it.number % 65_536 if it.number > MOST else it.number, its)
 
@@ -209,15 +209,17 @@ class Expressions(Events):
             for one, other in ((it.parts[0], right), (it.parts[1], left)):
                 if one.kind == 'number' and 32_767 < one.number <= MOST and other.is_negative and self.is_long(one):
                     self.program.refusals.append(self.refuse(it.line, OF_SIGN % (it.text, one.number)))
-            self.note_size(it.text, left, right, self.is_long(it), it.line)
+            self.note_size(it.text, left, right, [it], it.line)
             return compared(it.text, left, right)
-        self.note_size(it.text, left, right, self.is_long(it), it.line)
+        self.note_size(it.text, left, right, [it], it.line)
         return self.operation(it.text, left, right, it.line)
 
-    def note_size(self, sign: str, left: Value, right: Value, is_long: bool, line: int) -> None:
+    def note_size(self, sign: str, left: Value, right: Value, parts: Sequence[Expression], line: int) -> None:
         """Notes that a result may have more bits than a value has here, or than an `int` has on a node."""
+        # (times are added in both sizes, because only their differences count)
+        is_long = any(self.is_long(it, sign != '+') for it in parts)
         if is_long and exceeds(sign, left, right):
-            self.remark(line, OF_LONG)
+            self.remark_mistake(line, OF_LONG)
         is_compared = sign in ('/', '%', '>>', *COMPARES) and (left.wraps or right.wraps)
         is_certain = sign == '*' and common(left, right).signed and min(left.low, right.low) > 0 and \
             left.low * right.low >= HALF
@@ -234,16 +236,14 @@ class Expressions(Events):
         if sign == '>>' and shift > 15 and self.is_long(parts[0]):
             raise self.refuse(line, NO_LONG % (sign, shift))
 
-    def is_long(self, it: Expression) -> bool:
-        """Returns whether C calculates a value with 32 bits."""
-        if it.kind == 'binary':
-            return any(map(self.is_long, it.parts)) and it.text not in (*COMPARES, '&&', '||')
-        if it.kind in ('unary', 'choice') and it.text != '*':
-            return any(map(self.is_long, it.parts))
+    def is_long(self, it: Expression, is_time_long: bool = True) -> bool:
+        """Returns whether C calculates a value with 32 bits. `is_time_long`: whether a time counts, too."""
+        if it.kind == 'binary' or it.kind in ('unary', 'choice') and it.text != '*':
+            return any(self.is_long(one, is_time_long) for one in it.parts) and it.text not in (*COMPARES, '&&', '||')
         if it.kind == 'call':
-            return it.text in ('clock_time', 'clock_seconds')
+            return is_time_long and it.text in ('clock_time', 'clock_seconds')
         its = self.type_of(it)
-        return its.bits > 16 and its.kind == 'int' or its.name == 'clock_time_t'
+        return its.bits > 16 and its.kind == 'int' or is_time_long and its.name == 'clock_time_t'
 
     def two(self, first: Expression, second: Expression) -> tuple[Value, Value]:
         """Two operands; the first one is kept in a variable if the second one changes what it reads."""
@@ -466,7 +466,7 @@ class Expressions(Events):
             return
         if place.chosen is None:
             old = promoted(self.read(place, line))
-            self.note_size(sign, old, value, self.is_long(it.parts[1]), line)
+            self.note_size(sign, old, value, it.parts, line)
             self.write(place, self.operation(sign, old, value, line), line)
             return
         kept = value if value.is_simple else self.temporary(value)
@@ -646,9 +646,11 @@ class Expressions(Events):
 
 
 def exceeds(sign: str, left: Value, right: Value) -> bool:
-    """Returns whether a product of two values, or a value that is shifted, may have more than 16 bits. (Times are
-    added and subtracted in both sizes, because only their differences count.)"""
+    """Returns whether a result may have more than 16 bits: a product, a sum of two variables, or a value that is
+    shifted."""
     if left.constant is not None and right.constant is not None:
         return False
     most = max(abs(left.low), left.high) * max(abs(right.low), right.high) if sign == '*' else 0
+    if sign == '+' and left.constant is None and right.constant is None:
+        most = left.high + right.high
     return most > MOST or sign == '<<' and left.high << max(min(right.high, 32), 0) > MOST

@@ -16,6 +16,7 @@ QUALIFIERS = ('static', 'const', 'volatile', 'extern', 'inline', 'register', 'au
 OF_PARAMETERS = 'The type of the parameter `%s` is expected here, in front of its name.'
 NO_END = 'Functions aren\'t inside of others: above `%s`, a `}` is missing.'
 OF_FUNCTIONS = 'An array of functions has no counterpart: call each function by its name, in a `switch`.'
+TWICE = '`%s` is declared twice, also in line %d: leave one of these declarations out.'
 OF_BITS = 'A field with a number of bits has no counterpart: use a field of the type `uint8_t`.'
 MOST_MEMBERS, MOST_SIZE = 64, 4_096
 ZERO = Expression('number', '0', number=0, type=INT)
@@ -243,6 +244,8 @@ class Declarations(Expressions):
             raise Refusal(one.line, absent('struct ' + its.name))
         if members_of(one.type) > MOST_MEMBERS and one.type.of and one.type.of.name != 'char':
             raise Refusal(one.line, 'A process has at most 64 variables, so `%s` has too many members.' % one.name)
+        if isinstance(known := self.scopes[-1].get(one.name), Variable):
+            raise Refusal(one.line, TWICE % (one.name, known.line))
         is_static = not self.function or 'static' in qualifiers
         found = Variable(one.name, one.type, one.line, self.function, is_static, 'const' in qualifiers, False, initial)
         self.scopes[-1][one.name] = found

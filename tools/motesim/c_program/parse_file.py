@@ -30,6 +30,7 @@ NO_FRAME = '`%s` has no `%s` that isn\'t inside of another statement.'
 CONTEXT, CONTEXT_END = 'PROCESS_CONTEXT_BEGIN', 'PROCESS_CONTEXT_END'
 NO_CONTEXT = 'There is no `PROCESS_CONTEXT_BEGIN` above this line in the same block.'
 NO_CONTEXT_END = 'There is no `PROCESS_CONTEXT_END` below this line in the same block.'
+NO_SIGN = 'An `&` is missing in front of `%s`.'
 NO_GOTO = 'There is no `goto`, and no labels: use a `while` with a flag, or an `if`.'
 
 
@@ -75,9 +76,11 @@ class FileReader(Declarations):
         self.need('(')
         names = list[str]()
         while not self.accept(')'):
-            self.accept('&')
+            has_sign = self.accept('&')
             it = self.step()
             if it.kind == 'name' and it.text != 'NULL':
+                if word.text == 'AUTOSTART_PROCESSES' and not has_sign:
+                    raise Refusal(it.line, NO_SIGN % it.text)
                 names.append(it.text)
             elif it.kind == 'end':
                 self.need(')')

@@ -11,7 +11,7 @@ from __future__ import annotations
 import re
 from typing import NamedTuple
 
-from motesim.c_program.allocation import early_posts
+from motesim.c_program.allocation import check_allocated, early_posts
 from motesim.c_program.base import Program
 from motesim.c_program.constants import EVENT_NUMBERS, SECOND, constant_of
 from motesim.c_program.indexes import indexes_for_pointers
@@ -68,6 +68,7 @@ def translated(text: str, second: int = SECOND) -> Translation:
         remarks += indexes_for_pointers(file)
         program, lines = settled(file, second)
         check_ends(program)
+        check_allocated(file)
         for it in early_posts(file):
             program.remark(it.line, it.remark(), True)
         remark_names(program)

@@ -156,6 +156,7 @@ class Radio(Calls):
     def send(self, it: Expression, value: Value) -> None:
         if FILLED not in self.known:
             self.remark_mistake(it.line, KEPT)
+        self.check_connection(it)
         self.check_open(self.first(it))
         self.note_effects([FILLED])
         self.emit('send %s;' % value.text)
@@ -181,6 +182,7 @@ class Radio(Calls):
         self.program.knowledge.assign(('', 'packet'), (value.low, value.high), self.unit.name)
 
     def call_broadcast_send(self, it: Expression) -> None:
+        self.arguments(it, 1)
         value = self.sent_value()
         self.note_packet(value)
         self.send(it, value)
