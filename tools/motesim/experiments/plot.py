@@ -18,6 +18,7 @@ from motesim.analysis.points import Wish, check_measures, check_pairs, check_pla
 from motesim.analysis.points import crossed_rows, names_of_nets, order, parameters_of, separated_by, shared_nets
 from motesim.analysis.points import shown_of, unequal_runs
 from motesim.analysis.rows import by_net, joined, warnings_of
+from motesim.analysis.selection import of_selection
 from motesim.experiments import packages
 from motesim.experiments.measures import Cell
 from motesim.experiments.results import Row
@@ -77,6 +78,7 @@ def show(rows: Sequence[Row], wish: Wish, source: Source) -> bool:
     """Draws a picture or prints a table; returns whether the output has the wanted form."""
     shown = shown_of(by_net(rows, wish) if wish.nets else rows, wish)
     warnings = warnings_of(rows, [*separated_by(wish), *wish.over.split(',')], measures=[wish.measure, wish.against])
+    warnings += of_selection(rows, wish)
     shown = shown._replace(warnings=[*unequal_runs(shown, wish), *warnings],
                            within=mixed_in(rows, parameters_of(rows), wish) if wish.nets else [])
     if not shown.points:
@@ -161,6 +163,7 @@ def compare(sides: Sides, wish: Wish, source: Source) -> bool:
     dependent = [] if wish.nets else text.of_dependent(
         shared_nets(good, [it for it in (wish.against, wish.by) if it], wish.measure), crossed_rows(good, mixed, wish))
     warnings = warnings_of(runs, [*separated_by(wish), *wish.over.split(',')], False, [wish.measure])
+    warnings += of_selection(runs, wish, sides.compared)
     more = [*note_of_compared(sides), *note_of_measures(sides), *dependent,
             *estimates_beyond([it.difference for it in found], wish),
             *text.of_intervals([it.difference for it in found], draws=wish.draws), *warnings]
