@@ -20,6 +20,7 @@ from pathlib import PurePath
 from types import ModuleType
 from typing import Any
 
+from motesim.experiments.ignored import RECEIVED, of_ignored
 from motesim.explain.synonyms import known, nearest
 from motesim.judge import judge as judges
 from motesim.summary import counts as summary
@@ -95,6 +96,14 @@ class Bench:
         return motes, net
 
 
+def _no_warning(bench: Bench) -> str:
+    return ''
+
+
+def _warning_of_ignored(bench: Bench) -> str:
+    return of_ignored(bench.run.scenario)
+
+
 @dataclass(frozen=True)
 class Measure:
     """A measure: the name of its column, and its text.
@@ -105,7 +114,7 @@ class Measure:
     words: str
     of: Callable[[Bench], Cell]
     file: str = ''
-    warning: Callable[[Bench], str] = lambda bench: ''
+    warning: Callable[[Bench], str] = _no_warning
 
 
 def _of_summary(name: str, mote: str | None) -> Callable[[Bench], Cell]:
@@ -483,10 +492,11 @@ def read_measure(words: str, names: Names = Names(), sources: Mapping[str, str] 
     if text == REACHABLE:
         return Measure(name, text, lambda bench: reachable(bench.run.scenario))
     if text == LOSS:
-        return Measure(name, text, loss)
+        return Measure(name, text, loss, warning=_warning_of_ignored)
     plain = OF_SUMMARY.fullmatch(text)
     if plain and plain[1] in SUMMARY:
-        return Measure(name, text, _of_summary(plain[1], plain[2]))
+        warning = _warning_of_ignored if plain[1] in RECEIVED else _no_warning
+        return Measure(name, text, _of_summary(plain[1], plain[2]), warning=warning)
     near = nearest(plain[1] if plain else text, [*SUMMARY, REACHABLE, LOSS])
     raise MeasureFault('%r is not a measure%s. A measure is one of %s, or begins with %s, python: or flow NAME:' % (
         text, '; did you mean %s?' % near if near else '', ', '.join((*SUMMARY, REACHABLE, LOSS)),
