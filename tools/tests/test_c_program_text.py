@@ -526,6 +526,14 @@ PROCESS_THREAD(p, ev, data)
             text, notes = translation(in_process('  ' + body, above, '  static struct etimer et;'))
             self.assertEqual((text is None, wanted in notes), (bool(wanted), True), body + notes)
 
+    def test_of_two_nested_loops_that_never_end_the_inner_one_is_refused(self) -> None:
+        for inner in 'while(!acked && !etimer_expired(&et));', 'do {} while(!acked);', 'for(;;) { x = 1; }':
+            lines = '  while(!acked) {\n    etimer_set(&et, 9);\n    %s\n  }' % inner
+            source = in_process(lines, 'static int acked, x;', '  static struct etimer et;')
+            line = source[:source.index(inner)].count('\n') + 1
+            text, notes = translation(source)
+            self.assertEqual((text, 'line %d: ' % line in notes), (None, True), notes)
+
     def test_a_loop_that_only_waits_for_a_time_is_refused(self) -> None:
         for body, is_busy in (
                 ('while(!timer_expired(&t));', True), ('while(clock_time() - u < 10) { printf("%d", 1); }', True),
@@ -815,6 +823,17 @@ class Remarks(unittest.TestCase):
         wanted = 'The array `a` has the members 0 to 2, but `i` may be 3 here'
         self.assertIn(wanted, self.remarks('for(i = 0; i <= 3; i++) n += a[i];'))
         self.assertNotIn('members 0 to 2', self.remarks('for(i = 0; i < 3; i++) n += a[i]; if(i > 0) a[i - 1] = 1;'))
+        above = '''struct item { int used; };
+static struct item table[8];
+static struct item *unused(void) {
+  int k;
+  for(k = 0; k < 8; k++) { if(!table[k].used) { return &table[k]; } }
+  return NULL;
+}'''
+        body = '''struct item *found = NULL; found = unused();
+  if(found == NULL) { for(i = 0; i < 8; i++) { if(table[i].used == 2) { found = &table[i]; break; } } }
+  if(found != NULL) { found->used = 1; }'''
+        self.assertNotIn('members 0 to 7', self.remarks(body, above))
 
     def test_a_packet_of_another_program_has_two_bytes_if_both_are_read(self) -> None:
         for body, wanted in (('printf("%d", d[0]);', ['print (data % 256);']),

@@ -250,13 +250,11 @@ class Control(Radio):
             if inner is not None and inner.kind == 'call' and inner.text in YIELDS:
                 self.spawn(test, self.first(test))
                 return FALLS
-        self.check_busy(it, test)
         return self.loop(it, it.expressions[0], None)
 
     def of_for(self, it: Statement) -> Flow:
         for first in it.others:
             self.one(first)
-        self.check_busy(it, it.expressions[0])
         return self.loop(it, it.expressions[0], it.expressions[1])
 
     def of_do(self, it: Statement) -> Flow:
@@ -264,7 +262,6 @@ class Control(Radio):
         assert test is not None
         if constant_of(test) == 0:
             return self.once(it)
-        self.check_busy(it, test)
         if constant_of(test) is not None:
             return self.loop(it, None, None)
         return self.loop(it, None, None, test)
@@ -317,6 +314,8 @@ class Control(Radio):
         self.out.append(While(is_one(whole), body))
         if posts:
             self.after_loop(posts, targets)
+        # (the loops in this one come first: if one of them never ends, it is the one to correct)
+        self.check_busy(it, test or last)
         is_endless = value.constant not in (0, None) and target not in targets
         return Flow(not is_endless, frozenset(outer))
 

@@ -50,9 +50,11 @@ class Knowledge:
         is_same = merged == self.limits and self.writers == self.new_writers and self.loops == loops
         is_same = is_same and self.forms == self.new_forms
         is_same = is_same and self.shared_timers == self.new_shared_timers
-        if is_same and self.new_limits != self.limits and self.narrowings < MOST_NARROWINGS:
+        is_narrower = (self.new_limits, self.new_loops) != (self.limits, self.loops)
+        if is_same and is_narrower and self.narrowings < MOST_NARROWINGS:
             # (what follows from right limits is right, too; the steps of `merged` may have been too large)
-            merged, is_same, self.narrowings = self.new_limits, False, self.narrowings + 1
+            merged, loops = self.new_limits, self.new_loops
+            is_same, self.narrowings = False, self.narrowings + 1
         self.limits, self.writers, self.loops = merged, self.new_writers, loops
         self.forms, self.shared_timers = self.new_forms, self.new_shared_timers
         self.new_limits, self.new_writers, self.new_loops = {}, {}, {}
