@@ -823,6 +823,9 @@ class Remarks(unittest.TestCase):
         wanted = 'The array `a` has the members 0 to 2, but `i` may be 3 here'
         self.assertIn(wanted, self.remarks('for(i = 0; i <= 3; i++) n += a[i];'))
         self.assertNotIn('members 0 to 2', self.remarks('for(i = 0; i < 3; i++) n += a[i]; if(i > 0) a[i - 1] = 1;'))
+        loop = 'for(i = 0; i < 3; i++) { if(a[i]) break; }'
+        self.assertNotIn('members 0 to 2', self.remarks(loop + ' if(i < 3 && a[i]) { n = 1; }'))
+        self.assertIn(wanted, self.remarks(loop + ' if(i < 4 && a[i]) { n = 1; }'))
         above = '''struct item { int used; };
 static struct item table[8];
 static struct item *unused(void) {
@@ -940,9 +943,31 @@ static const struct broadcast_callbacks calls = { recv };'''
                 (copies + prints, True), (prints + copies, False), ('if(n) { %s } %s' % (copies, prints), True),
                 ('if(n) { %s } else { %s }' % (copies, prints), False),
                 ('n = *p; %s printf("%%d", n);' % copies, False),
-                ('packetbuf_copyfrom(p, 2); broadcast_send(&bc);', False)):
+                ('packetbuf_copyfrom(p, 2); broadcast_send(&bc);', False),
+                ('while(n < 3) { n++; %s } %s' % (copies, prints), True),
+                ('if(node_id == 1) { %s } if(node_id == 0) { %s }' % (copies, prints), False),
+                ('if(!node_id || n) { %s } if(node_id == 0) { %s }' % (copies, prints), True),
+                ('if(node_id == 1 && n) { %s }' % copies
+                 + ' if(linkaddr_node_addr.u8[0] == 0 && *p > 3) { %s }' % prints, False),
+                ('if(node_id == 1) { %s } if(linkaddr_node_addr.u8[0] > 0) { %s }' % (copies, prints), True)):
             notes = translation(in_process('  broadcast_open(&bc, 129, &calls);', above.replace('LINES', lines)))[1]
             self.assertEqual('Contiki has one packet buffer' in notes, is_seen, (lines, notes))
+
+    def test_a_function_that_fills_the_packet_buffer_overwrites_a_packet(self) -> None:
+        above = '''static struct broadcast_conn bc;
+static uint16_t answer;
+static void fill(void) { if(answer > 3) answer = 0; packetbuf_copyfrom(&answer, 2); }
+static void recv(struct broadcast_conn *c, const rimeaddr_t *from) {
+  fill();
+  broadcast_send(&bc);
+  LAST
+}
+static const struct broadcast_callbacks calls = { recv };'''
+        body = '  broadcast_open(&bc, 129, &calls); fill(); broadcast_send(&bc);'
+        for last, is_read in ('', False), ('printf("%d", *(uint16_t *)packetbuf_dataptr());', True):
+            text, notes = translation(in_process(body, above.replace('LAST', last)))
+            self.assertNotIn('send data;', text or 'send data;')
+            self.assertEqual('Contiki has one packet buffer' in notes, is_read, notes)
 
     def test_a_printf_that_names_another_size_than_its_value_has_a_remark(self) -> None:
         for body, wanted in (

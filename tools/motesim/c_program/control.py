@@ -7,7 +7,7 @@ from typing import NamedTuple, Union
 from motesim.c_program.base import joined_limits
 from motesim.c_program.calls import TIMER
 from motesim.c_program.constants import constant_of
-from motesim.c_program.places import INTACT
+from motesim.c_program.places import NOWHERE, OVERWRITING
 from motesim.c_program.radio import FILLED, Radio
 from motesim.c_program.tree import Expression, Statement, Variable
 from motesim.c_program.types import INT
@@ -174,6 +174,7 @@ class Control(Radio):
         with self.statement_of(), self.into([]) as block:
             is_reached = self.test(above).constant != 0
             del block[:], self.posts[:]
+            self.refine(above, True)
             if is_reached:
                 self.test(it)
         found = bool(block or self.posts)
@@ -189,7 +190,7 @@ class Control(Radio):
         if not falling:
             return Flow(False, targets)
         self.known = dict(falling[0][2]) if len(falling) == 1 else joined_limits(ends, others)
-        if len(falling) == 2 and (INTACT in ends) != (INTACT in others):
+        if len(falling) == 2 and (ends.get(OVERWRITING) == NOWHERE) != (others.get(OVERWRITING) == NOWHERE):
             # (the buffer has the packet that arrived, or another value)
             self.known.pop(FILLED, None)
         if not targets:

@@ -7,7 +7,7 @@ from motesim.c_program import bits
 from motesim.c_program.base import OF_LONG, joined_limits
 from motesim.c_program.constants import EVENT_NUMBERS, NUMBERS, SECOND, constant_of
 from motesim.c_program.events import Events
-from motesim.c_program.places import ADDRESSES, NO_MOTE, OF_ADDRESS, OF_CHANGE, TEXTS, Place
+from motesim.c_program.places import ADDRESSES, NO_MOTE, OF_ADDRESS, OF_CHANGE, SELF, TEXTS, Place
 from motesim.c_program.tree import Expression
 from motesim.c_program.types import INT, UNSIGNED, Type, size_of
 from motesim.c_program.values import (
@@ -615,7 +615,7 @@ class Expressions(Events):
         if it.kind == 'name' and it.variable and its.kind == 'int' and it.variable not in self.aliases \
                 and it.variable not in self.values:
             return self.own_names.get((it.variable, ()), ''), its
-        return '', its
+        return (SELF, UNSIGNED) if is_own_number(it) else ('', its)
 
     def plain_limits(self, it: Expression) -> tuple[int, int] | None:
         """The limits of a number or a variable."""
@@ -643,6 +643,14 @@ class Expressions(Events):
     def is_size(self, it: Expression) -> bool:
         """Returns whether all variables of an expression are in a `sizeof`."""
         return it.kind in ('sizeof', 'number') or it.kind == 'binary' and all(self.is_size(one) for one in it.parts)
+
+
+def is_own_number(it: Expression) -> bool:
+    """Returns whether an expression is the number of the mote: `node_id`, or the first byte of its address."""
+    if it.kind == 'index' and it.parts[0].kind == 'member' and constant_of(it.parts[1]) == 0:
+        owner = it.parts[0].parts[0]
+        return owner.variable is None and owner.kind == 'name' and owner.text.endswith('_node_addr')
+    return it.kind == 'name' and it.variable is None and it.text == 'node_id'
 
 
 def exceeds(sign: str, left: Value, right: Value) -> bool:

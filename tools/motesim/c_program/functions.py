@@ -10,7 +10,8 @@ from motesim.c_program.calls import ELAPSED
 from motesim.c_program.constants import constant_of
 from motesim.c_program.control import ENDS, FALLS, Control, Flow
 from motesim.c_program.places import (
-    INTACT, NO_MOTE, OF_ADDRESS, OF_CHANGE, OF_EVENTS, OF_NULL, OF_RESULT, ONE_BYTE, Path, Place, Pointer,
+    EVERYWHERE, NO_MOTE, NOWHERE, OF_ADDRESS, OF_CHANGE, OF_EVENTS, OF_NULL, OF_RESULT, ONE_BYTE, OVERWRITING, SELF,
+    Path, Place, Pointer,
 )
 from motesim.c_program.radio import FILLED, SENDS
 from motesim.c_program.refusal import Refusal
@@ -53,6 +54,7 @@ class Functions(Control):
     def __init__(self, *arguments: object) -> None:
         super().__init__(*arguments)
         self.aliases = {}
+        self.known = {SELF: EVERYWHERE}
         self.past = set()
         self.either = {}
         self.uses_packet = set()
@@ -319,7 +321,8 @@ class Functions(Control):
         """Translates another part of the code."""
         kept = (self.unit, self.known, self.posts, self.jumps, self.in_switch, self.buffer, self.log,
                 self.next_sends, self.open_loops, self.is_wait_test)
-        self.unit, self.known, self.posts, self.jumps, self.in_switch = unit, {INTACT: (1, 1)}, [], [], 0
+        self.unit, self.posts, self.jumps, self.in_switch = unit, [], [], 0
+        self.known = {SELF: EVERYWHERE, OVERWRITING: NOWHERE}
         self.known |= {FILLED: (1, 1)} if unit.is_callback else {}
         self.buffer, self.log, self.open_loops = None, [], []
         self.is_wait_test = False

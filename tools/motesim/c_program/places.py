@@ -9,7 +9,7 @@ from motesim.c_program.tree import Expression, Variable
 from motesim.c_program.types import (
     ADDRESS, BYTE, INT, UNSIGNED, Type, leaves_of, pointer_to, size_of,
 )
-from motesim.c_program.values import Value, added, compared, converted, multiplied, number
+from motesim.c_program.values import MOST, Value, added, compared, converted, multiplied, number
 from motesim.c_program.walk import all_parts, parts_of
 from motesim.c_program.written import Block, If, Line
 
@@ -34,8 +34,10 @@ OF_PACKET = ('A packet, or the data of an event, is one number of 16 bits: one v
              'number, such as `type * 64 + seq %% 64`.')
 OVERWRITTEN = ('Contiki has one packet buffer. So after `packetbuf_copyfrom`, this is a value of the packet that is '
                'sent there; here, it is still the value of the packet that has arrived. Copy the value before.')
-# The name under which it is known that no statement has overwritten the packet buffer.
-INTACT = 'packet buffer'
+# The names under which the limits of a mote's number are known, and those of the motes on which a statement has
+# overwritten the packet buffer; and the limits for no mote and for all motes.
+SELF, OVERWRITING = 'self', 'packet buffer'
+NOWHERE, EVERYWHERE = (MOST + 1, -1), (0, MOST)
 OF_INDEX = ('A packet is one number of 16 bits, so it has at most two bytes, `%s[0]` and `%s[1]`: send a packet for '
             'each value.')
 ONLY_BYTE = 'The packets of this program have one byte: there is no byte %d.'
@@ -376,7 +378,7 @@ class Places(Base):
         """The value of a packet or of an event, or a field of it."""
         if place.source == 'packet':
             self.need_packet(line)
-        if place.source == 'packet' and INTACT not in self.known:
+        if place.source == 'packet' and not self.is_intact:
             self.remark_mistake(line, OVERWRITTEN)
         its = place.root
         parts = leaves_of(its)
@@ -396,6 +398,13 @@ class Places(Base):
         is_upper = bool(at) == bool(forms and 'pair' not in forms)
         text = '(%s %s 256)' % (whole.text, '/' if is_upper else '%')
         return converted(Value(text, UNSIGNED, 0, 255), place.type)
+
+    @property
+    def is_intact(self) -> bool:
+        """Returns whether no statement can have overwritten the packet buffer, on the motes that get here."""
+        low, high = self.known.get(OVERWRITING, EVERYWHERE)
+        least, most = self.known[SELF]
+        return high < least or most < low
 
     def first_call(self, name: str) -> int:
         """The first line of the program that calls a function; 0 if no line does."""

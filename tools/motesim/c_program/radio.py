@@ -4,10 +4,12 @@ from __future__ import annotations
 from collections.abc import Sequence
 
 from motesim.c_program.calls import Calls
-from motesim.c_program.places import INTACT, NO_MOTE, OF_PACKET, Place, Pointer, shown_type
+from motesim.c_program.places import (
+    EVERYWHERE, NO_MOTE, OF_PACKET, OVERWRITING, SELF, Place, Pointer, shown_type,
+)
 from motesim.c_program.tree import Expression, Statement
 from motesim.c_program.types import UNSIGNED, leaves_of, size_of
-from motesim.c_program.values import MOST, Value, added, as_type, multiplied, number
+from motesim.c_program.values import MOST, Value, added, as_type, multiplied, number, united
 from motesim.c_program.walk import all_parts, base_of, without_casts
 from motesim.c_program.written import Line, While
 
@@ -112,7 +114,8 @@ class Radio(Calls):
         if form == 'byte' and 'pair' in self.forms('packet'):
             value = multiplied(as_type(value, UNSIGNED), number(256, UNSIGNED))
         self.flush()
-        self.known.pop(INTACT, None)
+        before, here = self.known.get(OVERWRITING, EVERYWHERE), self.known[SELF]
+        self.note_assigned(OVERWRITING, united(before, here))
         self.known[FILLED] = (1, 1)
         if self.next_sends and 'kept %s' % self.process not in self.program.knowledge.forms:
             self.buffer = value
@@ -145,7 +148,7 @@ class Radio(Calls):
         """The value in the buffer."""
         if self.buffer is not None:
             return self.buffer
-        if self.unit.is_callback and INTACT in self.known:
+        if self.unit.is_callback and self.is_intact:
             self.uses_packet.add(self.unit.name)
             return self.whole('packet')
         kept = self.payload()
