@@ -1055,6 +1055,7 @@ static const struct broadcast_callbacks calls = { recv };'''
         for body, words in (
                 (fill + wait + send, 'each packet that arrives overwrites it'), (fill + send + wait, None),
                 (wait + fill + send, None), ('broadcast_open(&bc, 129, NULL);', 'Connections have no channels here'),
+                ('packetbuf_set_attr(PACKETBUF_ATTR_MAX_MAC_TRANSMISSIONS, 4);', 'no packet is sent again by itself'),
                 ('to.u8[0] = 0; to.u8[1] = 0;', 'this is the address of mote 0 here'), ('to.u8[0] = 1;', None)):
             text, notes = translation(in_process('  ' + body, above, VARIABLES))
             self.assertIsNotNone(text, notes)

@@ -22,7 +22,7 @@ OF_WIDTH = 'A `%*d` has no counterpart: write a number instead of the `*`, such 
 # Calls that have no effect here, with the numbers of their arguments.
 IGNORED = {
     'broadcast_open': 3, 'unicast_open': 3, 'abc_open': 3, 'broadcast_close': 1, 'unicast_close': 1, 'abc_close': 1,
-    'leds_init': 0, 'packetbuf_set_attr': 2, 'packetbuf_clear': 0, 'packetbuf_set_datalen': 1, 'PT_INIT': 1,
+    'leds_init': 0, 'packetbuf_clear': 0, 'packetbuf_set_datalen': 1, 'PT_INIT': 1,
     'PROCESS_BEGIN': 0, 'PROCESS_END': 0, 'PT_BEGIN': 1, 'PT_END': 1, 'watchdog_start': 0, 'watchdog_stop': 0,
     'watchdog_periodic': 0,
 }
@@ -60,6 +60,8 @@ OF_STRUCT_TIMER = ('A `struct timer` and a `struct stimer` post no event when th
 TOO_LONG = ('A timer is set to at most 65,535 moments, and a second has %d: wait for it several times, or translate '
             'with fewer moments, such as `--clock-second 10`.')
 OF_NOW = ('Here, a time has 16 bits, so `%s()` begins again at 0 after each 65,536 moments, which are %d seconds.')
+OF_ATTRIBUTE = ('Packets have no attributes here: no packet is sent again by itself, each radio has the range of the '
+                'scenario, and nobody acknowledges a packet.')
 OF_CHANNEL = ('Connections have no channels here: a packet goes to all motes in range, whatever channel or kind of '
               'connection their programs open.')
 OF_RADIO_TIMER = ('In Contiki, the function that is called for packets, and the functions of the ctimers that it sets, '
@@ -530,6 +532,10 @@ class Calls(Chance):
         return Value('(now / %d)' % second, UNSIGNED, 0, MOST // second)
 
     # Printing, random numbers, addresses.
+
+    def call_packetbuf_set_attr(self, it: Expression) -> None:
+        self.arguments(it, 2)
+        self.remark_mistake(it.line, OF_ATTRIBUTE)
 
     def call_printf(self, it: Expression) -> None:
         """Each value of a text is a line; a text without a value is a line, too."""
