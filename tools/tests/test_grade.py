@@ -405,7 +405,8 @@ class Nets(Folder):
     def test_values_need_a_plan(self) -> None:
         self.write_plan('net.plan.toml', motes=2)
         for words, seen in ((('--vary', 'motes=3', '--net', 'task.toml', '--hidden', 'net.plan.toml'),
-                             '--vary needs a plan that --net names; --vary-hidden varies the plans of --hidden'),
+                             '--vary needs a plan that --net names; --vary-hidden varies the plans of --hidden; '
+                             'task.toml is a scenario, because it has no table [places]'),
                             (('--vary-hidden', 'motes=3', '--net', 'net.plan.toml'),
                              '--vary-hidden needs a plan that --hidden names; --vary varies the plans of --net'),
                             (('--vary-hidden', 'motes', '--hidden', 'net.plan.toml'),
@@ -709,6 +710,23 @@ class Nets(Folder):
         self.grade('--net', 'task.toml', '-o', 'marks.html')
         for name, place in ('ben.mote', 'ben.mote:3'), ('carla.toml', 'carla.toml:12'):
             self.assertIn('a, line 3 (%s): `print 4`' % place, self.page('marks_runs/%s_in_task.toml.html' % name))
+
+    def test_a_run_page_of_a_program_in_c_names_the_lines_of_the_translation(self) -> None:
+        need_program(self)
+        self.stub = program_path()
+        self.hand_in('ben.c', '''#include "contiki.h"
+PROCESS(a, "a");
+AUTOSTART_PROCESSES(&a);
+PROCESS_THREAD(a, ev, data) {
+  PROCESS_BEGIN();
+  printf("%d", 4);
+  PROCESS_END();
+}
+''')
+        self.grade('--net', 'task.toml', '-o', 'marks.html')
+        page = self.page('marks_runs/ben.c_in_task.toml.html')
+        self.assertRegex(page, 'a, line [0-9]+ of the translation of ben[.]c: `print 4`')
+        self.assertNotIn('(ben.c:', page)
 
 
 class Pages(Folder):

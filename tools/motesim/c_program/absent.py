@@ -4,7 +4,8 @@ from __future__ import annotations
 import re
 
 NO_NAME = 'motesim has no `%s`.'
-WHOLE = 'Numbers are whole here, with 16 bits: count in a smaller unit, such as `uint16_t tenths = 215;` for 21.5.'
+WHOLE = ('Numbers are whole here, with 16 bits: count in a smaller unit, such as `uint16_t tenths = 215;` for 21.5, '
+         'and write `CLOCK_SECOND / 2` for half a second.')
 NO_SENSORS = ('A mote has no sensors and no buttons. Leave out `SENSORS_ACTIVATE`, compute a value instead of reading '
               'one, such as `20 + (clock_seconds() + node_id) % 13`, and wait for an etimer instead of a button: '
               '`PROCESS_WAIT_EVENT_UNTIL(etimer_expired(&et));`.')
@@ -42,7 +43,9 @@ ADVICE = (
     (r'trickle_|i?polite_|stbroadcast_|announcement', NO_REPEATS),
     (r'simple_udp|udp_|tcp_|tcpip_|uip_|UIP_|rpl_|psock|PSOCK', NO_INTERNET),
     (r'v?sn?printf$|str(len|n?cpy|n?cmp|n?cat|chr|str|tou?l)$|ato[il]$', NO_TEXTS),
-    (r'packetbuf_attr$', 'All packets arrive with the same strength: use a constant instead.'),
+    (r'packetbuf_(set_)?attr$',
+     'A packet has no attributes. All packets arrive with the same strength: use a constant instead. Send a number of '
+     'hops in the packet, such as `struct message { uint8_t value; uint8_t hops; };`.'),
     (r'packetbuf_', 'A packet is one number without a header: use `packetbuf_copyfrom` and `packetbuf_dataptr`.'),
     (r'clock_(delay|wait)|(u|m|ms)?sleep$|delay(_ms)?$', 'Let the process wait for an etimer.'),
     (r'(clock|c?timer|rtimer|etimer|process|watchdog)_init$|autostart_start$', NEEDLESS),

@@ -121,7 +121,8 @@ def nets_of(paths: Sequence[Path], vary: Sequence[str], program: str | None, is_
     asked = _values(vary, option[0])
     files = [(path.name, _read(path)) for path in paths]
     if asked and all(isinstance(its, str) for _, its in files):
-        raise Fault('%s needs a plan that %s names; %s varies the plans of %s' % (*option, *other))
+        scenarios = ''.join('; %s is a scenario, because it has no table [places]' % name for name, _ in files[:1])
+        raise Fault('%s needs a plan that %s names; %s varies the plans of %s' % (*option, *other) + scenarios)
     found = [_net(name, text, program) for file, its in files for name, text in _texts(file, its, asked)]
     return [replace(it, is_hidden=is_hidden) for it in found]
 

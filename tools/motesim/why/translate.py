@@ -99,9 +99,11 @@ class Program:
 
     def line(self, line: int) -> str:
         """A line of the program in words, with the line of the file, `line 27 (tree.toml:43)`, or with the name of a
-        program that isn't in the file, `line 27 of program sink`."""
+        program that isn't in the file, `line 27 of program sink`; the file of a program in C has other lines."""
         if self.place is None:
             return 'line %d%s' % (line, ' of program %s' % one_line(self.other) if self.other else '')
+        if self.place.file.endswith('.c'):
+            return 'line %d of the translation of %s' % (line, self.place.file)
         return 'line %d (%s:%d)' % (line, self.place.file, self.place.above + line)
 
 
