@@ -994,6 +994,27 @@ static const struct broadcast_callbacks calls = { recv };'''
             notes = [it.line for it in found.remarks if it.is_mistake]
             self.assertEqual(notes, [9] * is_mistake, body)
 
+    def test_a_connection_that_is_closed_has_a_variable(self) -> None:
+        above = ('static struct broadcast_conn bc; static struct broadcast_conn other; static int n;\n'
+                 'static void recv(struct broadcast_conn *c, const rimeaddr_t *from) { n++; CLOSE }\n'
+                 'static const struct broadcast_callbacks calls = { recv };')
+        body = '  AT_START broadcast_open(&bc, 129, &calls); broadcast_open(&other, 130, NULL); PROCESS_YIELD();'
+        for start, close, handler, is_closed in (
+                ('', '', '', False), ('', 'broadcast_close(c);', '', True), ('PROCESS_PAUSE();', '', '', True),
+                ('', 'broadcast_close(&other);', '', False), ('', '', 'broadcast_close(&bc);', False)):
+            inside = '  PROCESS_EXITHANDLER(%s)' % handler
+            source = in_process(body.replace('AT_START', start), above.replace('CLOSE', close), inside)
+            text, notes = translation(source)
+            self.assertEqual('if !open { exit; }' in (text or notes), is_closed, text)
+            self.assertEqual('open = 1;' in (text or notes), is_closed, text)
+
+    def test_an_index_of_a_long_array_chooses_by_halves(self) -> None:
+        body = '  i = clock_time(); n = k[i]; k[i] = n + 1; k[i + 1] = 2;'
+        lines = body_of(translation(in_process(body, 'static int k[20], n, i;'))[0])
+        tests = [it.strip() for it in lines if it.startswith('if')]
+        self.assertEqual(tests, ['if (i < 10) {', 'if (i < 10) {', 'if (at < 10) {'])
+        self.assertEqual(sum('if (i == 7) {' in it for it in lines), 2)
+
     def test_a_ctimer_that_is_restarted_before_it_is_set_has_a_remark(self) -> None:
         above = 'static struct ctimer c; static void tick(void *ptr) { printf("%d", 1); }'
         start, again = 'ctimer_set(&c, 3, tick, NULL); ', 'ctimer_restart(&c); '

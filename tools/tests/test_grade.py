@@ -688,6 +688,12 @@ class Nets(Folder):
         self.assertTrue(self.rows('--net', 'task.toml')['ben.mote'].endswith('; mote 0 halts at 0 in task.toml'))
         self.assertIn('mote 0 halts at 0 in task.toml: it used up its work there, maybe in a loop without a wait',
                       self.grade('--net', 'task.toml', '--why', 'ben'))
+        self.hand_in('pia.c', '''PROCESS(a, "a"); AUTOSTART_PROCESSES(&a);
+PROCESS_THREAD(a, ev, data) { static int i; PROCESS_BEGIN(); for(i = 0; i < 30000; i++) ; PROCESS_END(); }
+''')
+        row = self.rows('--net', 'task.toml')['pia.c']
+        self.assertIn('mote 0 halts at 0 in task.toml (on a node, maybe not)', row)
+        self.assertIn('On a node, it may have enough: each index', self.grade('--net', 'task.toml', '--why', 'pia'))
         (self.top / 'secret.toml').write_text(net(PROGRAM % 9, motes=5))
         self.grade('--net', 'task.toml', '--hidden', 'secret.toml', '-o', 'marks.html')
         self.assertIn('mote 0 halts at 0 in task.toml', self.page())

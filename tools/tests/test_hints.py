@@ -379,6 +379,7 @@ class Warnings(unittest.TestCase):
             (CODE % 'while 1 { seq = (seq + 1); }', 5, 'nothing waits'),
             (CODE % 'yield_until fired(t);', 5, '`t` is never set, so `fired(t)` is never true'),
             (CODE % 'wait_until expired(t);', 5, '`t` is never set, so `expired(t)` is always true'),
+            (CODE % 'while 1 { yield; if fired(t) { reset t; } }', 5, '`t` is never set, so its interval is 0 if it'),
             ('process a, b; autostart a, b; code a { etimer u; body { set u 5; } } '
              'code b { etimer u; body { wait_until expired(u); } }', 5, '`u` is never set, so `expired(u)` is always'),
             ('process a; autostart a; code a { ctimer c { print 1; } body { set c 5; yield_until fired(c); } }', 5,

@@ -13,7 +13,7 @@ from motesim.c_program.places import OF_DATA, TEXTS, Place, Pointer, has_effects
 from motesim.c_program.tree import Expression, Function, Variable
 from motesim.c_program.types import BYTE, INT, UNSIGNED, leaves_of
 from motesim.c_program.values import MOST, NOTHING, Limits, Value, added, as_type, compared, number
-from motesim.c_program.walk import all_parts, parts_of, shown, without_casts
+from motesim.c_program.walk import all_parts, base_of, parts_of, shown, without_casts
 from motesim.c_program.written import Block, If, Line
 
 CONVERSION = re.compile(r'%(?:%|[-+ #0]*[0-9]*(?:\.[0-9]+)?(?P<size>hh|h|ll|l|z|j|t)?(?P<kind>[a-zA-Z]))')
@@ -140,18 +140,29 @@ class Calls(Chance):
         raise NotImplementedError
 
     def note_connection(self, it: Expression) -> None:
-        """Notes that packets arrive before a connection is opened, and after it is closed."""
-        if it.text.endswith(('_open', '_close')):
-            self.check_connection(it)
-        if it.text.endswith('_open'):
-            self.remark(it.line, OF_CHANNEL)
-        callback = self.program.usage.callback
-        if callback is None or self.unit.name in ('onpoll', 'onexit'):
+        """Notes that a connection is opened or closed."""
+        if not it.text.endswith(('_open', '_close')):
             return
-        if it.text.endswith('_close'):
-            self.remark(it.line, NO_CLOSE % callback.name)
-        elif it.text.endswith('_open') and not self.is_first:
-            self.remark(it.line, NOT_OPEN % callback.name)
+        self.check_connection(it)
+        is_open, usage = it.text.endswith('_open'), self.program.usage
+        if is_open:
+            self.remark(it.line, OF_CHANNEL)
+        its = base_of(self.first(it))
+        is_other = its is not None and its.type.kind == 'connection' and its is not usage.connected
+        is_from_start = is_open and self.is_first and not self.is_closed_somewhere
+        if usage.callback is None or is_other or is_from_start or self.unit.name == 'onexit':
+            return
+        if self.process != usage.receiver:
+            self.remark_mistake(it.line, (NOT_OPEN if is_open else NO_CLOSE) % usage.callback.name)
+            return
+        if not is_open or not self.is_first:
+            self.program.knowledge.new_forms.add('closed %s' % self.process)
+        self.assign(self.own('open', 'open'), number(int(is_open)), BYTE)
+
+    @property
+    def is_closed_somewhere(self) -> bool:
+        """Returns whether the connection of the process is closed for a time, so that a variable says if it is."""
+        return 'closed %s' % self.process in self.program.knowledge.forms
 
     def check_connection(self, it: Expression) -> None:
         """Refuses a first argument that isn't the address of a connection."""
@@ -283,7 +294,7 @@ class Calls(Chance):
             raise self.refuse(it.line, OF_ITSELF)
         receiver, callback = self.program.usage.receiver, self.program.usage.callback
         if callback and name == self.program.names.get(receiver) and not closes(self.file.bodies[receiver]):
-            self.remark(it.line, OF_RECEIVER % callback.name)
+            self.remark_mistake(it.line, OF_RECEIVER % callback.name)
         self.emit('kill %s;' % name)
 
     def value_process_is_running(self, it: Expression) -> Value:

@@ -118,7 +118,7 @@ class Events(Places):
             return compared('==', self.whole('data'), self.evaluate(other))
         if other.kind == 'name' and other.text == 'NULL':
             if self.forms('data') and self.whole('data').low <= 0:
-                self.remark(other.line, OF_ZERO)
+                self.remark_mistake(other.line, OF_ZERO)
             found = compared('==', self.whole('data'), number(0))
             others = both(self.event_test('timer'), self.event_test('exited'), '||')
             return both(found, negated(others), '&&')

@@ -11,7 +11,7 @@ from motesim.c_program.types import (
 )
 from motesim.c_program.values import MOST, Value, added, compared, converted, multiplied, number
 from motesim.c_program.walk import all_parts, parts_of
-from motesim.c_program.written import Block, If, Line
+from motesim.c_program.written import Block, If, Line, assigned_by
 
 Path = tuple[str | int, ...]
 NO_POINTER = 'There are no pointers here: `%s` isn\'t the address of a variable that is known at this place.'
@@ -48,6 +48,8 @@ NO_PACKET = ('The packet and its sender are known only in the function that is c
              'in variables.')
 OF_ADDRESS = 'An address is one number: the motes are numbered from 0, in the order of the scenario.'
 NO_MOTE = 255
+# An index that has more values chooses a half of them first.
+MOST_IN_ROW = 8
 ONE_BYTE = 'Only the first byte of an address, `u8[0]`, has a value here: the other bytes are 0, and aren\'t assigned.'
 OF_NULL = 'The address that no mote has is %d here.' % NO_MOTE
 OF_CAST = ('`%s` is read with another type than it has: calculate the value instead, as by `x & 0xff`, `x >> 8`, or '
@@ -462,6 +464,9 @@ class Places(Base):
         """Runs one of several blocks: that of the member with an index. If the statements before choose by the same
         index, their blocks get the new statements."""
         members = [at for at in range(len(blocks)) if index.low <= at <= index.high]
+        if len(members) > MOST_IN_ROW:
+            self.choose_half(index, blocks, members[len(members) // 2])
+            return
         tests = [compared('==', index, number(at)) for at in members]
         last = self.out[len(self.out) - len(tests):] if len(self.out) >= len(tests) else []
         is_same = all(isinstance(it, If) and it.test.text == test.text and not it.other
@@ -474,6 +479,18 @@ class Places(Base):
             return
         for test, at in zip(tests, members):
             self.out.append(If(test, blocks[at], []))
+
+    def choose_half(self, index: Value, blocks: list[Block], middle: int) -> None:
+        """Runs one of many blocks: a test chooses the half that it is in, so that few tests lead to it."""
+        test = Value('(%s < %d)' % (index.text, middle), INT, 0, 1, index.reads)
+        last = self.out[-1] if self.out else None
+        is_same = isinstance(last, If) and last.test.text == test.text and bool(last.other)
+        found = last if isinstance(last, If) and is_same and not index.reads & assigned_by([last]) else If(test, [], [])
+        for block, half in (found.then, index._replace(high=middle - 1)), (found.other, index._replace(low=middle)):
+            with self.into(block):
+                self.choose(half, blocks)
+        if found is not last:
+            self.out.append(found)
 
     # Types.
 

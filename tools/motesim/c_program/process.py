@@ -165,12 +165,14 @@ class ProcessWriter(Functions):
         function = self.program.usage.callback
         assert function is not None
         if self.process != self.program.usage.opener and self.process not in self.file.autostart:
-            self.remark(function.line, LATE_RECEIVER % (function.name, self.code.name, self.code.name))
+            self.remark_mistake(function.line, LATE_RECEIVER % (function.name, self.code.name, self.code.name))
         self.receiving = self.new_name(function.name, function.line)
         self.threads[function.name] = self.receiving
         self.bind_callback(function)
         unit = Unit('receive', function, may_wait=False, is_callback=True, of_radio=True)
         with self.unit_of(unit), self.into([]) as block:
+            if self.is_closed_somewhere:
+                self.emit('if !%s { exit; }' % self.own('open', 'open'))
             if self.is_to_one:
                 self.emit(IF_OTHER)
             self.body_of(function)
@@ -195,7 +197,7 @@ class ProcessWriter(Functions):
         for it in calls:
             name = it.parts[0].parts[0].text if it.text == 'process_post' and it.parts[0].parts else ''
             if name in polled:
-                self.remark(it.line, OF_ORDER % (function.name, name))
+                self.remark_mistake(it.line, OF_ORDER % (function.name, name))
 
     # Callback timers.
 

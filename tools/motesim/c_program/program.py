@@ -64,8 +64,8 @@ def translated(text: str, second: int = SECOND) -> Translation:
     try:
         file = read_file(text)
         check_processes(file)
-        remarks = check_locals((*file.bodies.values(), *file.functions.values()))
-        remarks += indexes_for_pointers(file)
+        without_value = check_locals((*file.bodies.values(), *file.functions.values()))
+        remarks = indexes_for_pointers(file)
         program, lines = settled(file, second)
         check_ends(program)
         check_allocated(file)
@@ -74,6 +74,8 @@ def translated(text: str, second: int = SECOND) -> Translation:
         remark_names(program)
         for line, remark in remarks:
             program.remark(line, remark)
+        for line, remark in without_value:
+            program.remark(line, remark, True)
     except RecursionError:
         raise Refusal(1, TOO_LARGE % LIMITS[7]) from None
     found = '\n'.join(lines) + '\n'

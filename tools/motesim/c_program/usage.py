@@ -5,7 +5,7 @@ from dataclasses import dataclass, field
 
 from motesim.c_program.refusal import Refusal
 from motesim.c_program.tree import Expression, File, Function, Variable
-from motesim.c_program.walk import all_parts, assigned_in, parts_of, variables_in
+from motesim.c_program.walk import all_parts, assigned_in, base_of, parts_of, variables_in
 
 # The types of variables that belong to no process.
 GLOBAL = ('event', 'semaphore', 'process', 'connection', 'callbacks', 'pt', 'data')
@@ -32,12 +32,14 @@ class Usage:
     """The functions and the variables that the processes of a program use.
 
     receiver   the process that gets packets, with the callbacks of its connection
+    connected  the variable of this connection
     assigned   the variables that are assigned somewhere
     """
     uses: dict[str, Use] = field(default_factory=dict)
     receiver: str = ''
     opener: str = ''
     connection: str = ''
+    connected: Variable | None = None
     callback: Function | None = None
     sent: Function | None = None
     assigned: set[Variable] = field(default_factory=set)
@@ -103,6 +105,7 @@ def find_receiver(file: File, usage: Usage) -> None:
         raise Refusal([*opened.values()][1][1].line, TWO_CONNECTIONS % ' and '.join('`%s`' % it.name for it in opened))
     for callbacks, (name, call) in opened.items():
         usage.opener, usage.connection = name, call.text.removesuffix('_open')
+        usage.connected = base_of(call.parts[0])
         usage.callback, usage.sent = members_of(file, callbacks)
         usage.receiver = receiver_of(file, usage, name) if usage.callback else ''
 

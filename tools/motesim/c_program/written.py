@@ -80,6 +80,12 @@ def braced(head: str, block: Block, edge: str) -> list[str]:
     return ['%s%s {' % (edge, head), *lines_of(block, edge + '  ')]
 
 
+def assigned_by(block: Block) -> set[str]:
+    """The names that some assignments and the branches around them assign."""
+    found = {it.text.partition(' = ')[0] for it in block if isinstance(it, Line)}
+    return found.union(*(assigned_by([*it.then, *it.other]) for it in block if isinstance(it, If)))
+
+
 def is_empty(block: Block) -> bool:
     return all(isinstance(it, Comment) for it in block)
 

@@ -83,6 +83,7 @@ BEHIND = 'the timer `%s` is set only after this wait for it, so the wait never e
 NEVER_POSTED = 'no process posts the event `%s`, so `is(%s)` is never true'
 OF_PACKET = '; a packet has an event of its own: `is(packet)`'
 NEVER_SET = 'the timer `%s` is never set'
+ONLY_RESET = 'the timer `%s` is never set, so its interval is 0 if it is reset or restarted: write `set %s 10;` before'
 # The results of tests of a timer that is never set.
 ALWAYS = {'expired': ', so `expired(%s)` is always true', 'fired': ', so `fired(%s)` is never true'}
 # The most other places that a warning names.
@@ -315,6 +316,8 @@ class Program:
                     result = next((its % timer.text for test, its in ALWAYS.items()
                                    if followed(code, test, '(', timer.text)), '')
                     yield NEVER_SET % timer.text + result, timer
+                elif not followed(code, 'set', timer.text):
+                    yield ONLY_RESET % (timer.text, timer.text), timer
 
     def awaited_ctimers(self) -> Iterator[Token]:
         """Each name of a `ctimer` in `fired(..)` in its own code, outside the blocks of callback timers."""

@@ -20,6 +20,9 @@ OF_FORMULA = ('=', '+', '-', '@', '\t', '\r', '|', '%')
 RENAMED = 'Hint: sentences use the names of the task: if a process was renamed, rename it back, and grade again'
 UNUSED = ('Hint: in a net of --net or --hidden the motes run only one program of a solution. Move the code of the '
           'other motes into this program, below tests such as `if (self == 0)`, and grade again')
+USED_UP = '%s: it used up its work there, maybe in a loop without a wait'
+ONLY_HERE = ' (on a node, maybe not)'
+OF_C = '. On a node, it may have enough: each index and each operation on bits needs more work in a translation'
 SHARED = 'in all solutions and nets, this or a similar remark: %s'
 ESCAPES = {'\\': '\\\\', '"': '\\"', '\n': '\\n', '\t': '\\t', '\r': '\\r'}
 
@@ -47,7 +50,8 @@ def table(marked: Sequence[Marks], sentences: Sequence[str]) -> list[str]:
         broken = ', '.join('%d%s' % (number, REQUIRED * one.is_required) for number, one in enumerate(it.marks, 1)
                            if not one.holds)
         count = count_of(it, len(sentences))
-        parts = broken and 'broken: %s' % broken, it.fault, it.halts, broken and it.unused, on_node(it.of_c)
+        halts = it.halts and it.halts + ONLY_HERE * it.name.endswith('.c')
+        parts = broken and 'broken: %s' % broken, it.fault, halts, broken and it.unused, on_node(it.of_c)
         words = it.why or '; '.join(one for one in parts if one)
         rows.append(('%s  %s  %s' % (it.short_name.ljust(width), count, words)).rstrip())
     return rows
@@ -155,7 +159,7 @@ def why(marks: Marks) -> list[str]:
         lines.append(('holds   ' if it.holds else 'broken  ') + it.words)
         nets = [in_nets(it.nets)] if it.nets else []
         lines += ['          ' + row for row in [*nets, *it.more, *filter(None, [it.remark])]]
-    lines += ['%s: it used up its work there, maybe in a loop without a wait' % marks.halts] if marks.halts else []
+    lines += [USED_UP % marks.halts + OF_C * marks.name.endswith('.c')] if marks.halts else []
     if marks.first_failed is not None:
         lines += [*marks.warned, *([marks.unused, UNUSED] if marks.unused else [])]
     return [*lines, *([RENAMED] * any(marks.lacks)), *map(shown, marks.of_c)]
