@@ -10,6 +10,7 @@ from typing import Any
 
 from motesim.analysis.crossings import Crossing, Middle, Runs, crossing, share_that_crosses
 from motesim.analysis.crossings import Place as CrossingPlace
+from motesim.analysis.decimals import readable
 from motesim.analysis.estimates import BOUNDED, DRAWS, ENOUGH_RUNS, LEAST_RUNS, NAMES, NEARER, OF_ROW, RANGE
 from motesim.analysis.estimates import Estimate, is_skewed_near_an_end, words_of
 from motesim.analysis.limits import beyond
@@ -173,8 +174,8 @@ def _of_against(point: Point, wish: Wish) -> Row:
 def table_of(shown: Shown, wish: Wish) -> list[str]:
     """The points as a table, and lines about the runs that it omits."""
     rows = rows_of(shown, wish)
-    return [heading(shown, wish), *table(rows, list(rows[0])), *crossings(shown, wish), *left_out(shown, wish),
-            *remarks(shown, wish)]
+    return [heading(shown, wish), *table(readable(rows), list(rows[0])), *crossings(shown, wish),
+            *left_out(shown, wish), *remarks(shown, wish)]
 
 
 def csv_of(rows: Sequence[Row]) -> str:

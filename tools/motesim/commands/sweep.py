@@ -16,7 +16,8 @@ The forms of values are 10,20,40 (these numbers), 1..30 (all whole numbers from 
 and 100). With `name = MEASURE` the column of a measure gets this name. The measures are:
   sent, ratio, collided, ..     a column of tools/summary, for the net
   sent of mote 3                a column of tools/summary, for one mote
-  reachable                     the share of the motes that packets of mote 0 can reach, directly or through others
+  reachable                     the share of the motes that packets of mote 0 can reach, directly or through others,
+                                if no packet is lost
   loss                          the share of the copies that are lost by the scenario's losses
   flow most: print sink         a column of tools/summary --flow, for the net
   holds: no mote halts          1 if this sentence of tools/expect holds, otherwise 0

@@ -10,6 +10,7 @@ from pathlib import Path
 from typing import NamedTuple
 
 from motesim.analysis import drawing, text
+from motesim.analysis.decimals import readable
 from motesim.analysis.drawing import FORMATS
 from motesim.analysis.limits import estimates_beyond
 from motesim.analysis.origin import origin_of, origin_path
@@ -179,7 +180,9 @@ def compare(sides: Sides, wish: Wish, source: Source) -> bool:
         write_tables(picture, made, source, runs, [words, *notes])
         print('\n'.join([str(picture), *notes, *left_to_caption(has_room, picture)]))
         return True
-    print('\n'.join([words, *table(made, [it for it in made[0] if it != text.NETS]), *notes]))
+    names = [it for it in made[0] if it != text.NETS]
+    rows = readable([{name: row[name] for name in names} for row in made])
+    print('\n'.join([words, *table(rows, names), *notes]))
     return not wish.file
 
 
