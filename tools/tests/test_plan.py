@@ -1,5 +1,6 @@
 """Scenarios from plans: the same bytes everywhere, each rule, and each fault with its place."""
 import hashlib
+import math
 import re
 import subprocess
 import sys
@@ -101,8 +102,16 @@ class PlacesTest(unittest.TestCase):
 
     def test_a_ring_of_twelve_is_symmetric(self) -> None:
         ring = places.ring(12, 100)
-        self.assertEqual(ring[1], (87, 50))
+        self.assertEqual(ring[1], (86, 50))
         self.assertEqual({(-x, -y) for x, y in ring}, set(ring))
+
+    def test_no_place_of_a_ring_is_farther_away_than_its_radius(self) -> None:
+        for count in range(1, 30):
+            for radius in (0, 1, 7, 10, 12_345):
+                for number, (x, y) in enumerate(places.ring(count, radius)):
+                    self.assertLessEqual(x * x + y * y, radius * radius)
+                    angle = math.tau * number / count
+                    self.assertLess(math.hypot(x - radius * math.cos(angle), y - radius * math.sin(angle)), 1.2)
 
     def test_the_least_distance_is_kept(self) -> None:
         found, rejected = places.scattered(60, 100, 100, 3, 8, None)

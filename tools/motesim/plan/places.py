@@ -89,17 +89,21 @@ def _series(angle: int, first: int) -> int:
     return total
 
 
-def _rounded(length: int) -> int:
-    return (length + (1 << (BITS - 1))) >> BITS
+def _inside(x: int, y: int, radius: int) -> Point:
+    """The place of whole numbers that is nearest to (x, y), which have BITS bits behind the point, and that isn't
+    farther from (0, 0) than the radius."""
+    near = ((a, b) for a in (x >> BITS, (x >> BITS) + 1) for b in (y >> BITS, (y >> BITS) + 1))
+    return min((it for it in near if it[0] ** 2 + it[1] ** 2 <= radius ** 2),
+               key=lambda it: ((it[0] << BITS) - x) ** 2 + ((it[1] << BITS) - y) ** 2)
 
 
 def ring(count: int, radius: int) -> list[Point]:
-    """Places around the point (0, 0), beginning at the right."""
+    """Places around the point (0, 0), beginning at the right; none is farther from it than the radius."""
     points = []
     for number in range(count):
         quarter, rest = divmod(4 * number, count)
         angle = ((PI * rest) << BITS) // (2 * TENTHS * count)
-        x, y = _rounded(radius * _series(angle, 0)), _rounded(radius * _series(angle, 1))
+        x, y = _inside(radius * _series(angle, 0), radius * _series(angle, 1), radius)
         points.append([(x, y), (-y, x), (-x, -y), (y, -x)][quarter])
     return points
 
