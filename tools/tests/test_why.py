@@ -473,6 +473,17 @@ class Questions(unittest.TestCase):
             assert isinstance(found, Asked)
             self.assertEqual((found.where, found.holds), (where, False), question)
 
+    def test_a_lost_copy_has_the_reason_of_its_loss(self) -> None:
+        lossy = source(SCENARIO + '[[loss]]\nfrom = 0\nto = 1\nevery = 3\n',
+                       REPORT[:REPORT.index('7 recv')] + 'medium\n4 0 0 8 1@lost\nleft 0\n')
+        for question, begin in (('no copy is lost', 'there is 1 such copy; wanted: at most 0; this is the first beyond '
+                                 'that; '), ('some copy is lost at mote 1', '')):
+            found = Asker(lossy).about(question)
+            assert isinstance(found, Asked)
+            self.assertEqual(found.remark, begin + 'the copy for mote 1: the medium lost it, because it loses one '
+                             'packet in 3 from 0 to 1')
+            self.assertEqual(found.where, At(0, 12))
+
     def test_sentences_that_want_a_line(self) -> None:
         for question in 'mote 1 prints h 9', 'mote 1 prints h 8 by 6', 'mote 0 sends twice', 'every mote sends':
             self.assertIsInstance(self.about(question), Missing, question)

@@ -81,6 +81,13 @@ def after_recv(source: Source, recv: At) -> Fate:
                 source.traces.row(recv))
 
 
+def loss_of(source: Source, sender: int, to: int) -> str:
+    """The reason for which the medium lost a copy."""
+    every = source.scenario.losses.get((sender, to), 0)
+    rule = 'all packets' if every == 1 else 'one packet in %d' % every
+    return 'the medium lost it, because it loses %s from %d to %d' % (rule, sender, to)
+
+
 def fate_of(source: Source, row: int, words: list[str], to: int) -> Fate:
     """The fate of a packet on its way to a mote, by its line of the medium."""
     sender, number = int(words[1]), int(words[2])
@@ -88,10 +95,7 @@ def fate_of(source: Source, row: int, words: list[str], to: int) -> Fate:
     if copy is None:
         return Fate('unheard', 'mote %d does not hear mote %d' % (to, sender), int(words[0]), None, row)
     if copy == 'lost':
-        every = source.scenario.losses.get((sender, to), 0)
-        rule = 'all packets' if every == 1 else 'one packet in %d' % every
-        return Fate('lost', 'the medium lost it, because it loses %s from %d to %d' % (rule, sender, to), int(words[0]),
-                    None, row)
+        return Fate('lost', loss_of(source, sender, to), int(words[0]), None, row)
     return of_arrival(source, sender, number, to, int(copy), row)
 
 

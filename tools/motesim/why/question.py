@@ -21,6 +21,7 @@ from motesim.judge.sentences import (
     Copies, Count, Does, Hears, Motes, Packets, Pattern, Sentence, Value, names_of, read_sentence,
 )
 from motesim.why.fates import undelivered
+from motesim.why.fate import loss_of
 from motesim.why.source import At, Found, Source, Traces
 
 LINE = re.compile(r'\s*(?:(?:mote\s+)?(\d+)\s*:\s*)?(?:line\s+)?(\d+)\s*', re.I)
@@ -230,12 +231,23 @@ class Asker:
             return self.of_motes(it)
         if isinstance(it, Copies) and it.outcome != 'left':
             found = self.counted(self.of_losses(it) if it.outcome == 'lost' else self.of_copies(it), it)
+            if isinstance(found, Asked) and it.outcome == 'lost':
+                return self.with_losses(found, it)
             return self.with_reason(found, it) if isinstance(found, Lineless) and not found.holds else found
         if isinstance(it, Packets):
             return self.counted(self.packets(), it)
         if isinstance(it, Hears):
             return self.of_hearing(it)
         raise Unasked('this sentence is about no line of a trace')
+
+    def with_losses(self, asked: Asked, it: Copies) -> Asked:
+        """The line that sent a packet, with the reasons for which the medium lost its copies."""
+        sender, packet = asked.where.mote, int(self.traces.text(asked.where).split(' ')[2])
+        _, text = self.traces.packet(sender, packet) or (0, '')
+        lost = [int(word.partition('@')[0]) for word in text.split(' ')[4:] if word.endswith('@lost')]
+        reasons = ['the copy for mote %d: %s' % (to, loss_of(self.source, sender, to)) for to in lost
+                   if it.motes is None or to in it.motes]
+        return replace(asked, remark='; '.join(filter(None, [asked.remark, *reasons])))
 
     def of_hearing(self, it: Hears) -> Lineless:
         """The answer to a sentence about who hears whom, for the first mote that breaks it, or for all of them."""
