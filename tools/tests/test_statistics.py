@@ -439,6 +439,10 @@ class Pairs(unittest.TestCase):
             lines = of_pairs(found, differences(found, 0.95, 't'), 'period')
             start = 'at period 1 the mean difference is from fewer than 30 pairs, and they are skewed: '
             self.assertEqual(any(it.startswith(start) for it in lines), is_said)
+            # (five pairs of runs in each net)
+            by_nets = [it._replace(pairs=5 * it.pairs) for it in differences(found, 0.95, 't')]
+            said = ' '.join(of_pairs(found, by_nets, 'period'))
+            self.assertEqual('from fewer than 30 nets, and they are skewed' in said, is_said)
 
     def test_pairs_of_two_nets_are_counted(self) -> None:
         for places, count in (('a', 0), ('b', 1), (None, 0)):

@@ -641,9 +641,12 @@ def of_pairs(paired: Paired, found: Sequence[Difference], against: str, most: in
               and it.difference.method in ('t', 'within pairs')]
     if skewed:
         at = 'at %s %s ' % (against, ', '.join(skewed)) if against else ''
-        lines.append('%s%s mean difference is from fewer than %d pairs, and they are skewed: its interval '
-                     'contains the true mean less often than its confidence says; make more runs, or use --interval '
-                     'bootstrap-t' % (at, 'the' if len(skewed) == 1 else 'each', ENOUGH_RUNS))
+        # (with --nets, the differences are those of nets)
+        kind = 'nets' if any(it.pairs > it.difference.runs for it in found) else 'pairs'
+        lines.append('%s%s mean difference is from fewer than %d %s, and they are skewed: its interval '
+                     'contains the true mean less often than its confidence says; make more %s, or use --interval '
+                     'bootstrap-t' % (at, 'the' if len(skewed) == 1 else 'each', ENOUGH_RUNS, kind,
+                                      'nets' if kind == 'nets' else 'runs'))
     if paired.of_two_nets:
         lines.append('in %d of %d pairs the motes have different places on the two sides: such a pair compares two '
                      'different nets, so it doesn\'t remove the effect of the net' % (
