@@ -8,6 +8,7 @@ ABOVE = 'static struct ctimer t; static rimeaddr_t a; static int later(void) { r
 # Statements, and words of the advice.
 ADVICE = (
     ('NETSTACK_MAC.off(0);', 'motesim has no `NETSTACK_MAC.off`. The radio of a mote always listens'),
+    ('NETSTACK_NETWORK.output(NULL);', 'use `broadcast_open`'), ('nullnet_len = 2;', 'This is of Contiki-NG.'),
     ('cc2420_set_txpower(3);', 'there is no MAC layer'), ('leds_blink();', 'use `leds_on`, `leds_off`'),
     ('clock_delay(10);', 'Let the process wait for an etimer.'), ('watchdog_reboot();', 'A mote doesn\'t start again'),
     ('SENSORS_ACTIVATE(button_sensor);', 'no sensors and no buttons'), ('x = sht11_temp();', 'compute a value'),
@@ -99,6 +100,13 @@ class Absent(unittest.TestCase):
         source = in_process('').replace('(&p)', '(p)')
         self.assertRefused(source, 3, 'An `&` is missing in front of `p`.')
         self.assertIsNotNone(translation(in_process('  int i; if(n) { int i = 2; n = i; }', above))[0])
+
+    def test_a_timer_that_two_processes_use_becomes_two_timers(self) -> None:
+        above = ('PROCESS(q, "q"); static struct etimer et;\n'
+                 'PROCESS_THREAD(q, ev, data) { PROCESS_BEGIN(); etimer_set(&et, 3); PROCESS_END(); }')
+        text, notes = translation(in_process('  etimer_set(&et, 5);', above))
+        self.assertIsNone(text)
+        self.assertIn('declare a timer for each of them', notes)
 
     def test_an_event_that_no_process_allocates_is_refused(self) -> None:
         above = 'static process_event_t one, other; static const process_event_t fixed = 9;'

@@ -31,6 +31,26 @@ class Comparisons(unittest.TestCase):
                                  ('while(1) { if(timer_expired(&t)) break; if(n++ < 3) break; }', False)):
             self.check(body, 'No time passes here' * is_refused)
 
+    def test_a_value_that_depends_on_an_open_order_is_refused(self) -> None:
+        above = 'static int x, k[3]; static int f(int p) { return p + 1; }'
+        for body, name in (
+                ('x = x++ + ++x;', 'x'), ('x = x++;', 'x'), ('k[n] = n++;', 'n'), ('printf("%d %d", n++, n);', 'n'),
+                ('x = f(n++) + n;', 'n'), ('n = (n = 3) + 1;', 'n'), ('x = n-- - n;', 'n'), ('n += n++;', 'n'),
+                ('x = x + 1;', ''), ('k[n++] = x;', ''), ('k[n] = k[n + 1];', ''), ('x = n++ ? n : 0;', ''),
+                ('if(n++ < 3 && n > 1) x = 2;', ''), ('x = n++ + x;', ''), ('n++, x = n;', ''), ('x += n++;', ''),
+                ('memset(&n, 0, sizeof(n)); x = f(n) + n;', ''), ('k[n] += 2;', ''), ('x = (n = 3) + 1;', '')):
+            text, notes = translation(in_process('  ' + body, above, '  static int n;'))
+            self.assertEqual(text is None, bool(name), body + notes)
+            self.assertIn('C doesn\'t define when `%s` changes' % name if name else '', notes)
+
+    def test_a_shift_by_16_or_more_bits_is_refused(self) -> None:
+        for body, wanted in (('x = n << 16;', 'shift by at most 15'), ('u = 1 << 16;', 'shift by at most 15'),
+                             ('x = n >> 20;', 'shift by at most 15'), ('u <<= 17;', 'shift by at most 15'),
+                             ('x = n << 15;', ''), ('u = (uint32_t)n << 16;', '')):
+            text, notes = translation(in_process('  ' + body, 'static int x, n; static uint16_t u;'))
+            self.assertEqual(text is None, bool(wanted), body + notes)
+            self.assertIn(wanted or '', notes)
+
     def test_an_array_of_a_structure_that_is_not_declared_is_refused(self) -> None:
         text, notes = translation(in_process('', 'static struct piont places[] = {1, 2};'))
         self.assertIsNone(text)

@@ -163,7 +163,8 @@ class Random(OnHost):
             program = CProgram(seed, bool(seed % 2))
             wanted = program.prints()
             text, notes = translation(in_process('\n'.join(program.body), '\n'.join(program.functions)), SECOND)
-            if wanted is None:
+            # (a program may depend on an order that C leaves open)
+            if wanted is None or 'C doesn\'t define when' in notes:
                 continue
             count += 1
             with self.subTest(seed=seed, text=text, notes=notes):

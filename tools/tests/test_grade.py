@@ -237,16 +237,18 @@ PROCESS_THREAD(a, ev, data) {
         in_c = '/* neighbours */\n#include "contiki.h"\nPROCESS(a, "a");\n'
         self.hand_in('ivan.h', in_c)
         self.hand_in('jana.mote', in_c)
+        self.hand_in('kim.c', PROGRAM % 3)
         named = 'its name ends neither in .toml nor in .mote nor in .c'
         self.assertEqual(self.rows('--net', 'task.toml'), {
             'Emil_4712_file/emil.mote': '1 of 3  broken: 1, 2', 'Emil_4712_file/notes.txt': '- of 3  ' + named,
             'Emil_4712_file/work.zip': '- of 3  ' + named, 'anna.toml': '3 of 3',
             'ivan.h': '- of 3  ' + named,
-            'jana.mote': '0 of 3  it is a program in C: a file of such a program is NAME.c'})
+            'jana.mote': '0 of 3  it is a program in C: a file of such a program is NAME.c',
+            'kim.c': '0 of 3  it is in the notation, not in C: a file of such a program is NAME.mote'})
         self.grade('--net', 'task.toml', '-o', 'marks.csv', '-o', 'marks.html', '-o', 'marks.toml')
         self.assertIn('\n"ivan.h","",3,"%s","","",""\n' % named, self.page('marks.csv'))
         self.assertIn('<td class="number ">- of 3</td>', self.page())
-        self.assertIn('<td class="number">1 of 3</td><td>every mote prints a 3</td>', self.page())
+        self.assertIn('<td class="number">1 of 4</td><td>every mote prints a 3</td>', self.page())
         self.assertNotIn('holds', tomllib.loads(self.page('marks.toml'))['solution'][1])
 
     def test_a_file_without_a_program_says_so(self) -> None:

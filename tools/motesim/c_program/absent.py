@@ -26,6 +26,8 @@ NO_REPEATS = ('Nothing repeats a packet by itself, or leaves it out: use `broadc
               'examples/trickle.toml sends less often if it hears the same packet.')
 NO_INTERNET = ('There is no IP: a packet is one number for all motes in range. Use `broadcast_open`, '
                '`packetbuf_copyfrom` and `broadcast_send`, or `unicast_send`.')
+OF_NG = ('This is of Contiki-NG. Processes follow Contiki 2.x here: use `broadcast_open`, `packetbuf_copyfrom` and '
+         '`broadcast_send`.')
 NO_TEXTS = 'There are no texts here, and a packet is a number: use the number itself, such as `n`.'
 NO_SERIAL = ('A mote has no serial line: use an etimer for what a command starts, and `printf` for what the node '
              'writes.')
@@ -35,6 +37,7 @@ NEEDLESS = 'This is done before the program starts: leave this line out.'
 # Patterns for the beginnings of names, and advice.
 ADVICE = (
     (r'SENSORS_|sensors_|button_|sht11|battery_|adc_|\w+_sensors?$', NO_SENSORS),
+    (r'NETSTACK_NETWORK|nullnet_|NULLNET', OF_NG),
     (r'NETSTACK_|RADIO|radio_|cc\d+_|contikimac_|xmac_|csma_|nullrdc_|nullmac_', NO_RADIO),
     (r'energest_|ENERGEST|powertrace_', NO_ENERGY),
     (r'list_|memb_|mmem_|queuebuf_|ringbuf_|(LIST|MEMB|malloc|calloc|realloc|free)$', NO_MEMORY),

@@ -12,6 +12,7 @@ from motesim.c_program.radio import FILLED, Radio
 from motesim.c_program.tree import Expression, Statement, Variable
 from motesim.c_program.types import INT
 from motesim.c_program.knowledge import LoopLimits
+from motesim.c_program.usage import TIMERS
 from motesim.c_program.values import Limits, Value, both, compared, is_true, negated, number, united
 from motesim.c_program.walk import all_parts, assigned_in, has_jump, parts_of, statements_in, with_called
 from motesim.c_program.written import Block, Comment, Flag, If, Line, Target, While
@@ -30,7 +31,6 @@ NO_END = ('This loop never ends, and no event arrives in a loop that doesn\'t wa
 TIMES = frozenset(('clock_time', 'clock_seconds', 'timer_expired', 'stimer_expired', 'timer_remaining',
                    'stimer_remaining', 'stimer_elapsed'))
 STEADY = frozenset((*TIMES, 'etimer_expired', 'ctimer_expired', 'rimeaddr_cmp', 'linkaddr_cmp', 'packetbuf_datalen'))
-TIMERS = ('etimer', 'ctimer', 'timer', 'stimer')
 EXITS = ('PROCESS_EXIT', 'PT_EXIT', 'PT_RESTART')
 NO_BREAK = 'There is no loop around this `%s`.'
 YIELDS = ('PROCESS_YIELD', 'PROCESS_WAIT_EVENT', 'PT_YIELD')

@@ -22,6 +22,7 @@ NO_SIGNED_DIVISION = ('`%s` of a value that may be below 0 isn\'t translated her
                       'use an `if`.')
 NO_LONG = ('Values have 16 bits here, so `%s` with %d isn\'t translated: use smaller units, or a value without the '
            'lower bits.')
+NO_SHIFT = 'An `int` of a node has 16 bits, so C doesn\'t define a shift by 16 or more bits: shift by at most 15.'
 OF_SIGN = ('One side of this `%s` may be below 0, and the other side, %d, is above 32,767, which 16 bits with a sign '
            'can\'t hold: compare with a smaller number, or calculate with `uint16_t`.')
 OF_NUMBER = ('`%s` is an address, but a number is expected here: write the name of a variable without `&`, or a member '
@@ -235,6 +236,10 @@ class Expressions(Events):
         shift = constant_of(parts[1], self.program.second) or 0
         if sign == '>>' and shift > 15 and self.is_long(parts[0]):
             raise self.refuse(line, NO_LONG % (sign, shift))
+        if sign in ('<<', '>>') and shift > 15 and not self.is_long(parts[0]):
+            raise self.refuse(line, NO_SHIFT)
+        if sign == '<<' and shift > 15:
+            self.remark_mistake(line, OF_LONG)
 
     def is_long(self, it: Expression, is_time_long: bool = True) -> bool:
         """Returns whether C calculates a value with 32 bits. `is_time_long`: whether a time counts, too."""

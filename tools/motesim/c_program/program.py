@@ -18,6 +18,7 @@ from motesim.c_program.indexes import indexes_for_pointers
 from motesim.c_program.knowledge import Knowledge
 from motesim.c_program.lost import check_locals
 from motesim.c_program.names import fresh
+from motesim.c_program.order import check_order
 from motesim.c_program.parse_file import read_file
 from motesim.c_program.process import ProcessWriter
 from motesim.c_program.refusal import Refusal
@@ -64,6 +65,7 @@ def translated(text: str, second: int = SECOND) -> Translation:
     try:
         file = read_file(text)
         check_processes(file)
+        check_order(file)
         without_value = check_locals((*file.bodies.values(), *file.functions.values()))
         remarks = indexes_for_pointers(file)
         program, lines = settled(file, second)

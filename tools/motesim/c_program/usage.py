@@ -9,8 +9,12 @@ from motesim.c_program.walk import all_parts, assigned_in, base_of, parts_of, va
 
 # The types of variables that belong to no process.
 GLOBAL = ('event', 'semaphore', 'process', 'connection', 'callbacks', 'pt', 'data')
+TIMERS = ('etimer', 'ctimer', 'timer', 'stimer', 'rtimer')
 SHARED = ('Several processes use `%s`: %s. Processes share no variables here. Let one process have it, and post its '
           'value to the other one by `process_post(&p, EVENT, (process_data_t)%s)`.')
+SHARED_TIMER = ('Several processes use the timer `%s`: %s. Here, a timer belongs to one process, which gets its event: '
+                'declare a timer for each of them. A process lets another one set its timer by an event, '
+                '`process_post(&p, EVENT, NULL)`.')
 SHARED_LOCAL = ('Several processes call functions that use `%s`, a static variable of `%s`: %s. Processes share no '
                 'variables here. Let only one process call `%s`, and let the others post their values to it by '
                 '`process_post(&p, EVENT, (process_data_t)value)`.')
@@ -146,8 +150,7 @@ def belongs(it: Variable, usage: Usage) -> bool:
     its = it.type
     while its.of and its.kind in ('array', 'pointer'):
         its = its.of
-    return its.kind not in GLOBAL and (it in usage.assigned or its.kind in (
-        'etimer', 'ctimer', 'timer', 'stimer', 'rtimer'))
+    return its.kind not in GLOBAL and (it in usage.assigned or its.kind in TIMERS)
 
 
 def check_shared(usage: Usage) -> None:
@@ -163,4 +166,6 @@ def check_shared(usage: Usage) -> None:
             if variable.function and variable.function not in usage.uses:
                 raise Refusal(line, SHARED_LOCAL % (
                     variable.name, variable.function, listed, variable.function))
+            if variable.type.kind in TIMERS:
+                raise Refusal(line, SHARED_TIMER % (variable.name, listed))
             raise Refusal(line, SHARED % (variable.name, listed, variable.name))

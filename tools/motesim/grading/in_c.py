@@ -6,9 +6,13 @@ from collections.abc import Sequence
 from motesim.c_program.constants import SECOND
 from motesim.c_program.program import Remark, Translation
 from motesim.c_program.refusal import Refusal
+from motesim.c_program.values import MOST
 from motesim.explain.whole import line_at, translation_of, with_comment
 from motesim.faults import Fault
 from motesim.terminal import one_line
+
+# (a time has 16 bits here)
+WRAPS = '; clock_time() and clock_seconds() begin again at 0 after %d seconds, which they don\'t do on a node'
 
 
 class NotTranslated(Fault):
@@ -27,7 +31,8 @@ def of_seconds(names: Sequence[str], ends: Sequence[int]) -> list[str]:
         return []
     least, most = min(ends) / SECOND, max(ends) / SECOND
     length = '%.1f' % least if least == most else '%.1f to %.1f' % (least, most)
-    return ['a second of a program in C has %d moments, so the nets run for %s seconds' % (SECOND, length)]
+    wraps = WRAPS % (MOST // SECOND) if max(ends) > MOST else ''
+    return ['a second of a program in C has %d moments, so the nets run for %s seconds%s' % (SECOND, length, wraps)]
 
 
 def made_of(source: str) -> Translation:

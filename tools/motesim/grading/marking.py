@@ -213,6 +213,8 @@ class Task:
                                              'NAME.toml')
             if entry.path.suffix == '.mote' and begins_as_c(data):
                 return Marks(entry.name, why='it is a program in C: a file of such a program is NAME.c')
+            if entry.path.suffix == '.c' and begins_as_program(data):
+                return Marks(entry.name, why='it is in the notation, not in C: a file of such a program is NAME.mote')
             # (messages name lines by the solution's file; the name of an anonymous solution has the same ending)
             file = entry.name.removesuffix(entry.path.suffix).rpartition('/')[2] + entry.path.suffix
             if not self.nets:
