@@ -1,4 +1,4 @@
-"""Remarks of tools/plot: on points beyond the ends of an axis, and on warnings that two streams show."""
+"""Remarks of tools/plot: on points beyond the ends of an axis, on unfinished files, and on warnings of two streams."""
 import os
 import subprocess
 import sys
@@ -11,7 +11,7 @@ from motesim.analysis.limits import beyond, estimates_beyond
 from motesim.analysis.points import Wish, shown_of
 from motesim.analysis.text import remarks
 from motesim.experiments.plot import differences_in, groups_of
-from motesim.experiments.results import Row
+from motesim.experiments.results import CsvFile, Row
 from motesim.experiments.selected import sides_of
 
 # `sent` of three seeds, by the period: means 2, 6, 11 and 20, with ends of intervals by Student's t that are 2.48 away.
@@ -66,6 +66,20 @@ class Streams(unittest.TestCase):
             one = subprocess.run(words, cwd=folder, env=dict(os.environ), stdout=subprocess.PIPE,
                                  stderr=subprocess.STDOUT, text=True)
             self.assertEqual(one.stdout.count(warning), 1, one.stdout)
+
+
+class Unfinished(unittest.TestCase):
+    def test_a_file_that_a_sweep_is_writing_has_a_warning(self) -> None:
+        with tempfile.TemporaryDirectory() as folder:
+            results = Path(folder, 'a.csv')
+            results.write_text('period,seed,sent,fault,parameters\n1,1,3,,period seed\n')
+            words = [sys.executable, '-B', str(TOOLS / 'plot'), 'a.csv', '--measure', 'sent', '--against', 'period']
+            writer = CsvFile(results, results.read_text().splitlines()[0].split(','))
+            for is_written in True, False:
+                done = subprocess.run(words, cwd=folder, env=dict(os.environ), capture_output=True, text=True)
+                self.assertEqual((done.returncode, done.stderr), (0, is_written * (
+                    'plot: a sweep is writing a.csv: only the runs that it has now are shown\n')))
+                writer.close()
 
 
 if __name__ == '__main__':

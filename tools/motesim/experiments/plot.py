@@ -22,7 +22,7 @@ from motesim.analysis.rows import by_net, joined, warnings_of
 from motesim.analysis.selection import of_selection
 from motesim.experiments import packages
 from motesim.experiments.measures import Cell
-from motesim.experiments.results import Row
+from motesim.experiments.results import Row, is_being_written
 from motesim.experiments.selected import Sides, kinds_in, note_of_compared, note_of_measures, runs_of, sides_of
 from motesim.experiments.selected import where_in
 from motesim.experiments.wishes import WHERE, check_by, table_path, wishes
@@ -205,6 +205,8 @@ def drawn(wish: Wish, asked: argparse.Namespace, read: dict[tuple[str, ...], lis
         read[key] = runs_of(results, where_in(results, where, folder / wish.compare) if wish.compare else where, apart)
     rows, other = joined(read[key], wish.by), folder / wish.compare
     files = (results, other) if wish.compare else (results,)
+    for path in filter(is_being_written, files):
+        print('plot: a sweep is writing %s: only the runs that it has now are shown' % path, file=sys.stderr)
     wish = wish._replace(kinds=kinds_in(files), where=where)
     if wish.file:
         picture = folder / wish.file

@@ -250,6 +250,19 @@ def _locked(path: Path) -> IO[bytes]:
     return file
 
 
+def is_being_written(path: Path) -> bool:
+    """Returns whether a sweep is writing this file of results."""
+    try:
+        with open(path, 'rb') as file:
+            fcntl.flock(file, fcntl.LOCK_SH | fcntl.LOCK_NB)
+    except BlockingIOError:
+        return True
+    except OSError:
+        # (a folder of another machine may have no locks)
+        return False
+    return False
+
+
 def _read_table(base: sqlite3.Connection) -> tuple[list[str], list[Row]]:
     found = base.execute('select * from runs')
     names = [it[0] for it in found.description]
