@@ -116,6 +116,11 @@ class Endless(unittest.TestCase):
             r'\(line 15\) within `while 1` \(line 15\): a loop that only pauses repeats many times in each '
             r'moment, so let the process wait by `yield_until`\. A larger --report raises the limit$'))
 
+    def test_a_process_may_post_the_event_of_a_pause_to_itself(self) -> None:
+        text = (NET % POSTS.replace('msg 1; yield;', 'continue 0; yield_until is(continue);')).replace('000000', '0000')
+        self.assertRegex(busiest(text.encode()), (
+            r'^ Up to moment \d+, process echo of mote 0 pauses [\d,]+ times \(line 14\), in each turn of `while 1` '))
+
     def test_the_message_names_the_process_to_which_events_are_posted(self) -> None:
         data = (NET % POSTS).encode()
         self.assertRegex(busiest(data), r'^ Up to moment \d+, mote 0 posts [\d,]+ events to process echo: does a loop')

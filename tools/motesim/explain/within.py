@@ -112,10 +112,13 @@ def lines_of(data: bytes, its: Does, file_lines: bool) -> tuple[str, bool]:
     name = scenario.places[its.mote].program
     program = Program(name, scenario.programs[name])
     begin = next(at for at, it in enumerate(program.words) if program.words[at:at + 2] == ['code', its.process])
-    places = [at for at in range(begin, program.end_of_block(begin + 2)) if program.words[at] == its.kind]
+    end = program.end_of_block(begin + 2)
+    # (a process may also post the event of a `pause` to itself)
+    places = [at for at in range(begin, end) if program.words[at] == its.kind] or [
+        at for at in range(begin, end) if program.words[at] == 'post' and program.words[at + 2] == 'continue']
     loops = loops_around(program, begin, places)
     lines = [line_of(data, program.tokens[at], name, file_lines) for at in (*places, *loops)]
-    if not all(lines):
+    if not places or not all(lines):
         return '', False
     heads = [head_of(program, at) for at in loops]
     where = ', '.join(lines[:len(places)]) + ('' if file_lines else ' of program %s' % one_line(name))
@@ -135,8 +138,9 @@ def line_of(data: bytes, token: Token, program: str, is_of_file: bool) -> str:
 def loops_around(program: Program, begin: int, places: list[int]) -> list[int]:
     """The places of the `while` words, behind a first place, whose blocks are around all of some places, the outermost
     first."""
-    return [at for at in range(begin, min(places)) if program.words[at] == 'while' and program.end_of_block(
-        program.words.index('{', at)) > max(places)]
+    first, last = min(places, default=begin), max(places, default=begin)
+    return [at for at in range(begin, first) if program.words[at] == 'while' and program.end_of_block(
+        program.words.index('{', at)) > last]
 
 
 def head_of(program: Program, at: int) -> str:
