@@ -2,6 +2,11 @@
 import unittest
 
 import here  # noqa: F401
+from motesim.c_program.absent import NO_NAME
+from motesim.c_program.others import with_others
+from motesim.c_program.parse_file import read_file
+from motesim.c_program.refusal import Refusal
+from student_programs import PROGRAMS
 from translated_c import in_process, translation
 
 ABOVE = 'static struct ctimer t; static rimeaddr_t a; static int later(void) { return 1; }'
@@ -107,6 +112,17 @@ class Absent(unittest.TestCase):
         text, notes = translation(in_process('  etimer_set(&et, 5);', above))
         self.assertIsNone(text)
         self.assertIn('declare a timer for each of them', notes)
+
+    def test_the_message_names_all_calls_that_motesim_does_not_have(self) -> None:
+        body = '  n = strlen("a");\n  leds_blink();\n  foo(3); leds_on(1);\n  n = strlen("b");'
+        self.assertRefused(in_process(body, 'static int n;'), 9, 'And motesim doesn\'t have `leds_blink` (line 10), '
+                           '`foo` (line 11).')
+        self.assertNotIn('And motesim', translation(in_process('  foo(3); foo(4);'))[1])
+
+    def test_the_calls_of_translated_programs_are_known(self) -> None:
+        for file in (*PROGRAMS.glob('*.c'), *PROGRAMS.glob('more/*.c')):
+            refusal = with_others(Refusal(1, NO_NAME % 'x'), read_file(file.read_text()))
+            self.assertNotIn('And motesim', refusal.reason, file)
 
     def test_an_event_that_no_process_allocates_is_refused(self) -> None:
         above = 'static process_event_t one, other; static const process_event_t fixed = 9;'

@@ -19,6 +19,7 @@ from motesim.c_program.knowledge import Knowledge
 from motesim.c_program.lost import check_locals
 from motesim.c_program.names import fresh
 from motesim.c_program.order import check_order
+from motesim.c_program.others import with_others
 from motesim.c_program.parse_file import read_file
 from motesim.c_program.process import ProcessWriter
 from motesim.c_program.refusal import Refusal
@@ -62,6 +63,7 @@ class Translation(NamedTuple):
 
 def translated(text: str, second: int = SECOND) -> Translation:
     """A program in C in the notation. Raises a Refusal if it isn't translated. `second`: the moments of a second."""
+    file = None
     try:
         file = read_file(text)
         check_processes(file)
@@ -78,6 +80,8 @@ def translated(text: str, second: int = SECOND) -> Translation:
             program.remark(line, remark)
         for line, remark in without_value:
             program.remark(line, remark, True)
+    except Refusal as refusal:
+        raise (with_others(refusal, file) if file else refusal) from None
     except RecursionError:
         raise Refusal(1, TOO_LARGE % LIMITS[7]) from None
     found = '\n'.join(lines) + '\n'
