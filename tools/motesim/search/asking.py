@@ -76,11 +76,15 @@ class Asking:
         return rows
 
     @property
+    def left_out(self) -> list[str]:
+        """The line about the single copies whose loss isn't tried, if there are any."""
+        return ['left out: ' + self.untried] if self.untried else []
+
+    @property
     def remarks(self) -> list[str]:
         """The notes, a line about the single copies whose loss isn't tried, because the results say nothing about
         these copies, a line about faults without an effect, and a line about programs that draw random numbers."""
-        left_out = ['left out: ' + self.untried] if self.untried else []
-        return [*self.notes, *left_out, *filter(None, [self.idle, drawn(self.base.scenario_itself)])]
+        return [*self.notes, *self.left_out, *filter(None, [self.idle, drawn(self.base.scenario_itself)])]
 
     def digest(self) -> str:
         """The identity of a search, by which it differs from others."""

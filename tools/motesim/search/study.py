@@ -143,6 +143,6 @@ def check_studies(path: Path, processes: int) -> tuple[int, int]:
         wrong = wrong_with(study, asking, processes)
         passed, failed = passed + (not wrong), failed + bool(wrong)
         print('%s %s: %s' % ('wrong  ' if wrong else 'holds  ', path.name, study.get('about', 'a study')))
-        for row in wrong:
+        for row in [*wrong, *asking.left_out]:
             print('          ' + row)
     return passed, failed
