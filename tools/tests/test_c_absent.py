@@ -88,12 +88,22 @@ class Absent(unittest.TestCase):
         self.assertIsNotNone(translation(in_process('  n = 100;\n' + body, above))[0])
 
     def test_what_no_compiler_accepts_is_refused(self) -> None:
-        above = 'static struct broadcast_conn bc; static struct broadcast_conn *pc; static uint16_t n;'
+        above = ('static struct broadcast_conn bc; static struct broadcast_conn *pc; static uint16_t n; '
+                 'static void recv(struct broadcast_conn *c, const linkaddr_t *from) { } '
+                 'static const struct broadcast_callbacks cb = {recv}; static const struct abc_callbacks acb; '
+                 'static struct abc_conn ac;')
         for statement, wanted in (
                 ('broadcast_open(&bc, 129);', '`broadcast_open` needs 3 arguments.'),
                 ('broadcast_open(bc, 129, NULL);', 'The address of a `struct broadcast_conn` is expected here.'),
                 ('broadcast_open(&pc, 129, NULL);', 'The address of a `struct broadcast_conn` is expected here.'),
                 ('broadcast_open(&n, 129, NULL);', 'The address of a `struct broadcast_conn` is expected here.'),
+                ('broadcast_open(&ac, 129, NULL);', 'The address of a `struct broadcast_conn` is expected here.'),
+                ('broadcast_open(&bc, 129, cb);', 'The address of a `struct broadcast_callbacks` is expected here'),
+                ('broadcast_open(&bc, 129, recv);', 'The address of a `struct broadcast_callbacks` is expected here'),
+                ('broadcast_open(&bc, 129, &acb);', 'The address of a `struct broadcast_callbacks` is expected here'),
+                ('broadcast_open(&bc, 129, &cd);', '`cd` isn\'t declared above this line.'),
+                ('packetbuf_copyfrom(&n);', '`packetbuf_copyfrom` needs 2 arguments.'),
+                ('n = packetbuf_dataptr();', 'write `*(uint8_t *)packetbuf_dataptr()` for its first 8 bits'),
                 ('broadcast_close(bc);', 'The address of a `struct broadcast_conn` is expected here.'),
                 ('broadcast_close();', '`broadcast_close` needs 1 argument.'),
                 ('packetbuf_clear(n);', '`packetbuf_clear` needs 0 arguments.'),
@@ -123,6 +133,25 @@ class Absent(unittest.TestCase):
         for file in (*PROGRAMS.glob('*.c'), *PROGRAMS.glob('more/*.c')):
             refusal = with_others(Refusal(1, NO_NAME % 'x'), read_file(file.read_text()))
             self.assertNotIn('And motesim', refusal.reason, file)
+
+    def test_an_assignment_as_a_test_is_named(self) -> None:
+        above = 'static int n; static linkaddr_t a;'
+        equal = 'In a test, `=` assigns a value: write `==` for a comparison.'
+        self.assertRefused(in_process('  if(linkaddr_node_addr.u8[0] = 0) { n = 1; }', above), 9, equal)
+        for test, wanted in (('n = 3', equal + ' So this test is always true.'),
+                             ('n = 0', equal + ' So this test is always false.'), ('n = a.u8[0]', ''), ('n == 3', '')):
+            text, notes = translation(in_process('  if(%s) { n = 1; }' % test, above))
+            self.assertIsNotNone(text)
+            self.assertEqual(equal in notes, bool(wanted))
+            self.assertIn(wanted, notes)
+
+    def test_a_number_as_a_text_of_a_printf_is_named(self) -> None:
+        above = 'static uint8_t n, a[2]; static const char *names[] = {"a", "b"};\n#define NAME "c"'
+        for value, is_number in (('n', True), ('a[1]', True), ('n + 1', True), ('3', True), ('names[n]', False),
+                                 ('NAME', False), ('n ? "a" : "b"', False)):
+            text, notes = translation(in_process('  printf("%%s\\n", %s);' % value, above))
+            self.assertIsNotNone(text)
+            self.assertEqual('A `%s` of a `printf` needs a text' in notes, is_number, (value, notes))
 
     def test_an_event_that_no_process_allocates_is_refused(self) -> None:
         above = 'static process_event_t one, other; static const process_event_t fixed = 9;'

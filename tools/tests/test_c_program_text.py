@@ -207,7 +207,7 @@ REFUSALS = (
     ('static int *q = &n; q = &x;', 'or is NULL: use an index'),
     ('x = *(int *)packetbuf_dataptr();', 'The packet and its sender are known only in the function'),
     ('etimer_set(&et, 7000L * CLOCK_SECOND);', 'at most 65,535 moments'), ('x = strlen("a");', 'no `strlen`'),
-    ('packetbuf_copyfrom();', '`packetbuf_copyfrom` needs 1 argument'), ('process_start();', 'needs 1 argument'),
+    ('packetbuf_copyfrom();', '`packetbuf_copyfrom` needs 2 arguments'), ('process_start();', 'needs 1 argument'),
     ('x = sht11_sensor.value(0);', 'A mote has no sensors'), ('SENSORS_ACTIVATE(b);', 'no sensors and no buttons'),
     ('int *q = (int *)data; PROCESS_YIELD(); x = *q;', '`q` isn\'t static, so its value is lost'),
     ('static int *q; q = data; PROCESS_YIELD(); x = *q;', 'known only up to the next wait'),
@@ -952,6 +952,14 @@ static const struct broadcast_callbacks calls = { recv };'''
                 ('if(node_id == 1) { %s } if(linkaddr_node_addr.u8[0] > 0) { %s }' % (copies, prints), True)):
             notes = translation(in_process('  broadcast_open(&bc, 129, &calls);', above.replace('LINES', lines)))[1]
             self.assertEqual('Contiki has one packet buffer' in notes, is_seen, (lines, notes))
+
+    def test_a_value_below_0_for_one_mote_has_a_remark(self) -> None:
+        above = 'static struct unicast_conn uc; static linkaddr_t to; static int16_t t = -5; static uint8_t v = 5;'
+        for name, is_seen in ('t', True), ('v', False):
+            body = '  unicast_open(&uc, 129, NULL); packetbuf_copyfrom(&%s, sizeof(%s)); unicast_send(&uc, &to); %s++;'
+            text, notes = translation(in_process(body % (name, name, name), above))
+            self.assertIsNotNone(text)
+            self.assertEqual('This value may be below 0, but 8 bits are left for it' in notes, is_seen, notes)
 
     def test_a_function_that_fills_the_packet_buffer_overwrites_a_packet(self) -> None:
         above = '''static struct broadcast_conn bc;

@@ -16,6 +16,9 @@ from motesim.c_program.values import MOST, NOTHING, Limits, Value, added, as_typ
 from motesim.c_program.walk import all_parts, base_of, parts_of, shown, without_casts
 from motesim.c_program.written import Block, If, Line
 
+# The kinds of expressions of which the type is known.
+NUMBERS = ('name', 'index', 'member', 'arrow', 'number', 'binary')
+OF_TEXT_NEEDED = 'A `%s` of a `printf` needs a text. Here, the number isn\'t printed: write `%u` instead.'
 CONVERSION = re.compile(r'%(?:%|[-+ #0]*[0-9]*(?:\.[0-9]+)?(?P<size>hh|h|ll|l|z|j|t)?(?P<kind>[a-zA-Z]))')
 WIDTH = re.compile(r'%[-+ #0]*[0-9]*\.?\*')
 OF_WIDTH = 'A `%*d` has no counterpart: write a number instead of the `*`, such as `%3d`.'
@@ -72,6 +75,9 @@ OF_RESET = ('In Contiki, a timer that is reset before it has expired expires at 
             'in the future. Here, `%s` expires at the end of that interval. To start it from now, use `%s_restart`.')
 # The name under which it is known that a timer has expired; without a timer, that the event is that of a timer.
 ELAPSED = 'end of '
+OF_CONNECTION = 'The address of a `struct %s_conn` is expected here.'
+OF_CALLBACKS = ('The address of a `struct %s_callbacks` is expected here, such as `&calls`, with `static const struct '
+                '%s_callbacks calls = {recv};` above the process.')
 NO_CLOSE = 'A connection isn\'t closed here: `%s` runs for each packet up to the end.'
 NOT_OPEN = 'A connection isn\'t opened here: `%s` runs for each packet from the start.'
 OF_RECEIVER = 'In Contiki, `%s` still runs for packets after this process has ended.'
@@ -146,6 +152,7 @@ class Calls(Chance):
         self.check_connection(it)
         is_open, usage = it.text.endswith('_open'), self.program.usage
         if is_open:
+            self.check_callbacks(it)
             self.remark(it.line, OF_CHANNEL)
         its = base_of(self.first(it))
         is_other = its is not None and its.type.kind == 'connection' and its is not usage.connected
@@ -166,9 +173,22 @@ class Calls(Chance):
 
     def check_connection(self, it: Expression) -> None:
         """Refuses a first argument that isn't the address of a connection."""
-        if self.type_of(self.first(it)).kind == 'connection' or self.pointer(self.first(it)).kind != 'connection':
-            name = it.text.partition('_')[0]
-            raise self.refuse(it.line, 'The address of a `struct %s_conn` is expected here.' % name)
+        its, name = self.type_of(self.first(it)), it.text.partition('_')[0]
+        is_address = its.kind != 'connection' and self.pointer(self.first(it)).kind == 'connection'
+        if not is_address or its.of is None or its.of.name != name:
+            raise self.refuse(it.line, OF_CONNECTION % name)
+
+    def check_callbacks(self, it: Expression) -> None:
+        """Refuses a last argument that is neither NULL nor the address of the callbacks of a connection."""
+        last = without_casts(it.parts[-1])
+        if last.kind in ('number', 'name') and constant_of(last) == 0:
+            return
+        target = last.parts[0] if last.kind == 'unary' and last.text == '&' else last
+        if target.kind == 'name' and target.variable is None and target.text not in self.file.functions:
+            raise self.absent_variable(target.text, it.line)
+        its, name = self.type_of(target), it.text.partition('_')[0]
+        if target is last or (its.kind, its.name) != ('callbacks', name):
+            raise self.refuse(it.line, OF_CALLBACKS % (name, name))
 
     # Whether nothing above has waited.
     is_first = True
@@ -562,6 +582,8 @@ class Calls(Chance):
             raise self.refuse(it.line, 'The text of this `printf` needs more values, %d in all.' % len(kinds))
         for kind, part, label in zip(kinds, it.parts[1:], labels):
             if kind in 'sp':
+                if kind == 's' and part.kind in NUMBERS and self.type_of(part).is_number:
+                    self.remark_mistake(it.line, OF_TEXT_NEEDED)
                 self.skip_text(part)
                 continue
             if kind in 'feg':

@@ -8,6 +8,7 @@ from motesim.c_program.base import OF_LONG, joined_limits
 from motesim.c_program.constants import EVENT_NUMBERS, NUMBERS, SECOND, constant_of
 from motesim.c_program.events import Events
 from motesim.c_program.places import ADDRESSES, NO_MOTE, OF_ADDRESS, OF_CHANGE, SELF, TEXTS, Place
+from motesim.c_program.refusal import Refusal
 from motesim.c_program.tree import Expression
 from motesim.c_program.types import INT, UNSIGNED, Type, size_of
 from motesim.c_program.values import (
@@ -30,6 +31,7 @@ OF_NUMBER = ('`%s` is an address, but a number is expected here: write the name 
 OF_FUNCTION = '`%s` is a function, but a number is expected here: call it, `%s(..)`.'
 OF_UNSET = ('`%s` may be an address that isn\'t set. As in C, its bytes are 0 then. But the motes are numbered from 0 '
             'here, so mote 0 has these bytes, too: to tell them apart, use `linkaddr_cmp`, or leave mote 0 out.')
+OF_EQUAL = 'In a test, `=` assigns a value: write `==` for a comparison.'
 NO_BITS = 'This operation on bits needs statements of its own: write it above, into a variable.'
 OF_OVERFLOW = ('An `int` of a node has 16 bits, so a product above 32,767 is below 0 there. Here, it isn\'t: calculate '
                'with `uint16_t`, or with smaller values.')
@@ -53,7 +55,20 @@ class Expressions(Events):
         """The value of an expression as a test: a pointer is true if it isn't NULL."""
         if it.kind in ('name', 'cast') and self.is_data(it):
             return negated(self.data_is(Expression('name', 'NULL', line=it.line)))
+        if it.kind == 'assign' and it.text == '=':
+            return self.of_assignment(it)
         return self.of_pointer(it, True) if self.is_pointer(it) else self.evaluate(it)
+
+    def of_assignment(self, it: Expression) -> Value:
+        """An assignment as a test: often, it is meant as a comparison."""
+        value = constant_of(it.parts[1])
+        if value is not None:
+            self.remark(it.line, OF_EQUAL + ' So this test is always %s.' % ('true' if value else 'false'))
+        try:
+            return self.evaluate(it)
+        except Refusal as fault:
+            raise self.refuse(fault.line, fault.reason if '==' in fault.reason else OF_EQUAL + ' ' + fault.reason
+                              ) from None
 
     def is_pointer(self, it: Expression) -> bool:
         """Returns whether an expression is an address, not a number."""

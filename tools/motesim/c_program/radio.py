@@ -29,6 +29,10 @@ OF_BYTES = 'These %d bytes aren\'t whole variables: assign the values one by one
 OF_TYPES = 'The values that are copied here have other sizes than those they are copied to: assign them one by one.'
 NEVER_OPEN = ('The connection `%s` is never opened by `%s_open`. So in Contiki, it can\'t send; here, the packet is '
               'sent: open `%s` by `%s_open` at the beginning of the process.')
+OF_POINTER = ('`packetbuf_dataptr()` is the address of a packet: write `*(uint8_t *)packetbuf_dataptr()` for its first '
+              '8 bits, or `*(uint16_t *)packetbuf_dataptr()` for 16 bits.')
+OF_NEGATIVE = ('This value may be below 0, but 8 bits are left for it here: -5, for example, arrives as 251. Send a '
+               'value that isn\'t below 0, such as `t + 100`, or use `broadcast_send`.')
 OF_LENGTH = 'A packet is one number of 16 bits here, so `packetbuf_set_datalen` doesn\'t change it.'
 # The name under which it is known that the packet buffer has the value to send.
 FILLED = 'value to send'
@@ -81,7 +85,8 @@ class Radio(Calls):
         return self.packed(places, line)
 
     def call_packetbuf_copyfrom(self, it: Expression) -> None:
-        source = without_casts(self.first(it))
+        first, size = self.arguments(it, 2)
+        source = without_casts(first)
         if source.kind == 'text' or self.pointer(source).kind == 'text':
             self.remark(it.line, OF_TEXT)
             self.fill(number(1, UNSIGNED), it)
@@ -92,17 +97,17 @@ class Radio(Calls):
                 self.need_packet(it.line)
             self.fill(self.whole(pointer.kind), it)
             return
-        places = self.copied(pointer, it.parts[1] if len(it.parts) > 1 else None, it.line)
+        places = self.copied(pointer, size, it.line)
         form = self.note_form('packet', places)
         if {'pair', 'word'} <= self.forms('packet'):
             raise self.refuse(it.line, TWO_FORMS)
         self.fill(pointer.value or self.packed(places, it.line), it, form)
 
-    def copied(self, pointer: Pointer, size: Expression | None, line: int) -> list[Place]:
+    def copied(self, pointer: Pointer, size: Expression, line: int) -> list[Place]:
         """The variables that a packet is filled with; for the number of the mote, a place of its size."""
         if pointer.place is not None and pointer.kind == 'place':
             return self.parts_of_packet(pointer.place, size, line)
-        count = self.evaluate(size).constant if size else 2
+        count = self.evaluate(size).constant
         if pointer.value is None:
             raise self.refuse(line, 'The address of a variable is expected here.')
         if count != size_of(pointer.value.type):
@@ -200,6 +205,8 @@ class Radio(Calls):
         if value.low < 0 or value.high > 255:
             if 'pair' in self.forms('packet') or value.low > 255:
                 raise self.refuse(it.line, TOO_LARGE)
+            if value.low < 0:
+                self.remark_mistake(it.line, OF_NEGATIVE)
             value = Value('(%s %% 256)' % value.text, UNSIGNED, 0, 255, value.reads)
         self.note_packet(value)
         whole = Value('((%s * 256) + %s)' % (address.text, value.text), UNSIGNED, 0, MOST, address.reads | value.reads)
@@ -210,6 +217,9 @@ class Radio(Calls):
         if len(sizes) > 1:
             raise self.refuse(it.line, SIZES)
         return number(min(sizes, default=2), UNSIGNED)
+
+    def value_packetbuf_dataptr(self, it: Expression) -> Value:
+        raise self.refuse(it.line, OF_POINTER)
 
     def call_packetbuf_copyto(self, it: Expression) -> None:
         self.copy(self.first(it), Place('packet', UNSIGNED), it.line)
