@@ -134,6 +134,16 @@ class Absent(unittest.TestCase):
             refusal = with_others(Refusal(1, NO_NAME % 'x'), read_file(file.read_text()))
             self.assertNotIn('And motesim', refusal.reason, file)
 
+    def test_an_address_is_a_structure(self) -> None:
+        above = ('static int n; static linkaddr_t a, b[2]; static void f(const linkaddr_t *p) { n = p->u8[0]; }\n'
+                 'static void g(const linkaddr_t *p) { n = %s; }')
+        body = '  f(&a); g(&b[0]); n = linkaddr_node_addr.u8[0] + b[1].u8[0];'
+        self.assertIsNotNone(translation(in_process(body, above % 'p->u8[0]'))[0])
+        self.assertRefused(in_process(body, above % 'p.u8[0]'), 5, 'possible for a pointer: write `p->u8`')
+        self.assertRefused(in_process(body, above % 'a->u8[0]'), 5, 'only possible for a pointer: write `a.u8`')
+        for test in 'linkaddr_node_addr == 0', 'a != linkaddr_null':
+            self.assertRefused(in_process('  if(%s) { n = 1; }' % test, above % '0'), 10, 'compare its first byte')
+
     def test_an_assignment_as_a_test_is_named(self) -> None:
         above = 'static int n; static linkaddr_t a;'
         equal = 'In a test, `=` assigns a value: write `==` for a comparison.'

@@ -31,6 +31,10 @@ OF_NUMBER = ('`%s` is an address, but a number is expected here: write the name 
 OF_FUNCTION = '`%s` is a function, but a number is expected here: call it, `%s(..)`.'
 OF_UNSET = ('`%s` may be an address that isn\'t set. As in C, its bytes are 0 then. But the motes are numbered from 0 '
             'here, so mote 0 has these bytes, too: to tell them apart, use `linkaddr_cmp`, or leave mote 0 out.')
+OF_ARROW = '`%s.%s` isn\'t possible for a pointer: write `%s->%s`.'
+OF_DOT = '`%s->%s` is only possible for a pointer: write `%s.%s`.'
+OF_STRUCTURE = ('An address is a structure in C: compare its first byte, such as `linkaddr_node_addr.u8[0] == 0`, or '
+                'use `linkaddr_cmp`.')
 OF_EQUAL = 'In a test, `=` assigns a value: write `==` for a comparison.'
 NO_BITS = 'This operation on bits needs statements of its own: write it above, into a variable.'
 OF_OVERFLOW = ('An `int` of a node has 16 bits, so a product above 32,767 is below 0 there. Here, it isn\'t: calculate '
@@ -142,6 +146,9 @@ class Expressions(Events):
     def byte_of_address(self, it: Expression) -> Value:
         """`u8[0]` of an address is the number of the mote, and the other bytes are 0."""
         base, index = it.parts[0].parts[0], self.evaluate(it.parts[1])
+        is_pointer = self.type_of(base).kind in ('pointer', 'array')
+        if is_pointer != (it.parts[0].kind == 'arrow') and base.kind == 'name':
+            raise self.refuse(it.line, (OF_ARROW if is_pointer else OF_DOT) % ((base.text, it.parts[0].text) * 2))
         found = self.address(base)
         if found.text == 'self':
             self.remark(it.line, OF_ADDRESS)
@@ -213,6 +220,8 @@ class Expressions(Events):
         if it.text in ('&&', '||'):
             return self.logical(it)
         if it.text in COMPARES:
+            if any(self.type_of(one).kind == 'address' for one in it.parts):
+                raise self.refuse(it.line, OF_STRUCTURE)
             special = self.of_events(it)
             if special is not None:
                 return special
