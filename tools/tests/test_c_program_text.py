@@ -1091,6 +1091,16 @@ static const struct broadcast_callbacks calls = { recv };'''
             self.assertTrue(words is None or words in notes, (body, notes))
             self.assertEqual('overwrites it' in notes, 'overwrites' in (words or ''))
 
+    def test_a_time_that_16_bits_do_not_hold_has_a_remark(self) -> None:
+        wait = 'while(1) { u++; etimer_set(&et, %s); PROCESS_WAIT_EVENT_UNTIL(etimer_expired(&et)); }'
+        for ticks, is_seen in (
+                ('u * CLOCK_SECOND / 1000', True), ('u * CLOCK_SECOND', True), ('x * CLOCK_SECOND', False),
+                ('(1 + node_id) * CLOCK_SECOND / 16', False), ('(u % 9) * CLOCK_SECOND', False)):
+            body = '  x = 30; ' + wait % ticks
+            text, notes = translation(in_process(body, 'static struct etimer et;\n', VARIABLES))
+            self.assertIsNotNone(text, notes)
+            self.assertEqual('above 65,535 wrap' in notes, is_seen, (ticks, notes))
+
     def test_a_product_that_an_int_of_a_node_does_not_hold_has_a_remark(self) -> None:
         for body, is_seen in (
                 ('x = 5000; for(i = 0; i < 3; i++) x = (x * 7 + 6000) / 8;', True), ('x = 200; x = x * 300;', True),

@@ -243,7 +243,9 @@ class Expressions(Events):
         """Notes that a result may have more bits than a value has here, or than an `int` has on a node."""
         # (times are added in both sizes, because only their differences count)
         is_long = any(self.is_long(it, sign != '+') for it in parts)
-        if is_long and exceeds(sign, left, right):
+        # (a net has few motes)
+        is_of_self = 'self' in left.text + right.text and sign == '*'
+        if is_long and not is_of_self and exceeds(sign, left, right):
             self.remark_mistake(line, OF_LONG)
         is_compared = sign in ('/', '%', '>>', *COMPARES) and (left.wraps or right.wraps)
         is_certain = sign == '*' and common(left, right).signed and min(left.low, right.low) > 0 and \
@@ -271,6 +273,8 @@ class Expressions(Events):
             return any(self.is_long(one, is_time_long) for one in it.parts) and it.text not in (*COMPARES, '&&', '||')
         if it.kind == 'call':
             return is_time_long and it.text in ('clock_time', 'clock_seconds')
+        if it.kind == 'name' and it.text == 'CLOCK_SECOND':
+            return is_time_long
         its = self.type_of(it)
         return its.bits > 16 and its.kind == 'int' or is_time_long and its.name == 'clock_time_t'
 
