@@ -9,6 +9,7 @@
 from __future__ import annotations
 
 import re
+from collections.abc import Sequence
 from typing import NamedTuple
 
 from motesim.c_program.allocation import check_allocated, early_posts
@@ -59,6 +60,10 @@ class Translation(NamedTuple):
     """A program in the notation, and what differs from C."""
     text: str
     remarks: tuple[Remark, ...]
+
+    def with_remarks(self, more: Sequence[Remark]) -> Translation:
+        """This translation with further remarks, in the order of their lines."""
+        return self._replace(remarks=tuple(sorted((*self.remarks, *more))))
 
 
 def translated(text: str, second: int = SECOND) -> Translation:

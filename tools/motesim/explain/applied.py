@@ -13,7 +13,7 @@ from pathlib import Path
 from typing import NamedTuple
 
 from motesim.c_program.constants import SECOND
-from motesim.c_program.program import Translation, translated
+from motesim.c_program.program import Translation
 from motesim.c_program.refusal import Refusal
 from motesim.explain.explanation import CONTROL, explanation, is_file_in_c, shown_explanation, wrapped
 from motesim.explain.followed import followed
@@ -147,10 +147,9 @@ def apply(name: str, output: str, run: Callable[[bytes], Answer], second: int = 
 def translate(name: str, text: str, output: str, run: Callable[[bytes], Answer], second: int) -> int:
     """Writes a scenario with a program in C, and prints what differs from C; returns the status of tools/explain. If a
     line of the program isn't translated, nothing is written."""
-    try:
-        found = translated(text, second)
-    except Refusal as refusal:
-        print('\n'.join(refused(name, text, refusal)))
+    found = translation_of(text, second)
+    if isinstance(found, Refusal):
+        print('\n'.join(refused(name, text, found)))
         return 1
     data = in_net(first_process(found.text), with_comment(found.text, 'C'), SECONDS * second).encode()
     write_and_keep(output, data)

@@ -6,8 +6,9 @@ import re
 from functools import lru_cache
 from typing import NamedTuple
 
+from motesim.c_program.compiler import check
 from motesim.c_program.constants import SECOND
-from motesim.c_program.program import Translation, translated
+from motesim.c_program.program import Remark, Translation, translated
 from motesim.c_program.refusal import Refusal
 from motesim.explain.lint import TRANSLATED
 from motesim.scenario.faults import Place, place_of
@@ -46,7 +47,8 @@ class Placed(NamedTuple):
 def translation_of(source: str, second: int = SECOND) -> Translation | Refusal:
     """A program in C in the notation, or the line that isn't translated. `second`: the moments of a second."""
     try:
-        return translated(source, second)
+        found = translated(source, second)
+        return found.with_remarks([Remark(*it) for it in check(source)])
     except Refusal as refusal:
         return refusal
 

@@ -116,9 +116,11 @@ def lines_of(data: bytes, its: Does, file_lines: bool) -> tuple[str, bool]:
     # (a process may also post the event of a `pause` to itself)
     places = [at for at in range(begin, end) if program.words[at] == its.kind] or [
         at for at in range(begin, end) if program.words[at] == 'post' and program.words[at + 2] == 'continue']
+    if not places:
+        return '', False
     loops = loops_around(program, begin, places)
     lines = [line_of(data, program.tokens[at], name, file_lines) for at in (*places, *loops)]
-    if not places or not all(lines):
+    if not all(lines):
         return '', False
     heads = [head_of(program, at) for at in loops]
     where = ', '.join(lines[:len(places)]) + ('' if file_lines else ' of program %s' % one_line(name))
@@ -138,7 +140,7 @@ def line_of(data: bytes, token: Token, program: str, is_of_file: bool) -> str:
 def loops_around(program: Program, begin: int, places: list[int]) -> list[int]:
     """The places of the `while` words, behind a first place, whose blocks are around all of some places, the outermost
     first."""
-    first, last = min(places, default=begin), max(places, default=begin)
+    first, last = min(places), max(places)
     return [at for at in range(begin, first) if program.words[at] == 'while' and program.end_of_block(
         program.words.index('{', at)) > last]
 

@@ -14,7 +14,7 @@ from motesim.files import refuse_inputs, replace_whole
 from motesim.grading import page, tables
 from motesim.grading.entries import Entry, anonymous, data_of, entries_of, skipped_of
 from motesim.grading.marking import Marks, Task, page_name, unmarked
-from motesim.grading.in_c import of_seconds
+from motesim.grading.in_c import of_programs
 from motesim.grading.nets import (
     Net, files_of, hidden_and_shown, nets_of, nets_with_cut_off, nets_with_wide_sets, program_of, without_nets,
 )
@@ -218,7 +218,7 @@ def status_of(asked: argparse.Namespace) -> int:
         remove_earlier(pictures)
         # (the list has all pages that the marking may write, because the user can end it at any time)
         keep_names(pictures, task.possible_pictures(entries))
-    of_nets = of_seconds([it.path.name for it in entries], [it.scenario.end for it in task.nets]) if task.nets else []
+    of_nets = of_programs([it.path.name for it in entries], [it.scenario.end for it in task.nets]) if task.nets else []
     for line in [*remarks(asked, task.nets, task.part.sentences), *of_nets] if asked.why is None else ():
         print('grade: %s' % line, file=sys.stderr)
     marked = grade(entries, task, asked.jobs)

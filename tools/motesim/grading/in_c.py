@@ -3,6 +3,7 @@ from __future__ import annotations
 
 from collections.abc import Sequence
 
+from motesim.c_program import compiler
 from motesim.c_program.constants import SECOND
 from motesim.c_program.program import Remark, Translation
 from motesim.c_program.refusal import Refusal
@@ -24,15 +25,19 @@ class NotTranslated(Fault):
         self.lines = ('line %d:%s' % (refusal.line, ' ' + row if row else ''), refusal.reason)
 
 
-def of_seconds(names: Sequence[str], ends: Sequence[int]) -> list[str]:
-    """The line about the length of the runs in seconds, if a solution is in C. `ends` are the last moments of the
-    nets."""
+def of_programs(names: Sequence[str], ends: Sequence[int]) -> list[str]:
+    """Lines about all programs in C, if a solution is one: the length of the runs in seconds, and whether no compiler
+    checks them. `ends` are the last moments of the nets."""
     if not any(it.endswith('.c') for it in names):
         return []
+    return [of_seconds(ends), *([] if compiler.is_installed() else [compiler.HOW_TO_INSTALL])]
+
+
+def of_seconds(ends: Sequence[int]) -> str:
     least, most = min(ends) / SECOND, max(ends) / SECOND
     length = '%.1f' % least if least == most else '%.1f to %.1f' % (least, most)
     wraps = WRAPS % (MOST // SECOND) if max(ends) > MOST else ''
-    return ['a second of a program in C has %d moments, so the nets run for %s seconds%s' % (SECOND, length, wraps)]
+    return 'a second of a program in C has %d moments, so the nets run for %s seconds%s' % (SECOND, length, wraps)
 
 
 def made_of(source: str) -> Translation:

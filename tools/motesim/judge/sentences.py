@@ -12,8 +12,8 @@ import textwrap
 from collections.abc import Callable, Sequence
 from dataclasses import dataclass
 
+from motesim.c_program.names import similar
 from motesim.faults import Fault
-from motesim.from_c.scope import LONGEST, abbreviated
 from motesim.explain.synonyms import nearest
 from motesim.judge.nearly import rewritten
 from motesim.notation.keywords import SYSTEM
@@ -25,6 +25,7 @@ WIDTH = 110
 # and another word that is surely meant, even if the word may be the name of a process.
 OF_PROCESSES, LIKELY = 'a process (', 0.75
 LONGEST_NUMBER, MOST, MOST_MOTES = 9, 999_999_999, 1_000
+NAME_IN_C = re.compile(r'[A-Za-z_]\w*', re.A)
 TOKEN = re.compile(r"\s*('[^']*'|`[^`]*`|\d+|[A-Za-z_]\w*|[^\s])")
 COMPARES = {
     'at least': operator.ge, 'at most': operator.le, 'exactly': operator.eq, 'more than': operator.gt,
@@ -531,8 +532,10 @@ class _Reader:
 
     def process(self) -> str | None:
         """A process, if one is next."""
-        # (a name that a program in C has is shorter in its translation)
-        known, word = self.names.processes, as_in_notation(self.word())
+        known, word = self.names.processes, self.word()
+        if NAME_IN_C.fullmatch(word) and word not in (known or ()):
+            # (a translation from C has names that the notation can have)
+            word = similar(word)
         if word in known if known is not None else re.fullmatch('[a-z][a-z0-9_]*', word):
             self.at += 1
             return word
@@ -790,11 +793,6 @@ class _Reader:
         if count is None:
             raise self.fault()
         return self.things(count, ('mote', 'motes', 'copy', 'copies', 'packet', 'packets'))
-
-
-def as_in_notation(name: str) -> str:
-    """The name of a process in the notation, which has at most 16 characters."""
-    return abbreviated(name) if len(name) > LONGEST else name
 
 
 def read_sentence(sentence: str, names: Names = Names()) -> Sentence:

@@ -1,0 +1,125 @@
+"""Lets gcc, if it is installed, check the syntax and the types of a program in C.
+
+    from motesim.c_program.compiler import check
+
+    remarks = check(text)       raises a Refusal for a line that gcc refuses
+
+The translator accepts some programs that no compiler accepts, since it knows only as much of C as a translation needs.
+The headers are those of tools/contiki_headers.
+"""
+from __future__ import annotations
+
+import os
+import re
+import shutil
+import subprocess
+from collections.abc import Iterable
+from pathlib import Path
+from typing import NamedTuple
+
+from motesim.c_program.refusal import Refusal
+
+HEADERS = Path(__file__).resolve().parents[2] / 'contiki_headers'
+# The files that programs include, by the header that declares the same.
+FILES = {
+    'contiki.h': ('contiki.h', 'contiki-conf.h', 'contiki-lib.h', 'sys/process.h', 'sys/autostart.h', 'sys/clock.h',
+                  'sys/timer.h', 'sys/etimer.h', 'sys/ctimer.h', 'sys/stimer.h', 'sys/rtimer.h', 'sys/pt.h',
+                  'sys/pt-sem.h', 'sys/lc.h', 'sys/cc.h'),
+    'rime.h': ('net/rime.h', 'net/rime/rime.h', 'net/rime/broadcast.h', 'net/rime/unicast.h', 'net/rime/abc.h',
+               'net/rime/rimeaddr.h', 'net/linkaddr.h', 'net/rime/linkaddr.h', 'net/packetbuf.h',
+               'net/rime/packetbuf.h', 'net/mac/mac.h', 'net/netstack.h'),
+    'leds.h': ('dev/leds.h',), 'random.h': ('lib/random.h',),
+    'node-id.h': ('node-id.h', 'sys/node-id.h', 'dev/watchdog.h'),
+}
+OF_LIBRARY = ('ctype.h', 'inttypes.h', 'limits.h', 'stdbool.h', 'stddef.h', 'stdint.h', 'stdio.h', 'stdlib.h',
+              'string.h', 'strings.h')
+HEADER_OF = {it: header for header, names in FILES.items() for name in names for it in (name, name.split('/')[-1])}
+INCLUDE = re.compile(r'^([ \t]*#[ \t]*include[ \t]*)(?:[<"]([^<>"\n]*)[>"])?', re.M)
+# The warnings that name a mistake in most programs of beginners.
+WARNINGS = ('parentheses', 'unused-value', 'return-type', 'empty-body', 'misleading-indentation', 'type-limits',
+            'tautological-compare', 'logical-not-parentheses', 'no-int-to-pointer-cast', 'no-pointer-to-int-cast')
+# Newer compilers refuse what those for nodes warn of.
+PERMITTED = ('implicit-function-declaration', 'implicit-int', 'int-conversion', 'incompatible-pointer-types')
+GCC = ('gcc', '-x', 'c', '-std=gnu99', '-S', '-o', '/dev/null', '-I%s' % HEADERS, '-DMOTESIM_FOR_CONTIKI',
+       '-ftrack-macro-expansion=0', '-fno-diagnostics-show-caret', '-fdiagnostics-color=never',
+       *('-W' + it for it in WARNINGS), *('-Wno-error=' + it for it in PERMITTED))
+# (a program may be made to keep a compiler busy)
+LIMITED = 'ulimit -v 2000000 -t 10; exec "$0" "$@"'
+SECONDS = 20
+NO_SUCH_FILE = 'No such file or directory'
+COMPLAINT = re.compile(r'^<stdin>:(\d+):\d+: (?:fatal )?(error|warning): (.*?)(?: \[-W[^\]]*\])?$', re.M)
+REFUSED, WARNED = 'gcc refuses this line: %s.', 'gcc warns of this line: %s.'
+LACKS_ONE = 'gcc refuses this line: %s. The program needs `#include "%s"`.'
+LACKS_SEVERAL = 'gcc refuses this line: %s. The program doesn\'t include all files that it needs.'
+# (the translator has its own words about it)
+OF_TRANSLATOR = 'assignment used as truth value'
+HOW_TO_INSTALL = ('gcc isn\'t installed, so no compiler checks the programs in C: on Debian `apt-get install gcc` '
+                  'installs it')
+
+
+class Complaint(NamedTuple):
+    """An error or a warning of gcc: its line in the program, and its words."""
+    line: int
+    words: str
+    is_error: bool = False
+
+
+def is_installed() -> bool:
+    return shutil.which('gcc') is not None
+
+
+def check(text: str) -> list[tuple[int, str, bool]]:
+    """The warnings about a program, each with its line, and whether the program can't be compiled for a node, because
+    it lacks an `#include`. A program that includes no file is checked as if it included all.
+
+    Nothing is checked if gcc isn't installed, or if the program includes a file that isn't known here.
+    """
+    source = with_headers(text)
+    if source is None or not is_installed():
+        return []
+    if not INCLUDE.search(text):
+        source = with_more(source, FILES)
+    complaints = complaints_of(source)
+    errors = [it for it in complaints if it.is_error]
+    if errors:
+        others = errors_of(with_more(source, FILES))
+        if others:
+            first = next((it for it in errors if it in others), errors[0])
+            raise Refusal(first.line, REFUSED % first.words)
+        return [(errors[0].line, lacks(source, errors[0]), True)]
+    return [(it.line, WARNED % it.words, False) for it in dict.fromkeys(complaints) if OF_TRANSLATOR not in it.words]
+
+
+def lacks(source: str, error: Complaint) -> str:
+    """The words about an error that ends if all files are included."""
+    one = next((names[0] for it, names in FILES.items() if not errors_of(with_more(source, [it]))), None)
+    return LACKS_ONE % (error.words, one) if one else LACKS_SEVERAL % error.words
+
+
+def with_headers(text: str) -> str | None:
+    """A program that includes the headers that are here; None if one of the files it includes isn't known."""
+    names = [it[2] for it in INCLUDE.finditer(text)]
+    if any(it not in HEADER_OF and it not in OF_LIBRARY for it in names):
+        return None
+    return INCLUDE.sub(lambda it: '%s<%s>' % (it[1], it[2] if it[2] in OF_LIBRARY else HEADER_OF[it[2]]), text)
+
+
+def with_more(source: str, headers: Iterable[str]) -> str:
+    """A program that includes further headers. Its lines keep their numbers."""
+    return '%s#line 1\n%s' % (''.join('#include "%s"\n' % it for it in headers), source)
+
+
+def errors_of(source: str) -> list[Complaint]:
+    return [it for it in complaints_of(source) if it.is_error]
+
+
+def complaints_of(source: str) -> list[Complaint]:
+    """The errors and warnings that gcc prints about a text. There are none if gcc reaches a limit, or lacks the files
+    of C's library."""
+    try:
+        done = subprocess.run(['sh', '-c', LIMITED, *GCC, '-'], input=source, capture_output=True, text=True,
+                              errors='replace', timeout=SECONDS, env={**os.environ, 'LC_ALL': 'C'})
+    except subprocess.TimeoutExpired:
+        return []
+    found = [Complaint(int(line), words, kind == 'error') for line, kind, words in COMPLAINT.findall(done.stderr)]
+    return [] if any(NO_SUCH_FILE in it.words for it in found) else found

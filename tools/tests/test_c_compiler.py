@@ -1,0 +1,113 @@
+"""gcc checks a program in C before it is translated: its refusals and its warnings have the lines of the program."""
+import unittest
+from pathlib import Path
+from unittest import mock
+
+from motesim.c_program import compiler
+from motesim.c_program.compiler import FILES, HEADERS, check
+from motesim.c_program.process import ProcessWriter
+from motesim.c_program.program import translated
+from motesim.c_program.refusal import Refusal
+from motesim.explain.whole import translation_of
+from motesim.grading.in_c import of_programs
+from skips import need_command
+from student_programs import PROGRAMS
+
+HEAD = '#include "contiki.h"\n#include "net/rime.h"\n#include <stdio.h>\n'
+PROGRAM = '''PROCESS(p, "p");
+AUTOSTART_PROCESSES(&p);
+static const int n = 3;
+static struct unicast_conn uc;
+PROCESS_THREAD(p, ev, data)
+{
+  static int x, done;
+  static rimeaddr_t to;
+  PROCESS_BEGIN();
+  %s
+  PROCESS_END();
+}
+'''
+LINE = HEAD.count('\n') + 10
+# Statements that the translator accepts, and the words of gcc.
+REFUSED = (('n = 4;', 'read-only'), ('unicast_send(&uc, to);', 'incompatible type'))
+WARNED = (('done == 1;', 'no effect'), ('if(x == 1); x = 2;', 'empty body'), ('if(x & 1 == 1) x = 3;', 'parentheses'),
+          ('unsigned u = x; if(u >= 0) x = 1;', 'always true'), ('uint8_t b = 300; printf("%d", b);', '44'))
+# The programs that lack an `#include`, and those that call a protothread without looking at its result.
+LACKING, CALLING = {'pingpong'}, {'shared_item', 'side_by_side'}
+# Names of the translator that no program calls.
+OWN = {'call_of_sent', 'call_only'}
+
+
+class Checks(unittest.TestCase):
+    def setUp(self) -> None:
+        need_command(self, 'gcc', 'gcc')
+
+    def test_a_line_that_gcc_refuses_is_refused(self) -> None:
+        for body, words in REFUSED:
+            source = HEAD + PROGRAM % body
+            translated(source)
+            found = translation_of(source)
+            assert isinstance(found, Refusal), body
+            self.assertEqual(found.line, LINE)
+            self.assertIn(words, found.reason)
+
+    def test_a_warning_is_a_remark(self) -> None:
+        for body, words in WARNED:
+            found = translation_of(HEAD + PROGRAM % body)
+            assert not isinstance(found, Refusal), body
+            own = [it for it in found.remarks if it.text.startswith('gcc warns')]
+            self.assertEqual([(it.line, it.is_mistake) for it in own], [(LINE, False)])
+            self.assertIn(words, own[0].text)
+
+    def test_an_assignment_in_a_test_has_one_remark(self) -> None:
+        found = translation_of(HEAD + PROGRAM % 'if(x = 5) done = 1;')
+        assert not isinstance(found, Refusal)
+        self.assertEqual(len([it for it in found.remarks if it.line == LINE]), 1, found.remarks)
+
+    def test_a_missing_file_is_named(self) -> None:
+        last = HEAD.splitlines(True)[-1]
+        for head, body, wanted in (HEAD, 'leds_on(LEDS_RED);', 'dev/leds.h'), (last, '', 'net/rime.h'):
+            (line, words, is_mistake), = check(head + PROGRAM % body)
+            self.assertIn('needs `#include "%s"`' % wanted, words)
+            self.assertTrue(is_mistake)
+
+    def test_a_program_that_includes_nothing_is_checked_as_if_it_included_all(self) -> None:
+        self.assertEqual(check(PROGRAM % 'leds_on(LEDS_RED); x = random_rand();'), [])
+        with self.assertRaises(Refusal) as caught:
+            check(PROGRAM % 'n = 4;')
+        self.assertEqual(caught.exception.line, 10)
+
+    def test_nothing_is_checked_if_a_file_is_not_known(self) -> None:
+        for name in '"my.h"', '</dev/zero>', 'NAME':
+            self.assertEqual(check('#include %s\n' % name + HEAD + PROGRAM % 'n = 4;'), [])
+
+    def test_programs_of_students_are_accepted(self) -> None:
+        for path in sorted((*PROGRAMS.glob('*.c'), *PROGRAMS.glob('more/*.c'))):
+            with self.subTest(path.stem):
+                words = [words for _, words, _ in check(path.read_text())]
+                self.assertEqual(any('#include' in it for it in words), path.stem in LACKING, words)
+                self.assertEqual(bool(words), path.stem in LACKING | CALLING, words)
+
+    def test_the_headers_declare_all_that_is_translated(self) -> None:
+        # (macros of the kernel are those of the host, whose headers these include)
+        declared = ''.join(it.read_text() for folder in (HEADERS, HEADERS.parent / 'contiki_host')
+                           for it in folder.glob('*.h'))
+        methods = [it for it in dir(ProcessWriter) if it.startswith(('call_', 'value_')) and it not in OWN]
+        names = {it.partition('_')[2] for it in methods}
+        library = {'abs', 'memcpy', 'memset', 'printf', 'putchar', 'puts', 'rand'}
+        self.assertEqual({it for it in names - library if it + '(' not in declared}, set())
+        self.assertEqual(set(FILES), {it.name for it in HEADERS.iterdir()})
+
+
+class Missing(unittest.TestCase):
+    def test_without_gcc_nothing_is_checked_and_grade_says_so(self) -> None:
+        with mock.patch('shutil.which', return_value=None):
+            self.assertEqual(check(HEAD + PROGRAM % 'n = 4;'), [])
+            self.assertEqual(of_programs(['a.c'], [1280])[1:], [compiler.HOW_TO_INSTALL])
+            self.assertEqual(of_programs(['a.mote'], [1280]), [])
+        with mock.patch('shutil.which', return_value='gcc'):
+            self.assertEqual(len(of_programs([str(Path('a.c'))], [1280])), 1)
+
+
+if __name__ == '__main__':
+    unittest.main()
