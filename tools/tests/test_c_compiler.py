@@ -67,8 +67,9 @@ class Checks(unittest.TestCase):
     def test_a_missing_file_is_named(self) -> None:
         last = HEAD.splitlines(True)[-1]
         for head, body, wanted in (HEAD, 'leds_on(LEDS_RED);', 'dev/leds.h'), (last, '', 'net/rime.h'):
-            (line, words, is_mistake), = check(head + PROGRAM % body)
+            (_, words, is_mistake), (_, warned, _) = check(head + PROGRAM % (body + ' done == 1;'))
             self.assertIn('needs `#include "%s"`' % wanted, words)
+            self.assertIn('no effect', warned)
             self.assertTrue(is_mistake)
 
     def test_a_program_that_includes_nothing_is_checked_as_if_it_included_all(self) -> None:

@@ -13,7 +13,7 @@ import os
 import re
 import shutil
 import subprocess
-from collections.abc import Iterable
+from collections.abc import Iterable, Sequence
 from pathlib import Path
 from typing import NamedTuple
 
@@ -48,7 +48,7 @@ LIMITED = 'ulimit -v 2000000 -t 10; exec "$0" "$@"'
 SECONDS = 20
 NO_SUCH_FILE = 'No such file or directory'
 COMPLAINT = re.compile(r'^<stdin>:(\d+):\d+: (?:fatal )?(error|warning): (.*?)(?: \[-W[^\]]*\])?$', re.M)
-REFUSED, WARNED = 'gcc refuses this line: %s.', 'gcc warns of this line: %s.'
+REFUSED, WARNED = 'gcc refuses it: %s.', 'gcc warns: %s.'
 LACKS_ONE = 'gcc refuses this line: %s. The program needs `#include "%s"`.'
 LACKS_SEVERAL = 'gcc refuses this line: %s. The program doesn\'t include all files that it needs.'
 # (the translator has its own words about it)
@@ -79,20 +79,30 @@ def check(text: str) -> list[tuple[int, str, bool]]:
         return []
     if not INCLUDE.search(text):
         source = with_more(source, FILES)
-    complaints = complaints_of(source)
-    errors = [it for it in complaints if it.is_error]
-    if errors:
-        others = errors_of(with_more(source, FILES))
-        if others:
-            first = next((it for it in errors if it in others), errors[0])
-            raise Refusal(first.line, REFUSED % first.words)
-        return [(errors[0].line, lacks(source, errors[0]), True)]
+    own = complaints_of(source)
+    errors = errors_in(own)
+    if not errors:
+        return warnings_in(own)
+    complete = complaints_of(with_more(source, FILES))
+    lasting = errors_in(complete)
+    if lasting:
+        error = next((it for it in lasting if it in errors), errors[0])
+        raise Refusal(error.line, REFUSED % error.words)
+    return [(errors[0].line, lacks(source, errors[0]), True), *warnings_in(complete)]
+
+
+def errors_in(complaints: Sequence[Complaint]) -> list[Complaint]:
+    return [it for it in complaints if it.is_error]
+
+
+def warnings_in(complaints: Sequence[Complaint]) -> list[tuple[int, str, bool]]:
     return [(it.line, WARNED % it.words, False) for it in dict.fromkeys(complaints) if OF_TRANSLATOR not in it.words]
 
 
 def lacks(source: str, error: Complaint) -> str:
     """The words about an error that ends if all files are included."""
-    one = next((names[0] for it, names in FILES.items() if not errors_of(with_more(source, [it]))), None)
+    one = next((names[0] for it, names in FILES.items()
+                if not errors_in(complaints_of(with_more(source, [it])))), None)
     return LACKS_ONE % (error.words, one) if one else LACKS_SEVERAL % error.words
 
 
@@ -107,10 +117,6 @@ def with_headers(text: str) -> str | None:
 def with_more(source: str, headers: Iterable[str]) -> str:
     """A program that includes further headers. Its lines keep their numbers."""
     return '%s#line 1\n%s' % (''.join('#include "%s"\n' % it for it in headers), source)
-
-
-def errors_of(source: str) -> list[Complaint]:
-    return [it for it in complaints_of(source) if it.is_error]
 
 
 def complaints_of(source: str) -> list[Complaint]:
