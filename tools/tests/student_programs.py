@@ -42,7 +42,9 @@ def kernel_in(folder: Path) -> list[str]:
 def lines_on_host(source: str, folder: Path, kernel: Sequence[str]) -> list[str]:
     """The lines of a program in C on the host of Contiki's kernel, sorted by mote."""
     file, compiled = folder / 'student.c', folder / 'student.o'
-    file.write_text('#define END %d\n#include "students.h"\n%s\n#include "net.c"\n' % (END, source))
+    # (LEDs are printed only if nothing else is)
+    head = '#define END %d\n#define IS_DARK %d\n#include "students.h"\n' % (END, 'printf' in source)
+    file.write_text('%s%s\n#include "net.c"\n' % (head, source))
     subprocess.run([*GCC, '-c', '-o', compiled, file], check=True)
     subprocess.run(['objcopy', *SECTIONS, compiled], check=True)
     subprocess.run(['gcc', '-no-pie', '-o', folder / 'student', compiled, *kernel], check=True)

@@ -5,6 +5,7 @@ import here  # noqa: F401
 from motesim.c_program.absent import NO_NAME
 from motesim.c_program.others import with_others
 from motesim.c_program.parse_file import read_file
+from motesim.c_program.program import translated
 from motesim.c_program.refusal import Refusal
 from student_programs import PROGRAMS
 from translated_c import in_process, translation
@@ -198,8 +199,17 @@ class Absent(unittest.TestCase):
                 ('leds_on(LEDS_RED); leds_on(LEDS_GREEN);', ['if !(leds / 4) {', 'if !(leds % 2) {', 'print leds;']),
                 ('leds_toggle(LEDS_GREEN);', ['leds = ((leds + 1) - (2 * leds));', 'print leds;']),
                 ('leds_on(LEDS_RED); leds_off(LEDS_ALL);', ['leds = ((leds / 8) * 8);', 'print leds;']),
-                ('leds_set(5); printf("%d", leds_get());', ['leds = 5;', 'print leds;'])):
+                ('leds_set(5); leds_off(leds_get());', ['leds = 5;', 'print leds;'])):
             text, notes = translation(in_process('  ' + statements))
             for line in wanted:
                 self.assertIn('    %s\n' % line, text or notes)
             self.assertIn('1 for green, 2 for yellow or blue, and 4 for red', notes)
+
+    def test_a_program_with_a_printf_prints_no_leds(self) -> None:
+        above = 'static void show(void) { printf("%d", leds_get()); }'
+        text, notes = translation(in_process('  leds_on(LEDS_RED);\n  show();', above))
+        self.assertEqual((text or '').count('print'), 1, notes)
+        self.assertIn('a change of its LEDs prints nothing', notes)
+        for body, is_mistake in ('leds_on(LEDS_RED);', True), ('leds_on(LEDS_RED); printf("1");', False):
+            found = translated(in_process('  ' + body)).remarks
+            self.assertEqual([it.is_mistake for it in found if 'LEDs' in it.text], [is_mistake])

@@ -299,7 +299,7 @@ class Forms(unittest.TestCase):
                  'static void on(void *p) { printf("%d", 1); ctimer_set(&c, 3, off, NULL); }')
         text, notes = translation(in_process('  ctimer_set(&c, 5, on, NULL);', above))
         self.assertIsNotNone(text, notes)
-        self.assertIn('if (c_calls == 0) {\n      print 1;\n      set c 3;\n      c_calls = 1;', text or '')
+        self.assertIn('if (c_calls == 1) {\n      print 1;\n      set c 3;\n      c_calls = 2;', text or '')
 
     def test_a_second_has_128_moments_unless_another_number_is_named(self) -> None:
         body = '  etimer_set(&et, CLOCK_SECOND / 8); etimer_set(&et, 6 * (n + 1)); etimer_set(&et, 3 * CLOCK_SECOND);'
@@ -352,6 +352,24 @@ PROCESS_THREAD(q, ev, data) { static int n; PROCESS_BEGIN(); n = random_rand(); 
         text, notes = translation(in_process('  random_init(3); n = 1;', other, VARIABLES))
         self.assertEqual(body_of(text)[0], 'n = 1;')
         self.assertIn('`random_init` sets only that of `p`', notes)
+        text, _ = translation(in_process('  n = random_rand() % 4;', other, VARIABLES))
+        self.assertEqual([it.strip() for it in (text or '').split('\n') if 'self' in it],
+                         ['dice = ((self * 257) + 1);', 'dice = ((self * 257) + 129);'])
+
+    def test_a_value_above_the_beginning_is_that_of_each_call(self) -> None:
+        inside = VARIABLES + ' uint8_t low = (int)data; uint16_t here = clock_time() + node_id;'
+        body = 'process_post(&p, 9, (process_data_t)u); u++; PROCESS_YIELD(); printf("%d %u", low, here);'
+        text, _ = translation(in_process('  while(1) { %s }' % body, '', inside))
+        self.assertIn('print (data % 256);', text or '')
+        self.assertIn('print (now + self);', text or '')
+        for value, body in ('(int)data', 'low = 3; printf("%d", low);'), ('n', 'n = 1;'), ('n++', ''):
+            notes = translation(in_process('  ' + body, '', VARIABLES + ' uint8_t low = %s;' % value))[1]
+            self.assertIn('gets this value in each call of the process', notes)
+
+    def test_an_array_of_addresses_is_the_address_of_its_first_member(self) -> None:
+        body = '  list->u8[0] = 3; list[1].u8[0] = 4; (list + 1)->u8[0]++; n = list->u8[0];'
+        text, notes = translation(in_process(body, 'static linkaddr_t list[2];', VARIABLES))
+        self.assertEqual(body_of(text), ['list = 3;', 'list1 = 4;', 'list1 = (list1 + 1);', 'n = list;'], notes)
 
     def test_the_data_of_an_event_may_be_a_parameter_of_any_pointer_type(self) -> None:
         for its in 'process_data_t', 'void *':
@@ -838,14 +856,35 @@ static struct item *unused(void) {
   if(found != NULL) { found->used = 1; }'''
         self.assertNotIn('members 0 to 7', self.remarks(body, above))
 
-    def test_a_packet_of_another_program_has_two_bytes_if_both_are_read(self) -> None:
-        for body, wanted in (('printf("%d", d[0]);', ['print (data % 256);']),
-                             ('printf("%d %d", d[0], d[1]);', ['print (data / 256);', 'print (data % 256);'])):
-            above = ('static void recv(struct broadcast_conn *c, const rimeaddr_t *from) {\n'
+    def test_the_first_byte_of_a_packet_is_the_lower_one(self) -> None:
+        lower, upper = 'print (data % 256);', 'print (data / 256);'
+        copies = 'memcpy(&a, packetbuf_dataptr(), 1); memcpy(&b, (uint8_t *)packetbuf_dataptr() + 1, 1);'
+        for body, wanted in (
+                ('printf("%d", d[0]);', [lower]), ('printf("%d %d", d[0], d[1]);', [lower, upper]),
+                ('printf("%d %d", *d, *(d + 1));', [lower, upper]), ('printf("%d %d", d[1], *d);', [upper, lower]),
+                ('printf("%d", *((uint8_t *)packetbuf_dataptr() + 1));', [upper]),
+                ('memcpy(&w, d, 2); printf("%d", w);', ['print w;']), (copies, []),
+                ('struct two *t = (struct two *)d; printf("%d %d", t->a, t->b);', [lower, upper])):
+            above = ('struct two { uint8_t a, b; }; static uint8_t a, b; static uint16_t w;\n'
+                     'static void recv(struct broadcast_conn *c, const rimeaddr_t *from) {\n'
                      '  uint8_t *d = packetbuf_dataptr(); %s\n}\nstatic struct broadcast_conn bc;\n'
                      'static const struct broadcast_callbacks calls = {recv};' % body)
-            text, _ = translation(in_process('  broadcast_open(&bc, 129, &calls);', above))
-            self.assertEqual([it.strip() for it in (text or '').split('\n') if 'print' in it], wanted)
+            text, notes = translation(in_process('  broadcast_open(&bc, 129, &calls);', above))
+            self.assertEqual([it.strip() for it in (text or notes).split('\n') if 'print' in it], wanted)
+            if body == copies:
+                self.assertIn('a = (data % 256);\n    b = (data / 256);', text or notes)
+        body = '  static uint8_t d[2] = {1, 2}; packetbuf_copyfrom(d, 2); broadcast_send(&bc);'
+        text, notes = translation(in_process(body, 'static struct broadcast_conn bc;'))
+        self.assertIn('send ((d1 * 256) + d);', text or notes)
+
+    def test_the_length_of_packets_that_another_program_sends_has_a_remark(self) -> None:
+        above = ('static struct broadcast_conn bc; static uint8_t b;\n'
+                 'static void recv(struct broadcast_conn *c, const linkaddr_t *from) {\n'
+                 '  if(packetbuf_datalen() == 2) { printf("1"); }\n}\n'
+                 'static const struct broadcast_callbacks calls = {recv};')
+        for sent, is_seen in ('', True), ('packetbuf_copyfrom(&b, 1); broadcast_send(&bc);', False):
+            notes = translation(in_process('  broadcast_open(&bc, 129, &calls); ' + sent, above))[1]
+            self.assertEqual('line 6: This program sends no packets' in notes, is_seen, notes)
 
     def test_a_second_byte_of_an_address_is_named(self) -> None:
         for byte, is_named in (('0', False), ('5', True)):
@@ -1023,14 +1062,25 @@ static const struct broadcast_callbacks calls = { recv };'''
         self.assertEqual(tests, ['if (i < 10) {', 'if (i < 10) {', 'if (at < 10) {'])
         self.assertEqual(sum('if (i == 7) {' in it for it in lines), 2)
 
-    def test_a_ctimer_that_is_restarted_before_it_is_set_has_a_remark(self) -> None:
-        above = 'static struct ctimer c; static void tick(void *ptr) { printf("%d", 1); }'
+    def test_a_ctimer_that_is_restarted_before_it_is_set_runs_nothing(self) -> None:
+        above = ('static struct ctimer c; static void tick(void *ptr) { printf("%d", 1); if(n++ < 3) ctimer_reset(&c); }'
+                 ).replace('static struct', 'static int n; static struct', 1)
         start, again = 'ctimer_set(&c, 3, tick, NULL); ', 'ctimer_restart(&c); '
         for body, is_early in (
-                (again + start, True), (start + again, False),
-                ('while(1) { PROCESS_PAUSE(); %s }' % (again + start), False)):
-            notes = self.remarks(body, above)
-            self.assertEqual('`c` has no function before the first `ctimer_set`' in notes, is_early)
+                (again + start, True), (start + again, False), (start + 'PROCESS_YIELD(); ' + again, False),
+                ('if(n) { %s } %s' % (start, again), True), ('while(1) { PROCESS_PAUSE(); %s }' % (again + start), True)):
+            text, notes = translation(in_process('  ' + body, above))
+            self.assertEqual('if (c_calls == 1) {\n      print 1;' in (text or ''), is_early, text or notes)
+
+    def test_a_packet_of_another_connection_has_a_remark(self) -> None:
+        above = ('static struct broadcast_conn bc; static struct unicast_conn uc; static linkaddr_t to;\n'
+                 'static void recv(struct broadcast_conn *c, const linkaddr_t *from) { printf("%d", from->u8[0]); }\n'
+                 'static const struct broadcast_callbacks calls = {recv};\n'
+                 'static const struct unicast_callbacks nothing = {NULL};')
+        opened = '  broadcast_open(&bc, 129, &calls); unicast_open(&uc, 146, &nothing); packetbuf_copyfrom(&b, 1);\n  '
+        for send, is_seen in ('unicast_send(&uc, &to);', True), ('broadcast_send(&bc);', False):
+            notes = self.remarks(opened + send, above)
+            self.assertEqual('line 13: In Contiki, `recv` doesn\'t run for the packets of `uc`' in notes, is_seen, notes)
 
     def test_a_connection_that_is_never_opened_has_a_remark(self) -> None:
         above = 'static struct broadcast_conn bc, other;'
@@ -1104,11 +1154,12 @@ static const struct broadcast_callbacks calls = { recv };'''
     def test_a_product_that_an_int_of_a_node_does_not_hold_has_a_remark(self) -> None:
         for body, is_seen in (
                 ('x = 5000; for(i = 0; i < 3; i++) x = (x * 7 + 6000) / 8;', True), ('x = 200; x = x * 300;', True),
+                ('x = 30000; if(x + 10000 > 0) n = 1;', True), ('x = 30000; if(x + 10 > 0) n = 1;', False),
                 ('for(i = 2; i * i <= n; i++) n++;', True), ('for(u = 2; u * u <= 400; u++) n++;', False),
                 ('for(i = 0; i < 9; i++) x = (i * 100) / 8;', False), ('x = (n * 7) & 3; a[0] = n * 3;', False)):
             text, notes = translation(in_process('  n = node_id; PROCESS_YIELD(); ' + body, '', VARIABLES))
             self.assertIsNotNone(text, notes)
-            self.assertEqual('a product above 32,767 is below 0 there' in notes, is_seen, (body, notes))
+            self.assertEqual('a result above 32,767 is below 0 there' in notes, is_seen, (body, notes))
 
     def test_an_index_that_a_loop_limits_has_no_remark(self) -> None:
         above = '''static int t[4];
@@ -1117,6 +1168,25 @@ static int find(int k) { int i; for(i = 0; i < 4; i++) { if(t[i] == k) return i;
             notes = translation(in_process('  x = find(n); if(x >= 0) t[x] = 1;', above.replace('RESULT', result),
                                            VARIABLES))[1]
             self.assertEqual('may be 4 here' in notes, is_seen, notes)
+
+    def test_each_line_with_a_mistake_has_a_remark(self) -> None:
+        source = in_process('  l = l * 1000;\n  l += 70000;\n  l = l + 1;\n  printf("%lu", l * 8);', '', VARIABLES +
+                            '\n  static uint32_t l;')
+        lines = [it.partition(':')[0] for it in translation(source)[1].split('\n') if 'above 65,535 wrap' in it]
+        self.assertEqual(lines, ['line 10', 'line 11', 'line 13'])
+
+    def test_a_packet_of_8_bits_that_is_read_as_16_has_a_remark(self) -> None:
+        above = ('static struct broadcast_conn bc; static uint8_t b; static uint16_t w;\n'
+                 'static void recv(struct broadcast_conn *c, const linkaddr_t *from) { %s }\n'
+                 'static const struct broadcast_callbacks calls = {recv};')
+        for sent, read, is_seen in (
+                ('b', 'w = *(uint16_t *)packetbuf_dataptr();', True), ('b', 'memcpy(&w, packetbuf_dataptr(), 2);', True),
+                ('w', 'w = *(uint16_t *)packetbuf_dataptr();', False), ('b', 'packetbuf_copyto(&b);', False),
+                ('w', 'b = *(uint8_t *)packetbuf_dataptr();', False)):
+            body = '  broadcast_open(&bc, 129, &calls); packetbuf_copyfrom(&{0}, sizeof({0})); broadcast_send(&bc);'
+            text, notes = translation(in_process(body.format(sent), above % read))
+            self.assertIsNotNone(text, notes)
+            self.assertEqual('line 5: This reads two bytes' in notes, is_seen, (sent, read, notes))
 
     def test_each_cause_has_one_remark(self) -> None:
         self.assertEqual(self.remarks('leds_on(1); leds_on(2); leds_off(1);').count('LEDs'), 1)

@@ -34,7 +34,8 @@ class Program:
     event_variables: dict[Variable, str] = field(default_factory=dict)
     semaphores: dict[Variable, str] = field(default_factory=dict)
     counts: dict[Variable, int] = field(default_factory=dict)
-    remarks: dict[str, tuple[int, str, bool]] = field(default_factory=dict)
+    # (the remarks about mistakes by their lines, too)
+    remarks: dict[tuple[str, int], tuple[int, str, bool]] = field(default_factory=dict)
     # The processes that wait for packets instead of ending, each with its function for packets; and for each process
     # the first line that depends on its end.
     endless: dict[str, str] = field(default_factory=dict)
@@ -50,9 +51,14 @@ class Program:
     renamed: dict[str, tuple[int, str]] = field(default_factory=dict)
 
     def remark(self, line: int, text: str, is_mistake: bool = False) -> None:
-        """Notes what differs from C, once for each cause. `is_mistake`: on a node, the program is probably wrong."""
-        if text not in self.remarks or is_mistake and not self.remarks[text][2]:
-            self.remarks[text] = line, text, is_mistake
+        """Notes what differs from C, once for each cause. `is_mistake`: on a node, the program is probably wrong; each
+        line with a mistake has a remark."""
+        self.remarks.setdefault((text, line if is_mistake else 0), (line, text, is_mistake))
+
+    def all_remarks(self) -> list[tuple[int, str, bool]]:
+        """The remarks: a cause that has one about a mistake has no other one."""
+        mistakes = {text for _, text, is_mistake in self.remarks.values() if is_mistake}
+        return sorted(it for it in self.remarks.values() if it[2] or it[1] not in mistakes)
 
     def note_name(self, name: str, found: str, line: int) -> None:
         """Notes that a name of C isn't one of the notation."""

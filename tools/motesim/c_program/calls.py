@@ -34,7 +34,9 @@ TIMER = EVENT_NUMBERS['PROCESS_EVENT_TIMER']
 LEDS = {'leds_on': '|=', 'leds_off': '&=', 'leds_toggle': '^=', 'leds_invert': '^=', 'leds_set': '='}
 LIT = Variable('leds', BYTE, 0)
 OF_LEDS = ('A mote has no LEDs: each change prints those that this process has switched on, as a sum of 1 for green, '
-           '2 for yellow or blue, and 4 for red.')
+           '2 for yellow or blue, and 4 for red, because the program has no `printf`.')
+OF_DARK = 'A mote has no LEDs. This program prints numbers by `printf`, so a change of its LEDs prints nothing.'
+PRINTS = re.compile(r'printf|put(char|s)')
 OF_TEXT = ('There are no texts: each value of a `printf` has a `print`, whose comment has the text. A `printf` without '
            'a value prints the number in its text, or 1. A line of the report shows the process and the number, but '
            'not which `printf` it is from: if this matters, print numbers that differ, such as `1000 + n`.')
@@ -125,21 +127,31 @@ class Calls(Chance):
         made(it)
 
     def change_leds(self, it: Expression) -> None:
-        """Changes the LEDs, and prints them."""
+        """Changes the LEDs; in a program that prints nothing else, they are printed."""
         leds = self.lit(it.line)
         mask = self.arguments(it, 1)[0]
         if it.text == 'leds_off':
             mask = Expression('unary', '~', (mask,), it.line)
         self.effect(Expression('assign', LEDS[it.text], (leds, mask), it.line))
-        self.emit('print %s;' % self.evaluate(leds).text)
+        if not self.prints_numbers:
+            self.emit('print %s;' % self.evaluate(leds).text)
 
     def value_leds_get(self, it: Expression) -> Value:
         return self.evaluate(self.lit(it.line))
 
     def lit(self, line: int) -> Expression:
         """The LEDs that are switched on."""
-        self.remark(line, OF_LEDS)
+        if self.prints_numbers:
+            self.remark(line, OF_DARK)
+        else:
+            self.remark_mistake(min(filter(None, map(self.first_call, LEDS)), default=line), OF_LEDS)
         return Expression('name', LIT.name, line=line, variable=LIT)
+
+    @property
+    def prints_numbers(self) -> bool:
+        """Returns whether the program calls `printf` or a similar function."""
+        units = (*self.file.functions.values(), *self.file.bodies.values())
+        return any(it.kind == 'call' and PRINTS.fullmatch(it.text) for one in units for it in all_parts(one.body))
 
     def note_buffer(self, it: Expression) -> None:
         """Notes that a call changes the packet buffer."""
@@ -198,9 +210,10 @@ class Calls(Chance):
             return self.refuse(it.line, OF_FUNCTION_POINTER)
         return self.absent_call(it.text, it.line, self.calls())
 
-    def calls(self) -> list[str]:
-        """The calls of Contiki that are translated."""
-        return [*IGNORED, *(it.partition('_')[2] for it in dir(self) if it.startswith(('call_', 'value_')))]
+    @classmethod
+    def calls(cls) -> list[str]:
+        """The calls of Contiki and of C's library that are translated."""
+        return [*IGNORED, *LEDS, *(it.partition('_')[2] for it in dir(cls) if it.startswith(('call_', 'value_')))]
 
     def own_call(self, it: Expression, is_value: bool) -> Value:
         raise NotImplementedError

@@ -1,12 +1,15 @@
 """Translates random numbers: `random_rand()`, `rand()` and `random_init()`."""
 from __future__ import annotations
 
+from collections.abc import Iterable
+
 from motesim.c_program.constants import constant_of
 from motesim.c_program.expressions import COMPARES, Expressions
-from motesim.c_program.tree import Expression
+from motesim.c_program.tree import Expression, Function
 from motesim.c_program.types import INT, UNSIGNED
 from motesim.c_program.values import HALF, Value, added, divided, multiplied, number
 from motesim.c_program.walk import all_parts, without_casts
+from motesim.explain.same_seed import APART
 from motesim.from_c.expressions import MIXED, STEP
 
 DRAWS = ('random_rand', 'rand')
@@ -30,6 +33,11 @@ OF_OTHER_PROCESS = ('Each process has a random generator of its own here, and `r
 def is_draw(it: Expression) -> bool:
     """Returns whether an expression is a call for a random number."""
     return it.kind == 'call' and it.text in DRAWS
+
+
+def has_draw(functions: Iterable[Function]) -> bool:
+    """Returns whether some functions draw random numbers."""
+    return any(is_draw(part) for one in functions for part in all_parts(one.body))
 
 
 def named(text: str, names: tuple[str, str]) -> str:
@@ -87,8 +95,8 @@ class Chance(Expressions):
         """Sets the seed, if this process draws numbers."""
         functions = (self.file.bodies[self.process], *self.program.usage.uses[self.process].functions.values())
         seed = self.operand(self.first(it))
-        if not any(is_draw(part) for one in functions for part in all_parts(one.body)):
-            if any(is_draw(part) for one in self.file.bodies.values() for part in all_parts(one.body)):
+        if not has_draw(functions):
+            if has_draw(self.file.bodies.values()):
                 self.remark(it.line, OF_OTHER_PROCESS % self.code.name)
             return
         if seed.constant is not None:
@@ -100,9 +108,13 @@ class Chance(Expressions):
         self.log += self.generators()
 
     def seeding(self, seed: str = 'self') -> list[str]:
-        """The statements that set the first generator to a seed, and mix it."""
+        """The statements that set the first generator to a seed, and mix it. The seeds of a mote's processes differ."""
+        drawing = [name for name in self.file.processes if has_draw((
+            self.file.bodies[name], *self.program.usage.uses[name].functions.values()))]
+        distance = drawing.index(self.process) * (APART // len(drawing))
         first, *others = [it.strip() + ';' for it in MIXED.split(';') if it.strip()]
-        return [named(it, self.generators()) for it in (first.replace('self', seed), *others)]
+        first = first.replace('+ 1)', '+ %d)' % (1 + distance)).replace('self', seed)
+        return [named(it, self.generators()) for it in (first, *others)]
 
     def value_rand(self, it: Expression) -> Value:
         """A random number of 15 bits."""

@@ -1,11 +1,12 @@
 """Translates expressions: values, tests, assignments and their effects."""
 from __future__ import annotations
 
+import re
 from collections.abc import Sequence
 
 from motesim.c_program import bits
 from motesim.c_program.base import OF_LONG, joined_limits
-from motesim.c_program.constants import EVENT_NUMBERS, NUMBERS, SECOND, constant_of
+from motesim.c_program.constants import EVENT_NUMBERS, NUMBERS, OPERATIONS, SECOND, constant_of
 from motesim.c_program.events import Events
 from motesim.c_program.places import ADDRESSES, NO_MOTE, OF_ADDRESS, OF_CHANGE, SELF, TEXTS, Place
 from motesim.c_program.refusal import Refusal
@@ -37,7 +38,7 @@ OF_STRUCTURE = ('An address is a structure in C: compare its first byte, such as
                 'use `linkaddr_cmp`.')
 OF_EQUAL = 'In a test, `=` assigns a value: write `==` for a comparison.'
 NO_BITS = 'This operation on bits needs statements of its own: write it above, into a variable.'
-OF_OVERFLOW = ('An `int` of a node has 16 bits, so a product above 32,767 is below 0 there. Here, it isn\'t: calculate '
+OF_OVERFLOW = ('An `int` of a node has 16 bits, so a result above 32,767 is below 0 there. Here, it isn\'t: calculate '
                'with `uint16_t`, or with smaller values.')
 OF_SECOND = ('A second has %d moments here, so `CLOCK_SECOND` is %d%s. `end` of the scenario is in moments, too, and '
              'so are the delays of packets.')
@@ -244,12 +245,12 @@ class Expressions(Events):
         # (times are added in both sizes, because only their differences count)
         is_long = any(self.is_long(it, sign != '+') for it in parts)
         # (a net has few motes)
-        is_of_self = 'self' in left.text + right.text and sign == '*'
+        is_of_self = sign == '*' and any(re.search(r'\bself\b', it.text) for it in (left, right))
         if is_long and not is_of_self and exceeds(sign, left, right):
             self.remark_mistake(line, OF_LONG)
         is_compared = sign in ('/', '%', '>>', *COMPARES) and (left.wraps or right.wraps)
-        is_certain = sign == '*' and common(left, right).signed and min(left.low, right.low) > 0 and \
-            left.low * right.low >= HALF
+        is_certain = sign in '*+' and common(left, right).signed and min(left.low, right.low) > 0 and \
+            OPERATIONS[sign](left.low, right.low) >= HALF
         if not is_long and (is_compared or is_certain):
             self.remark_mistake(line, OF_OVERFLOW)
 

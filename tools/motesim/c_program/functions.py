@@ -11,7 +11,7 @@ from motesim.c_program.constants import constant_of
 from motesim.c_program.control import ENDS, FALLS, Control, Flow
 from motesim.c_program.places import (
     EVERYWHERE, NO_MOTE, NOWHERE, OF_ADDRESS, OF_CHANGE, OF_EVENTS, OF_NULL, OF_RESULT, ONE_BYTE, OVERWRITING, SELF,
-    Path, Place, Pointer,
+    Path, Place, Pointer, owner_of,
 )
 from motesim.c_program.radio import FILLED, SENDS
 from motesim.c_program.refusal import Refusal
@@ -186,9 +186,9 @@ class Functions(Control):
     def byte_assigned(self, it: Expression) -> bool:
         """`a.u8[0] = 3;` for an address: the address is this number, and its other bytes are left out."""
         target = it.parts[0]
-        if it.text != '=' or target.kind != 'index' or target.parts[0].kind != 'member':
+        if it.text != '=' or target.kind != 'index' or target.parts[0].kind not in ('member', 'arrow'):
             return False
-        owner = target.parts[0].parts[0]
+        owner = owner_of(target.parts[0])
         if self.type_of(owner).kind != 'address':
             return False
         value, index = self.evaluate(it.parts[1]), self.evaluate(target.parts[1])

@@ -31,7 +31,7 @@ class Knowledge:
     new_loops: dict[Key, LoopLimits] = field(default_factory=dict)
     forms: set[str] = field(default_factory=set)
     new_forms: set[str] = field(default_factory=set)
-    # The callback timers that run several functions.
+    # The callback timers that run several functions, or none at first.
     shared_timers: set[Key] = field(default_factory=set)
     new_shared_timers: set[Key] = field(default_factory=set)
     rounds: int = 0

@@ -1,7 +1,6 @@
 """The further calls of a program that motesim doesn't have: the message about the first one names them, too."""
 from __future__ import annotations
 
-from motesim.c_program.calls import IGNORED, LEDS
 from motesim.c_program.control import EXITS
 from motesim.c_program.process import ProcessWriter
 from motesim.c_program.refusal import Refusal
@@ -30,5 +29,4 @@ def with_others(refusal: Refusal, file: File) -> Refusal:
 
 def is_known(name: str) -> bool:
     """Returns whether a call of Contiki or of C's library is translated."""
-    return name in (*IGNORED, *LEDS, *EXITS, *IN_FORMS) or any(
-        hasattr(ProcessWriter, word + name) for word in ('call_', 'value_'))
+    return name in (*EXITS, *IN_FORMS, *ProcessWriter.calls())

@@ -9,7 +9,7 @@ from motesim.c_program.tree import Expression, Variable
 from motesim.c_program.types import (
     ADDRESS, BYTE, INT, UNSIGNED, Type, leaves_of, pointer_to, size_of,
 )
-from motesim.c_program.values import MOST, Value, added, compared, converted, multiplied, number
+from motesim.c_program.values import MOST, Value, added, compared, converted, divided, multiplied, number
 from motesim.c_program.walk import all_parts, parts_of
 from motesim.c_program.written import Block, If, Line, assigned_by
 
@@ -32,6 +32,8 @@ NO_ROOM = ('`unicast_send` needs 8 of the 16 bits of a packet for the number of 
 OF_PACKET = ('A packet, or the data of an event, is one number of 16 bits: one value, or two fields that are at most '
              '255. So %s doesn\'t fit: send a packet, or post an event, for each value, or put small values into one '
              'number, such as `type * 64 + seq %% 64`.')
+OF_SIZE = ('This reads two bytes, but the program also sends or posts values of one byte. On a node, the second byte is '
+           'then that of something else. Here, it is 0: read such a value with its own type, such as `uint8_t`.')
 OVERWRITTEN = ('Contiki has one packet buffer. So after `packetbuf_copyfrom`, this is a value of the packet that is '
                'sent there; here, it is still the value of the packet that has arrived. Copy the value before.')
 # The names under which the limits of a mote's number are known, and those of the motes on which a statement has
@@ -40,7 +42,7 @@ SELF, OVERWRITING = 'self', 'packet buffer'
 NOWHERE, EVERYWHERE = (MOST + 1, -1), (0, MOST)
 OF_INDEX = ('A packet is one number of 16 bits, so it has at most two bytes, `%s[0]` and `%s[1]`: send a packet for '
             'each value.')
-ONLY_BYTE = 'The packets of this program have one byte: there is no byte %d.'
+ONLY_BYTE = 'A packet to one mote has one byte here: use `broadcast_send` for two bytes.'
 TO_FILL = ('A packet is filled by a copy of a variable here: write the value into a variable `x`, and then '
            '`packetbuf_copyfrom(&x, sizeof(x));`.')
 NO_CHANGE = 'A packet that has arrived can\'t be changed: use a variable.'
@@ -129,7 +131,7 @@ class Places(Base):
         """A member of an array."""
         array = it.parts[0]
         its = self.type_of(array)
-        if array.kind == 'member' and self.type_of(array.parts[0]).kind == 'address':
+        if array.kind in ('member', 'arrow') and self.type_of(owner_of(array)).kind == 'address':
             return self.address_of_byte(it)
         base = self.place(array) if its.kind == 'array' and not self.is_alias(array) else self.pointed(array, True)
         index = self.evaluate(it.parts[1])
@@ -160,29 +162,18 @@ class Places(Base):
         if self.evaluate(it.parts[1]).constant != 0:
             raise self.refuse(it.line, ONE_BYTE)
         self.remark(it.line, OF_ADDRESS)
-        return self.place(it.parts[0].parts[0])
+        return self.place(owner_of(it.parts[0]))
 
     def member_of_packet(self, base: Place, index: Value, it: Expression) -> Place:
         """A member of the values from the beginning of a packet, or of the data of an event."""
         name, at = it.parts[0].text or 'd', index.constant
-        if at == 0 and (size_of(base.type) == 2 or self.has_one_byte(base.source)):
+        if at == 0:
             return base
-        if at == 1:
-            self.program.knowledge.new_forms.add(base.source + '-read pair')
-        if at not in (0, 1) or size_of(base.type) != 1:
+        if at != 1 or size_of(base.type) != 1:
             raise self.refuse(it.line, OF_INDEX % (name, name))
-        if self.forms(base.source) and self.has_one_byte(base.source):
-            raise self.refuse(it.line, ONLY_BYTE % at)
-        wide = Type('array', of=base.type, size=2)
-        return base._replace(type=base.type, root=wide, paths=((at,),))
-
-    def has_one_byte(self, source: str) -> bool:
-        """Returns whether all packets, or all data of events, are one byte."""
-        forms = self.forms(source)
-        if source == 'packet' and self.is_to_one:
-            return True
-        # (the packets of another program have one byte if nothing reads their second one)
-        return not forms & {'pair', 'word'} and ('byte' in forms or 'pair' not in self.forms(source + '-read'))
+        if base.source == 'packet' and self.is_to_one:
+            raise self.refuse(it.line, ONLY_BYTE)
+        return base._replace(root=Type('array', of=base.type, size=2), paths=((1,),))
 
     def forms(self, source: str) -> set[str]:
         """The forms of the packets, or of the data of events: byte, word or pair."""
@@ -323,9 +314,10 @@ class Places(Base):
             return self.received(Place('packet', ADDRESS, root=ADDRESS), it.line)
         if pointer.kind == 'null':
             raise self.refuse(it.line, NO_POINTER % 'NULL')
-        if pointer.place is None or pointer.place.type.kind != 'address':
+        place = self.pointed(it) if pointer.kind == 'place' else None
+        if place is None or place.type.kind != 'address':
             raise self.refuse(it.line, 'The address of a mote is expected here.')
-        return self.read(pointer.place, it.line)
+        return self.read(place, it.line)
 
     # Values.
 
@@ -395,11 +387,17 @@ class Places(Base):
             raise self.refuse(line, OF_PACKET % shown_type(its))
         if place.source == 'packet' and self.is_to_one:
             raise self.refuse(self.first_call('unicast_send') or line, NO_ROOM % shown_type(its))
-        # (the first of two fields is the upper byte, but the first byte of a value of 16 bits is its lower one)
-        forms = self.forms(place.source)
-        is_upper = bool(at) == bool(forms and 'pair' not in forms)
-        text = '(%s %s 256)' % (whole.text, '/' if is_upper else '%')
-        return converted(Value(text, UNSIGNED, 0, 255), place.type)
+        if at:
+            self.note_second_byte(place, line)
+        # (as on the Tmote Sky, the first byte is the lower one)
+        found = divided(whole, number(256, UNSIGNED), '/' if at else '%')
+        assert found is not None
+        return converted(found, place.type)
+
+    def note_second_byte(self, place: Place, line: int) -> None:
+        """Notes that a statement reads the second byte of packets that have only one."""
+        if 'byte' in self.forms(place.source):
+            self.remark_mistake(line, OF_SIZE)
 
     @property
     def is_intact(self) -> bool:
@@ -416,11 +414,9 @@ class Places(Base):
 
     def single(self, whole: Value, place: Place, line: int) -> Value:
         """The only value of a packet or of an event."""
-        if 'pair' in self.forms(place.source) and size_of(place.type) == 1:
-            whole = Value('(%s / 256)' % whole.text, UNSIGNED, 0, 255)
-        elif 'pair' in self.forms(place.source):
-            raise self.refuse(line, 'The packets of this program have two fields: read each field by itself.')
-        elif place.source == 'packet' and place.type.signed and whole.high > 255:
+        if size_of(place.type) > 1:
+            self.note_second_byte(place, line)
+        if place.source == 'packet' and place.type.signed and whole.high > 255:
             # (a packet of another program is taken to have a value of the same kind)
             low, high = self.program.knowledge.limits.get(('', 'packet'), (-1, -1))
             whole = whole._replace(high=32_767) if 0 <= low and high <= 32_767 else whole
@@ -516,7 +512,13 @@ class Places(Base):
             return self.type_of(it.parts[0]).of or INT
         if it.kind == 'unary' and it.text == '&':
             return pointer_to(self.type_of(it.parts[0]))
-        return it.type or INT
+        moved = self.type_of(it.parts[0]).of if it.kind == 'binary' and it.text in '+-' else None
+        return pointer_to(moved) if moved else it.type or INT
+
+
+def owner_of(it: Expression) -> Expression:
+    """The structure of which an expression names a field."""
+    return it.parts[0] if it.kind == 'member' else Expression('unary', '*', it.parts, it.line)
 
 
 def has_effects(it: Expression) -> bool:

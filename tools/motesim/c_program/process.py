@@ -12,7 +12,7 @@ from motesim.c_program.places import OF_EVENTS, Pointer
 from motesim.c_program.tree import Expression, Function, Statement, Variable
 from motesim.c_program.types import INT, Type, leaves_of
 from motesim.c_program.usage import GLOBAL
-from motesim.c_program.values import Limits, Value, compared, number, united
+from motesim.c_program.values import Limits, Value, compared, converted, number, united
 from motesim.c_program.walk import all_parts, shown, without_casts
 from motesim.c_program.written import Block, Flag, If, Line, lines_of
 
@@ -27,10 +27,10 @@ IN_CIRCLE = ('The functions of ctimers set each other. Here, a ctimer may set on
              'set them.')
 LATE_RECEIVER = ('In Contiki, `%s` runs for all packets after the connection was opened. Here, it runs in `%s`, whose '
                  'variables it uses, and packets that arrive before `%s` starts are dropped.')
-NOT_SET = ('In Contiki, `%s` has no function before the first `ctimer_set`, so nothing runs when it expires. Here, its '
-           'function runs.')
 OF_CONTEXT = ('The function of a ctimer gets no event: set the ctimer outside of `PROCESS_CONTEXT_BEGIN` and '
               '`PROCESS_CONTEXT_END`.')
+# The name under which it is known that a callback timer has its function.
+IS_SET = 'function of '
 NO_CALLBACK = 'The function of a ctimer is expected here.'
 OF_POINTER = 'The last value of `ctimer_set` is NULL, a constant, or the address of a variable here.'
 
@@ -125,8 +125,9 @@ class ProcessWriter(Functions):
         elif it.kind == 'declare':
             variable = it.variable
             assert variable is not None
-            if not variable.is_static and variable.initial and variable.type.kind != 'pointer':
-                self.check_constant(it, variable)
+            if not variable.is_static and variable.initial and variable.type.kind != 'pointer' \
+                    and self.is_of_call(it, variable):
+                return
             if variable.type.kind == 'pointer' and variable.initial:
                 self.permanent.add(variable)
             self.of_declare(it)
@@ -135,15 +136,20 @@ class ProcessWriter(Functions):
         elif it.kind != 'expression' or it.expressions[0] is None or it.expressions[0].kind != 'cast':
             raise self.refuse(it.line, BEFORE_BEGIN)
 
-    def check_constant(self, it: Statement, variable: Variable) -> None:
-        """Checks the value of a variable that C assigns in each call."""
+    def is_of_call(self, it: Statement, variable: Variable) -> bool:
+        """Checks the value of a variable that C assigns in each call. Returns whether this value, such as that of the
+        data of the event, is written at each place that reads the variable."""
         initial = variable.initial
         assert initial is not None
         for part in initial.parts if initial.kind == 'list' else [initial]:
             with self.into([]) as block:
                 value = self.operand(part)
-            if value.constant is None or block:
+            if block or self.posts or value.reads or value.constant is None and (
+                    initial.kind == 'list' or variable in self.program.usage.assigned):
                 raise self.refuse(it.line, EACH_CALL % variable.name)
+        if initial.kind != 'list' and value.constant is None:
+            self.values[variable] = converted(value, variable.type)
+        return variable in self.values
 
     def handler(self, it: Statement) -> None:
         """A block that runs when the process is polled, or when it exits."""
@@ -215,11 +221,11 @@ class ProcessWriter(Functions):
         called, known = (target.name, shown(pointer)), self.callbacks.setdefault(name, [])
         is_new = called not in known
         known += [called] * is_new
-        key = self.process, name
         if len(known) > 1:
-            self.program.knowledge.new_shared_timers.add(key)
-        if key in self.program.knowledge.shared_timers:
-            self.assign(self.function_of(name), number(known.index(called)))
+            self.needs_function(name)
+        if (self.process, name) in self.program.knowledge.shared_timers:
+            self.assign(self.function_of(name), number(known.index(called) + 1))
+        self.known[IS_SET + name] = (1, 1)
         if is_new:
             self.blocks.setdefault(name, []).append([])
             block = self.callback_block(name, self.file.functions[target.name], pointer)
@@ -228,22 +234,28 @@ class ProcessWriter(Functions):
     def changed_timer(self, it: Expression, word: str, *kinds: str) -> None:
         super().changed_timer(it, word, *kinds)
         name = self.timer(self.first(it), *kinds)
-        if kinds[0] == 'ctimer' and word != 'stop' and self.unit.name == 'body' and not self.open_loops \
-                and name not in self.callbacks:
-            self.remark_mistake(it.line, NOT_SET % name)
+        if kinds[0] == 'ctimer' and word != 'stop' and IS_SET + name not in self.known \
+                and self.unit.name != 'ctimer ' + name:
+            self.needs_function(name)
+
+    def needs_function(self, timer: str) -> None:
+        """Notes that a variable says which function a callback timer runs: it has several ones, or none at first."""
+        self.program.knowledge.new_shared_timers.add((self.process, timer))
 
     def function_of(self, timer: str) -> str:
-        """The variable that says which function a callback timer runs."""
+        """The variable that says which function a callback timer runs: 0 if it isn't set yet."""
         return self.own('function of ' + timer, timer + '_calls')
 
     def finish_ctimers(self) -> None:
         """Writes the blocks of the callback timers: one that has several functions chooses by a variable."""
         for name, blocks in self.blocks.items():
-            found = blocks[-1]
-            for at in range(len(blocks) - 2, -1, -1):
-                which = self.function_of(name)
-                test = compared('==', Value(which, INT, 0, len(blocks), frozenset([which])), number(at))
-                found = [If(test, blocks[at], found)]
+            found = blocks[0]
+            if (self.process, name) in self.program.knowledge.shared_timers:
+                found = []
+                for at in range(len(blocks), 0, -1):
+                    which = self.function_of(name)
+                    test = compared('==', Value(which, INT, 0, len(blocks), frozenset([which])), number(at))
+                    found = [If(test, blocks[at - 1], found)]
             self.code.ctimers[name] = found
 
     def callback_block(self, name: str, function: Function, pointer: Expression) -> Block:

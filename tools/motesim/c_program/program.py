@@ -93,7 +93,7 @@ def translated(text: str, second: int = SECOND) -> Translation:
     fault = find_fault(found)
     if fault is not None:
         raise Refusal(*of_fault(fault, file, found))
-    return Translation(found, tuple(sorted(Remark(*it) for it in program.remarks.values())))
+    return Translation(found, tuple(Remark(*it) for it in program.all_remarks()))
 
 
 def remark_names(program: Program) -> None:

@@ -8,15 +8,15 @@ from motesim.c_program.places import (
     EVERYWHERE, NO_MOTE, OF_PACKET, OVERWRITING, SELF, Place, Pointer, shown_type,
 )
 from motesim.c_program.tree import Expression, Statement
-from motesim.c_program.types import UNSIGNED, leaves_of, size_of
-from motesim.c_program.values import MOST, Value, added, as_type, multiplied, number, united
+from motesim.c_program.types import BYTE, UNSIGNED, Type, leaves_of, size_of
+from motesim.c_program.values import MOST, Value, added, converted, multiplied, number, united
 from motesim.c_program.walk import all_parts, base_of, without_casts
 from motesim.c_program.written import Line, While
 
 SENDS = ('broadcast_send', 'abc_send', 'unicast_send')
 OF_TEXT = 'A packet is one number: the text is sent as 1.'
-OF_TWO = ('A packet, or the data of an event, is one number of 16 bits: `%s` is its upper 8 bits, and `%s` its lower '
-          '8. So each of them has to be at most 255. The receiver gets them by `(data / 256)` and `(data %% 256)`.')
+OF_TWO = ('A packet, or the data of an event, is one number of 16 bits: `%s` is its lower 8 bits, and `%s` its upper '
+          '8, as on the Tmote Sky. In the notation, they are `(data %% 256)` and `(data / 256)`.')
 OF_ONE_MOTE = ('A packet goes to all motes that hear it: its upper 8 bits say for which mote it is, and its lower 8 '
                'bits are its value, which is at most 255. The motes are numbered from 0.')
 KEPT = ('Contiki has one packet buffer: each packet that arrives overwrites it, and a send and `packetbuf_clear` '
@@ -29,18 +29,18 @@ OF_BYTES = 'These %d bytes aren\'t whole variables: assign the values one by one
 OF_TYPES = 'The values that are copied here have other sizes than those they are copied to: assign them one by one.'
 NEVER_OPEN = ('The connection `%s` is never opened by `%s_open`. So in Contiki, it can\'t send; here, the packet is '
               'sent: open `%s` by `%s_open` at the beginning of the process.')
+OTHER_CONNECTION = ('In Contiki, `%s` doesn\'t run for the packets of `%s`, which is another connection. Here, it does: '
+                    'send by the connection that has this function.')
 OF_POINTER = ('`packetbuf_dataptr()` is the address of a packet: write `*(uint8_t *)packetbuf_dataptr()` for its first '
               '8 bits, or `*(uint16_t *)packetbuf_dataptr()` for 16 bits.')
 OF_NEGATIVE = ('This value may be below 0, but 8 bits are left for it here: -5, for example, arrives as 251. Send a '
                'value that isn\'t below 0, such as `t + 100`, or use `broadcast_send`.')
 OF_LENGTH = 'A packet is one number of 16 bits here, so `packetbuf_set_datalen` doesn\'t change it.'
+OF_DATALEN = ('This program sends no packets, and the length of those that arrive isn\'t known: it is taken to be 2 '
+              'bytes here.')
 # The name under which it is known that the packet buffer has the value to send.
 FILLED = 'value to send'
 SIZES = 'The packets of this program have several sizes, and none of them is known here.'
-
-
-TWO_FORMS = ('Some packets of this program have two fields of 8 bits, and others have a value of 16 bits. Send the two '
-             'fields as one value, `uint16_t both = first * 256 + second;`, or only packets with two fields.')
 
 
 class Radio(Calls):
@@ -53,14 +53,12 @@ class Radio(Calls):
 
     def packed(self, places: Sequence[Place], line: int) -> Value:
         """The value of a variable, or of two small variables, in one number."""
-        if len(places) == 1:
-            return self.read(places[0], line)
-        first, second = (self.read(it, line) for it in places)
-        values = [it if it.low >= 0 else Value('(%s %% 256)' % it.text, UNSIGNED, 0, 255, it.reads)
-                  for it in (first, second)]
-        self.remark(line, OF_TWO % (first.text, second.text))
-        return added(multiplied(as_type(values[0], UNSIGNED)._replace(type=UNSIGNED), number(256, UNSIGNED)), values[1],
-                     '+')
+        read = [(self.read(it, line), size_of(it.type)) for it in places]
+        first, *others = (converted(it, BYTE) if size == 1 else it for it, size in read)
+        if not others:
+            return first
+        self.remark(line, OF_TWO % tuple(it.text for it, _ in read))
+        return added(multiplied(others[0]._replace(type=UNSIGNED), number(256, UNSIGNED)), first, '+')
 
     def parts_of_packet(self, place: Place, size: Expression | None, line: int) -> list[Place]:
         """The variables whose values a packet has, or the data of an event."""
@@ -73,11 +71,10 @@ class Radio(Calls):
             raise self.refuse(line, OF_PACKET % ('`%s`' % name if name else shown_type(place.type)))
         return places
 
-    def note_form(self, source: str, places: Sequence[Place]) -> str:
+    def note_form(self, source: str, places: Sequence[Place]) -> None:
         """Notes the form of a packet, or of the data of an event: byte, word or pair."""
         form = 'pair' if len(places) == 2 else 'byte' if size_of(places[0].type) == 1 else 'word'
         self.program.knowledge.new_forms.add('%s %s' % (source, form))
-        return form
 
     def data_of(self, place: Place, line: int) -> Value:
         places = self.parts_of_packet(place, None, line)
@@ -98,10 +95,8 @@ class Radio(Calls):
             self.fill(self.whole(pointer.kind), it)
             return
         places = self.copied(pointer, size, it.line)
-        form = self.note_form('packet', places)
-        if {'pair', 'word'} <= self.forms('packet'):
-            raise self.refuse(it.line, TWO_FORMS)
-        self.fill(pointer.value or self.packed(places, it.line), it, form)
+        self.note_form('packet', places)
+        self.fill(pointer.value or self.packed(places, it.line), it)
 
     def copied(self, pointer: Pointer, size: Expression, line: int) -> list[Place]:
         """The variables that a packet is filled with; for the number of the mote, a place of its size."""
@@ -114,10 +109,8 @@ class Radio(Calls):
             raise self.refuse(line, OF_BYTES % (count or 0))
         return [Place('variable', pointer.value.type)]
 
-    def fill(self, value: Value, it: Expression, form: str = '') -> None:
+    def fill(self, value: Value, it: Expression) -> None:
         """Fills the buffer: the value is kept, unless the next statement sends it, and no later one does."""
-        if form == 'byte' and 'pair' in self.forms('packet'):
-            value = multiplied(as_type(value, UNSIGNED), number(256, UNSIGNED))
         self.flush()
         before, here = self.known.get(OVERWRITING, EVERYWHERE), self.known[SELF]
         self.note_assigned(OVERWRITING, united(before, here))
@@ -166,6 +159,7 @@ class Radio(Calls):
             self.remark_mistake(it.line, KEPT)
         self.check_connection(it)
         self.check_open(self.first(it))
+        self.check_connected(self.first(it))
         self.note_effects([FILLED])
         self.emit('send %s;' % value.text)
         self.flush()
@@ -182,6 +176,12 @@ class Radio(Calls):
         variable = base_of(it)
         if variable is not None and variable.type.kind == 'connection' and variable not in opened:
             self.remark_mistake(it.line, NEVER_OPEN % ((variable.name, variable.type.name) * 2))
+
+    def check_connected(self, it: Expression) -> None:
+        """Notes that a packet is sent by another connection than the one whose function gets all packets here."""
+        variable, usage = base_of(it), self.program.usage
+        if usage.callback and variable is not None and usage.connected not in (variable, None):
+            self.remark_mistake(it.line, OTHER_CONNECTION % (usage.callback.name, variable.name))
 
     def call_of_sent(self, it: Expression) -> None:
         raise NotImplementedError
@@ -216,6 +216,8 @@ class Radio(Calls):
         sizes = {{'byte': 1}.get(form, 2) for form in self.forms('packet')}
         if len(sizes) > 1:
             raise self.refuse(it.line, SIZES)
+        if not sizes:
+            self.remark_mistake(it.line, OF_DATALEN)
         return number(min(sizes, default=2), UNSIGNED)
 
     def value_packetbuf_dataptr(self, it: Expression) -> Value:
@@ -226,11 +228,13 @@ class Radio(Calls):
 
     def call_memcpy(self, it: Expression) -> None:
         target, source, size = self.arguments(it, 3)
-        pointer = self.pointer(source)
+        pointer, to = self.pointer(source), self.pointer(target)
         if pointer.kind in ('packet', 'data'):
-            self.copy(target, Place(pointer.kind, UNSIGNED), it.line)
+            if to.place is not None and self.evaluate(size).constant not in (size_of(to.place.type), None):
+                self.copy_bytes(self.span(to.place, size, it.line), Place(pointer.kind, UNSIGNED), it.line)
+            else:
+                self.copy(target, Place(pointer.kind, UNSIGNED), it.line)
             return
-        to = self.pointer(target)
         if to.kind == 'packet':
             raise self.refuse(it.line, 'Use `packetbuf_copyfrom` to fill a packet.')
         if pointer.place is None or to.place is None:
@@ -238,8 +242,13 @@ class Radio(Calls):
         parts, others = self.span(to.place, size, it.line), self.span(pointer.place, size, it.line)
         if [size_of(one.type) for one in parts] != [size_of(one.type) for one in others]:
             raise self.refuse(it.line, OF_TYPES)
-        for one, other in zip(parts, others):
+        pairs = [*zip(parts, others)]
+        # (if the bytes move up, the last one moves first)
+        for one, other in pairs[::-1] if parts[0].paths > others[0].paths else pairs:
             self.write(one, self.read(other, it.line), it.line)
+
+    def call_memmove(self, it: Expression) -> None:
+        self.call_memcpy(it)
 
     def call_memset(self, it: Expression) -> None:
         target, value, size = self.arguments(it, 3)
@@ -285,6 +294,15 @@ class Radio(Calls):
             raise self.refuse(line, 'The address of a variable is expected here.')
         its = pointer.place.type
         self.copy_parts(pointer.place, source._replace(type=its, root=its), line)
+
+    def copy_bytes(self, parts: Sequence[Place], source: Place, line: int) -> None:
+        """Copies the first bytes of a packet or of the data of an event."""
+        if len(parts) == 1:
+            self.write(parts[0], self.read(source._replace(type=parts[0].type, root=parts[0].type), line), line)
+            return
+        whole = Type('array', of=BYTE, size=sum(size_of(it.type) for it in parts))
+        for at, it in enumerate(parts):
+            self.write(it, self.read(source._replace(type=it.type, root=whole, paths=((at,),)), line), line)
 
     def copy_parts(self, target: Place, source: Place, line: int) -> None:
         """Copies all parts of a structure."""

@@ -103,7 +103,7 @@ def find_receiver(file: File, usage: Usage) -> None:
             if it.kind == 'call' and it.text.endswith('_open') and it.parts:
                 callbacks = next((part.variable for part in parts_of(it.parts[-1])
                                   if part.variable and part.variable.type.kind == 'callbacks'), None)
-                if callbacks:
+                if callbacks and any(members_of(file, callbacks)):
                     opened.setdefault(callbacks, (name, it))
     if len(opened) > 1:
         raise Refusal([*opened.values()][1][1].line, TWO_CONNECTIONS % ' and '.join('`%s`' % it.name for it in opened))

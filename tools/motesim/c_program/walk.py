@@ -5,7 +5,8 @@ from collections.abc import Iterable, Iterator, Mapping
 
 from motesim.c_program.tree import Expression, Function, Statement, Variable
 
-ASSIGNING_CALLS = {'memcpy': 0, 'packetbuf_copyto': 0, 'rimeaddr_copy': 0, 'linkaddr_copy': 0, 'memset': 0}
+ASSIGNING_CALLS = {'memcpy': 0, 'memmove': 0, 'packetbuf_copyto': 0, 'rimeaddr_copy': 0, 'linkaddr_copy': 0,
+                   'memset': 0}
 
 
 def expressions_in(statements: Iterable[Statement]) -> Iterator[Expression]:

@@ -127,7 +127,7 @@ MEMBER = 'There are no arrays: `%s[%d]` is the variable `%s`.'
 NO_INDEX = ('There are no arrays: a variable holds one number of 16 bits. An `if` for each number chooses among `%s`, '
             'such as `if (%s == 1) { .. %s .. }`.')
 NO_FIELDS = ('There are no structures: each field is a variable of its own, such as `p_x` instead of `p.x`. A packet '
-             'has one number, `data`. Two small numbers fit into one: `((a * 256) + b)`, as docs/use/FROM_CONTIKI.md '
+             'has one number, `data`. Two small numbers fit into one: `((b * 256) + a)`, as docs/use/FROM_CONTIKI.md '
              'shows.')
 NO_POINTERS = ('There are no pointers: leave out the declaration of `%s`, and write the name of the other variable, '
                'such as `x = 7;` instead of `*p = 7;` after `p = &x;`.')

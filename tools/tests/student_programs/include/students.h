@@ -97,14 +97,16 @@ student_print(const char *format, ...)
   return 0;
 }
 
-/* Each change of the LEDs prints them. */
+/* Each change of the LEDs prints them, if the program has no printf. */
 static unsigned char lit;
 
 static void
 student_leds(int leds)
 {
   lit = (unsigned char)leds;
-  student_print("%d", lit);
+  if(!IS_DARK) {
+    student_print("%d", lit);
+  }
 }
 /*---------------------------------------------------------------------------*/
 typedef union { unsigned char u8[2]; } rimeaddr_t;
