@@ -1063,12 +1063,13 @@ static const struct broadcast_callbacks calls = { recv };'''
         self.assertEqual(sum('if (i == 7) {' in it for it in lines), 2)
 
     def test_a_ctimer_that_is_restarted_before_it_is_set_runs_nothing(self) -> None:
-        above = ('static struct ctimer c; static void tick(void *ptr) { printf("%d", 1); if(n++ < 3) ctimer_reset(&c); }'
-                 ).replace('static struct', 'static int n; static struct', 1)
+        above = ('static int n; static struct ctimer c;\n'
+                 'static void tick(void *ptr) { printf("%d", 1); if(n++ < 3) ctimer_reset(&c); }')
         start, again = 'ctimer_set(&c, 3, tick, NULL); ', 'ctimer_restart(&c); '
         for body, is_early in (
                 (again + start, True), (start + again, False), (start + 'PROCESS_YIELD(); ' + again, False),
-                ('if(n) { %s } %s' % (start, again), True), ('while(1) { PROCESS_PAUSE(); %s }' % (again + start), True)):
+                ('if(n) { %s } %s' % (start, again), True),
+                ('while(1) { PROCESS_PAUSE(); %s }' % (again + start), True)):
             text, notes = translation(in_process('  ' + body, above))
             self.assertEqual('if (c_calls == 1) {\n      print 1;' in (text or ''), is_early, text or notes)
 
@@ -1078,9 +1079,10 @@ static const struct broadcast_callbacks calls = { recv };'''
                  'static const struct broadcast_callbacks calls = {recv};\n'
                  'static const struct unicast_callbacks nothing = {NULL};')
         opened = '  broadcast_open(&bc, 129, &calls); unicast_open(&uc, 146, &nothing); packetbuf_copyfrom(&b, 1);\n  '
+        remark = 'line 13: In Contiki, `recv` doesn\'t run for the packets of `uc`'
         for send, is_seen in ('unicast_send(&uc, &to);', True), ('broadcast_send(&bc);', False):
             notes = self.remarks(opened + send, above)
-            self.assertEqual('line 13: In Contiki, `recv` doesn\'t run for the packets of `uc`' in notes, is_seen, notes)
+            self.assertEqual(remark in notes, is_seen, notes)
 
     def test_a_connection_that_is_never_opened_has_a_remark(self) -> None:
         above = 'static struct broadcast_conn bc, other;'
@@ -1180,7 +1182,8 @@ static int find(int k) { int i; for(i = 0; i < 4; i++) { if(t[i] == k) return i;
                  'static void recv(struct broadcast_conn *c, const linkaddr_t *from) { %s }\n'
                  'static const struct broadcast_callbacks calls = {recv};')
         for sent, read, is_seen in (
-                ('b', 'w = *(uint16_t *)packetbuf_dataptr();', True), ('b', 'memcpy(&w, packetbuf_dataptr(), 2);', True),
+                ('b', 'w = *(uint16_t *)packetbuf_dataptr();', True),
+                ('b', 'memcpy(&w, packetbuf_dataptr(), 2);', True),
                 ('w', 'w = *(uint16_t *)packetbuf_dataptr();', False), ('b', 'packetbuf_copyto(&b);', False),
                 ('w', 'b = *(uint8_t *)packetbuf_dataptr();', False)):
             body = '  broadcast_open(&bc, 129, &calls); packetbuf_copyfrom(&{0}, sizeof({0})); broadcast_send(&bc);'

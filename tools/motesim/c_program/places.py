@@ -32,8 +32,8 @@ NO_ROOM = ('`unicast_send` needs 8 of the 16 bits of a packet for the number of 
 OF_PACKET = ('A packet, or the data of an event, is one number of 16 bits: one value, or two fields that are at most '
              '255. So %s doesn\'t fit: send a packet, or post an event, for each value, or put small values into one '
              'number, such as `type * 64 + seq %% 64`.')
-OF_SIZE = ('This reads two bytes, but the program also sends or posts values of one byte. On a node, the second byte is '
-           'then that of something else. Here, it is 0: read such a value with its own type, such as `uint8_t`.')
+OF_SIZE = ('This reads two bytes, but the program also sends or posts values of one byte. If such a value arrives, its '
+           'second byte is 0 here, and that of something else on a node: read it with its own type, such as `uint8_t`.')
 OVERWRITTEN = ('Contiki has one packet buffer. So after `packetbuf_copyfrom`, this is a value of the packet that is '
                'sent there; here, it is still the value of the packet that has arrived. Copy the value before.')
 # The names under which the limits of a mote's number are known, and those of the motes on which a statement has
@@ -395,9 +395,10 @@ class Places(Base):
         return converted(found, place.type)
 
     def note_second_byte(self, place: Place, line: int) -> None:
-        """Notes that a statement reads the second byte of packets that have only one."""
+        """Notes that a statement may read the second byte of a value that has only one. (A packet may be one of another
+        program.)"""
         if 'byte' in self.forms(place.source):
-            self.remark_mistake(line, OF_SIZE)
+            self.program.remark(line, OF_SIZE, place.source == 'data')
 
     @property
     def is_intact(self) -> bool:

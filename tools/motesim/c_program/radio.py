@@ -29,8 +29,8 @@ OF_BYTES = 'These %d bytes aren\'t whole variables: assign the values one by one
 OF_TYPES = 'The values that are copied here have other sizes than those they are copied to: assign them one by one.'
 NEVER_OPEN = ('The connection `%s` is never opened by `%s_open`. So in Contiki, it can\'t send; here, the packet is '
               'sent: open `%s` by `%s_open` at the beginning of the process.')
-OTHER_CONNECTION = ('In Contiki, `%s` doesn\'t run for the packets of `%s`, which is another connection. Here, it does: '
-                    'send by the connection that has this function.')
+OTHER_CONNECTION = ('In Contiki, `%s` doesn\'t run for the packets of `%s`, which is another connection. Here, it '
+                    'does: send by the connection that has this function.')
 OF_POINTER = ('`packetbuf_dataptr()` is the address of a packet: write `*(uint8_t *)packetbuf_dataptr()` for its first '
               '8 bits, or `*(uint16_t *)packetbuf_dataptr()` for 16 bits.')
 OF_NEGATIVE = ('This value may be below 0, but 8 bits are left for it here: -5, for example, arrives as 251. Send a '
