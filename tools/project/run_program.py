@@ -86,12 +86,16 @@ def has_error(file: str) -> bool:
     return False
 
 
-def is_plan(file: str) -> bool:
-    """Returns whether a file has a plan instead of a scenario."""
-    from motesim.scenario.kinds import has_plan
-    with contextlib.suppress(OSError):
-        return has_plan(Path(file).read_bytes())
-    return False
+def about_other_kind(file: str) -> str | None:
+    """Returns the message about a file that has something else than a scenario, such as a plan or a program."""
+    from motesim.runner.run import read_file, refuse_c, refuse_others
+    try:
+        data = read_file(file)
+        refuse_others(file, data)
+        refuse_c(file, data)
+    except Fault as fault:
+        return str(fault)
+    return None
 
 
 def say_more(file: str | None) -> None:
@@ -99,9 +103,8 @@ def say_more(file: str | None) -> None:
     if file:
         if not can_be_read(file):
             say('%s: there is no file %s that can be read' % (NAME, file))
-        elif is_plan(file):
-            say('%s: %s is a plan, not a scenario: tools/scenario %s -o NAME.toml makes a scenario of it' % (
-                NAME, file, file))
+        elif other := about_other_kind(file):
+            say('%s: %s' % (NAME, other))
         elif has_error(file):
             say('%s: tools/explain %s says more' % (NAME, file))
 

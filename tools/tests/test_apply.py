@@ -124,6 +124,14 @@ class Command(unittest.TestCase):
         self.assertIn('name another file with --apply', err)
         self.assertEqual(Path(name).read_text(), in_net('p', C))
 
+    def test_a_scenario_is_not_written_into_a_file_for_programs(self) -> None:
+        name = self.written('blink.c', C)
+        for other in 'new.mote', 'new.c':
+            status, _, err = self.run_on(name, '--apply', str(self.folder / other))
+            self.assertEqual(status, 2)
+            self.assertIn('would be a scenario, not a program: name a file NAME.toml with --apply', err)
+            self.assertFalse((self.folder / other).exists())
+
     def test_a_scenario_without_an_error_is_copied(self) -> None:
         text = in_net('p', 'process a; autostart a; code a { body { print 1; } }')
         status, out, _ = self.run_on(self.written('net.toml', text), '--apply', str(self.folder / 'same.toml'))

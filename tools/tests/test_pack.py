@@ -16,6 +16,7 @@ from unittest import mock
 
 from here import TOP
 from motesim.faults import Fault
+from motesim.runner.run import IN_C
 from motesim.version import VERSION
 from project import pack
 from stub import write_stub
@@ -134,6 +135,13 @@ class Pack(unittest.TestCase):
             line = ('net.toml is a plan, not a scenario: tools/scenario net.toml -o NAME.toml makes a scenario of it'
                     if is_plan else './tools/explain net.toml says more')
             self.assertEqual(self.on_terminal(top, 'net.toml'), (1, ['motesim: a fault', 'motesim: ' + line]))
+
+    def test_a_program_in_c_has_the_line_of_the_clone(self) -> None:
+        top = self.unpacked()
+        (top / 'said').touch()
+        (top / 'anna.c').write_text('PROCESS(p, "p");\n')
+        line = 'motesim: ' + IN_C % ('anna.c', 'anna.c')
+        self.assertEqual(self.on_terminal(top, 'anna.c'), (1, ['motesim: a fault', line]))
 
     def test_no_link_of_an_archive_is_dead(self) -> None:
         top = self.unpacked()

@@ -152,6 +152,12 @@ class Elsewhere(unittest.TestCase):
             self.assertEqual(lines[:2], ['%s, line 14:' % name, '  goto out;'])
             self.assertIn(OF_GOTO.replace('Program blink', name), ' '.join(it.strip() for it in lines))
 
+    def test_a_scenario_whose_quotes_are_missing_is_not_a_file_in_c(self) -> None:
+        text = in_net('blink', C)
+        for wrong, hint in ((text[:text.rindex("'''")], 'the three quotes that close it are missing'),
+                            (text.replace("'''", ''), 'a program of several lines is between three quotes')):
+            self.assertIn(hint, ' '.join(explanation('net.toml', wrong.encode(), 'motesim: scenario fault 1')))
+
     def test_the_studio_writes_the_whole_program(self) -> None:
         text = in_net('blink', C)
         shown = answers.fault(text, 'motesim: program blink fault 1 line 1')

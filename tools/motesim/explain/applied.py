@@ -47,6 +47,7 @@ IN_NET = '%s is a program: %s has it in a net of two motes that hear each other.
 IN_C = 'Program %s is in C: it is translated as a whole.'
 KEPT = '%s had another text, which is in %s now.'
 NO_CHANGE = 'No line was changed: the %s.'
+OF_SCENARIO = '%s would be a scenario, not a program: name a file NAME.toml with --apply'
 QUOTES = "%s has three single quotes in a row, which end the text of a program in a scenario: leave them out."
 
 
@@ -124,6 +125,8 @@ def apply(name: str, output: str, run: Callable[[bytes], Answer], second: int = 
     """Writes the corrected scenario to a file, and prints the changes and the explanation of this file; returns the
     status of tools/explain for it."""
     refuse_inputs(output, [name], '--apply')
+    if output.endswith(('.mote', '.c')):
+        raise Fault(OF_SCENARIO % one_line(output))
     data = read_file(name)
     refuse_encoding(one_line(name), data)
     text = (text_of_c(data) if is_c_file(name, data) else decoded(one_line(name), data)).removeprefix(MARK)

@@ -20,7 +20,7 @@ from motesim.report import Report
 from motesim.runner.run import Answer, NoReport, answer, is_report, read_file
 from motesim.scenario import Scenario
 from motesim.scenario.faults import Place, ScenarioError
-from motesim.scenario.kinds import begins_as_c, is_program_file, is_program_in_c
+from motesim.scenario.kinds import begins_as_c, begins_as_scenario, is_program_file, is_program_in_c
 from motesim.terminal import one_line
 from motesim.toml import MARK, NoToml, read_toml
 
@@ -160,7 +160,7 @@ def in_c_file(name: str, source: str) -> list[str]:
 
 def is_file_in_c(text: str) -> bool:
     """Returns whether a file has a whole program in C, not a scenario with such a program."""
-    return is_program_in_c(text) and tables_or_none(text) is None
+    return is_program_in_c(text) and tables_or_none(text) is None and not begins_as_scenario(text.encode())
 
 
 def translation(what: str, name: str, made: Translation) -> list[str]:
