@@ -121,8 +121,9 @@ def write_scenarios(folder: Path, entries: Sequence[Entry], task: Task) -> None:
             except Fault as fault:
                 print('grade: %s isn\'t written: %s' % (one_line(entry.name), fault), file=sys.stderr)
                 break
-            path = folder / (page_name(number, entry.name, net.name).removesuffix('.html').removesuffix('.toml')
-                             + '.toml')
+            name = page_name(number, entry.name, net.name).removesuffix('.html').removesuffix('.toml')
+            # (a file NAME.plan.toml would be a plan)
+            path = folder / ('%s.toml' % name.replace('.plan', '_plan'))
             written(path, text)
             count += 1
     print('%s: %d %s' % (one_line(str(folder)), count, 'scenario' if count == 1 else 'scenarios'))
