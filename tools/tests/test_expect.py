@@ -280,6 +280,9 @@ class Sentences(unittest.TestCase):
                 ('mote 1 prints flood 0 or 1', 'Did you mean: mote 1 prints flood any of 0 or 1'),
                 ('mote 1 sends 1 to 9 by 60', 'Did you mean: mote 1 sends any of 1 to 9 by 60'),
                 ('mote 1 prints flood 1 to 9 by 60', 'Did you mean: mote 1 prints flood any of 1 to 9 by 60'),
+                ('mote 1 prints flood within 0 of receiving 3 at least 2 times',
+                 'Did you mean: mote 1 prints flood at least 2 times within 0 of receiving 3'),
+                ('mote 1 sends after mote 2 sends 7 twice', 'Did you mean: mote 1 sends twice after mote 2 sends 7'),
                 ('mote 0 receives 1 from all motes', 'Hint: a packet has one sender, so write a sentence for each: ')):
             with self.assertRaises(SentenceFault) as caught:
                 read_sentence(sentence, Names(('flood',), 3))

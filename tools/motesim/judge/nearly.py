@@ -158,6 +158,8 @@ FORMS: list[tuple[str, Replaced]] = [
     (r'\b(?:there (?:is|are) )?no (?:collisions?|(?:packet|message|copie)s? (?:ever )?collides?)'
      r'(?: happens?| occurs?)?\b', 'no copy collides'),
     (r'\b(?:there (?:is|are) )?no (?:packet|message|copie)s? (?:is|are|gets?|get) lost\b', 'no copy is lost'),
+    # (a number of times behind an order)
+    (r'\b((?:%s)s?\b.*?) ((?:after|before|within) .*?) (%s)$' % (VERBS, TIMES), r'\1 \3 \2'),
 ]
 
 
