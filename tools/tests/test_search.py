@@ -173,7 +173,7 @@ class Texts(unittest.TestCase):
         self.assertIn('mote 0 is silent', found)
 
     def test_both_ways(self) -> None:
-        _, came, read = self.one('link between 1 and 3 loses everything both ways', kinds=('both-ways',))
+        _, came, read = self.one('links 1 to 3 and 3 to 1 lose everything', kinds=('both-ways',))
         self.assertEqual(read.losses, {(1, 3): 1, (3, 1): 1})
         self.assertEqual(len(came), 8)
 

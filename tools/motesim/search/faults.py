@@ -18,10 +18,11 @@ from motesim.search.forms import FORMS, form_of
 # For each kind, its names in the help and in the lines about the coverage: in the singular, and in the plural.
 KINDS: dict[str, tuple[str, str]] = {
     'links': ('link that loses everything, in one direction', 'links that lose everything, in one direction'),
-    'both-ways': ('link that loses everything, in both directions', 'links that lose everything, in both directions'),
+    'both-ways': ('pair of links that lose everything, one in each direction',
+                  'pairs of links that lose everything, one in each direction'),
     'every': ('link that loses every k-th packet', 'links that lose every k-th packet'),
     'packets': ('single packet lost on a link', 'single packets lost on a link'),
-    'motes': ('silent mote', 'silent motes'),
+    'motes': ('silent mote, which no mote hears', 'silent motes, which no mote hears'),
     'deaths': ('mote that fails at a moment', 'motes that fail at a moment'),
     'late': ('mote that starts late', 'motes that start late'),
     'collisions': ('scenario in which packets collide', 'scenarios in which packets collide'),
@@ -170,8 +171,8 @@ def _both_ways(base: Base, asked: Asked) -> Iterator[FaultyPart]:
     scenario = base.scenario_itself
     for one, other in scenario.links():
         if scenario.is_open(one, other) or scenario.is_open(other, one):
-            yield FaultyPart('both-ways', 'link between %d and %d loses everything both ways' % (one, other),
-                             ('both', one, other), ('apart', one, other))
+            words = 'links %d to %d and %d to %d lose everything' % (one, other, other, one)
+            yield FaultyPart('both-ways', words, ('both', one, other), ('apart', one, other))
 
 
 def _every(base: Base, asked: Asked) -> Iterator[FaultyPart]:
