@@ -1281,6 +1281,16 @@ class Runs(unittest.TestCase):
         self.assertIn('lost.toml: the medium lost it, because it loses all packets from 1 to 0', lost)
         self.assertRegex(lost, r'mote 1: 20 send 1 9 \(line [0-9]+ in .*\)\nThen they diverge:')
 
+    def test_the_test_that_led_the_other_run_elsewhere_is_named(self) -> None:
+        text = ('version = 2\nend = 9\nmedium = { range = 10, base = 2, per = 100, collide = false }\n'
+                'mote = [{ x = 0, y = 0, program = "p" }]\n[programs]\np = "process p; autostart p; code p { var dice = 5; body { if (dice > 4) { print 1; } } }"\n')
+        with tempfile.TemporaryDirectory() as room:
+            paths = [Path(room, name) for name in ('one.toml', 'other.toml')]
+            for path, its in zip(paths, (text, text.replace('= 5', '= 3'))):
+                path.write_text(its)
+            said = self.why(str(paths[0]), 'mote 0 prints p 1', '--other', str(paths[1])).stdout
+        self.assertIn('`0 leave p`; line 1 (other.toml:6): `if (dice > 4)` was not true\n', said)
+
     def test_what_the_command_refuses(self) -> None:
         for arguments, said in (
                 (('examples/flooding.toml', 'mote 6 prints flod 1'), 'a process'),

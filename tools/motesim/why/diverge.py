@@ -6,7 +6,7 @@ from typing import NamedTuple
 
 from motesim.faults import Fault
 from motesim.report import FIELDS
-from motesim.why.chain import Hop, cause_of, chain
+from motesim.why.chain import Hop, cause_of, chain, in_words
 from motesim.why.fate import after_post, after_recv, fate_of
 from motesim.why.source import At, Source
 
@@ -128,8 +128,24 @@ def instead(one: Source, other: Source, hop: Hop, there: At) -> str:
         return 'mote %d writes nothing at %d; its last line before is `%s`, and its next is %s' % (
             hop.where.mote, hop.at, before[-1] if before else 'none', '`%s`' % after[0] if after else 'none')
     shown = '; '.join('`%s`' % line for line in turn[:MOST_LINES])
-    return 'mote %d writes this at %d: %s%s' % (hop.where.mote, hop.at, shown,
-                                                '; ..' if len(turn) > MOST_LINES else '')
+    return 'mote %d writes this at %d: %s%s%s' % (hop.where.mote, hop.at, shown, '; ..' * (len(turn) > MOST_LINES),
+                                                  other_branch(one, other, hop))
+
+
+def other_branch(one: Source, other: Source, hop: Hop) -> str:
+    """The test of the other run that led around the statement of a hop at its moment; an empty text if no test did so,
+    or if the other program has another statement there."""
+    mote, number = hop.where.mote, one.replay(hop.where.mote).links[hop.where.place].row
+    mine, its = one.program(mote), other.program(mote)
+    if not 0 < number <= len(its.statements) or mine.statement(number)[:3] != its.statement(number)[:3]:
+        return ''
+    reached = other.detailed_replay(mote).reached
+    for around in its.statement(number).around:
+        tests = [it.holds for it in reached
+                 if (it.statement, it.at) == (around.number, hop.at) and it.holds is not None]
+        if tests and set(tests) == {around.is_else}:
+            return '; %s was not %s' % (in_words(its, around.number), 'false' if around.is_else else 'true')
+    return ''
 
 
 def rows(one: Source, other: Source, found: Diverged | None) -> list[str]:

@@ -397,8 +397,7 @@ class _Misses:
     def replayed(self) -> Replay:
         """The mote from its start to its end, with each statement that it reached."""
         if self.replay is None:
-            self.replay = Replay(self.program(), self.mote, self.source.room(self.mote), self.lines).to_end(
-                self.source.scenario.end)
+            self.replay = self.source.detailed_replay(self.mote)
         return self.replay
 
     def callers(self, program: Program) -> Callers:

@@ -249,6 +249,11 @@ class Source:
             self.replays[mote] = made.to_end(self.scenario.end)
         return self.replays[mote]
 
+    def detailed_replay(self, mote: int) -> Replay:
+        """The replay of a mote, with each statement that it reached."""
+        made = Replay(self.detailed(mote), mote, self.room(mote), self.traces.lines(mote))
+        return made.to_end(self.scenario.end)
+
     def room(self, mote: int) -> int:
         """The length of a mote's event queue."""
         return self.scenario.queue.get(self.traces.programs[mote], QUEUE)
