@@ -51,6 +51,15 @@ collide = false
 task = '''
 PROGRAM = 'process a;\nautostart a;\ncode a { body { print %d; } }\n'
 EXPECT = 'expect = ["every mote prints a 3", "mote 1 prints a at 6", "no mote halts"]\n'
+IN_C = '''#include "contiki.h"
+PROCESS(a, "a");
+AUTOSTART_PROCESSES(&a);
+PROCESS_THREAD(a, ev, data) {
+  PROCESS_BEGIN();
+  %s
+  PROCESS_END();
+}
+'''
 
 
 def net(program: str, motes: int = 2, name: str = 'task') -> str:
@@ -228,6 +237,14 @@ PROCESS_THREAD(a, ev, data) {
         self.assertIn('"max.c",3,3,"%s",' % named, (self.folder.parent / 'marks.csv').read_text())
         faults = [it.get('fault') for it in tomllib.loads(self.page('marks.toml'))['solution']]
         self.assertEqual(faults, [None, None, named])
+
+    def test_the_page_has_the_differences_from_c_of_a_broken_sentence(self) -> None:
+        self.hand_in('noa.c', IN_C % 'printf("Alarm for 3 s");')
+        self.hand_in('ole.c', IN_C % 'printf("Alarm for 4 s");')
+        self.grade('--net', 'task.toml', '-o', 'marks.html')
+        noa, ole = self.page().split('<td>noa.c</td>')[1].split('<td>ole.c</td>')
+        self.assertNotIn('<details>', noa)
+        self.assertIn('<details><summary>Differences from C</summary><pre>line 6 in C: There are no texts', ole)
 
     def test_files_that_are_no_solutions_have_no_mark_and_do_not_count(self) -> None:
         (self.folder / 'Emil_4712_file').mkdir()
@@ -555,6 +572,13 @@ class Nets(Folder):
         self.grade('--write', 'runs', status=2)
         self.assertIn('--write needs a net', self.seen)
 
+    def test_a_scenario_of_a_plan_has_not_the_name_of_a_plan(self) -> None:
+        (self.top / 'a.plan.toml').write_text('end = 60\nmedium = { range = 10, base = 2, per = 100 }\n[places]\n'
+                                              'rule = "line"\ncount = 2\nstep = 10\nprogram = "p.mote"\n')
+        (self.top / 'p.mote').write_text(PROGRAM % 9)
+        self.grade('--net', 'a.plan.toml', '--write', 'runs')
+        self.assertEqual(os.listdir(self.top / 'runs'), ['anna.toml_in_a_plan.toml'])
+
     def test_an_empty_folder_has_no_scenario_and_a_folder_s_expectations_are_named(self) -> None:
         (self.folder / 'aaa').mkdir()
         (self.folder / 'group').mkdir()
@@ -849,6 +873,15 @@ class LimitsOfRuns(Folder):
         self.assertIn('the report is longer than 1,048,576 bytes. Up to moment', row)
         self.assertIn('(line 8 of program task), in each turn of `while !expired(t)` (line 8) within `while 1` '
                       '(line 6): a loop that only pauses', row)
+
+    def test_a_loop_in_c_that_pauses_is_named_in_words_of_c(self) -> None:
+        need_program(self)
+        self.stub = program_path()
+        (self.top / 'task.toml').write_text(net(PROGRAM % 9).replace('60', '20000'))
+        self.hand_in('pia.c', IN_C % 'while(1) { PROCESS_PAUSE(); }')
+        self.assertRegex(self.rows('--net', 'task.toml', '--report', '1')['pia.c'], (
+            r'process a of mote 0 pauses [\d,]+ times: a loop that only pauses repeats many times in each moment, so '
+            r'let the process wait by `PROCESS_WAIT_EVENT_UNTIL\(etimer_expired\(&et\)\)`$'))
 
     def test_a_run_that_waits_for_a_busy_machine_has_no_mark(self) -> None:
         self.hand_in('wait.toml', net('// wait\n' + PROGRAM % 3))

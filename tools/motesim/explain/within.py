@@ -68,7 +68,8 @@ def busiest(data: bytes, file_lines: bool = True) -> str:
     """A sentence about the process that prints or pauses most, or the mote that sends or posts most, in a run that ends
     earlier; an empty text if none does so often.
 
-    file_lines  whether the sentence has lines of the scenario; otherwise it has lines of the program's text
+    file_lines  whether the sentence has lines of the scenario; otherwise it has lines of the program's text, or none if
+                this text is translated
     """
     written, found = END.search(data), None
     if written is None:
@@ -123,10 +124,13 @@ def lines_of(data: bytes, its: Does, file_lines: bool) -> tuple[str, bool]:
     if not all(lines):
         return '', False
     heads = [head_of(program, at) for at in loops]
+    only_pauses = bool(loops) and heads[0] == 'while 1' and waits_of(program, loops[0]) == {'pause'}
+    if program.is_translated and not file_lines:
+        # (its author knows the lines in C only)
+        return '', only_pauses
     where = ', '.join(lines[:len(places)]) + ('' if file_lines else ' of program %s' % one_line(name))
     turns = ['`%s` (%s)' % it for it in zip(heads, lines[len(places):])][::-1]
-    return ' (%s)%s' % (where, ', in each turn of ' * bool(turns) + ' within '.join(turns)), bool(
-        loops) and heads[0] == 'while 1' and waits_of(program, loops[0]) == {'pause'}
+    return ' (%s)%s' % (where, ', in each turn of ' * bool(turns) + ' within '.join(turns)), only_pauses
 
 
 def line_of(data: bytes, token: Token, program: str, is_of_file: bool) -> str:

@@ -12,6 +12,10 @@ from motesim.explain.whole import line_at, translation_of, with_comment
 from motesim.faults import Fault
 from motesim.terminal import one_line
 
+# Words of the notation in messages, and those of C.
+WORDS_OF_C = {'`yield_until`': '`PROCESS_WAIT_EVENT_UNTIL(etimer_expired(&et))`', 'A `pause`': 'A `PROCESS_PAUSE`',
+              '`set t 10; yield_until fired(t);`':
+              '`etimer_set(&et, 10); PROCESS_WAIT_EVENT_UNTIL(etimer_expired(&et));`'}
 # (a time has 16 bits here)
 WRAPS = '; clock_time() and clock_seconds() begin again at 0 after %d seconds, which they don\'t do on a node'
 
@@ -56,6 +60,13 @@ def notation_of(source: str) -> str:
 def remarks_of(source: str) -> tuple[Remark, ...]:
     """The remarks about differences between a program in C and its translation."""
     return made_of(source).remarks
+
+
+def in_words_of_c(message: str) -> str:
+    """A message about a translated program, for the author of the program in C."""
+    for word, its in WORDS_OF_C.items():
+        message = message.replace(word, its)
+    return message
 
 
 def shown(remark: Remark) -> str:

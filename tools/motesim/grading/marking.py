@@ -17,7 +17,7 @@ from motesim.explain.within import busiest
 from motesim.faults import Fault, tried
 from motesim.files import replace_whole
 from motesim.grading.entries import Entry, data_of, without_program
-from motesim.grading.in_c import NotTranslated, remarks_of
+from motesim.grading.in_c import NotTranslated, in_words_of_c, remarks_of
 from motesim.grading.nets import NOT_UTF8, Net, NoProgram, program_of, unused_of
 from motesim.judge.expectations import (
     REFUSED, REQUIRED, Part, UnknownSentence, known_of, more_of, read_all, refused, same_report,
@@ -229,7 +229,7 @@ class Task:
         except LimitMet as fault:
             return unmarked(entry.name, '%s, though the program had used less processor time than it may' % fault)
         except Ended as fault:
-            return Marks(entry.name, why=str(fault))
+            return Marks(entry.name, why=in_words_of_c(str(fault)) if entry.path.suffix == '.c' else str(fault))
         except NoProgram as fault:
             return Marks(entry.name, why=str(fault), fix=(fault.hint,))
         except NotTranslated as fault:

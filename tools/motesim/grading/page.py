@@ -42,14 +42,15 @@ def _colour(marks: Marks, count: int) -> str:
 def _first_failed(marks: Marks, folder: str) -> str:
     """The first sentence that fails, linked to the run that shows it, and why it fails. If this sentence fails only in
     hidden nets, the first sentence that fails in another net is below it, with the link."""
-    place, mistakes = marks.first_failed, [shown(it) for it in marks.of_c if it.is_mistake]
+    mistakes, others = ([shown(it) for it in marks.of_c if it.is_mistake == wanted] for wanted in (True, False))
+    place = marks.first_failed
     if marks.why or place is None:
         return escape(marks.why) + _lines(marks.fix) + _lines(mistakes)
     below = [*marks.warned, *(it for it in (marks.shown_halts, marks.unused, marks.no_page) if it), *mistakes]
     other = marks.pictured if marks.pictured is not None and marks.pictured > place else None
     first = _failed(marks, place, '' if other is not None else folder)
     rest = '' if other is None else '\n' + _failed(marks, other, folder)
-    return first + rest + _lines(below)
+    return first + rest + _lines(below) + _folded('Differences from C', others)
 
 
 def _failed(marks: Marks, place: int, folder: str) -> str:
@@ -63,6 +64,11 @@ def _failed(marks: Marks, place: int, folder: str) -> str:
 
 def _lines(rows: Sequence[str]) -> str:
     return '<pre>%s</pre>' % escape('\n'.join(rows)) if rows else ''
+
+
+def _folded(title: str, rows: Sequence[str]) -> str:
+    """Lines that a reader unfolds by a click."""
+    return '<details><summary>%s</summary>%s</details>' % (escape(title), _lines(rows)) if rows else ''
 
 
 def _row(marks: Marks, count: int, folder: str) -> str:
