@@ -42,6 +42,13 @@ class Ignored(unittest.TestCase):
             self.assertEqual(self.warning(of_page(6554), words), '')
         self.assertEqual([*warnings_in('warning: %s (measure ratio)' % self.warning(of_page(1), 'ratio'))], [IGNORED])
 
+    def test_draws_that_decide_about_sending_have_none(self) -> None:
+        for wait, is_warned in (('yield_until fired(t);', False), ('yield_until is(packet);', True), ('yield;', True),
+                                ('yield_until (is(packet) || fired(t));', True), ('pause;', False)):
+            program = ('process p; code p { var dice = 1; var luck = 1; etimer t; body { yield_until is(packet); %s '
+                       'if ((dice + (luck * 257)) >= 9000) { send 1; } } }' % wait)
+            self.assertEqual(self.warning(NET % program, 'ratio') != '', is_warned, wait)
+
     def test_the_scenario_may_be_unknown(self) -> None:
         self.assertEqual(of_ignored(None), '')
         other = of_page(7).replace('dice', 'die').replace(') >=', ')<')
