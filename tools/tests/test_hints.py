@@ -205,7 +205,10 @@ class Hints(unittest.TestCase):
         for text, wanted in [
             (scenario(medium='colide = true', version='2'), '`collide`'),
             (scenario(medium='collide = true'), 'version = 2'),
-            (scenario(medium='probability = 3'), 'chance'), (scenario().replace('x = 5', 'x = 5.5'), 'whole numbers'),
+            (scenario(medium='probability = 3'), 'chance'), (scenario(medium='packet_loss = 3'), 'docs/use/LOSSES.md'),
+            ('loss_probability = 0.1\n' + scenario(), 'docs/use/LOSSES.md'),
+            ('loss = 0.1\n' + scenario(), 'docs/use/LOSSES.md'),
+            (scenario().replace('x = 5', 'x = 5.5'), 'whole numbers'),
             (scenario().replace('program = "source"', 'program = "sorce"'), '`source`'),
             (scenario(version='3'), 'versions 1 and 2'), (scenario().replace('end = 9', 'ende = 9'), '`end`'),
             (scenario().replace('program = "source"', 'program = source'), 'quotes'),

@@ -9,7 +9,7 @@ from motesim.plan.plan import Plan
 from motesim.plan.tables import PlanFault
 
 PLAN = """end = 10
-medium = { range = 10, base = 2, per = 100 }
+medium = { range = 10, base = 2, per = 100%s }
 [parameters]
 motes = 3
 [places]
@@ -23,11 +23,11 @@ program = "p.mote"
 
 
 class Hints(unittest.TestCase):
-    def fault(self, count: str, loss: str) -> str:
+    def fault(self, count: str, loss: str, medium: str = '') -> str:
         """The message about a plan, as one line."""
         files = Files(Path(), {'p.mote': b'process p; code p { body { } }'})
         with self.assertRaises(PlanFault) as caught:
-            Plan('net.plan.toml', PLAN % (count, loss), files).scenario({})
+            Plan('net.plan.toml', PLAN % (medium, count, loss), files).scenario({})
         return ' '.join(str(caught.exception).split())
 
     def test_losses_at_random_lead_to_losses_by_chance(self) -> None:
@@ -35,6 +35,8 @@ class Hints(unittest.TestCase):
                            ('probability = 0.1', 'A loss needs a `rule`.'),
                            ('rule = "all"\nprob = 0.1', 'A loss by the rule `all` has no key of this name.')):
             self.assertIn(seen + BY_CHANCE, self.fault('3', loss))
+        self.assertIn('The medium has no key of this name.' + BY_CHANCE,
+                      self.fault('3', 'rule = "all"\nevery = 3', ', loss_probability = 0.1'))
         for loss in 'rule = "al"', 'every = 3', 'rule = "all"\nevry = 3':
             self.assertNotIn(BY_CHANCE, self.fault('3', loss))
 

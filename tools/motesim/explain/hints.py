@@ -11,7 +11,7 @@ import re
 from motesim.from_c.declarations import NO_CONSTANTS
 from motesim.from_c.expressions import TOO_LARGE
 from motesim.explain import characters, quotes
-from motesim.explain.synonyms import CHANCE, at, like_of_missing, nearest
+from motesim.explain.synonyms import at, is_about_chance, like_of_missing, nearest
 from motesim.notation.keywords import RESERVED
 from motesim.notation.parentheses import written
 from motesim.notation.faults import OPERATORS, STATEMENTS, ProgramError, Token, tokens_of
@@ -102,6 +102,9 @@ ONCE = {'autostart': 'One line names all processes that start at boot: `autostar
         'receiver': 'One process of a program receives packets, so there is one line `receiver a;`.'}
 OF_BODY = 'The statements of a process are in its `body`, below its variables and timers: `code a { .. body { .. } }`.'
 OF_CODE = 'The block of a process begins with `code` and its name: `code %s {`.'
+NO_CHANCE = ('Nothing happens by chance here: a loss `[[loss]]` from one mote to another loses every k-th packet '
+             '(`every = k`). A receiver may ignore packets by a generator with a seed: docs/use/LOSSES.md has a tested '
+             'pattern under "Losses by chance". tools/scenario makes nets, and losses by rule, from a seed.')
 # Words that are followed by a name in parentheses.
 CALLED = {'is', 'fired', 'expired', 'gone', 'running', 'count'}
 # Letters that look like digits.
@@ -312,6 +315,8 @@ def of_scenario(tables: dict[str, object] | None, fault: ScenarioError, text: st
         return _of_missing(tables, fault)
     if line == 'scenario fault 3':
         return _of_key(fault.path, name, tables)
+    if line == 'scenario fault 4' and is_about_chance(name):
+        return NO_CHANCE
     if line == 'scenario fault 4' and name in ('x', 'y', 'range', 'base', 'per', 'end'):
         return 'Places, times and distances are whole numbers, without a point and without quotes.'
     if line == 'scenario fault 5' and name == 'version':
@@ -350,10 +355,8 @@ def _of_key(path: tuple[str | int, ...], name: str, tables: dict[str, object] | 
         return None
     if name in ('collide', 'queue') and tables is not None and tables.get('version') == 1:
         return '`%s` belongs to version 2: begin the scenario with `version = 2`.' % name
-    if name in CHANCE:
-        return 'Nothing happens by chance here: a loss `[[loss]]` from one mote to another loses every k-th packet ' \
-               '(`every = k`). A receiver may ignore packets by a generator with a seed: docs/use/LOSSES.md has a ' \
-               'tested pattern under "Losses by chance". tools/scenario makes nets, and losses by rule, from a seed.'
+    if is_about_chance(name):
+        return NO_CHANCE
     if len(path) == 1 and name in FAILURES:
         return OF_FAILURE
     tables_of = {'medium': [*MEDIUM, 'collide'], 'loss': [*LOSS], 'mote': [*MOTE]}

@@ -306,7 +306,7 @@ def _attempts_at_key(text: str, rows: list[str], tables: object, fault: Scenario
     if like and (header or is_key):
         line = ('[[%s]]' if like in ('mote', 'loss') else '[%s]') % like if header else _replaced(row, place, like)
         yield Repair('Did you mean `%s`?' % like, number, number, (line,))
-    if is_key and name not in synonyms.CHANCE:
+    if is_key and not synonyms.is_about_chance(name):
         reason = synonyms.LEFT_OUT.get(name, 'There is no key `%s` in this table.' % name)
         yield Repair(reason, number, number, (_without(row, place),) if _is_inline(row, place) else ())
 

@@ -20,11 +20,17 @@ SYNONYMS = {
     'mote': ('node', 'nodes', 'sensor', 'sensors', 'device', 'devices'), 'loss': ('link', 'links', 'error', 'errors'),
     'medium': ('radio', 'channel', 'network', 'net'),
 }
-# Keys that ask for random losses or delays, which the medium doesn't have.
-CHANCE = ('probability', 'prob', 'p', 'rate', 'loss_rate', 'random', 'seed', 'noise', 'per_link', 'chance')
+# Keys that ask for random losses or delays, which the medium doesn't have; and words in such keys.
+CHANCE = ('p', 'rate', 'per_link')
+PARTS_OF_CHANCE = {'probability', 'prob', 'random', 'seed', 'noise', 'chance', 'loss', 'lossy', 'drop', 'prr', 'pdr'}
 _NUMBERED = 'Motes have no `%s`: they are numbered from 0, in the order of the file.'
 LEFT_OUT = {name: _NUMBERED % name for name in ('id', 'name', 'number', 'node_id', 'address')}
 LEFT_OUT['z'] = 'Motes are in a plane: a place has only `x` and `y`.'
+
+
+def is_about_chance(key: str) -> bool:
+    """Returns whether a key asks for random losses or delays, such as `loss_probability`."""
+    return key.lower() in CHANCE or not PARTS_OF_CHANCE.isdisjoint(key.lower().split('_'))
 
 
 def at(tables: object, path: tuple[str | int, ...]) -> object:
