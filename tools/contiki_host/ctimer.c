@@ -49,7 +49,9 @@ run_callback(const struct etimer *et)
   if(c != NULL) {
     remove_callback(c);
     PROCESS_CONTEXT_BEGIN(c->p);
-    c->f(c->ptr);
+    if(c->f != NULL) {
+      c->f(c->ptr);
+    }
     PROCESS_CONTEXT_END(c->p);
   }
 }

@@ -89,9 +89,10 @@ class Folder(unittest.TestCase):
         (self.folder / name).write_text(text)
 
     def grade(self, *words: str, status: int = 0) -> str:
+        # (the stub's reports aren't those of the programs, so gcc isn't on the path)
+        environment = {**os.environ, 'MOTESIM': str(self.stub), 'PATH': ''}
         done = subprocess.run([sys.executable, '-B', str(TOOLS / 'grade'), 'class', 'task.expect.toml', *words],
-                              cwd=self.top, env={**os.environ, 'MOTESIM': str(self.stub)}, capture_output=True,
-                              text=True, timeout=120)
+                              cwd=self.top, env=environment, capture_output=True, text=True, timeout=120)
         self.assertEqual(done.returncode, status, done.stderr)
         self.assertNotIn('Traceback', done.stderr)
         self.seen = done.stderr

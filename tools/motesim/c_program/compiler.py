@@ -5,7 +5,7 @@
     remarks = check(text)       raises a Refusal for a line that gcc refuses
 
 The translator accepts some programs that no compiler accepts, since it knows only as much of C as a translation needs.
-The headers are those of tools/contiki_headers.
+The headers are those of tools/contiki_library.
 """
 from __future__ import annotations
 
@@ -19,7 +19,7 @@ from typing import NamedTuple
 
 from motesim.c_program.refusal import Refusal
 
-HEADERS = Path(__file__).resolve().parents[2] / 'contiki_headers'
+HEADERS = Path(__file__).resolve().parents[2] / 'contiki_library'
 # The files that programs include, by the header that declares the same.
 FILES = {
     'contiki.h': ('contiki.h', 'contiki-conf.h', 'contiki-lib.h', 'sys/process.h', 'sys/autostart.h', 'sys/clock.h',

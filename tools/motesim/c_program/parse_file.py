@@ -336,6 +336,11 @@ def read_file(text: str) -> File:
     return found
 
 
+def tokens_in(text: str) -> list[Token]:
+    """The tokens of a file in C after all macros are expanded. Raises a Refusal."""
+    return Preprocessor(text, tested).result()
+
+
 def check_frame(it: Function) -> None:
     """Refuses a process or a protothread without one of the macros at its beginning and at its end, as a compiler
     does."""

@@ -4,14 +4,18 @@ from __future__ import annotations
 import argparse
 import shlex
 import sys
+import tempfile
 import time
 from collections.abc import Sequence
+from dataclasses import replace
 from pathlib import Path
 
+from motesim.c_program.compiler import is_installed
 from motesim.explain.synonyms import nearest
 from motesim.faults import Fault
 from motesim.files import refuse_inputs, replace_whole
 from motesim.grading import page, tables
+from motesim.grading.compiled import Compiled, NoComparison
 from motesim.grading.entries import Entry, anonymous, data_of, entries_of, skipped_of
 from motesim.grading.marking import Marks, Task, page_name, unmarked
 from motesim.grading.in_c import of_programs
@@ -64,6 +68,16 @@ def task_of(asked: argparse.Namespace, pictures: Path | None) -> Task:
         raise Fault('%s: %s' % (name, fault)) from None
     limits = Limits(asked.seconds * PATIENCE, asked.memory * MEGABYTE, asked.report * MEGABYTE, asked.seconds)
     return Task(part, tuple(nets), limits, pictures)
+
+
+def compiled_for(entries: Sequence[Entry], folder: Path) -> Compiled | None:
+    """The kernel to which programs in C are linked, if there are any, and if gcc is installed."""
+    if not is_installed() or not any(it.path.suffix == '.c' for it in entries):
+        return None
+    try:
+        return Compiled(folder)
+    except NoComparison:
+        return None
 
 
 def spoken_of_by_none(marked: Sequence[Marks], sentences: Sequence[str]) -> list[str]:
@@ -222,7 +236,8 @@ def status_of(asked: argparse.Namespace) -> int:
     of_nets = of_programs([it.path.name for it in entries], [it.scenario.end for it in task.nets]) if task.nets else []
     for line in [*remarks(asked, task.nets, task.part.sentences), *of_nets] if asked.why is None else ():
         print('grade: %s' % line, file=sys.stderr)
-    marked = grade(entries, task, asked.jobs)
+    with tempfile.TemporaryDirectory() as folder:
+        marked = grade(entries, replace(task, compiled=compiled_for(entries, Path(folder))), asked.jobs)
     if pictures:
         keep_names(pictures, [it.picture for it in marked if it.picture])
     sentences = tables.sentences_of(marked) or task.part.sentences

@@ -70,13 +70,14 @@ def in_words_of_c(message: str) -> str:
 
 
 def shown(remark: Remark) -> str:
-    """A remark with its line."""
-    return one_line('line %d in C: %s' % (remark.line, remark.text))
+    """A remark with its line; one about the whole program has none."""
+    return one_line('line %d in C: %s' % (remark.line, remark.text) if remark.line else remark.text)
 
 
 def on_node(remarks: Sequence[Remark]) -> str:
-    """The words that name the lines of a program in C that work here, but probably not on a node; an empty text if no
-    line is one of these."""
-    lines = ['%d' % it for it in sorted({it.line for it in remarks if it.is_mistake})]
+    """The words about a program in C that works here, but probably not on a node; an empty text if there are none."""
+    found = sorted({it.line for it in remarks if it.is_mistake})
+    lines = ['%d' % it for it in found if it]
     listed = ' and '.join(filter(None, [', '.join(lines[:-1]), *lines[-1:]]))
-    return 'on a node, line%s %s may do something else' % ('s' * (len(lines) > 1), listed) if lines else ''
+    return '; '.join([*['compiled by gcc, it does something else'] * (0 in found),
+                      *['on a node, line%s %s may do something else' % ('s' * (len(lines) > 1), listed)] * bool(lines)])

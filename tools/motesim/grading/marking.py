@@ -16,6 +16,7 @@ from motesim.explain.whole import line_at
 from motesim.explain.within import busiest
 from motesim.faults import Fault, tried
 from motesim.files import replace_whole
+from motesim.grading.compiled import Compiled
 from motesim.grading.entries import Entry, data_of, without_program
 from motesim.grading.in_c import NotTranslated, in_words_of_c, remarks_of
 from motesim.grading.nets import NOT_UTF8, Net, NoProgram, program_of, unused_of
@@ -49,11 +50,14 @@ WIDEST_NAME = 40
 UNSAFE = re.compile(r'[^A-Za-z0-9.-]|^\.')
 LONGEST_NAME = 80
 OF_HIDDEN = 'in a hidden net'
+OF_HIDDEN_RUN = 'compiled by gcc, the program does something else in a hidden net'
 BINARY = 'the file is binary: it has bytes that no text has'
 OF_C = 'its program is in C'
 NOT_NOTATION = ', not in the notation of mote programs (tools/explain FILE.c --apply NEW.toml translates it)'
 OF_LINE = re.compile(r'\(line (\d+) of the program\)')
 OF_TRANSLATED = '(at `%s` of the translated program)'
+# The most nets in which a program in C is compared with its translation.
+MOST_COMPARED = 3
 # The most lines of an error, and the most warnings, that are shown.
 MOST_LINES, MOST_WARNED = 60, 3
 
@@ -173,6 +177,7 @@ class InNet(NamedTuple):
     run: Run | None
     broken: list[Broken | None]
     is_refused: bool = False
+    differs: str = ''
     net: str = ''
     is_hidden: bool = False
     bytes: int = 0
@@ -189,6 +194,7 @@ class Task:
     nets: tuple[Net, ...]
     limits: Limits
     pictures: Path | None = None
+    compiled: Compiled | None = None
 
     def of(self, numbered: tuple[int, Entry]) -> Marks:
         """The marks of an entry."""
@@ -222,8 +228,11 @@ class Task:
             else:
                 source = [program_of(data, entry.path.name, net.program) for net in self.nets]
                 its = file, source[0] if entry.path.suffix == '.c' else data.decode('utf-8')
-                found = [self.in_net(net.with_program(text), its, net.program)._replace(
-                    net=net.name, is_hidden=net.is_hidden) for net, text in zip(self.nets, source)]
+                in_c = encodings.text_of_c(data).removeprefix(MARK) if entry.path.suffix == '.c' else ''
+                found = []
+                for at, (each, text) in enumerate(zip(self.nets, source)):
+                    marks_here = self.in_net(each.with_program(text), its, each.program, in_c * (at < MOST_COMPARED))
+                    found.append(marks_here._replace(net=each.name, is_hidden=each.is_hidden))
         except UnicodeDecodeError:
             return Marks(entry.name, why=NOT_UTF8)
         except LimitMet as fault:
@@ -242,7 +251,7 @@ class Task:
         marks = replace(self.together(entry.name, found), unused=unused)
         if entry.path.suffix == '.c':
             marks = replace(marks, warned=tuple(in_translation(it, its[1]) for it in marks.warned),
-                            of_c=remarks_of(encodings.text_of_c(data).removeprefix(MARK)))
+                            of_c=(*difference_in(found), *remarks_of(in_c)))
         if any(its.is_refused for its in found):
             # (a file whose programs are expected to be refused keeps its marks)
             if any(its.why for its in found) and self.has_c(data, entry.path.name):
@@ -283,9 +292,10 @@ class Task:
                 lines = explanation(entry.name, data, 'motesim: ' + fault.message) if fault else []
         return tuple(line[:LONGEST_WHY] for line in lines[:MOST_LINES])
 
-    def in_net(self, text: str, file: tuple[str, str], program: str = '') -> InNet:
+    def in_net(self, text: str, file: tuple[str, str], program: str = '', in_c: str = '') -> InNet:
         """The marks of a scenario. `file` is the name and the text of the solution's file. `program` is the program
-        that the solution has; if it is empty, all programs of the scenario are the solution's."""
+        that the solution has; if it is empty, all programs of the scenario are the solution's. `in_c` is the text of
+        this program in C, if it is translated."""
         known, names = known_of(text)
         lacks = [lacking(it, names) for it in self.part.sentences]
         part = replace(self.part, sentences=[it for it, lack in zip(self.part.sentences, lacks) if not lack])
@@ -310,10 +320,11 @@ class Task:
             whole = same_report(judge.rows, self.part.report)
             marks.append(Mark(whole.sentence, whole.holds, (), tuple(whole.more)))
         run = Run('', report, scenario, file) if len(got.report) <= MOST_SHOWN else None
+        differs = self.compiled.difference(in_c, program, scenario, got.report) if in_c and self.compiled else ''
+        programs = {program: scenario.programs[program]} if program else scenario.programs
         return InNet(marks, lacks, '', run, [None if lack else next(places) for lack in lacks], bytes=len(got.report),
-                     halts=halt_of(report), moments=seen_of(scenario, report, program), warned=warned_of(
-                         {program: scenario.programs[program]} if program else scenario.programs,
-                         ZERO_GIVEN.search(text) is not None))
+                     differs=differs, halts=halt_of(report), moments=seen_of(scenario, report, program),
+                     warned=warned_of(programs, ZERO_GIVEN.search(text) is not None))
 
     def answer(self, scenario: bytes) -> Answer:
         """The answer of `motesim`, within the limits. The error at a limit says what the run does most often."""
@@ -374,6 +385,14 @@ def first_shown(marks: Marks, found: Sequence[InNet]) -> tuple[int, InNet | None
             if not mark.holds and not its.marks[place].holds and not its.is_hidden:
                 return place, its
     return 0, None
+
+
+def difference_in(found: Sequence[InNet]) -> list[Remark]:
+    """The first difference between a program in C and its translation, without the values of a hidden net."""
+    its = next((it for it in sorted(found, key=lambda it: it.is_hidden) if it.differs), None)
+    if its is None:
+        return []
+    return [Remark(0, OF_HIDDEN_RUN if its.is_hidden else '%s (in %s)' % (its.differs, its.net), True)]
 
 
 def remark_or_none(text: str, sentence: Sentence, judge: Judge, holds: bool) -> str:

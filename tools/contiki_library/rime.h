@@ -12,8 +12,9 @@
 #define PACKETBUF_SIZE 128
 #define MAC_TX_OK      0
 
+/* Motes are numbered from 0. So a third byte says that the address is that of a mote. */
 typedef union {
-  unsigned char u8[RIMEADDR_SIZE];
+  unsigned char u8[RIMEADDR_SIZE + 1];
 } rimeaddr_t;
 typedef rimeaddr_t linkaddr_t;
 

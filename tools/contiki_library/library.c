@@ -1,0 +1,386 @@
+/*
+ * The libraries of programs in C on the host: Rime, LEDs, timers in seconds, and printing. The
+ * variables of this file, and those of the program, are between two symbols of the linker, so
+ * that each mote has its own copy of them.
+ */
+#include "library.h"
+
+#undef printf
+#undef puts
+
+/*
+ * Printing: each value is a line. A text without a value is a line, too: the only number in it,
+ * or 1.
+ */
+static int
+is_in_word(char it)
+{
+  return isalnum((unsigned char)it) || it == '_';
+}
+
+static unsigned
+number_in(const char *text)
+{
+  const char *at = text;
+  char before = ' ';
+  unsigned value = 1, next;
+  int count = 0;
+
+  while(*at != '\0') {
+    if(!isdigit((unsigned char)*at) || is_in_word(before) || before == '.' || before == '%' || before == '-') {
+      before = *at++;
+      continue;
+    }
+    for(next = 0; isdigit((unsigned char)*at); at++) {
+      next = next * 10 + (unsigned)(*at - '0');
+    }
+    before = at[-1];
+    if(!is_in_word(*at) && !(*at == '.' && isdigit((unsigned char)at[1]))) {
+      value = next;
+      count++;
+    }
+  }
+  return count == 1 && value <= 65535 ? value : 1;
+}
+
+int
+library_text(const char *text)
+{
+  trace_print(PROCESS_CURRENT(), (uint16_t)number_in(text));
+  return 0;
+}
+
+int
+library_print(const char *format, ...)
+{
+  va_list values;
+  const char *text = format;
+  int count = 0;
+
+  va_start(values, format);
+  for(; *format != '\0'; format++) {
+    if(*format != '%' || *++format == '%') {
+      continue;
+    }
+    while(*format != '\0' && strchr("0123456789.-+ #hlzjt", *format) != NULL) {
+      format++;
+    }
+    if(*format == 's' || *format == 'p') {
+      (void)va_arg(values, char *);
+      continue;
+    }
+    trace_print(PROCESS_CURRENT(), (uint16_t)va_arg(values, int));
+    count++;
+  }
+  va_end(values);
+  return count > 0 ? 0 : library_text(text);
+}
+/*---------------------------------------------------------------------------*/
+static unsigned char lit;
+
+void
+leds_set(unsigned char leds)
+{
+  lit = leds;
+  if(!library_has_text) {
+    trace_print(PROCESS_CURRENT(), lit);
+  }
+}
+
+void leds_init(void) { }
+unsigned char leds_get(void) { return lit; }
+void leds_on(unsigned char leds) { leds_set(lit | leds); }
+void leds_off(unsigned char leds) { leds_set(lit & ~leds); }
+void leds_toggle(unsigned char leds) { leds_set(lit ^ leds); }
+void leds_invert(unsigned char leds) { leds_set(lit ^ leds); }
+void watchdog_start(void) { }
+void watchdog_stop(void) { }
+void watchdog_periodic(void) { }
+/*---------------------------------------------------------------------------*/
+unsigned long clock_seconds(void) { return (unsigned long)(clock_time() / CLOCK_SECOND); }
+clock_time_t timer_remaining(struct timer *t) { return timer_expiration_time(t) - clock_time(); }
+
+void
+stimer_set(struct stimer *t, unsigned long interval)
+{
+  t->interval = interval;
+  t->start = clock_seconds();
+}
+
+void stimer_reset(struct stimer *t) { t->start += t->interval; }
+void stimer_restart(struct stimer *t) { t->start = clock_seconds(); }
+int stimer_expired(struct stimer *t) { return clock_seconds() - (t->start + t->interval) < ~0UL >> 1; }
+unsigned long stimer_remaining(struct stimer *t) { return t->start + t->interval - clock_seconds(); }
+unsigned long stimer_elapsed(struct stimer *t) { return clock_seconds() - t->start; }
+/*---------------------------------------------------------------------------*/
+const rimeaddr_t rimeaddr_null = {{ 0, 0, 0 }};
+
+const rimeaddr_t *
+library_address(void)
+{
+  static rimeaddr_t address;
+
+  address.u8[0] = (unsigned char)mote_number();
+  address.u8[2] = 1;
+  return &address;
+}
+
+int
+rimeaddr_cmp(const rimeaddr_t *one, const rimeaddr_t *other)
+{
+  return one->u8[0] == other->u8[0] && (one->u8[0] != 0 || one->u8[2] == other->u8[2]);
+}
+
+void rimeaddr_copy(rimeaddr_t *to, const rimeaddr_t *from) { *to = *from; }
+int linkaddr_cmp(const rimeaddr_t *one, const rimeaddr_t *other) { return rimeaddr_cmp(one, other); }
+void linkaddr_copy(rimeaddr_t *to, const rimeaddr_t *from) { *to = *from; }
+/*---------------------------------------------------------------------------*/
+/*
+ * The packet buffer. A packet has two bytes: the first one is the lower one of its value. A
+ * packet from a program in the notation has two bytes, too.
+ */
+#define BYTES 2
+static unsigned char buffer[PACKETBUF_SIZE];
+static uint16_t length;
+static rimeaddr_t sender;
+
+void *packetbuf_dataptr(void) { return buffer; }
+uint16_t packetbuf_datalen(void) { return length; }
+void packetbuf_set_datalen(uint16_t size) { length = size; }
+int packetbuf_set_attr(uint8_t type, packetbuf_attr_t value) { (void)type; (void)value; return 1; }
+packetbuf_attr_t packetbuf_attr(uint8_t type) { (void)type; return 0; }
+
+const rimeaddr_t *
+packetbuf_addr(uint8_t type)
+{
+  return type == PACKETBUF_ADDR_SENDER ? &sender : library_address();
+}
+
+void
+packetbuf_clear(void)
+{
+  memset(buffer, 0, sizeof(buffer));
+  length = 0;
+}
+
+int
+packetbuf_copyfrom(const void *from, uint16_t size)
+{
+  packetbuf_clear();
+  length = size < PACKETBUF_SIZE ? size : PACKETBUF_SIZE;
+  memcpy(buffer, from, length);
+  return length;
+}
+
+int
+packetbuf_copyto(void *to)
+{
+  memcpy(to, buffer, length);
+  return length;
+}
+/*---------------------------------------------------------------------------*/
+/* A connection that is open. */
+enum kind { ABC, BROADCAST, UNICAST };
+struct opened { enum kind kind; uint16_t channel; void *connection; const void *calls; };
+#define MOST_OPENED 8
+static struct opened opened[MOST_OPENED];
+static int opened_count;
+
+static struct opened *
+opened_as(const void *connection)
+{
+  int i;
+
+  for(i = 0; i < opened_count && opened[i].connection != connection; i++);
+  return &opened[i];
+}
+
+static void
+close_connection(void *connection)
+{
+  struct opened *it = opened_as(connection);
+
+  if(it < opened + opened_count) {
+    memmove(it, it + 1, (size_t)(opened + --opened_count - it) * sizeof(*it));
+  }
+}
+
+static void
+open_connection(enum kind kind, uint16_t channel, void *connection, const void *calls)
+{
+  close_connection(connection);
+  if(opened_count < MOST_OPENED - 1) {
+    opened[opened_count].kind = kind;
+    opened[opened_count].channel = channel;
+    opened[opened_count].connection = connection;
+    opened[opened_count++].calls = calls;
+  }
+}
+/*---------------------------------------------------------------------------*/
+/* The latest packets, for all motes together: the copies of a packet have only a value. */
+struct sent_packet { int mote; uint16_t value; uint16_t length; enum kind kind; uint16_t channel; };
+#define SENT_PACKETS 4096
+static struct sent_packet sent_packets[SENT_PACKETS] __attribute__((section("library_of_all")));
+static unsigned sent_count __attribute__((section("library_of_all")));
+
+static const struct sent_packet *
+sent_by(int mote, uint16_t value)
+{
+  const struct sent_packet *it;
+  unsigned i;
+
+  for(i = sent_count; i > 0 && sent_count - i < SENT_PACKETS; i--) {
+    it = &sent_packets[(i - 1) % SENT_PACKETS];
+    if(it->mote == mote && it->value == value) {
+      return it;
+    }
+  }
+  return NULL;
+}
+
+static const void *
+send(const void *connection, uint16_t value)
+{
+  const struct opened *from = opened_as(connection);
+  struct sent_packet *it = &sent_packets[sent_count++ % SENT_PACKETS];
+
+  it->mote = mote_number();
+  it->value = value;
+  it->length = length;
+  it->kind = from->kind;
+  it->channel = from->channel;
+  motesim_send(value);
+  return from < opened + opened_count ? from->calls : NULL;
+}
+/*---------------------------------------------------------------------------*/
+static uint16_t word_in(void) { return (uint16_t)(buffer[0] | buffer[1] << 8); }
+
+void abc_close(struct abc_conn *c) { close_connection(c); }
+void broadcast_close(struct broadcast_conn *c) { close_connection(c); }
+void unicast_close(struct unicast_conn *c) { close_connection(c); }
+
+void
+abc_open(struct abc_conn *c, uint16_t channel, const struct abc_callbacks *calls)
+{
+  open_connection(ABC, channel, c, calls);
+}
+
+void
+broadcast_open(struct broadcast_conn *c, uint16_t channel, const struct broadcast_callbacks *calls)
+{
+  open_connection(BROADCAST, channel, c, calls);
+}
+
+void
+unicast_open(struct unicast_conn *c, uint16_t channel, const struct unicast_callbacks *calls)
+{
+  open_connection(UNICAST, channel, c, calls);
+}
+
+int
+abc_send(struct abc_conn *c)
+{
+  const struct abc_callbacks *calls = send(c, word_in());
+
+  if(calls != NULL && calls->sent != NULL) {
+    calls->sent(c, MAC_TX_OK, 1);
+  }
+  return 1;
+}
+
+int
+broadcast_send(struct broadcast_conn *c)
+{
+  const struct broadcast_callbacks *calls = send(c, word_in());
+
+  if(calls != NULL && calls->sent != NULL) {
+    calls->sent(c, MAC_TX_OK, 1);
+  }
+  return 1;
+}
+
+/* The upper byte of a packet for one mote is the number of this mote. */
+int
+unicast_send(struct unicast_conn *c, const rimeaddr_t *to)
+{
+  const struct unicast_callbacks *calls = send(c, (uint16_t)(to->u8[0] << 8 | buffer[0]));
+
+  if(calls != NULL && calls->sent != NULL) {
+    calls->sent(c, MAC_TX_OK, 1);
+  }
+  return 1;
+}
+
+static void
+call(const struct opened *it, uint16_t value)
+{
+  const struct abc_callbacks *of_abc = it->calls;
+  const struct broadcast_callbacks *of_broadcast = it->calls;
+  const struct unicast_callbacks *of_unicast = it->calls;
+
+  if(it->calls == NULL) {
+    return;
+  }
+  if(it->kind == UNICAST && value >> 8 == mote_number() && of_unicast->recv != NULL) {
+    length = 1;
+    buffer[1] = 0;
+    of_unicast->recv(it->connection, &sender);
+  } else if(it->kind == BROADCAST && of_broadcast->recv != NULL) {
+    of_broadcast->recv(it->connection, &sender);
+  } else if(it->kind == ABC && of_abc->recv != NULL) {
+    of_abc->recv(it->connection);
+  }
+}
+
+/* A packet from a program in the notation is for the connection that was opened last. */
+static void
+deliver(int from, uint16_t value)
+{
+  const struct sent_packet *packet = sent_by(from, value);
+  int i;
+
+  packetbuf_clear();
+  buffer[0] = (unsigned char)value;
+  buffer[1] = (unsigned char)(value >> 8);
+  length = packet != NULL ? packet->length : BYTES;
+  sender.u8[0] = (unsigned char)from;
+  sender.u8[2] = 1;
+  for(i = opened_count - 1; i >= 0; i--) {
+    if(packet == NULL || (opened[i].kind == packet->kind && opened[i].channel == packet->channel)) {
+      call(&opened[i], value);
+      return;
+    }
+  }
+}
+/*---------------------------------------------------------------------------*/
+/*
+ * The process of the radio posts packets to the receiver of a program in the notation. A program
+ * in C has a receiver that isn't a process: its callback is called at once.
+ */
+struct process library_receiver;
+
+int
+library_post(struct process *receiver, process_event_t ev, process_data_t data)
+{
+  if(receiver != &library_receiver) {
+    return process_post(receiver, ev, data);
+  }
+  deliver(motesim_from(ev, data), motesim_word(ev, data));
+  return PROCESS_ERR_OK;
+}
+/*---------------------------------------------------------------------------*/
+extern char __start_library_data[], __stop_library_data[];
+extern char __start_library_zeros[], __stop_library_zeros[];
+
+struct host_memory library_memory[3];
+const struct host_event library_events[] = { { NULL, NULL } };
+const struct host_timer library_timers[] = { HOST_TIMERS_END };
+
+__attribute__((constructor)) static void
+find_memory(void)
+{
+  library_memory[0].address = __start_library_data;
+  library_memory[0].size = (size_t)(__stop_library_data - __start_library_data);
+  library_memory[1].address = __start_library_zeros;
+  library_memory[1].size = (size_t)(__stop_library_zeros - __start_library_zeros);
+}

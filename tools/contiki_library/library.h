@@ -1,0 +1,62 @@
+/*
+ * Above a program: what it may use, and macros for what exists once for each mote, or
+ * writes a line of the report.
+ */
+#ifndef LIBRARY_H_
+#define LIBRARY_H_
+
+#include <ctype.h>
+#include <limits.h>
+#include <stdarg.h>
+#include <stdbool.h>
+#include <stdlib.h>
+#include <string.h>
+
+#include "contiki.h"
+#include "leds.h"
+#include "node-id.h"
+#include "random.h"
+#include "rime.h"
+
+#include "host.h"
+#include "mote.h"
+#include "motesim_radio.h"
+#include "trace.h"
+
+/* The report names a process as the program does. */
+#undef PROCESS
+#define PROCESS(name, strname)    \
+  PROCESS_THREAD(name, ev, data); \
+  PROCESS_SCOPE struct process name = PROCESS_INIT(name, #name)
+
+/* The tables of a program. `library_has_text`: the program calls printf, so its LEDs aren't printed. */
+extern const int library_has_text;
+extern struct process library_receiver;
+extern struct host_memory library_memory[];
+extern const struct host_event library_events[];
+extern const struct host_timer library_timers[];
+#define LIBRARY_PROGRAM(table, name)                                                              \
+  const struct host_program table = {                                                              \
+    name, library_memory, (struct process *const *)autostart_processes,                            \
+    (struct process *const *)autostart_processes, &library_receiver, library_events, library_timers \
+  }
+
+int library_print(const char *format, ...);
+int library_text(const char *text);
+const rimeaddr_t *library_address(void);
+
+#define printf(...)        library_print(__VA_ARGS__)
+#define puts(text)         library_text(text)
+#define putchar(character) library_text("")
+
+#define node_id            ((unsigned short)mote_number())
+#define rimeaddr_node_addr (*library_address())
+#define linkaddr_node_addr (*library_address())
+#define linkaddr_null      rimeaddr_null
+
+#ifndef TRUE
+#define TRUE  1
+#define FALSE 0
+#endif
+
+#endif /* LIBRARY_H_ */

@@ -1,0 +1,154 @@
+"""Compares a program in C with its translation. gcc compiles the program with the kernel of tools/contiki_host and the
+libraries of tools/contiki_library, and the program runs in the same net.
+
+gcc gets only the tokens that the translator has read, so the program can call nothing else.
+"""
+from __future__ import annotations
+
+import os
+import signal
+import subprocess
+import tempfile
+from collections.abc import Iterable, Sequence
+from itertools import zip_longest
+from pathlib import Path
+from typing import NamedTuple
+
+from motesim.c_program.calls import PRINTS
+from motesim.c_program.compiler import HEADERS as LIBRARY
+from motesim.c_program.parse_file import tokens_in
+from motesim.c_program.tokens import Token
+from motesim.contiki.folder import HOST, host_tables, program_files, text_of
+from motesim.contiki.names import file_names
+from motesim.scenario import Scenario
+
+FLAGS = ('-w', '-O0', '-fno-pic', '-std=gnu99', '-fsanitize=bounds', '-fsanitize-undefined-trap-on-error',
+         '-I.', '-I%s' % LIBRARY, '-I%s' % HOST)
+# (the linker defines symbols at the ends of a section whose name is one of C)
+SECTIONS = ('--set-section-flags', '.bss=alloc,load,contents,data', '--rename-section', '.bss=library_zeros',
+            '--rename-section', '.data=library_data')
+LIMITED = 'ulimit -v 2000000 -t 20 -f 200000; exec "$0" "$@"'
+SECONDS = 30
+KINDS = 'print', 'send'
+# Programs with these calls aren't compared: the random numbers differ.
+RANDOM = frozenset({'random_rand', 'rand'})
+CRASHES = 'compiled by gcc, it crashes: it uses memory that it doesn\'t have'
+DIFFERS = 'compiled by gcc, mote %d %s, but its translation %s'
+
+
+class NoComparison(Exception):
+    """A program can't be compiled or run here."""
+
+
+class Crash(Exception):
+    """A program that runs uses memory that it doesn't have."""
+
+
+class Deed(NamedTuple):
+    """A value that a mote prints or sends."""
+    at: int
+    kind: str
+    value: int
+
+
+class Compiled:
+    """The kernel and the libraries, compiled into a folder."""
+
+    def __init__(self, folder: Path):
+        self.folder = folder
+        for path in (*HOST.glob('*.c'), LIBRARY / 'library.c'):
+            # (the radio calls the callback of a program in C, instead of posting the packet)
+            more = ['-Dprocess_post=library_post'] if path.name == 'radio.c' else []
+            called(['gcc', *FLAGS, *more, '-c', str(path)], folder)
+        called(['objcopy', *SECTIONS, 'library.o'], folder)
+        self.objects = [str(it) for it in sorted(folder.glob('*.o'))]
+
+    def report(self, source: str, program: str, scenario: Scenario) -> bytes:
+        """The report of a scenario in which a program is the one in C. Raises NoComparison."""
+        tokens = tokens_in(source)
+        if RANDOM.intersection(it.text for it in tokens):
+            raise NoComparison
+        files = program_files(scenario, counts_work=True)
+        file_of = file_names(files)
+        with tempfile.TemporaryDirectory(dir=self.folder) as name:
+            place = Path(name)
+            for its, file in files.items():
+                (place / (file_of[its] + '.c')).write_text(text_of(file.lines()), 'utf-8')
+            tables = [it for it in host_tables(scenario, files) if it[0] != file_of[program] + '_host.c']
+            for its, text in tables:
+                (place / its).write_text(text, 'utf-8')
+            (place / 'solution.c').write_text(whole(tokens, program, [*files].index(program)), 'utf-8')
+            called(['gcc', *FLAGS, '-c', 'solution.c'], place)
+            called(['objcopy', *SECTIONS, 'solution.o'], place)
+            sources = ['solution.o', *(it for it, _ in tables), *self.objects]
+            called(['gcc', *FLAGS, '-no-pie', '-o', 'run', *sources], place)
+            return called(['./run'], place)
+
+    def difference(self, source: str, program: str, scenario: Scenario, report: bytes) -> str:
+        """The first difference between the motes of a program in C and those of its translation, in words; an empty
+        text if there is none, or if they can't be compared."""
+        try:
+            theirs = deeds_in(self.report(source, program, scenario))
+        except NoComparison:
+            return ''
+        except Crash:
+            return CRASHES
+        ours = deeds_in(report)
+        found = [it for mote, place in enumerate(scenario.places) if place.program == program
+                 and (it := first_difference(mote, theirs[mote], ours[mote]))]
+        return min(found)[1] if found else ''
+
+
+def deeds_in(report: bytes) -> list[list[Deed]]:
+    """The values that each mote prints and sends, in order."""
+    motes = list[list[Deed]]()
+    for row in report.decode().partition('\nmedium\n')[0].split('\n'):
+        words = row.split(' ')
+        if words[0] == 'mote':
+            motes.append([])
+        elif words[1] in KINDS:
+            motes[-1].append(Deed(int(words[0]), words[1], int(words[3])))
+    return motes
+
+
+def first_difference(mote: int, compiled: Sequence[Deed], translated: Sequence[Deed]) -> tuple[int, str] | None:
+    """The first moment at which a mote does something else, and the words about it. The order of what it prints and
+    what it sends at one moment doesn't matter."""
+    found = []
+    for kind in KINDS:
+        pairs = zip_longest(*([it for it in deeds if it.kind == kind] for deeds in (compiled, translated)))
+        one, other = next(((one, other) for one, other in pairs if one != other), (None, None))
+        if one or other:
+            at = min(it.at for it in (one, other) if it)
+            found.append((at, DIFFERS % (mote, words_of(one, kind), words_of(other, kind))))
+    return min(found, default=None)
+
+
+def words_of(deed: Deed | None, kind: str) -> str:
+    return '%ss %d at %d' % (kind, deed.value, deed.at) if deed else '%ss nothing more' % kind
+
+
+def called(command: Sequence[str], folder: Path) -> bytes:
+    """The output of a command within limits. Raises NoComparison if it fails."""
+    try:
+        done = subprocess.run(['sh', '-c', LIMITED, *command], cwd=folder, capture_output=True, timeout=SECONDS,
+                              env={**os.environ, 'LC_ALL': 'C'})
+    except (subprocess.TimeoutExpired, OSError):
+        raise NoComparison from None
+    if done.returncode in (-signal.SIGSEGV, -signal.SIGBUS, -signal.SIGILL, -signal.SIGABRT):
+        raise Crash
+    if done.returncode:
+        raise NoComparison(done.stderr.decode(errors='replace'))
+    return done.stdout
+
+
+def whole(tokens: Iterable[Token], program: str, number: int) -> str:
+    """The text that is compiled. Each token has a line of its own: a wait keeps its line as its place."""
+    rows = [it.text for it in tokens]
+    for at in range(2, len(rows)):
+        # (a text is the number 1 in the translation)
+        if rows[at].startswith('"') and rows[at - 2:at] == ['packetbuf_copyfrom', '(']:
+            rows[at] = '"\\1"'
+    has_text = int(any(map(PRINTS.fullmatch, rows)))
+    return '\n'.join(['#include "library.h"', *rows, 'const int library_has_text = %d;' % has_text,
+                      'LIBRARY_PROGRAM(host_program_%d, "%s");' % (number, program), ''])

@@ -1,0 +1,81 @@
+"""tools/grade compares a program in C, compiled by gcc, with its translation."""
+import shutil
+import tempfile
+import unittest
+from pathlib import Path
+
+from motesim.explain.whole import translation_of
+from motesim.c_program.refusal import Refusal
+from motesim.grading.compiled import CRASHES, Compiled, NoComparison
+from motesim.runner.run import answer
+from motesim.scenario import Scenario
+from skips import need_command, need_program
+from translated_c import in_process
+
+SCENARIO = """version = 2
+end = 300
+medium = { range = 5, base = 1, per = 100, collide = false }
+mote = [{ x = 0, y = 0, program = "p" }, { x = 5, y = 0, program = "p" }, { x = 5, y = 5, program = "other" }]
+[programs]
+p = '''
+%s'''
+other = '''
+process b;
+code b { body { while 1 { yield_until is(packet); print data; send (data + 1); yield_until is(packet); } } }
+'''
+"""
+TIMER = 'static struct etimer et; static int n;'
+COUNTS = ('  while(1) { etimer_set(&et, 20); PROCESS_WAIT_EVENT_UNTIL(etimer_expired(&et)); n += %s; printf("%%d", n);'
+          ' if(n == 3) { packetbuf_copyfrom(&n, sizeof(n)); broadcast_send(&bc); } }')
+RADIO = '''#include "net/rime.h"
+static void recv(struct broadcast_conn *c, const rimeaddr_t *from) { printf("%d", *(int *)packetbuf_dataptr()); }
+static const struct broadcast_callbacks calls = {recv};
+static struct broadcast_conn bc;'''
+
+
+class Comparison(unittest.TestCase):
+    def setUp(self) -> None:
+        need_program(self)
+        need_command(self, 'gcc', 'gcc')
+        need_command(self, 'objcopy', 'binutils')
+        folder = Path(tempfile.mkdtemp())
+        self.addCleanup(shutil.rmtree, folder)
+        self.compiled = Compiled(folder)
+
+    def difference(self, source: str, other: str = '') -> str:
+        """The difference between a program and its translation, or that of another program."""
+        found = translation_of(other or source)
+        assert not isinstance(found, Refusal), found.reason
+        text = (SCENARIO % found.text).encode()
+        return self.compiled.difference(source, 'p', Scenario.parse(text), answer(text).report)
+
+    def counting(self, step: str) -> str:
+        return in_process('  broadcast_open(&bc, 129, &calls);\n' + COUNTS % step, RADIO, '  ' + TIMER)
+
+    def test_a_program_and_its_translation_do_the_same_in_a_net_with_another_program(self) -> None:
+        self.assertEqual(self.difference(self.counting('1')), '')
+
+    def test_the_first_value_that_differs_is_named(self) -> None:
+        self.assertEqual(self.difference(self.counting('1'), self.counting('2')),
+                         'compiled by gcc, mote 0 prints 1 at 20, but its translation prints 2 at 20')
+        self.assertEqual(self.difference(in_process('  printf("%d", 3);'), in_process('  ;')),
+                         'compiled by gcc, mote 0 prints 3 at 0, but its translation prints nothing more')
+
+    def test_a_program_that_leaves_an_array_crashes(self) -> None:
+        source = in_process('  n = 9; printf("%d", a[n]);', inside='  static int a[3], n;')
+        self.assertEqual(self.difference(source, in_process('  ;')), CRASHES)
+
+    def test_gcc_gets_only_what_the_translator_has_read(self) -> None:
+        body = '\n#ifdef __GNUC__\n  printf("%d", 2);\n#endif\n  printf("%d", 1);\n'
+        self.assertEqual(self.difference(in_process(body)), '')
+
+    def test_programs_with_random_numbers_are_not_compared(self) -> None:
+        source = in_process('  printf("%d", random_rand());')
+        self.assertEqual(self.difference(source, in_process('  ;')), '')
+        scenario = Scenario.parse((SCENARIO % 'process p;\ncode p { body { pause; } }\n').encode())
+        with self.assertRaises(NoComparison):
+            self.compiled.report(source, 'p', scenario)
+
+
+if __name__ == '__main__':
+    unittest.main()
