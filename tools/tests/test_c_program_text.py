@@ -877,6 +877,23 @@ static struct item *unused(void) {
         text, notes = translation(in_process(body, 'static struct broadcast_conn bc;'))
         self.assertIn('send ((d1 * 256) + d);', text or notes)
 
+    def test_an_index_chooses_a_byte_of_a_packet(self) -> None:
+        above = ('static struct broadcast_conn bc; static uint8_t n, k[2];\n'
+                 'static void recv(struct broadcast_conn *c, const linkaddr_t *from) {\n'
+                 '  uint8_t i, *d = packetbuf_dataptr(); for(i = 0; i < %s; i++) { n += d[i]; }\n}\n'
+                 'static const struct broadcast_callbacks calls = {recv};')
+        body = '  broadcast_open(&bc, 129, &calls); packetbuf_copyfrom(k, 2); if(broadcast_send(&bc)) { n = 1; }'
+        for most in 'packetbuf_datalen()', '2', '1':
+            text, notes = translation(in_process(body, above % most))
+            self.assertIn('(((data % 256) * (i == 0)) + ((data / 256) * (i == 1)))', text or notes)
+        self.assertIn('line 6: A packet is one number', translation(in_process(body, above % '3'))[1])
+
+    def test_a_text_without_words_prints_nothing(self) -> None:
+        for body, count in (('printf("\\n"); printf(" -- \\t"); putchar(10); puts("");', 0), ('printf("\\n3");', 1),
+                            ("putchar('a'); puts(\"a\"); printf(\"%s\", \"b\");", 3), ('printf("%d\\n", 4);', 1)):
+            text, notes = translation(in_process('  ' + body))
+            self.assertEqual((text or notes).count('print'), count, text)
+
     def test_the_length_of_packets_that_another_program_sends_has_a_remark(self) -> None:
         above = ('static struct broadcast_conn bc; static uint8_t b;\n'
                  'static void recv(struct broadcast_conn *c, const linkaddr_t *from) {\n'
@@ -1041,6 +1058,22 @@ static const struct broadcast_callbacks calls = { recv };'''
             notes = [it.line for it in found.remarks if it.is_mistake]
             self.assertEqual(notes, [9] * is_mistake, body)
 
+    def test_a_connection_that_is_opened_only_on_some_motes_has_a_variable(self) -> None:
+        above = ('static struct broadcast_conn bc; static struct ctimer c; static struct pt pt;\n'
+                 'static void recv(struct broadcast_conn *c, const linkaddr_t *from) { printf("1"); }\n'
+                 'static const struct broadcast_callbacks calls = {recv}, nothing = {NULL};\n'
+                 'static void start(void *p) { broadcast_open(&bc, 129, &calls); }')
+        opened = 'broadcast_open(&bc, 129, &calls);'
+        for body, has_variable in (
+                (opened, False), ('start(NULL);', False), ('do { %s } while(0);' % opened, False),
+                ('if(1) { %s }' % opened, False), ('if(node_id == 1) { %s }' % opened, True),
+                ('if(node_id == 1) { PROCESS_EXIT(); } ' + opened, True), ('while(n) { %s n = 0; }' % opened, True),
+                ('switch(node_id) { case 1: %s }' % opened, True), ('ctimer_set(&c, 5, start, NULL);', True),
+                ('if(n) { start(NULL); }', True), ('PROCESS_PAUSE(); ' + opened, True),
+                ('if(node_id) { %s } else { broadcast_open(&bc, 129, &nothing); }' % opened, True)):
+            text, notes = translation(in_process('  ' + body, above, '  static int n;'))
+            self.assertEqual('if !open { exit; }' in (text or ''), has_variable, body + (text or notes))
+
     def test_a_connection_that_is_closed_has_a_variable(self) -> None:
         above = ('static struct broadcast_conn bc; static struct broadcast_conn other; static int n;\n'
                  'static void recv(struct broadcast_conn *c, const rimeaddr_t *from) { n++; CLOSE }\n'
@@ -1172,10 +1205,10 @@ static int find(int k) { int i; for(i = 0; i < 4; i++) { if(t[i] == k) return i;
             self.assertEqual('may be 4 here' in notes, is_seen, notes)
 
     def test_each_line_with_a_mistake_has_a_remark(self) -> None:
-        source = in_process('  l = l * 1000;\n  l += 70000;\n  l = l + 1;\n  printf("%lu", l * 8);', '', VARIABLES +
-                            '\n  static uint32_t l;')
+        body = '  l = l * 1000;\n  l += 70000;\n  l = l + 1;\n  printf("%lu", l * 8);\n  l += 3000;'
+        source = in_process(body, '', VARIABLES + '\n  static uint32_t l;')
         lines = [it.partition(':')[0] for it in translation(source)[1].split('\n') if 'above 65,535 wrap' in it]
-        self.assertEqual(lines, ['line 10', 'line 11', 'line 13'])
+        self.assertEqual(lines, ['line 10', 'line 11', 'line 13', 'line 14'])
 
     def test_a_packet_of_8_bits_that_is_read_as_16_has_a_remark(self) -> None:
         above = ('static struct broadcast_conn bc; static uint8_t b; static uint16_t w;\n'

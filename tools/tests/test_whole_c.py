@@ -13,6 +13,7 @@ import here  # noqa: F401
 from motesim.c_program.program import translated
 from motesim.explain.applied import IN_C, changes, corrected, in_net
 from motesim.explain.explanation import explain, explanation, place_of_fault
+from motesim.explain.lint import Program, of_program
 from motesim.plan.plan import Plan
 from motesim.plan.tables import PlanFault
 from motesim.scenario.faults import Place, find_fault
@@ -119,6 +120,14 @@ class Messages(unittest.TestCase):
         new = applied(text)
         assert new
         self.assertIsNone(find_fault(new.encode()))
+
+
+class Warnings(unittest.TestCase):
+    def test_the_tests_of_a_translated_program_have_no_warnings(self) -> None:
+        text = ('process p; autostart p; code p { var x = 0; body { x = (x + 1); if (x < 0) { print 1; } '
+                'if ((x == 1) && (x == 2)) { print 2; } } }\n')
+        self.assertEqual(len([*of_program(Program('p', text), False)]), 2)
+        self.assertEqual([*of_program(Program('p', '// Translated from C\n' + text), False)], [])
 
 
 class Apply(unittest.TestCase):

@@ -12,6 +12,7 @@ from motesim.c_program.parse_expressions import OF_FUNCTION_POINTER
 from motesim.c_program.places import OF_DATA, TEXTS, Place, Pointer, has_effects
 from motesim.c_program.tree import Expression, Function, Variable
 from motesim.c_program.types import BYTE, INT, UNSIGNED, leaves_of
+from motesim.c_program.usage import members_of
 from motesim.c_program.values import MOST, NOTHING, Limits, Value, added, as_type, compared, number
 from motesim.c_program.walk import all_parts, base_of, parts_of, shown, without_casts
 from motesim.c_program.written import Block, If, Line
@@ -38,7 +39,7 @@ OF_LEDS = ('A mote has no LEDs: each change prints those that this process has s
 OF_DARK = 'A mote has no LEDs. This program prints numbers by `printf`, so a change of its LEDs prints nothing.'
 PRINTS = re.compile(r'printf|put(char|s)')
 OF_TEXT = ('There are no texts: each value of a `printf` has a `print`, whose comment has the text. A `printf` without '
-           'a value prints the number in its text, or 1. A line of the report shows the process and the number, but '
+           'a value prints the number in its text, or 1, or nothing if its text has no letter and no digit. A line of the report shows the process and the number, but '
            'not which `printf` it is from: if this matters, print numbers that differ, such as `1000 + n`.')
 # A number in the text of a `printf`.
 NUMBER_IN_TEXT = re.compile(r'(?<![\w.%-])[0-9]+(?!\w|\.[0-9])')
@@ -168,15 +169,31 @@ class Calls(Chance):
             self.remark(it.line, OF_CHANNEL)
         its = base_of(self.first(it))
         is_other = its is not None and its.type.kind == 'connection' and its is not usage.connected
-        is_from_start = is_open and self.is_first and not self.is_closed_somewhere
-        if usage.callback is None or is_other or is_from_start or self.unit.name == 'onexit':
+        gets_packets = is_open and self.has_callback(it)
+        is_from_start = gets_packets and self.is_at_start
+        if usage.callback is None or is_other or is_from_start and not self.is_closed_somewhere \
+                or self.unit.name == 'onexit':
             return
         if self.process != usage.receiver:
             self.remark_mistake(it.line, (NOT_OPEN if is_open else NO_CLOSE) % usage.callback.name)
             return
-        if not is_open or not self.is_first:
+        if not is_from_start:
             self.program.knowledge.new_forms.add('closed %s' % self.process)
-        self.assign(self.own('open', 'open'), number(int(is_open)), BYTE)
+        self.assign(self.own('open', 'open'), number(int(gets_packets)), BYTE)
+
+    def has_callback(self, it: Expression) -> bool:
+        """Returns whether a call opens a connection with a function for packets."""
+        variables = [one.variable for one in parts_of(it.parts[-1]) if one.variable]
+        return any(members_of(self.file, one)[0] for one in variables if one.type.kind == 'callbacks')
+
+    # The number of the branches around a statement that run only in some cases.
+    branches = 0
+
+    @property
+    def is_at_start(self) -> bool:
+        """Returns whether a statement certainly runs when the process starts."""
+        is_called = self.unit.name.startswith('ctimer ') or self.unit.name in ('onpoll', 'receive')
+        return self.is_first and not self.branches and not is_called
 
     @property
     def is_closed_somewhere(self) -> bool:
@@ -627,9 +644,11 @@ class Calls(Chance):
         return it.text == 'CLOCK_SECOND' or self.is_long(it)
 
     def print_text(self, it: Expression) -> None:
-        """A text without a value is the number in it, or 1."""
+        """A text without a value is the number in it, or 1; one without a letter and a digit is nothing."""
+        text = it.parts[0].text if it.parts and it.parts[0].kind == 'text' else '1'
+        if not re.search(r'[^\W_]', re.sub(r'\\[a-z]', '', text)):
+            return
         self.remark(it.line, OF_TEXT)
-        text = it.parts[0].text if it.parts and it.parts[0].kind == 'text' else ''
         self.emit('print %d;%s' % (number_in(text), comment_of(label_of(text))))
 
     def skip_text(self, it: Expression) -> None:
@@ -652,7 +671,8 @@ class Calls(Chance):
         self.print_text(it)
 
     def call_putchar(self, it: Expression) -> None:
-        self.call_puts(it)
+        if not (constant_of(self.first(it)) in range(128) and not chr(constant_of(self.first(it)) or 0).isalnum()):
+            self.print_text(it)
 
     def value_rimeaddr_cmp(self, it: Expression) -> Value:
         one, other = self.arguments(it, 2)

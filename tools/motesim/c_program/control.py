@@ -1,7 +1,8 @@
 """Translates statements: blocks, branches, loops, and jumps by flags."""
 from __future__ import annotations
 
-from collections.abc import Callable, Iterable, Sequence
+from collections.abc import Callable, Iterable, Iterator, Sequence
+from contextlib import contextmanager
 from typing import NamedTuple, Union
 
 from motesim.c_program.base import joined_limits
@@ -150,18 +151,30 @@ class Control(Radio):
         known, buffer = dict(self.known), self.buffer
         self.refine(test, True)
         self.note_expired(test)
-        with self.into([]) as then:
+        is_certain = value.constant is not None
+        with self.into([]) as then, self.in_branch(is_certain):
             first = ENDS if value.constant == 0 else self.run(it.body)
         ends, self.known, of_then, self.buffer = self.known, dict(known), self.buffer, buffer
         self.refine(test, False)
         self.note_expired(test, False)
-        with self.into([]) as other:
+        with self.into([]) as other, self.in_branch(is_certain):
             second = ENDS if value.constant not in (0, None) else self.run(it.others)
+        # (behind a branch that jumps, all statements run only in some cases)
+        self.branches += not is_certain and not (first.falls and second.falls)
         self.unit.temporaries, self.unit.flags = temporaries, flags
         both_ends = [(first, then, ends), (second, other, self.known)]
         self.join_buffers([it for flow, it in ((first, of_then), (second, self.buffer)) if flow.falls])
         self.out.append(If(value, then, other))
         return self.behind(both_ends, rest)
+
+    @contextmanager
+    def in_branch(self, is_certain: bool = False) -> Iterator[None]:
+        """Counts the statements of a branch as those that run only in some cases, unless they are certain to run."""
+        before = self.branches
+        self.branches += not is_certain
+        inner = self.branches
+        yield
+        self.branches = before + (self.branches > inner)
 
     def join_buffers(self, buffers: list[Value | None]) -> None:
         """The packet buffer at a place that is reached in several ways."""
@@ -296,7 +309,8 @@ class Control(Radio):
         key = self.loop_key
         if above and is_twice:
             self.out += above
-        with self.into([]) as body:
+        is_certain = value.constant is not None or last is not None
+        with self.into([]) as body, self.in_branch(is_certain):
             flow = self.loop_body(it, test, step, last, target, (above if is_twice else [], posts, is_again))
         self.leave_loop(key, known)
         targets = flow.targets
@@ -461,14 +475,16 @@ class Control(Radio):
             test = self.case_test(it, labels, value)
             if value is None and any(constant_of(one.expressions[0]) == TIMER for one in labels if one.expressions[0]):
                 self.known |= self.only_timer()
-            with self.into([]) as then:
+            with self.into([]) as then, self.in_branch():
                 flows.append(self.run(body_from(it, begin)))
             ends.append(self.known)
             other: Block = []
             self.out.append(If(test, then, other))
             self.out = other
         self.known, self.buffer = dict(known), buffer
-        flows.append(self.run(body_from(it, last[1])) if last else FALLS)
+        with self.in_branch():
+            flows.append(self.run(body_from(it, last[1])) if last else FALLS)
+        self.branches += not all(flow.falls or flow.targets for flow in flows)
         ends.append(self.known)
         self.out, self.buffer = out, None
         falling = [one for one, flow in zip(ends, flows) if flow.falls]

@@ -13,8 +13,8 @@ from motesim.c_program.refusal import Refusal
 from motesim.c_program.tree import Expression
 from motesim.c_program.types import INT, UNSIGNED, Type, size_of
 from motesim.c_program.values import (
-    HALF, MOST, OPPOSITE, Value, added, both, common, compared, converted, divided, is_true, multiplied, negated,
-    number, promoted,
+    HALF, MOST, OPPOSITE, Value, added, as_type, both, common, compared, converted, divided, is_true, multiplied,
+    negated, number, promoted,
 )
 from motesim.c_program.walk import base_of, parts_of
 from motesim.c_program.written import Block, If, Line, While
@@ -37,6 +37,8 @@ OF_DOT = '`%s->%s` is only possible for a pointer: write `%s.%s`.'
 OF_STRUCTURE = ('An address is a structure in C: compare its first byte, such as `linkaddr_node_addr.u8[0] == 0`, or '
                 'use `linkaddr_cmp`.')
 OF_EQUAL = 'In a test, `=` assigns a value: write `==` for a comparison.'
+# A smaller constant is added so often before a sum has more than 16 bits that this seldom matters.
+MOST_ADDED = 255
 NO_BITS = 'This operation on bits needs statements of its own: write it above, into a variable.'
 OF_OVERFLOW = ('An `int` of a node has 16 bits, so a result above 32,767 is below 0 there. Here, it isn\'t: calculate '
                'with `uint16_t`, or with smaller values.')
@@ -402,7 +404,8 @@ class Expressions(Events):
     def _choice(self, it: Expression) -> Value:
         test = self.settled_test(it.parts[0])
         if test.constant is not None:
-            return self.operand(it.parts[1 if test.low else 2])
+            value, other = self.operand(it.parts[1 if test.low else 2]), it.parts[2 if test.low else 1]
+            return as_type(value, UNSIGNED)._replace(type=UNSIGNED) if self.is_unsigned(other) else value
         known = dict(self.known)
         values, blocks, ends = [], [], []
         for part, is_first in ((it.parts[1], True), (it.parts[2], False)):
@@ -660,8 +663,8 @@ class Expressions(Events):
             return self.limits(name, its)
         if any(one.variable and one.kind == 'name' and not self.is_size(it) for one in parts_of(it)):
             return None
-        if any(one.kind in ('call', 'text', 'name') and one.text != 'CLOCK_SECOND' and not self.is_size(it)
-               for one in parts_of(it)):
+        if any(one.kind in ('call', 'text', 'name') and one.text not in ('CLOCK_SECOND', 'packetbuf_datalen')
+               and not self.is_size(it) for one in parts_of(it)):
             return None
         with self.into([]):
             value = self.operand(it)
@@ -693,6 +696,6 @@ def exceeds(sign: str, left: Value, right: Value) -> bool:
     if left.constant is not None and right.constant is not None:
         return False
     most = max(abs(left.low), left.high) * max(abs(right.low), right.high) if sign == '*' else 0
-    if sign == '+' and left.constant is None and right.constant is None:
+    if sign == '+' and min(left.constant or MOST, right.constant or MOST) > MOST_ADDED:
         most = left.high + right.high
     return most > MOST or sign == '<<' and left.high << max(min(right.high, 32), 0) > MOST

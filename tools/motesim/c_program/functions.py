@@ -320,7 +320,7 @@ class Functions(Control):
     def unit_of(self, unit: Unit) -> Iterator[None]:
         """Translates another part of the code."""
         kept = (self.unit, self.known, self.posts, self.jumps, self.in_switch, self.buffer, self.log,
-                self.next_sends, self.open_loops, self.is_wait_test)
+                self.next_sends, self.open_loops, self.is_wait_test, self.branches)
         self.unit, self.posts, self.jumps, self.in_switch = unit, [], [], 0
         self.known = {SELF: EVERYWHERE, OVERWRITING: NOWHERE}
         self.known |= {FILLED: (1, 1)} if unit.is_callback else {}
@@ -332,7 +332,7 @@ class Functions(Control):
         self.aliases |= pointers
         self.effects[unit.function.name] = {*self.log}
         (self.unit, self.known, self.posts, self.jumps, self.in_switch, self.buffer, self.log,
-         self.next_sends, self.open_loops, self.is_wait_test) = kept
+         self.next_sends, self.open_loops, self.is_wait_test, self.branches) = kept
 
     def thread(self, function: Function) -> str:
         """The thread for a function, which is translated when it is used first."""

@@ -169,11 +169,14 @@ class Places(Base):
         name, at = it.parts[0].text or 'd', index.constant
         if at == 0:
             return base
-        if at != 1 or size_of(base.type) != 1:
+        if at not in (1, None) or size_of(base.type) != 1:
             raise self.refuse(it.line, OF_INDEX % (name, name))
         if base.source == 'packet' and self.is_to_one:
             raise self.refuse(it.line, ONLY_BYTE)
-        return base._replace(root=Type('array', of=base.type, size=2), paths=((1,),))
+        if not 0 <= index.low <= index.high <= 1:
+            self.program.refusals.append(self.refuse(it.line, OF_INDEX % (name, name)))
+        wide = base._replace(root=Type('array', of=base.type, size=2), paths=((1,),))
+        return wide if at == 1 else wide._replace(paths=((0,), (1,)), chosen=index)
 
     def forms(self, source: str) -> set[str]:
         """The forms of the packets, or of the data of events: byte, word or pair."""
@@ -377,6 +380,9 @@ class Places(Base):
         its = place.root
         parts = leaves_of(its)
         path = place.paths[0]
+        if place.chosen is not None and place.root.kind == 'array' and place.paths == ((0,), (1,)):
+            both = [self.received(place._replace(paths=(it,), chosen=None), line) for it in place.paths]
+            return self.chosen_in_expression(both[0], [it.text for it in both], place.chosen)
         if place.chosen is not None or place.type.kind in ('struct', 'array', 'pointer'):
             raise self.refuse(line, OF_PACKET % shown_type(place.root))
         at = next((at for at, (known, _) in enumerate(parts) if known == path), 0)
@@ -398,7 +404,7 @@ class Places(Base):
         """Notes that a statement may read the second byte of a value that has only one. (A packet may be one of another
         program.)"""
         if 'byte' in self.forms(place.source):
-            self.program.remark(line, OF_SIZE, place.source == 'data')
+            self.program.remark(line, OF_SIZE, place.source == 'data' and self.forms('data') == {'byte'})
 
     @property
     def is_intact(self) -> bool:

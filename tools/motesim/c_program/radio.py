@@ -198,6 +198,20 @@ class Radio(Calls):
     def call_abc_send(self, it: Expression) -> None:
         self.call_broadcast_send(it)
 
+    def value_broadcast_send(self, it: Expression) -> Value:
+        return self.result_of_send(it)
+
+    def value_abc_send(self, it: Expression) -> Value:
+        return self.result_of_send(it)
+
+    def value_unicast_send(self, it: Expression) -> Value:
+        return self.result_of_send(it)
+
+    def result_of_send(self, it: Expression) -> Value:
+        """The result of a send, which never fails here."""
+        self.call_only(it)
+        return number(1)
+
     def call_unicast_send(self, it: Expression) -> None:
         _, target = self.arguments(it, 2)
         value, address = self.sent_value(), self.address(target)

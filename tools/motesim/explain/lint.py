@@ -386,6 +386,15 @@ def of_receiver(program: Program) -> Iterator[Warned]:
         yield Warned(text, program.name, receiver, instead=''.join(waits[:1]))
 
 
+def of_values(program: Program, is_zero_given: bool) -> Iterator[tuple[str, Token]]:
+    """Yields the warnings about tests and values, with their places."""
+    its = program.words, program.tokens
+    yield from () if is_zero_given else (*program.tests_of_sign(), *unchanged.warnings(*its))
+    yield from (*program.tests_of_two_values(), *program.chains())
+    yield from () if is_zero_given else (*differences.tests(*its), *unchanged.never_above(*its))
+    yield from (*signed.tests(*its, program.below), *wraps.warnings(*its))
+
+
 def of_program(program: Program, is_zero_given: bool) -> Iterator[Warned]:
     """Yields the warnings of a program, except those about a 0 that may be the value of a parameter of a plan."""
     name = program.name
@@ -397,17 +406,10 @@ def of_program(program: Program, is_zero_given: bool) -> Iterator[Warned]:
         yield Warned(text, name, token)
     for token in program.awaited_ctimers():
         yield Warned(OF_CTIMER % (token.text, token.text), name, token)
-    for text, token in () if is_zero_given else (*program.tests_of_sign(),
-                                                 *unchanged.warnings(program.words, program.tokens)):
+    # (a translated program has the results of C, and its author doesn't know its tests)
+    for text, token in () if program.is_translated else of_values(program, is_zero_given):
         yield Warned(text, name, token)
-    for text, token in (*program.tests_of_two_values(), *program.chains(), *program.endless_waits()):
-        yield Warned(text, name, token)
-    # (a translated program has the results of C, also for values below 0 or above 65,535)
-    for text, token in () if program.is_translated else (
-            *(() if is_zero_given else differences.tests(program.words, program.tokens)),
-            *(() if is_zero_given else unchanged.never_above(program.words, program.tokens)),
-            *signed.tests(program.words, program.tokens, program.below),
-            *wraps.warnings(program.words, program.tokens)):
+    for text, token in program.endless_waits():
         yield Warned(text, name, token)
     for token in program.waits_before_set():
         yield Warned(BEHIND % token.text, name, token)

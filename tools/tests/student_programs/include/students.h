@@ -67,7 +67,7 @@ student_number(const char *text)
   return count == 1 ? value : 1;
 }
 
-/* Each value of a text is a line; a text without a value is a line, too. */
+/* Each value of a text is a line; a text without a value is a line, too, if it has a letter or a digit. */
 static int
 student_print(const char *format, ...)
 {
@@ -91,7 +91,10 @@ student_print(const char *format, ...)
     count++;
   }
   va_end(values);
-  if(count == 0) {
+  while(*text != '\0' && !isalnum((unsigned char)*text)) {
+    text++;
+  }
+  if(count == 0 && *text != '\0') {
     student_line(student_number(text));
   }
   return 0;
@@ -246,7 +249,7 @@ student_send(struct broadcast_conn *c, int to)
 
   student_headers[mote_number()][students_sent % STUDENT_HEADERS] = header;
   medium_send(mote_number(), students_sent++, student_packet);
-  if(c->calls->sent != NULL) {
+  if(c->calls != NULL && c->calls->sent != NULL) {
     c->calls->sent(c, 0, 1);
   }
   return 1;
@@ -331,7 +334,9 @@ student_receive(int i)
   student_addresses[PACKETBUF_ADDR_RECEIVER].u8[0] = (unsigned char)student_ring[i].header.to;
   for(c = student_connections; c != NULL; c = c->next) {
     if(c->channel == student_ring[i].header.channel) {
-      c->calls->recv(c, &from);
+      if(c->calls != NULL && c->calls->recv != NULL) {
+        c->calls->recv(c, &from);
+      }
       return;
     }
   }
