@@ -203,8 +203,8 @@ PROCESS_THREAD(a, ev, data) {
         pauses = 'etimer_set(&et, 5); while(!etimer_expired(&et)) { PROCESS_PAUSE(); } printf("%d", 4);'
         timer = '  static struct etimer et;\n  PROCESS_BEGIN();'
         self.hand_in('pia.c', (in_c % 4).replace('  PROCESS_BEGIN();', timer).replace('printf("%d", 4);', pauses))
-        self.assertIn('(at `while !expired(et) {` of the translated program)',
-                      self.grade('--net', 'task.toml', '--why', 'pia.c'))
+        self.assertIn('`PROCESS_WAIT_WHILE` and the same test, without a block, lets the mote wait (at `while '
+                      '!expired(et) {` of the translated program)', self.grade('--net', 'task.toml', '--why', 'pia.c'))
         (self.folder / 'pia.c').unlink()
         self.grade('--net', 'task.toml', '--write', 'scenarios')
         written = (self.folder.parent / 'scenarios' / 'lea.c_in_task.toml').read_text()

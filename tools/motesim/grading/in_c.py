@@ -13,9 +13,11 @@ from motesim.faults import Fault
 from motesim.terminal import one_line
 
 # Words of the notation in messages, and those of C.
-WORDS_OF_C = {'`yield_until`': '`PROCESS_WAIT_EVENT_UNTIL(etimer_expired(&et))`', 'A `pause`': 'A `PROCESS_PAUSE`',
+WORDS_OF_C = {'wait by `yield_until`': 'wait by `PROCESS_WAIT_EVENT_UNTIL(etimer_expired(&et))`',
               '`set t 10; yield_until fired(t);`':
-              '`etimer_set(&et, 10); PROCESS_WAIT_EVENT_UNTIL(etimer_expired(&et));`'}
+              '`etimer_set(&et, 10); PROCESS_WAIT_EVENT_UNTIL(etimer_expired(&et));`',
+              '`yield_until`': '`PROCESS_WAIT_EVENT_UNTIL`', '`wait_until`': '`PROCESS_WAIT_UNTIL`',
+              '`wait_while`': '`PROCESS_WAIT_WHILE`', '`yield`': '`PROCESS_YIELD`', '`pause`': '`PROCESS_PAUSE`'}
 # (a time has 16 bits here)
 WRAPS = '; clock_time() and clock_seconds() begin again at 0 after %d seconds, which they don\'t do on a node'
 

@@ -92,7 +92,7 @@ class Mark(NamedTuple):
 
 def in_translation(warning: str, text: str) -> str:
     """A warning about a translated program: its author knows only the text of a line, not the number."""
-    return OF_LINE.sub(lambda found: OF_TRANSLATED % line_at(text, int(found[1])), warning)
+    return OF_LINE.sub(lambda found: OF_TRANSLATED % line_at(text, int(found[1])), in_words_of_c(warning))
 
 
 def lines_of(rows: Iterable[str]) -> tuple[str, ...]:
