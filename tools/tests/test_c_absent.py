@@ -130,12 +130,6 @@ class Absent(unittest.TestCase):
                            '`foo` (line 11).')
         self.assertNotIn('And motesim', translation(in_process('  foo(3); foo(4);'))[1])
 
-    def test_a_file_of_ones_own_that_is_included_is_named(self) -> None:
-        for name, is_own in ('watch.h', True), ('net/rime.h', False), ('dev/watch.h', False), ('string.h', False):
-            source = '#include "%s"\n%s' % (name, in_process('  n = 1;'))
-            self.assertEqual(translation(source)[1].endswith('`watch.h`, which isn\'t read: copy its lines into the '
-                                                             'program.'), is_own)
-
     def test_the_calls_of_translated_programs_are_known(self) -> None:
         for file in (*PROGRAMS.glob('*.c'), *PROGRAMS.glob('more/*.c')):
             refusal = with_others(Refusal(1, NO_NAME % 'x'), read_file(file.read_text()))

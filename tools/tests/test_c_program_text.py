@@ -203,7 +203,8 @@ REFUSALS = (
     ('process_start(&p, (void *)3);', 'passes no value'), ('process_exit(&p);', 'ends itself by `PROCESS_EXIT()`'),
     ('x = a[4];', 'the members 0 to 2'), ('n = -1; a[n] = 3;', 'the members 0 to 2'),
     ('x = ev;', 'is compared with events'), ('return;', '`return` in a process'),
-    ('while(n--) { PT_SEM_INIT(&s, 1); }', 'is set once'), ('x = ;', 'An expression is expected here, not `;`.'),
+    ('while(n--) { PT_SEM_INIT(&s, 1); }', 'is set once'), ('if(n) { PT_SEM_INIT(&s, 1); }', 'is set once'),
+    ('x = ;', 'An expression is expected here, not `;`.'),
     ('static int *q = &n; q = &x;', 'or is NULL: use an index'),
     ('x = *(int *)packetbuf_dataptr();', 'The packet and its sender are known only in the function'),
     ('etimer_set(&et, 7000L * CLOCK_SECOND);', 'at most 65,535 moments'), ('x = strlen("a");', 'no `strlen`'),
@@ -888,6 +889,11 @@ static struct item *unused(void) {
             self.assertIn('(((data % 256) * (i == 0)) + ((data / 256) * (i == 1)))', text or notes)
         self.assertIn('line 6: A packet is one number', translation(in_process(body, above % '3'))[1])
 
+    def test_a_timer_that_an_index_chooses_has_a_way_out(self) -> None:
+        above = 'static struct etimer t[2]; static int i;'
+        notes = translation(in_process('  i = node_id & 1; etimer_set(&t[i], 3);', above))[1]
+        self.assertIn('write an `if` for each timer', notes)
+
     def test_a_text_without_words_prints_nothing(self) -> None:
         for body, count in (('printf("\\n"); printf(" -- \\t"); putchar(10); puts("");', 0), ('printf("\\n3");', 1),
                             ("putchar('a'); puts(\"a\"); printf(\"%s\", \"b\");", 3), ('printf("%d\\n", 4);', 1)):
@@ -1057,6 +1063,15 @@ static const struct broadcast_callbacks calls = { recv };'''
             found = translated(in_process('  k[0] = 40000; k[1] = clock_time(); b = k[1]; ' + body, above))
             notes = [it.line for it in found.remarks if it.is_mistake]
             self.assertEqual(notes, [9] * is_mistake, body)
+
+    def test_a_channel_that_is_not_the_same_on_all_motes_may_do_something_else_on_a_node(self) -> None:
+        above = 'static struct broadcast_conn bc, other; '
+        first = 'broadcast_open(&bc, 129, NULL); '
+        for body, is_mistake in ((first, False), (first + 'broadcast_open(&other, 130, NULL);', False),
+                                 ('broadcast_open(&bc, 129 + node_id, NULL);', True),
+                                 (first + 'broadcast_open(&bc, 130, NULL);', True)):
+            found = [it for it in translated(in_process('  ' + body, above)).remarks if 'no channels here' in it.text]
+            self.assertEqual([it.is_mistake for it in found], [is_mistake], body)
 
     def test_a_connection_that_is_opened_only_on_some_motes_has_a_variable(self) -> None:
         above = ('static struct broadcast_conn bc; static struct ctimer c; static struct pt pt;\n'

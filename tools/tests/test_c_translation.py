@@ -48,7 +48,8 @@ VALUES = (
     ('struct { int a; rimeaddr_t b[2]; } s = {.b = {{{4, 0}}}}; printf("%d %d", s.a, s.b[0].u8[0]);'
      ' printf("%d", rimeaddr_cmp(&s.b[1], &rimeaddr_null));', '0 4 1'),
     ('static rimeaddr_t to; to.u8[0] = 4; to.u8[0]++; to.u8[0] += 2; printf("%d", to.u8[0]);', '7'),
-    ('uint16_t u = 9; int n = -1; printf("%d %d", (1 ? n : u) < 0, (0 ? u : n) > 5);', '0 1'),
+    ('static struct { int x; } m, n; int *p = &m.x, *q = &n.x; printf("%d %d %d", p == &m.x, q == &m.x, p != q);',
+     '1 0 1'), ('uint16_t u = 9; int n = -1; printf("%d %d", (1 ? n : u) < 0, (0 ? u : n) > 5);', '0 1'),
     ('int q[4] = {1, 2, 3, 4}; memmove(&q[1], q, 6); printf("%d %d %d %d", q[0], q[1], q[2], q[3]);'
      ' memmove(q, q + 2, 4); printf("%d %d %d %d", q[0], q[1], q[2], q[3]);', '1 1 2 3 2 3 2 3'),
     ('int q[3] = {1, 2, 3}, r[3]; memcpy(r, q, 4); memset(&q[1], 0, 4); memset(&q[0], 0xff, sizeof(int));'

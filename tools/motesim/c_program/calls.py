@@ -45,6 +45,8 @@ OF_TEXT = ('There are no texts: each value of a `printf` has a `print`, whose co
 NUMBER_IN_TEXT = re.compile(r'(?<![\w.%-])[0-9]+(?!\w|\.[0-9])')
 OF_CHOSEN_TEXT = ('Which text this `printf` prints depends on `%s`, but texts aren\'t printed here: print the number '
                   '`%s`, too.')
+OF_CHOSEN_TIMER = ('A timer is chosen by a constant here, not by a variable: write an `if` for each timer, such as '
+                   '`if(i == 0) { etimer_set(&t[0], 10); }`.')
 BY_NAME = 'The data of an event is compared with a timer here, but a timer is set only by its name, such as `&et`.'
 LONGEST_LABEL = 40
 OF_BELOW = 'This value may be below 0. Then it is printed as a number that is 65,536 above it.'
@@ -166,7 +168,7 @@ class Calls(Chance):
         is_open, usage = it.text.endswith('_open'), self.program.usage
         if is_open:
             self.check_callbacks(it)
-            self.remark(it.line, OF_CHANNEL)
+            self.program.remark(it.line, OF_CHANNEL, len(self.channels(it)) > 1 or None in self.channels(it))
         its = base_of(self.first(it))
         is_other = its is not None and its.type.kind == 'connection' and its is not usage.connected
         gets_packets = is_open and self.has_callback(it)
@@ -180,6 +182,12 @@ class Calls(Chance):
         if not is_from_start:
             self.program.knowledge.new_forms.add('closed %s' % self.process)
         self.assign(self.own('open', 'open'), number(int(gets_packets)), BYTE)
+
+    def channels(self, it: Expression) -> set[int | None]:
+        """The channels on which the connection of a call is opened; None if one isn't a constant."""
+        units, its = (*self.file.functions.values(), *self.file.bodies.values()), base_of(self.first(it))
+        return {constant_of(call.parts[1]) for one in units for call in all_parts(one.body) if call.kind == 'call'
+                and call.text == it.text and len(call.parts) > 1 and base_of(call.parts[0]) is its}
 
     def has_callback(self, it: Expression) -> bool:
         """Returns whether a call opens a connection with a function for packets."""
@@ -363,7 +371,7 @@ class Calls(Chance):
             raise self.refuse(it.line, 'The address of a `struct %s` is expected here.' % kinds[0])
         place = pointer.place
         if place.chosen is not None or place.variable is None:
-            raise self.refuse(it.line, 'A timer is chosen by a constant here, not by a variable.')
+            raise self.refuse(it.line, OF_CHOSEN_TIMER)
         name = self.named(place.variable, place.paths[0])
         if place.type.kind == 'etimer' and name not in self.code.etimers:
             self.code.etimers.append(name)

@@ -104,7 +104,8 @@ class Events(Places):
         if not self.is_pointer(other):
             return None
         targets = [self.pointer(it) for it in (one, other)]
-        is_known = all(it.kind == 'null' or it.kind == 'timer' and it.place and not it.place.chosen for it in targets)
+        is_known = all(it.kind == 'null' or it.kind in ('timer', 'place') and it.place and not it.place.chosen
+                       and it.place.type.kind != 'array' for it in targets)
         return number(int(targets[0] == targets[1])) if is_known else None
 
     def is_pointer(self, it: Expression) -> bool:

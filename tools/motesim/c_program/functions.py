@@ -577,7 +577,7 @@ class Functions(Control):
         target, count = self.arguments(it, 2)
         pointer, value = self.pointer(target), self.operand(count)
         variable = pointer.variable
-        if variable is None or not self.is_first or self.unit.name != 'body' or value.constant is None \
+        if variable is None or not self.is_at_start or self.unit.name != 'body' or value.constant is None \
                 or self.open_loops or variable in self.program.counts:
             raise self.refuse(it.line, OF_INIT)
         self.program.counts[variable] = value.low % 65_536

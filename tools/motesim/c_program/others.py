@@ -1,7 +1,6 @@
 """The further calls of a program that motesim doesn't have: the message about the first one names them, too."""
 from __future__ import annotations
 
-from motesim.c_program.compiler import HEADER_OF, INCLUDE, OF_LIBRARY
 from motesim.c_program.control import EXITS
 from motesim.c_program.process import ProcessWriter
 from motesim.c_program.refusal import Refusal
@@ -10,7 +9,6 @@ from motesim.c_program.walk import all_parts
 
 # Calls that are parts of other forms.
 IN_FORMS = ('process_alloc_event', 'PROCESS_CURRENT', 'packetbuf_dataptr', 'packetbuf_addr')
-OWN_FILE = ' The program includes `%s`, which isn\'t read: copy its lines into the program.'
 OTHERS = ' And motesim doesn\'t have %s.'
 MOST_NAMED = 8
 
@@ -27,13 +25,6 @@ def with_others(refusal: Refusal, file: File) -> Refusal:
     shown = ['`%s` (line %d)' % (name, line) for line, name in names[:MOST_NAMED]]
     shown += ['%d others' % (len(names) - MOST_NAMED)] if len(names) > MOST_NAMED else []
     return Refusal(refusal.line, refusal.reason + OTHERS % ', '.join(shown)) if shown else refusal
-
-
-def with_own_file(refusal: Refusal, text: str) -> Refusal:
-    """A refusal of a program that includes a file of its own, which may be the reason."""
-    own = next((it[2] for it in INCLUDE.finditer(text) if it[2] and '/' not in it[2]
-                and it[2] not in (*HEADER_OF, *OF_LIBRARY)), '')
-    return Refusal(refusal.line, refusal.reason + OWN_FILE % own) if own else refusal
 
 
 def is_known(name: str) -> bool:

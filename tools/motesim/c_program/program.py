@@ -20,7 +20,7 @@ from motesim.c_program.knowledge import Knowledge
 from motesim.c_program.lost import check_locals
 from motesim.c_program.names import fresh
 from motesim.c_program.order import check_order
-from motesim.c_program.others import with_others, with_own_file
+from motesim.c_program.others import with_others
 from motesim.c_program.parse_file import read_file
 from motesim.c_program.process import ProcessWriter
 from motesim.c_program.refusal import Refusal
@@ -86,7 +86,7 @@ def translated(text: str, second: int = SECOND) -> Translation:
         for line, remark in without_value:
             program.remark(line, remark, True)
     except Refusal as refusal:
-        raise with_own_file(with_others(refusal, file) if file else refusal, text) from None
+        raise (with_others(refusal, file) if file else refusal) from None
     except RecursionError:
         raise Refusal(1, TOO_LARGE % LIMITS[7]) from None
     found = '\n'.join(lines) + '\n'
