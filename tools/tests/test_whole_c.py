@@ -161,12 +161,6 @@ class Elsewhere(unittest.TestCase):
             self.assertEqual(lines[:2], ['%s, line 14:' % name, '  goto out;'])
             self.assertIn(OF_GOTO.replace('Program blink', name), ' '.join(it.strip() for it in lines))
 
-    def test_a_file_of_the_author_that_is_not_read_is_named(self) -> None:
-        source = C.replace('#define PERIOD 10\n', '#include "net/rime.h"\n#include "dev/watch.h"\n#include "my.h"\n')
-        said = ' '.join(it.strip() for it in self.explained('blink.c', source))
-        self.assertIn('`PERIOD` isn\'t declared above this line. The file `my.h` isn\'t read: write its lines into the '
-                      'program instead of its `#include`.', said)
-
     def test_a_scenario_whose_quotes_are_missing_is_not_a_file_in_c(self) -> None:
         text = in_net('blink', C)
         for wrong, hint in ((text[:text.rindex("'''")], 'the three quotes that close it are missing'),

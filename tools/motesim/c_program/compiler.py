@@ -114,12 +114,6 @@ def with_headers(text: str) -> str | None:
     return INCLUDE.sub(lambda it: '%s<%s>' % (it[1], it[2] if it[2] in OF_LIBRARY else HEADER_OF[it[2]]), text)
 
 
-def own_files(text: str) -> list[str]:
-    """The files of its author that a program includes: those of Contiki are known here, or are in folders."""
-    names = [it[2] or '' for it in INCLUDE.finditer(text)]
-    return [it for it in names if it and '/' not in it and it not in HEADER_OF and it not in OF_LIBRARY]
-
-
 def with_more(source: str, headers: Iterable[str]) -> str:
     """A program that includes further headers. Its lines keep their numbers."""
     return '%s#line 1\n%s' % (''.join('#include "%s"\n' % it for it in headers), source)

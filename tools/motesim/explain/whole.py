@@ -6,7 +6,7 @@ import re
 from functools import lru_cache
 from typing import NamedTuple
 
-from motesim.c_program.compiler import check, own_files
+from motesim.c_program.compiler import check
 from motesim.c_program.constants import SECOND
 from motesim.c_program.program import Remark, Translation, translated
 from motesim.c_program.refusal import Refusal
@@ -27,8 +27,6 @@ BUTTON = 'The button *Correct it* writes a scenario with this program.'
 REFUSED = '%s is in C for Contiki, and this line can\'t be translated: %s'
 INSTEAD = ('Change the line in C, or write the program in the notation: docs/use/FROM_CONTIKI.md lists the forms of '
            'Contiki and C with their counterparts.')
-# (the reason may be in this file)
-NOT_READ = ' The file `%s` isn\'t read: write its lines into the program instead of its `#include`.'
 LONG_QUOTES = '"""', "'''"
 
 
@@ -52,8 +50,7 @@ def translation_of(source: str, second: int = SECOND) -> Translation | Refusal:
         found = translated(source, second)
         return found.with_remarks([Remark(*it) for it in check(source)])
     except Refusal as refusal:
-        own = own_files(source)
-        return Refusal(refusal.line, refusal.reason + NOT_READ % own[0]) if own else refusal
+        return refusal
 
 
 def in_c(text: str, program: str) -> str | None:
