@@ -4,13 +4,14 @@
  * that each mote has its own copy of them.
  */
 #include "library.h"
+#include "radio.h"
 
 #undef printf
 #undef puts
 
 /*
  * Printing: each value is a line. A text without a value is a line, too: the only number in it,
- * or 1.
+ * or 1. A text without a letter and a digit is none.
  */
 static int
 is_in_word(char it)
@@ -46,7 +47,14 @@ number_in(const char *text)
 int
 library_text(const char *text)
 {
-  trace_print(PROCESS_CURRENT(), (uint16_t)number_in(text));
+  const char *at;
+
+  for(at = text; *at != '\0'; at++) {
+    if(isalnum((unsigned char)*at) || (unsigned char)*at > 127) {
+      trace_print(PROCESS_CURRENT(), (uint16_t)number_in(text));
+      break;
+    }
+  }
   return 0;
 }
 
@@ -96,6 +104,85 @@ void leds_invert(unsigned char leds) { leds_set(lit ^ leds); }
 void watchdog_start(void) { }
 void watchdog_stop(void) { }
 void watchdog_periodic(void) { }
+/*---------------------------------------------------------------------------*/
+/*
+ * Random numbers: each process that draws them has two generators, which the translator writes
+ * into its program.
+ */
+#define MOST_DRAWING 64
+#define DISTANCE     257
+static struct chance { uint16_t dice; uint16_t luck; int has_seed; } chances[MOST_DRAWING];
+
+static int
+number_drawing(void)
+{
+  int count;
+
+  for(count = 0; library_drawing[count] != NULL; count++);
+  return count;
+}
+
+/* The generators of the current process; NULL if it never draws. */
+static struct chance *
+chance_here(void)
+{
+  const struct process *p = PROCESS_CURRENT() == &radio_process ? library_receiver_of_packets : PROCESS_CURRENT();
+  int i;
+
+  for(i = 0; i < MOST_DRAWING && library_drawing[i] != NULL; i++) {
+    if(library_drawing[i] == p) {
+      return &chances[i];
+    }
+  }
+  return NULL;
+}
+
+static void
+seed(struct chance *its, unsigned value)
+{
+  unsigned place = (unsigned)(its - chances);
+
+  its->dice = (uint16_t)(value * 257 + 1 + place * (DISTANCE / (unsigned)number_drawing()));
+  its->dice = (uint16_t)(its->dice * (2u * its->dice + 1));
+  its->dice = (uint16_t)(its->dice + its->dice / 256);
+  its->dice = (uint16_t)(its->dice * (2u * its->dice + 1));
+  its->luck = 1;
+  its->has_seed = 1;
+}
+
+static unsigned
+drawn_byte(struct chance *its)
+{
+  its->dice = (uint16_t)(its->dice * 25173u + 13849);
+  its->luck = (uint16_t)(its->luck * 225u % 239);
+  return (uint16_t)(its->dice + its->luck * 257u) / 256;
+}
+
+void
+random_init(unsigned short value)
+{
+  if(chance_here() != NULL) {
+    seed(chance_here(), value);
+  }
+}
+
+unsigned short
+random_rand(void)
+{
+  struct chance *its = chance_here();
+  unsigned upper;
+
+  if(its == NULL) {
+    return 0;
+  }
+  if(!its->has_seed) {
+    seed(its, (unsigned)mote_number());
+  }
+  upper = drawn_byte(its);
+  return (unsigned short)(upper * 256 + drawn_byte(its));
+}
+
+int library_rand(void) { return random_rand() % 32768; }
 /*---------------------------------------------------------------------------*/
 unsigned long clock_seconds(void) { return (unsigned long)(clock_time() / CLOCK_SECOND); }
 clock_time_t timer_remaining(struct timer *t) { return timer_expiration_time(t) - clock_time(); }

@@ -29,8 +29,13 @@
   PROCESS_THREAD(name, ev, data); \
   PROCESS_SCOPE struct process name = PROCESS_INIT(name, #name)
 
-/* The tables of a program. `library_has_text`: the program calls printf, so its LEDs aren't printed. */
+/*
+ * The tables of a program: whether it calls printf, so that its LEDs aren't printed; its processes that draw random
+ * numbers; and the one in which the callback for packets draws them.
+ */
 extern const int library_has_text;
+extern const struct process *const library_drawing[];
+extern const struct process *const library_receiver_of_packets;
 extern struct process library_receiver;
 extern struct host_memory library_memory[];
 extern const struct host_event library_events[];
@@ -43,11 +48,13 @@ extern const struct host_timer library_timers[];
 
 int library_print(const char *format, ...);
 int library_text(const char *text);
+int library_rand(void);
 const rimeaddr_t *library_address(void);
 
 #define printf(...)        library_print(__VA_ARGS__)
 #define puts(text)         library_text(text)
-#define putchar(character) library_text("")
+#define rand()             library_rand()
+#define putchar(character) library_text("1")
 
 #define node_id            ((unsigned short)mote_number())
 #define rimeaddr_node_addr (*library_address())

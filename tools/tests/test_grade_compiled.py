@@ -4,16 +4,16 @@ import tempfile
 import unittest
 from pathlib import Path
 
-from motesim.explain.whole import translation_of
-from motesim.c_program.refusal import Refusal
-from motesim.grading.compiled import CRASHES, Compiled, NoComparison
+from motesim.c_program.program import translated
+from motesim.grading.compiled import CRASHES, Compiled, InC, NoComparison
 from motesim.runner.run import answer
-from motesim.scenario import Scenario
 from skips import need_command, need_program
+from student_programs import PROGRAMS
+from test_c_translation import REFUSED
 from translated_c import in_process
 
 SCENARIO = """version = 2
-end = 300
+end = 1000
 medium = { range = 5, base = 1, per = 100, collide = false }
 mote = [{ x = 0, y = 0, program = "p" }, { x = 5, y = 0, program = "p" }, { x = 5, y = 5, program = "other" }]
 [programs]
@@ -42,12 +42,14 @@ class Comparison(unittest.TestCase):
         self.addCleanup(shutil.rmtree, folder)
         self.compiled = Compiled(folder)
 
+    def in_c(self, source: str, other: str = '') -> InC:
+        """A program in a net, with its translation or that of another program."""
+        found = translated(other or source, draws_words=True)
+        return InC(source, found, SCENARIO % found.text)
+
     def difference(self, source: str, other: str = '') -> str:
         """The difference between a program and its translation, or that of another program."""
-        found = translation_of(other or source)
-        assert not isinstance(found, Refusal), found.reason
-        text = (SCENARIO % found.text).encode()
-        return self.compiled.difference(source, 'p', Scenario.parse(text), answer(text).report)
+        return self.compiled.difference(self.in_c(source, other), 'p', answer)
 
     def counting(self, step: str) -> str:
         return in_process('  broadcast_open(&bc, 129, &calls);\n' + COUNTS % step, RADIO, '  ' + TIMER)
@@ -69,12 +71,28 @@ class Comparison(unittest.TestCase):
         body = '\n#ifdef __GNUC__\n  printf("%d", 2);\n#endif\n  printf("%d", 1);\n'
         self.assertEqual(self.difference(in_process(body)), '')
 
-    def test_programs_with_random_numbers_are_not_compared(self) -> None:
-        source = in_process('  printf("%d", random_rand());')
-        self.assertEqual(self.difference(source, in_process('  ;')), '')
-        scenario = Scenario.parse((SCENARIO % 'process p;\ncode p { body { pause; } }\n').encode())
+    def test_random_numbers_are_the_same(self) -> None:
+        body = ('  random_init(node_id + 3); for(n = 0; n < 5; n++) { printf("%d", random_rand());'
+                ' printf("%d", random_rand() % 8); } ctimer_set(&c, 9, later, NULL); etimer_set(&et, 50);'
+                ' PROCESS_WAIT_EVENT();')
+        above = '''static struct ctimer c;
+PROCESS(q, "q");
+static void later(void *p) { printf("%d", rand() % 100); process_start(&q, NULL); }
+PROCESS_THREAD(q, ev, data) { PROCESS_BEGIN(); printf("%d", random_rand() & 15); PROCESS_END(); }'''
+        source = in_process(body, above, '  ' + TIMER)
+        self.assertEqual(self.difference(source), '')
+        self.assertNotEqual(self.difference(source, source.replace('+ 3', '+ 4')), '')
+
+    def test_a_program_that_gcc_refuses_is_not_compared(self) -> None:
         with self.assertRaises(NoComparison):
-            self.compiled.report(source, 'p', scenario)
+            self.compiled.report(self.in_c(in_process('  no_such_name();'), in_process('  ;')), 'p')
+        self.assertEqual(self.difference(in_process('  no_such_name();'), in_process('  ;')), '')
+
+    def test_programs_of_students_do_what_their_translations_do(self) -> None:
+        for path in sorted((*PROGRAMS.glob('*.c'), *PROGRAMS.glob('more/*.c'))):
+            if path.stem not in REFUSED:
+                with self.subTest(path.stem):
+                    self.assertEqual(self.difference(path.read_text()), '')
 
 
 if __name__ == '__main__':

@@ -3,6 +3,7 @@ from __future__ import annotations
 
 from collections.abc import Iterable
 
+from motesim.c_program.base import Program
 from motesim.c_program.constants import constant_of
 from motesim.c_program.expressions import COMPARES, Expressions
 from motesim.c_program.tree import Expression, Function
@@ -40,6 +41,12 @@ def has_draw(functions: Iterable[Function]) -> bool:
     return any(is_draw(part) for one in functions for part in all_parts(one.body))
 
 
+def drawing_in(program: Program) -> list[str]:
+    """The processes that draw random numbers."""
+    return [name for name in program.file.processes if has_draw((
+        program.file.bodies[name], *program.usage.uses[name].functions.values()))]
+
+
 def named(text: str, names: tuple[str, str]) -> str:
     """A text about the generators with the names of their variables."""
     return text.replace('dice', names[0]).replace('luck', names[1])
@@ -53,7 +60,7 @@ class Chance(Expressions):
                 one.kind == 'call' and one.text == 'random_rand' for one in map(without_casts, it.parts)):
             self.remark_mistake(it.line, OF_HALF)
         draw = without_casts(it.parts[0])
-        bits = self.bits_of(it) if is_draw(draw) else None
+        bits = self.bits_of(it) if is_draw(draw) and not self.program.draws_words else None
         if bits is None:
             return super()._binary(it)
         self.note_draw(it.line)
@@ -109,8 +116,7 @@ class Chance(Expressions):
 
     def seeding(self, seed: str = 'self') -> list[str]:
         """The statements that set the first generator to a seed, and mix it. The seeds of a mote's processes differ."""
-        drawing = [name for name in self.file.processes if has_draw((
-            self.file.bodies[name], *self.program.usage.uses[name].functions.values()))]
+        drawing = drawing_in(self.program)
         distance = drawing.index(self.process) * (APART // len(drawing))
         first, *others = [it.strip() + ';' for it in MIXED.split(';') if it.strip()]
         first = first.replace('+ 1)', '+ %d)' % (1 + distance)).replace('self', seed)

@@ -44,7 +44,7 @@ GCC = ('gcc', '-x', 'c', '-std=gnu99', '-S', '-o', '/dev/null', '-I%s' % HEADERS
        '-ftrack-macro-expansion=0', '-fno-diagnostics-show-caret', '-fdiagnostics-color=never',
        *('-W' + it for it in WARNINGS), *('-Wno-error=' + it for it in PERMITTED))
 # (a program may be made to keep a compiler busy)
-LIMITED = 'ulimit -v 2000000 -t 10; exec "$0" "$@"'
+LIMITED = 'ulimit -v 2000000; ulimit -t 10; exec "$0" "$@"'
 SECONDS = 20
 NO_SUCH_FILE = 'No such file or directory'
 COMPLAINT = re.compile(r'^<stdin>:(\d+):\d+: (?:fatal )?(error|warning): (.*?)(?: \[-W[^\]]*\])?$', re.M)

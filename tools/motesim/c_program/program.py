@@ -14,6 +14,7 @@ from typing import NamedTuple
 
 from motesim.c_program.allocation import check_allocated, early_posts
 from motesim.c_program.base import Program
+from motesim.c_program.chance import drawing_in
 from motesim.c_program.constants import EVENT_NUMBERS, SECOND, constant_of
 from motesim.c_program.indexes import indexes_for_pointers
 from motesim.c_program.knowledge import Knowledge
@@ -57,17 +58,21 @@ class Remark(NamedTuple):
 
 
 class Translation(NamedTuple):
-    """A program in the notation, and what differs from C."""
+    """A program in the notation, and what differs from C. `drawing`: the processes in C that draw random numbers;
+    `receiver`: the one in which the callback for packets runs."""
     text: str
     remarks: tuple[Remark, ...]
+    drawing: tuple[str, ...] = ()
+    receiver: str = ''
 
     def with_remarks(self, more: Sequence[Remark]) -> Translation:
         """This translation with further remarks, in the order of their lines."""
         return self._replace(remarks=tuple(sorted((*self.remarks, *more))))
 
 
-def translated(text: str, second: int = SECOND) -> Translation:
-    """A program in C in the notation. Raises a Refusal if it isn't translated. `second`: the moments of a second."""
+def translated(text: str, second: int = SECOND, draws_words: bool = False) -> Translation:
+    """A program in C in the notation. Raises a Refusal if it isn't translated. `second`: the moments of a second.
+    `draws_words`: each draw of a random number has 16 bits, even if the program needs fewer."""
     file = None
     try:
         file = read_file(text)
@@ -75,7 +80,7 @@ def translated(text: str, second: int = SECOND) -> Translation:
         check_order(file)
         without_value = check_locals((*file.bodies.values(), *file.functions.values()))
         remarks = indexes_for_pointers(file)
-        program, lines = settled(file, second)
+        program, lines = settled(file, second, draws_words)
         check_ends(program)
         check_allocated(file)
         for it in early_posts(file):
@@ -93,7 +98,8 @@ def translated(text: str, second: int = SECOND) -> Translation:
     fault = find_fault(found)
     if fault is not None:
         raise Refusal(*of_fault(fault, file, found))
-    return Translation(found, tuple(Remark(*it) for it in program.all_remarks()))
+    return Translation(found, tuple(Remark(*it) for it in program.all_remarks()), tuple(drawing_in(program)),
+                       program.usage.receiver)
 
 
 def remark_names(program: Program) -> None:
@@ -145,11 +151,11 @@ def check_ends(program: Program) -> None:
             raise Refusal(line, NO_END % (name, program.endless[name], name))
 
 
-def settled(file: File, second: int) -> tuple[Program, list[str]]:
+def settled(file: File, second: int, draws_words: bool) -> tuple[Program, list[str]]:
     """Translates a file until the translation is what it relies on."""
     knowledge, usage = Knowledge(), usage_of(file)
     for _ in range(MOST_ROUNDS):
-        program = Program(file, usage, knowledge, second)
+        program = Program(file, usage, knowledge, second, draws_words)
         lines = written(program)
         if knowledge.settle():
             if program.refusals:

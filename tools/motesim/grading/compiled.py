@@ -9,7 +9,7 @@ import os
 import signal
 import subprocess
 import tempfile
-from collections.abc import Iterable, Sequence
+from collections.abc import Callable, Sequence
 from itertools import zip_longest
 from pathlib import Path
 from typing import NamedTuple
@@ -17,9 +17,10 @@ from typing import NamedTuple
 from motesim.c_program.calls import PRINTS
 from motesim.c_program.compiler import HEADERS as LIBRARY
 from motesim.c_program.parse_file import tokens_in
-from motesim.c_program.tokens import Token
+from motesim.c_program.program import Translation
 from motesim.contiki.folder import HOST, host_tables, program_files, text_of
 from motesim.contiki.names import file_names
+from motesim.runner.run import Answer
 from motesim.scenario import Scenario
 
 FLAGS = ('-w', '-O0', '-fno-pic', '-std=gnu99', '-fsanitize=bounds', '-fsanitize-undefined-trap-on-error',
@@ -27,11 +28,9 @@ FLAGS = ('-w', '-O0', '-fno-pic', '-std=gnu99', '-fsanitize=bounds', '-fsanitize
 # (the linker defines symbols at the ends of a section whose name is one of C)
 SECTIONS = ('--set-section-flags', '.bss=alloc,load,contents,data', '--rename-section', '.bss=library_zeros',
             '--rename-section', '.data=library_data')
-LIMITED = 'ulimit -v 2000000 -t 20 -f 200000; exec "$0" "$@"'
+LIMITED = 'ulimit -v 2000000; ulimit -t 20; ulimit -f 200000; exec "$0" "$@"'
 SECONDS = 30
 KINDS = 'print', 'send'
-# Programs with these calls aren't compared: the random numbers differ.
-RANDOM = frozenset({'random_rand', 'rand'})
 CRASHES = 'compiled by gcc, it crashes: it uses memory that it doesn\'t have'
 DIFFERS = 'compiled by gcc, mote %d %s, but its translation %s'
 
@@ -42,6 +41,14 @@ class NoComparison(Exception):
 
 class Crash(Exception):
     """A program that runs uses memory that it doesn't have."""
+
+
+class InC(NamedTuple):
+    """A program in C in a net: its text, its translation, in which each random number has 16 bits as in C, and the
+    scenario with this translation."""
+    source: str
+    translation: Translation
+    scenario: str
 
 
 class Deed(NamedTuple):
@@ -63,39 +70,38 @@ class Compiled:
         called(['objcopy', *SECTIONS, 'library.o'], folder)
         self.objects = [str(it) for it in sorted(folder.glob('*.o'))]
 
-    def report(self, source: str, program: str, scenario: Scenario) -> bytes:
+    def report(self, it: InC, program: str) -> bytes:
         """The report of a scenario in which a program is the one in C. Raises NoComparison."""
-        tokens = tokens_in(source)
-        if RANDOM.intersection(it.text for it in tokens):
-            raise NoComparison
+        scenario = Scenario.parse(it.scenario)
         files = program_files(scenario, counts_work=True)
         file_of = file_names(files)
         with tempfile.TemporaryDirectory(dir=self.folder) as name:
             place = Path(name)
             for its, file in files.items():
                 (place / (file_of[its] + '.c')).write_text(text_of(file.lines()), 'utf-8')
-            tables = [it for it in host_tables(scenario, files) if it[0] != file_of[program] + '_host.c']
+            tables = [its for its in host_tables(scenario, files) if its[0] != file_of[program] + '_host.c']
             for its, text in tables:
                 (place / its).write_text(text, 'utf-8')
-            (place / 'solution.c').write_text(whole(tokens, program, [*files].index(program)), 'utf-8')
+            (place / 'solution.c').write_text(whole(it, program, [*files].index(program)), 'utf-8')
             called(['gcc', *FLAGS, '-c', 'solution.c'], place)
             called(['objcopy', *SECTIONS, 'solution.o'], place)
-            sources = ['solution.o', *(it for it, _ in tables), *self.objects]
+            sources = ['solution.o', *(name for name, _ in tables), *self.objects]
             called(['gcc', *FLAGS, '-no-pie', '-o', 'run', *sources], place)
             return called(['./run'], place)
 
-    def difference(self, source: str, program: str, scenario: Scenario, report: bytes) -> str:
+    def difference(self, it: InC, program: str, run: Callable[[bytes], Answer]) -> str:
         """The first difference between the motes of a program in C and those of its translation, in words; an empty
-        text if there is none, or if they can't be compared."""
+        text if there is none, or if they can't be compared. `run` runs a scenario in motesim."""
         try:
-            theirs = deeds_in(self.report(source, program, scenario))
+            theirs = deeds_in(self.report(it, program))
         except NoComparison:
             return ''
         except Crash:
             return CRASHES
-        ours = deeds_in(report)
-        found = [it for mote, place in enumerate(scenario.places) if place.program == program
-                 and (it := first_difference(mote, theirs[mote], ours[mote]))]
+        ours = deeds_in(run(it.scenario.encode()).report)
+        places = Scenario.parse(it.scenario).places
+        found = [one for mote, place in enumerate(places) if place.program == program
+                 and (one := first_difference(mote, theirs[mote], ours[mote]))]
         return min(found)[1] if found else ''
 
 
@@ -142,13 +148,17 @@ def called(command: Sequence[str], folder: Path) -> bytes:
     return done.stdout
 
 
-def whole(tokens: Iterable[Token], program: str, number: int) -> str:
+def whole(it: InC, program: str, number: int) -> str:
     """The text that is compiled. Each token has a line of its own: a wait keeps its line as its place."""
-    rows = [it.text for it in tokens]
+    rows = [token.text for token in tokens_in(it.source)]
     for at in range(2, len(rows)):
         # (a text is the number 1 in the translation)
         if rows[at].startswith('"') and rows[at - 2:at] == ['packetbuf_copyfrom', '(']:
             rows[at] = '"\\1"'
-    has_text = int(any(map(PRINTS.fullmatch, rows)))
-    return '\n'.join(['#include "library.h"', *rows, 'const int library_has_text = %d;' % has_text,
+    drawing = ', '.join(['&' + name for name in it.translation.drawing] + ['NULL'])
+    receiver = '&' + it.translation.receiver if it.translation.receiver else 'NULL'
+    return '\n'.join(['#include "library.h"', *rows,
+                      'const int library_has_text = %d;' % any(map(PRINTS.fullmatch, rows)),
+                      'const struct process *const library_drawing[] = { %s };' % drawing,
+                      'const struct process *const library_receiver_of_packets = %s;' % receiver,
                       'LIBRARY_PROGRAM(host_program_%d, "%s");' % (number, program), ''])
