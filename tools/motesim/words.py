@@ -30,6 +30,14 @@ class Once(argparse.Action):
 class Words(argparse.ArgumentParser):
     """A parser that reports an error in one line, without all options."""
 
+    def parse_known_args(self, *given: Any) -> Any:
+        found, rest = super().parse_known_args(*given)
+        for action in self._actions:
+            value = getattr(found, action.dest, None)
+            if '-o' in action.option_strings and '-' in map(str, value if isinstance(value, list) else [value]):
+                self.error('-o needs the name of a file or a folder, not -')
+        return found, rest
+
     def error(self, message: str) -> NoReturn:
         self.exit(FAILED, '%s: %s (--help lists the options)\n' % (self.prog, message))
 

@@ -19,6 +19,8 @@ COMMANDS = sorted(path.stem for path in (TOOLS / 'motesim/commands').glob('[a-z]
 HEAVY = ('motesim.report', 'motesim.judge', 'motesim.runner', 'motesim.scenario',
          'subprocess', 'multiprocessing', 'tomllib')
 
+NO_NAME = '-o needs the name of a file or a folder, not -'
+
 
 class Commands(unittest.TestCase):
     def test_each_has_a_script(self) -> None:
@@ -47,6 +49,8 @@ class Commands(unittest.TestCase):
                              '--measure is given twice: give it only once'),
                             (('search', 'a.toml', '--step', 'x'), "argument --step: invalid int value: 'x'"),
                             (('sweep', 'a.toml', '--jobs', '0'), '--jobs is 1 or more, and --seconds more than 0'),
+                            (('scenario', 'a.plan.toml', '-o', '-'), NO_NAME),
+                            (('grade', 'a.toml', 'b.toml', '-o', '-'), NO_NAME),
                             (('summary',), 'the following arguments are required: REPORT')):
             done = subprocess.run([sys.executable, '-B', TOOLS / words[0], *words[1:]], capture_output=True, text=True)
             line = '%s: %s (--help lists the options)\n' % (words[0], said)
