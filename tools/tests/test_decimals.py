@@ -23,6 +23,12 @@ class Decimals(unittest.TestCase):
         self.assertEqual(rows, [{'x': '0.0000', 'difference': '0.5000', 'low': None},
                                 {'x': '1.0000', 'difference': '-0.0004', 'low': None}])
 
+    def test_each_of_two_measures_has_its_own_decimals(self) -> None:
+        for ends in ('low', 'high'), ('first quartile', 'third quartile'):
+            [row] = readable([{'sent': 171.5, 'sent ' + ends[0]: 84.56, 'sent ' + ends[1]: 258.44,
+                               'mean': 0.0004, ends[0]: 0.0002, ends[1]: 0.0006}])
+            self.assertEqual([*row.values()], ['171.500', '84.560', '258.440', '0.0004', '0.0002', '0.0006'])
+
 
 if __name__ == '__main__':
     unittest.main()
