@@ -59,6 +59,16 @@ class Kinds(unittest.TestCase):
                 for row in table_of(runs(name, text), Wish(name, 'period', show='mean')):
                     self.assertEqual(row.split()[-1], method)
 
+    def test_equal_values_of_a_function_in_python_are_of_no_kind(self) -> None:
+        text = 'cost = python: measures.py:cost; measures.py has the SHA-256 0123456789abcdef'
+        rows = runs('cost', text)
+        zeros: list[Row] = [{**row, 'cost': 0} for row in rows]
+        wish = Wish('cost', 'period', show='mean')
+        self.assertEqual(table_of(zeros, wish), ['%d 20 0.000 - - none: equal runs' % period for period in (1, 2)])
+        self.assertEqual(table_of(rows, wish)[0].split()[-1], 'Wilson')
+        # (the other file of a comparison shows that the function returns 0 and 1)
+        self.assertEqual([kinds_of(zeros, rows), kinds_of(rows, zeros)], [{'cost': 'yes or no'}] * 2)
+
 
 if __name__ == '__main__':
     unittest.main()

@@ -1,8 +1,9 @@
 """The points of a plot: the runs of a sweep in groups, each with its estimate."""
 from __future__ import annotations
 
+import itertools
 from collections import Counter
-from collections.abc import Iterable, Mapping, Sequence
+from collections.abc import Callable, Iterable, Mapping, Sequence
 from typing import NamedTuple
 
 from motesim.analysis.estimates import AUTO, DRAWS, NAMES, Estimate, Measured, mean_of, measured, median_with_quartiles
@@ -258,21 +259,23 @@ def measures_of(rows: Sequence[Row]) -> list[str]:
     return measures + [REJECTED] * (REJECTED in rows[0] and REJECTED not in measures)
 
 
-def kinds_of(rows: Sequence[Row]) -> dict[str, Measured]:
-    """The kinds of the measures that have numbers."""
-    values = {name: [row[name] for row in rows if row[name] is not None] for name in measures_of(rows)}
+def kinds_of(*files: Sequence[Row]) -> dict[str, Measured]:
+    """The kinds of the measures that have numbers, by all their values in these files of results."""
+    rows, names = [*itertools.chain(*files)], dict.fromkeys(name for its in files for name in measures_of(its))
+    values = {name: [row[name] for row in rows if row.get(name) is not None] for name in names}
     kinds = {name: measured([float(it) for it in its if isinstance(it, int | float)]) for name, its in values.items()
              if its and not any(isinstance(it, str) for it in its)}
-    counts = _counts(rows)
+    counts, of_users = _measures_that(is_count, rows), _measures_that(file_of, rows)
+    # (equal values of a user's function don't show whether it can only return 0 and 1)
+    kinds |= {name: 'any' for name in of_users if name in kinds and len({*values[name]}) == 1}
     return {name: 'count' if name in counts and kind != 'share' else kind for name, kind in kinds.items()}
 
 
-def _counts(rows: Sequence[Row]) -> set[str]:
-    """The names of the measures that are counts in all rows: by the measures' texts or, in rows of older sweeps, which
-    have no texts, by their names."""
+def _measures_that(has: Callable[[str], object], rows: Sequence[Row]) -> set[str]:
+    """The names of the measures whose texts have a property in all rows; rows of older sweeps have no texts, only
+    names."""
     texts = {text_of(row.get(TEXTS)) for row in rows}
-    names = [{name_of(it) for it in (text.split('; ') if text else measures_of(rows)) if is_count(it)}
-             for text in texts]
+    names = [{name_of(it) for it in (text.split('; ') if text else measures_of(rows)) if has(it)} for text in texts]
     return set.intersection(*names) if names else set()
 
 

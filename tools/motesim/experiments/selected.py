@@ -20,8 +20,6 @@ from motesim.plan.tables import text_of_value
 
 # The most values of a column in a message.
 MOST_SHOWN = 12
-# The kinds of measures, the more general ones first.
-GENERAL: tuple[Measured, ...] = ('any', 'count', 'share', 'yes or no')
 
 
 def some_of(values: Iterable[Cell]) -> str:
@@ -95,13 +93,8 @@ def runs_of(path: Path, where: Sequence[str], apart: Sequence[str] = ()) -> list
 
 
 def kinds_in(files: Sequence[Path]) -> dict[str, Measured]:
-    """The kinds of the measures in one or two files. A measure that differs between them has that of the more general
-    kind."""
-    found: dict[str, Measured] = {}
-    for path in files:
-        for name, kind in kinds_of(all_runs_of(path)).items():
-            found[name] = min(found.get(name, kind), kind, key=GENERAL.index)
-    return found
+    """The kinds of the measures in one or two files."""
+    return kinds_of(*map(all_runs_of, files))
 
 
 class Sides(NamedTuple):
