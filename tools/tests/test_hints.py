@@ -890,6 +890,12 @@ class Warnings(unittest.TestCase):
         self.assertEqual(explain.explanation('the text', data, 'motesim: scenario fault 1')[:2],
                          ['the text has no error.', 'the text is the text of a program, not a scenario.'])
         self.assertNotIn('an error', self.explained('a.mote', 'process a;\ncode a { body { print 1; } }\n'))
+        program = 'process a;\ncode a { var n = ${seed}; body { set t ${period}; %s } }\n'
+        self.assertIn('a.mote has no error, if parameters of a plan such as `${seed}` are numbers. ',
+                      self.explained('a.mote', program.replace('set t', 'print') % ''))
+        found = self.explained('a.mote', program.replace('set t', 'print') % 'prnt ${x};')
+        self.assertIn('body { print ${period}; prnt ${x}; }', found)
+        self.assertIn('Did you mean `print`?', found)
         for first in 'Process a;', 'Receiver a;\nprocess a;', '// mine\nAUTOSTART a;\nprocess a;':
             self.assertIn('a.txt is the text of a program', self.explained('a.txt', first + '\ncode a { body { } }\n'))
         plan = 'end = 9\nmedium = { range = 9, base = 2, per = 9 }\n[places]\nrule = "line"\ncount = 2\nstep = 5\n'

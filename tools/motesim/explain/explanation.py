@@ -16,6 +16,7 @@ from motesim.c_program.refusal import Refusal
 from motesim.scenario import encodings
 from motesim.scenario import faults as scenario_faults
 from motesim.explain.lint import Warned, warnings
+from motesim.plan.parameters import PARAMETER
 from motesim.report import Report
 from motesim.runner.run import Answer, NoReport, answer, is_report, read_file
 from motesim.scenario import Scenario
@@ -324,12 +325,15 @@ def is_plan(tables: dict[str, Any] | None) -> bool:
 def program_instead(name: str, data: bytes) -> list[str]:
     """The lines about a file with a program instead of a scenario: how to write it into a scenario, and its error."""
     source = data.decode('utf-8', 'replace').removeprefix(MARK)
-    its = program_faults.find_fault(source)
+    parameter = PARAMETER.search(source)
+    # (a number for each parameter of a plan, as long as its name, so that places in the program stay)
+    its = program_faults.find_fault(PARAMETER.sub(lambda it: '1'.ljust(len(it[0])), source))
     if is_program_in_c(source) and its:
         return of_program_file(name, source, its)
     lines = ['%s is the text of a program, not a scenario.' % one_line(name), *hinted(hints.OF_PROGRAM)]
     if its is None:
-        return ['%s has no error.' % one_line(name), *lines]
+        numbers = hints.WITH_NUMBERS % parameter[0] if parameter else ''
+        return ['%s has no error%s.' % (one_line(name), numbers), *lines]
     return [*lines, *wrapped('The program has an error, too:'), *of_program_file(name, source, its)]
 
 

@@ -84,6 +84,7 @@ OF_PARAMETERS = ('A thread has no parameters, `thread t { .. }`: it uses the var
 OF_ARGUMENTS = 'A `spawn` passes nothing, `spawn t;`: set a variable of the process before it, which the thread reads.'
 OF_PROGRAM = ('In a scenario this text is under `[programs]`, between three quotes: `p = """ .. """`. Or a plan names '
               'the file of the program, and tools/scenario makes a scenario from the plan.')
+WITH_NUMBERS = ', if parameters of a plan such as `%s` are numbers'
 OF_C = ('A scenario is a TOML document, with the text of its programs under `[programs]`. `tools/explain NAME.c '
         '--apply NAME.toml` translates this program, and writes a scenario with it. docs/use/FROM_CONTIKI.md lists the '
         'forms of Contiki and C with their counterparts.')

@@ -15,10 +15,10 @@ from typing import Any, NoReturn
 from motesim.explain.explanation import shown_place, wrapped
 from motesim.faults import Fault
 from motesim.plan.hints import of_chance, of_parameter
+from motesim.plan.parameters import PARAMETER
 from motesim.scenario.faults import Path, Place, place_of, value_of
 from motesim.toml import NoToml, read_toml
 
-PARAMETER = re.compile(r'\$\{([^}\n]*)\}')
 NAME = re.compile('[a-z][a-z0-9_]{0,31}')
 NUMBER = re.compile('-?(0|[1-9][0-9]{0,17})')
 KINDS: dict[type, str] = {int: 'a whole number', str: 'a text', dict: 'a table', list: 'an array',
