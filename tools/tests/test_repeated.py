@@ -85,6 +85,14 @@ class Repeated(Bed):
             'net.csv: the run has the same scenario, report and measures\n'
             'not compared: the rows of net.csv whose values are not those of this command (1)\n')))
 
+    def test_pictures_are_not_compared(self) -> None:
+        plan = self.folder / 'net.plan.toml'
+        plan.write_text(plan.read_text() + '[[plot]]\nfile = "a.svg"\nmeasure = "prints"\nagainst = "period"\n')
+        self.sweep(*self.words)
+        self.assertEqual(self.check(), (0, SAME % 'net.csv' + (
+            'not compared: the pictures of the plan and their tables; tools/plot net.csv --plan net.plan.toml draws '
+            'them again\n'), ''))
+
     def test_a_sweep_that_is_not_finished_or_has_other_columns_is_refused_before_the_runs(self) -> None:
         status, said, error = self.check()
         self.assertEqual((status, said, 'net.csv: No such file' in error), (2, '', True))

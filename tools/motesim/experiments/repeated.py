@@ -95,6 +95,9 @@ class Compared:
         if self.finished.others:
             lines.append('not compared: the rows of %s whose values are not those of this command (%d)' % (
                 path, self.finished.others))
+        if self.sweep.plan.tables.array('plot'):
+            lines.append('not compared: the pictures of the plan and their tables; tools/plot %s --plan %s draws them '
+                         'again' % (path, self.sweep.plan.shown_as))
         return lines
 
     def shown(self, column: str) -> str:
