@@ -16,6 +16,7 @@ from collections.abc import Collection, Iterable, Mapping
 
 from motesim.experiments.ignored import IGNORED
 from motesim.experiments.measures import OWN, OWN_LINE, Cell
+from motesim.experiments.overflow import OVERFLOW
 from motesim.experiments.results import Row
 from motesim.explain.halted import ALL_HALTED
 from motesim.explain.idle import FEW, IDLE
@@ -28,7 +29,8 @@ from motesim.summary.flows import SHARED, TWICE
 # A note with this beginning is about a run that has all its measures.
 WARNING = 'warning: '
 # The beginnings of warnings that a sweep counts separately: for each, it reports the number of runs that have it.
-ONCE = (SHARED, TWICE, OWN, OWN_LINE, IGNORED, SAME_MOMENT, IDLE, FEW, ALL_HALTED, IN_STEP, SAME_DRAWS, SAME_SEED)
+ONCE = (SHARED, TWICE, OWN, OWN_LINE, IGNORED, OVERFLOW, SAME_MOMENT, IDLE, FEW, ALL_HALTED, IN_STEP, SAME_DRAWS,
+        SAME_SEED)
 # The column with the parameters that are seeds of the pattern; and the number of consecutive seeds that draw different
 # numbers.
 CHANCE, APART = 'chance_seeds', 257

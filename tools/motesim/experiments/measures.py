@@ -56,6 +56,8 @@ OF_ONE = re.compile(r'\s*(?:mote|some mote)\b', re.I)
 OF_COUNT = re.compile(r'(?:%s)(?:\s+of\s+mote\s+[0-9]+)?|(?:count|motes|moment|last|delay)\s*:.*'
                       r'|flow\s+(?:%s)\s*:.*' % tuple('|'.join(it for it in its if it != 'ratio')
                                                      for its in (SUMMARY, FLOWS)), re.S)
+# The texts of measures of packets or messages that arrive.
+OF_DELIVERY = re.compile(r'(?:ratio|received)(?:\s+of\s+mote\s+[0-9]+)?|(?:delivery|flow\s+[a-z]+)\s*:.*', re.S)
 OF_PYTHON = re.compile(r'python\s*:\s*([^:]+?)\s*:\s*([A-Za-z_]\w*)')
 
 # The beginnings of the warnings about a mote that has to receive its own messages, and about a line of both sentences.
@@ -427,6 +429,11 @@ def is_count(words: str) -> bool:
     return OF_COUNT.fullmatch(_parts(words)[1]) is not None
 
 
+def is_delivery(words: str) -> bool:
+    """Returns whether a measure, given by its text, is about packets or messages that arrive."""
+    return OF_DELIVERY.fullmatch(_parts(words)[1]) is not None
+
+
 def name_of(words: str) -> str:
     """The name of a measure's column."""
     named, text = _parts(words)
@@ -498,6 +505,6 @@ def read_measure(words: str, names: Names = Names(), sources: Mapping[str, str] 
         warning = _warning_of_ignored if plain[1] in RECEIVED else _no_warning
         return Measure(name, text, _of_summary(plain[1], plain[2]), warning=warning)
     near = nearest(plain[1] if plain else text, [*SUMMARY, REACHABLE, LOSS])
-    raise MeasureFault('%r is not a measure%s. A measure is one of %s, or begins with %s, python: or flow NAME:' % (
-        text, '; did you mean %s?' % near if near else '', ', '.join((*SUMMARY, REACHABLE, LOSS)),
+    raise MeasureFault('%r is not a measure%s A measure is one of %s, or begins with %s, python: or flow NAME:' % (
+        text, '; did you mean %s?' % near if near else '.', ', '.join((*SUMMARY, REACHABLE, LOSS)),
         ', '.join(kind + ':' for kind in KINDS)))

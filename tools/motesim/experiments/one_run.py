@@ -22,7 +22,8 @@ from motesim.faults import Fault
 from motesim.runner.batch import fault_of
 from motesim.runner.process import LimitMet, Limits, Runner
 from motesim.experiments.draws import WARNING
-from motesim.experiments.measures import Bench, Cell, name_of, read_measure
+from motesim.experiments.measures import Bench, Cell, is_delivery, name_of, read_measure
+from motesim.experiments.overflow import of_overflow
 from motesim.plan.plan import Plan
 from motesim.plan.files import Files
 from motesim.plan.tables import Value
@@ -158,6 +159,8 @@ def measured(work: Work, bench: Bench, known: Scenario) -> tuple[dict[str, Cell]
                 measure = read_measure(words, names, sources)
                 found[name] = measure.of(bench)
                 doubts.setdefault(measure.warning(bench), []).append(name)
+                if is_delivery(words):
+                    doubts.setdefault(of_overflow(bench.summary[1]), []).append(name)
         except BaseException as failure:
             # (a user's measure may raise any exception, even one that asks Python to exit)
             found[name] = None
