@@ -1,6 +1,7 @@
 """Sends the runs of a sweep to processes of this machine or to a Dask cluster, and collects the results."""
 from __future__ import annotations
 
+import logging
 import signal
 import tempfile
 import threading
@@ -97,16 +98,23 @@ def in_lists(jobs: Iterable[Job], length: int) -> Iterator[list[Job]]:
         yield some
 
 
+def client_of(distributed: Any, address: str) -> Any:
+    """The client of a Dask cluster. Raises a fault if no scheduler answers."""
+    # (Dask and asyncio also log the errors that they raise, with tracebacks)
+    logging.disable()
+    try:
+        return distributed.Client(address, timeout=DASK_SECONDS)
+    except (OSError, TimeoutError, ValueError) as fault:
+        raise Fault('no Dask scheduler answers at %s: %s' % (address, fault)) from None
+
+
 def run_by_dask(jobs: Iterable[Job], count: int, address: str) -> Iterator[Result]:
     """The results of this many jobs, in the order in which they end, computed by the workers of a Dask cluster.
 
     Jobs are made only when the cluster needs them. Ctrl-C ends the call within a second, even if the cluster is stuck.
     """
     distributed: Any = packages.load('distributed')
-    try:
-        client: Any = distributed.Client(address, timeout=DASK_SECONDS)
-    except (OSError, TimeoutError, ValueError) as fault:
-        raise Fault('no Dask scheduler answers at %s: %s' % (address, fault)) from None
+    client = client_of(distributed, address)
     try:
         try:
             client.wait_for_workers(1, timeout=DASK_SECONDS)

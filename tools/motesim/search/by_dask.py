@@ -11,7 +11,7 @@ from typing import Any
 
 from motesim.experiments import packages
 from motesim.experiments.one_run import program_digest
-from motesim.experiments.runs import DASK_SECONDS, packed
+from motesim.experiments.runs import client_of, packed
 from motesim.faults import Fault
 from motesim.runner.programs import ProgramFault
 from motesim.search.runner import IsOver
@@ -43,11 +43,7 @@ class ByDask:
 
     def __init__(self, work: Work, address: str):
         self.distributed: Any = packages.load('distributed')
-        self.address = address
-        try:
-            self.client: Any = self.distributed.Client(address, timeout=DASK_SECONDS)
-        except (OSError, TimeoutError, ValueError) as fault:
-            raise Fault('no Dask scheduler answers at %s: %s' % (address, fault)) from None
+        self.address, self.client = address, client_of(self.distributed, address)
         try:
             with tempfile.TemporaryDirectory() as folder:
                 self.client.upload_file(str(packed(Path(folder))))
