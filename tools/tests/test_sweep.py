@@ -5,6 +5,7 @@ import contextlib
 import csv
 import gc
 import io
+import logging
 import os
 import signal
 import sqlite3
@@ -387,6 +388,23 @@ class SweepTest(Bed):
             path.write_text(path.read_text().replace(self.rows('old.csv')[0]['measures_sha256'], before))
             done = self.sweep(*command)
             self.assertEqual('from before a change of the measures. --renew' in done.stderr, is_old, done)
+
+    def test_rows_of_tools_that_make_other_scenarios_are_not_mixed_with_new_ones(self) -> None:
+        plan, path = self.folder / 'net.plan.toml', self.folder / 'old.csv'
+        words = '--measure', 'sent', '-o', 'old.csv', '--vary', 'period=1,2'
+        self.sweep(*words)
+        # (the name of a plan, and its comments, may change)
+        renamed = plan.rename(self.folder / 'other.plan.toml')
+        renamed.write_text('# mine\n' + renamed.read_text())
+        more = [*self.command(*words)[:3], 'other.plan.toml', *words[:-1], 'period=1..3']
+        done = subprocess.run(more, cwd=self.folder, env=self.here(), capture_output=True, text=True)
+        self.assertEqual((done.returncode, done.stdout), (0, 'old.csv: 3 runs, 1 of them now, 0 with a fault\n'))
+        renamed.rename(plan)
+        path.write_text(path.read_text().replace(self.rows('old.csv')[0]['scenario_sha256'], '0123456789abcdef'))
+        done = self.sweep(*words)
+        self.assertEqual((done.returncode, done.stderr), (2, (
+            'sweep: old.csv has 3 rows from before a change of the tools that make scenarios. --renew runs them again, '
+            'and -o names another file\n')))
 
     def test_a_parameter_that_nothing_uses_and_an_error_in_a_picture_are_known_before_the_runs(self) -> None:
         plan = self.folder / 'net.plan.toml'
@@ -805,6 +823,7 @@ class SweepTest(Bed):
     def test_what_is_told_before_anything_is_run(self) -> None:
         for words, seen in [
             (('--measure', 'speed'), "'speed' is not a measure"),
+            (('--measure', 'ratoi'), "'ratoi' is not a measure; did you mean ratio? A measure is one of sent,"),
             (('--measure', 'count: mote 0 prints a ${period}'), 'a measure has no parameters, so `${period}` isn\'t'),
             (('--measure', 'flow ratio: print ${period}'), 'a measure has no parameters, so `${period}` isn\'t'),
             ((), 'there is nothing to measure'),
@@ -1175,6 +1194,12 @@ class JobsAhead(unittest.TestCase):
         with self.assertRaises(runs.Stopped):
             list(self.by(cluster, 100))
         self.assertEqual((len(cluster.cancelled), cluster.is_closed), (runs.TASKS_AHEAD, True))
+
+    def test_dask_logs_no_tracebacks(self) -> None:
+        self.addCleanup(logging.disable, logging.NOTSET)
+        logging.disable(logging.NOTSET)
+        list(self.by(Cluster(1), 5))
+        self.assertFalse(logging.getLogger('distributed.client').isEnabledFor(logging.CRITICAL))
 
     def test_a_cluster_without_workers_is_reported(self) -> None:
         with self.assertRaisesRegex(Fault, 'has no workers'):

@@ -85,15 +85,31 @@ class Sweeper:
             ('motesim', row['program_sha256'] != self.made['program_sha256']),
             ('the measures', row['measures_sha256'] != self.made['measures_sha256'])) if is_changed]
 
+    def is_of_other_tools(self, row: Row) -> bool:
+        """Returns whether a row's scenario differs from the one that these tools make from the same plan and values."""
+        given = {name: value_of_text(text_of(row[name])) for name in self.plan.parameters}
+        # (a scenario names its plan, which may have had another name)
+        plan = Plan(text_of(row['plan']), self.plan.text, self.plan.files)
+        try:
+            return row['scenario_sha256'] != digest(plan.scenario(given).encode())
+        except Fault:
+            return True
+
     def keep(self, is_renewed: bool, retries: bool) -> None:
         """Reads the rows of the file. Rows of another plan or program are an error, or are dropped if this sweep runs
         them again."""
         count = unchanged = lost = 0
         others: Counter[str] = Counter()
         spots, places = array('Q'), array('q')
+        is_of_others: bool | None = None
         for spot, row in self.file.rows():
             count += 1
             changes, place = self.changed(row), self.places.of(row)
+            if is_of_others is None and not changes and not row['fault']:
+                # (one row is enough, because to make the scenarios of all rows would last long)
+                is_of_others = self.is_of_other_tools(row)
+            if is_of_others and not changes:
+                changes = ['the tools that make scenarios']
             others.update(changes)
             if changes:
                 lost += place is None
