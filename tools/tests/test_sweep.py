@@ -497,6 +497,23 @@ class SweepTest(Bed):
                 self.assertEqual(rows[-1]['note'], note % (last, before) if before else None)
                 self.assertEqual(rows[-1]['chance_seeds'], 'period period+128' if lines[0] == first else 'period')
 
+    def test_a_program_that_begins_with_another_multiple_of_the_motes_number(self) -> None:
+        plan = self.folder / 'net.plan.toml'
+        plan.write_text(plan.read_text().replace('period = 4', 'period = 4\nseed = 1'))
+        note = ('warning: with seed = %d mote k draws the same numbers as mote k + 1 with seed = %d, so these two runs '
+                'are not independent: begin with `((self * 257) + ${seed})`')
+        for value, column, before in (('(self + ${seed})', 'seed*1', 4), ('((${seed} + self) * 9)', 'seed*1', 4),
+                                      ('((self * 3) + ${seed})', 'seed*3', 2), ('((self * 257) + ${seed})', 'seed', 0),
+                                      ('(self + ${period})', None, 0), ('(2 == (self + ${seed}))', None, 0)):
+            with self.subTest(value):
+                (self.folder / 'a.mote').write_text(
+                    'process a;\ncode a { var dice = 0; body { dice = %s; print 3; } }\n' % value)
+                (self.folder / 'a.csv').unlink(missing_ok=True)
+                self.assertEqual(self.sweep('--vary', 'seed=1..5', '--measure', 'sent', '-o', 'a.csv').returncode, 0)
+                row = read_results(self.folder / 'a.csv')[1][-1]
+                self.assertEqual((row['chance_seeds'], row['note']),
+                                 (column, note % (5, before) if before else None))
+
     def test_seeds_of_two_commands_draw_alike(self) -> None:
         source = 'process a;\ncode a { var dice = 0; body { dice = ((self * 257) + ${period}); print 3; } }\n'
         (self.folder / 'a.mote').write_text(source)

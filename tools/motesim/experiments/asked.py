@@ -164,12 +164,14 @@ def sources_of(plan: Plan, measures: Sequence[str]) -> dict[str, str]:
 
 def chance_seeds(plan: Plan, files: Sequence[str]) -> list[str]:
     """The parameters that are seeds of the pattern for chance, in these files of a plan, and each with the distances
-    between the seeds of two processes, as in `seed+128`."""
+    between the seeds of two processes, as in `seed+128`, or with another factor of the mote's number, as in `seed*1`.
+    (Only a parameter that is named like a seed has such a factor: the sum may be a moment.)"""
     names: dict[str, None] = {}
     for file in files:
         with contextlib.suppress(Fault, ValueError):
             names.update(dict.fromkeys(seeds_of(plan.files.read(file).decode('utf-8', 'replace'))))
-    return [name for parameter in plan.parameters for name in names if parameter_of(name) == parameter]
+    return [name for parameter in plan.parameters for name in names
+            if parameter_of(name) == parameter and ('*' not in name or is_seed(parameter))]
 
 
 def unused(sweep: Sweep) -> list[str]:

@@ -8,6 +8,9 @@ runs draw the same numbers, even if several commands made the rows.
 If a second process of a mote draws numbers, it adds a distance to the seed, such as 128. Then the first process draws
 the numbers of the second one if its seed is greater by this distance, and so do the processes of neighbouring motes if
 the sum of the two distances is 257. For such a program the column has the distance too, as in `seed seed+128`.
+
+If a program begins with another multiple of its number, such as `dice = (self + ${seed});`, mote k draws the numbers
+of mote k + 1 with a nearby seed. Then the column has the factor, as in `seed*1`.
 """
 from __future__ import annotations
 
@@ -35,19 +38,23 @@ ONCE = (SHARED, TWICE, OWN, OWN_LINE, IGNORED, OVERFLOW, SAME_MOMENT, IDLE, FEW,
 # numbers.
 CHANCE, APART = 'chance_seeds', 257
 DRAWS = re.compile(r'self\s*\*\s*257\s*\)?\s*\+\s*\(?\s*\$\{(\w+)\}(?:\s*\)?\s*\+\s*(\d+))?')
-ADVICE = 'use at most %d seeds in a row'
+# The sum of the mote's number, or of a multiple of it, and a parameter.
+SUM = re.compile(r'[^=!<>]=[\s(]*(?:self(?:\s*\*\s*(\d+)\s*\))?\s*\+\s*\$\{(\w+)\}|\$\{(\w+)\}\s*\+\s*self\b)')
+ADVICE, OF_FACTOR = 'use at most %d seeds in a row', 'begin with `((self * 257) + ${%s})`'
 # The part of a note that this module writes; it is the last one.
 NOTE = re.compile(r'(?:; )?%swith \w+ = -?\d+ (?:mote k|a process) draws .*' % re.escape(WARNING), re.S)
 
 
 def seeds_of(text: str) -> list[str]:
     """The parameters that are seeds of the pattern in a program's text; and each with the distances between the seeds
-    of two processes, as in `seed+128`."""
+    of two processes, as in `seed+128`, or with another factor of the mote's number, as in `seed*1`."""
     added: dict[str, set[int]] = {}
     for name, number in DRAWS.findall(text):
         added.setdefault(name, set()).add(int(number or 0) % APART)
     distances = {name: sorted({abs(one - other) for one in its for other in its} - {0}) for name, its in added.items()}
-    return [it for name, its in distances.items() for it in (name, *('%s+%d' % (name, number) for number in its))]
+    found = [it for name, its in distances.items() for it in (name, *('%s+%d' % (name, number) for number in its))]
+    factors = {(first or second, int(factor or 1)) for factor, first, second in SUM.findall(text)}
+    return found + ['%s*%d' % it for it in sorted(factors) if it[1] not in (0, APART)]
 
 
 class Seeds:
@@ -69,12 +76,12 @@ class Seeds:
         distance, two different processes draw these numbers."""
         found: dict[int, int] = {}
         last: dict[int, int] = {}
-        distance = distance_of(name)
+        distance, factor = distance_of(name), factor_of(name)
         for value in sorted(self.values.get(name, ())):
-            before = [last[it % APART] for it in (value - distance, value + distance) if it % APART in last]
+            before = [last[it % factor] for it in (value - distance, value + distance) if it % factor in last]
             if before:
                 found[value] = max(before)
-            last[value % APART] = value
+            last[value % factor] = value
         return found
 
     def lines(self) -> list[str]:
@@ -83,9 +90,9 @@ class Seeds:
         for name, values in self.values.items():
             alike = self.earlier(name)
             if alike:
-                motes, seeds = apart(alike)
+                seeds = min(value - before for value, before in alike.items())
                 who = ('a process draws the same numbers as another process of a mote' if distance_of(name) else
-                       'mote k draws the same numbers as mote k + %d' % motes)
+                       'mote k draws the same numbers as mote k + %d' % (seeds // factor_of(name)))
                 found.append('%s = %d to %d: with %d of these %d seeds, %s with the seed %d less, so these runs are '
                              'not independent: %s' % (parameter_of(name), min(values), max(values), len(alike),
                                                       len(values), who, seeds, advice_of(name)))
@@ -93,8 +100,8 @@ class Seeds:
 
 
 def parameter_of(name: str) -> str:
-    """The parameter of a name such as `seed` or `seed+128`."""
-    return name.partition('+')[0]
+    """The parameter of a name such as `seed`, `seed+128` or `seed*1`."""
+    return re.split('[+*]', name)[0]
 
 
 def distance_of(name: str) -> int:
@@ -102,16 +109,17 @@ def distance_of(name: str) -> int:
     return int(name.partition('+')[2] or 0)
 
 
+def factor_of(name: str) -> int:
+    """The factor of a mote's number: that of a name such as `seed*1`, otherwise 257."""
+    return int(name.partition('*')[2] or APART)
+
+
 def advice_of(name: str) -> str:
-    """The number of consecutive seeds that draw different numbers, in words."""
+    """The number of consecutive seeds that draw different numbers, in words; or the first value of the pattern."""
+    if '*' in name:
+        return OF_FACTOR % parameter_of(name)
     distance = distance_of(name)
     return ADVICE % min(distance or APART, APART - distance)
-
-
-def apart(alike: Mapping[int, int]) -> tuple[int, int]:
-    """The least distance of two values that draw the same numbers: in motes, and in seeds."""
-    least = min(value - before for value, before in alike.items())
-    return least // APART, least
 
 
 def names_in(row: Mapping[str, Cell]) -> list[str]:
@@ -175,7 +183,8 @@ class Notes:
             before = self.alike.get(name, {}).get(value) if type(value) is int else None
             if before is not None and type(value) is int:
                 who = ('a process draws the same numbers as another process of a mote' if distance_of(name) else
-                       'mote k draws the same numbers as mote k + %d' % ((value - before) // APART))
+                       'mote k draws the same numbers as mote k + %d' % (
+                           (value - before) // factor_of(name)))
                 parts.append('%swith %s = %d %s with %s = %d, so these two runs are not independent: %s' % (
                     WARNING, parameter, value, who, parameter, before, advice_of(name)))
         return '; '.join(filter(None, parts))
