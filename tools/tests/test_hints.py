@@ -464,7 +464,7 @@ class Warnings(unittest.TestCase):
         for value, wanted in cases:
             with self.subTest(value):
                 self.assertEqual([it for it in self.seen(CODE % ('set t %s; send %s;' % (value, value))) if
-                                  'the result is' in it],
+                                  'the greatest value is' in it],
                                  [it % ', but the greatest value is 65,535: the result is ' for it in wanted] * 2)
 
     def test_a_test_of_sign_has_advice_on_counting_only_in_a_while(self) -> None:

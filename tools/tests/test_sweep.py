@@ -497,6 +497,20 @@ class SweepTest(Bed):
                 self.assertEqual(rows[-1]['note'], note % (last, before) if before else None)
                 self.assertEqual(rows[-1]['chance_seeds'], 'period period+128' if lines[0] == first else 'period')
 
+    def test_values_of_parameters_with_which_a_program_calculates_another_number(self) -> None:
+        plan = self.folder / 'net.plan.toml'
+        plan.write_text(plan.read_text().replace('period = 4', 'period = 4\nguard = 30'))
+        notes = {'(period * 90) / 100': {800: '`(800 * 90)` would be 72,000, but'},
+                 'period / guard': {25: '`(25 / 30)` is 0: '}, 'period - guard': {25: '`(25 - 30)` would be -5, but'}}
+        for value, wanted in notes.items():
+            value = value.replace('period', '${period}').replace('guard', '${guard}')
+            (self.folder / 'a.mote').write_text('process a;\ncode a { etimer t; body { set t (%s); print 3; } }\n' %
+                                                value)
+            self.sweep('--vary', 'period=25,40,800', '--measure', 'sent', '-o', 'a.csv', '--renew')
+            for row in read_results(self.folder / 'a.csv')[1]:
+                self.assertIn(wanted.get(cast(int, row['period']), ''), str(row['note'] or ''))
+                self.assertEqual(row['note'] is None, row['period'] not in wanted, row['note'])
+
     def test_a_program_that_begins_with_another_multiple_of_the_motes_number(self) -> None:
         plan = self.folder / 'net.plan.toml'
         plan.write_text(plan.read_text().replace('period = 4', 'period = 4\nseed = 1'))

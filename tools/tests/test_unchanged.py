@@ -22,6 +22,8 @@ code p {
 WARNED = [
     ('print x;', 'nothing assigns `x`, so its value is always 0: this `print`'), ('send x;', 'this `send` has'),
     ('set t ((10 * 5) / 100);', '`((10 * 5) / 100)` is 0: `/` calculates with whole numbers'),
+    ('set t (50 - 50);', '`(50 - 50)` is 0, so this timer is due at the moment at which it is set'),
+    ('set t (25 - 50);', '`(25 - 50)` would be -25, but no value is below 0: the result is 65,511, so this timer'),
     ('set t (one / 4);', '`(one / 4)` is 0'), ('if (now > last) { last = now; }', 'until this test is true'),
     ('if (last < now) { last = now; print 1; }', 'so the test is never true'),
     ('if (last < 0) { print 1; }', 'so `(last == 65535)` tests for it'),
@@ -31,7 +33,7 @@ WARNED = [
     ('while 1 { pause; if fired(t) { print 1; } }', 'Wait by `yield_until fired(t);` instead'),
 ]
 OTHERS = ['x = 1; print x;', 'if (one == x) { print x; }', 'post p e 1 into x; print x;', 'set t 0;',
-          'set t (one * 4);', 'if (now < last) { last = now; }', 'if (now > last) { print 1; } last = 3;',
+          'set t (one * 4);', 'set t (50 - 25);', 'set t (0 - 1);', 'if (now < last) { last = now; }', 'if (now > last) { print 1; } last = 3;',
           'while 1 { yield_until expired(t); if is(e) { print 1; } if one { reset t; } }',
           'while 1 { pause; if is(continue) { print 1; } }', 'while 1 { pause; yield; if is(packet) { print 1; } }']
 
@@ -52,7 +54,7 @@ class Unchanged(unittest.TestCase):
         for statements in OTHERS:
             with self.subTest(statements):
                 found = warnings_of(statements)
-                for wanted in ('nothing assigns', 'whole numbers', 'never true', 'hardly', 'pause'):
+                for wanted in ('nothing assigns', 'whole numbers', 'is 0', 'below 0', 'never true', 'hardly', 'pause'):
                     self.assertNotIn(wanted, found)
         self.assertEqual(warnings_of('if (now > last) { last = now; }', 0), '')
 

@@ -17,7 +17,8 @@ from typing import NamedTuple
 
 from motesim.explain.halted import all_halted
 from motesim.explain.idle import idle_losses
-from motesim.explain.lint import by_cause, of_losses, of_moments, of_seeds, programs_of
+from motesim.explain.lint import by_cause, has_zero, of_losses, of_moments, of_numbers, of_seeds
+from motesim.explain.lint import programs_of
 from motesim.faults import Fault
 from motesim.runner.batch import fault_of
 from motesim.runner.process import LimitMet, Limits, Runner
@@ -174,13 +175,18 @@ def of_measures(names: Sequence[str]) -> str:
     return '%s %s' % ('measure' if len(names) == 1 else 'measures', ', '.join(names))
 
 
-def warned(report: Report, known: Scenario, seconds: float) -> list[str]:
+def warned(report: Report, known: Scenario, seconds: float, text: str = '') -> list[str]:
     """The warnings about losses in step, about seeds, about packets that a mote sent at one moment, so that they
-    collided, about losses that lost nothing or too little, and about a run in which all motes halt. If finding them
-    lasts longer than a run may last, there are none."""
+    collided, about results of numbers in programs, about losses that lost nothing or too little, and about a run in
+    which all motes halt. If finding them lasts longer than a run may last, there are none.
+
+    text  the scenario's text, whose comment has the parameters of the plan that made it
+    """
     try:
         with limited(seconds):
-            its = [*of_losses(known, report), *of_seeds(known, programs_of(known)), *of_moments(report)]
+            programs = programs_of(known)
+            its = [*of_losses(known, report), *of_seeds(known, programs), *of_moments(report),
+                   *(it for program in programs.values() for it in of_numbers(program, has_zero(text)))]
             of_run = idle_losses(known, report), all_halted(report)
             return [WARNING + it for it in (*(it.text for it in by_cause(its)), *of_run) if it]
     except TimeoutError:
@@ -207,7 +213,7 @@ def run_job(job: Job) -> Result:
         known, read = Scenario.parse(text), Report.parse(got.report)
         places = digest(repr([(it.x, it.y) for it in known.places]).encode())
         measures, note = measured(work, Bench(Run(work.plan, read, known), plan.with_given(dict(job.given))), known)
-        found = warned(read, known, work.seconds)
+        found = warned(read, known, work.seconds, text)
         note = '; '.join(filter(None, [note, *map(one_line, found)]))
     except BaseException as failure:
         fault = reason_of(failure)

@@ -392,7 +392,7 @@ def of_values(program: Program, is_zero_given: bool) -> Iterator[tuple[str, Toke
     yield from () if is_zero_given else (*program.tests_of_sign(), *unchanged.warnings(*its))
     yield from (*program.tests_of_two_values(), *program.chains())
     yield from () if is_zero_given else (*differences.tests(*its), *unchanged.never_above(*its))
-    yield from (*signed.tests(*its, program.below), *wraps.warnings(*its))
+    yield from signed.tests(*its, program.below)
 
 
 def of_program(program: Program, is_zero_given: bool) -> Iterator[Warned]:
@@ -409,6 +409,7 @@ def of_program(program: Program, is_zero_given: bool) -> Iterator[Warned]:
     # (a translated program has the results of C, and its author doesn't know its tests)
     for text, token in () if program.is_translated else of_values(program, is_zero_given):
         yield Warned(text, name, token)
+    yield from of_numbers(program, is_zero_given)
     for text, token in program.endless_waits():
         yield Warned(text, name, token)
     for token in program.waits_before_set():
@@ -419,6 +420,16 @@ def of_program(program: Program, is_zero_given: bool) -> Iterator[Warned]:
     for text, token in (*event.mistaken(*its), *event.mistaken_timers(*its), *exclusive.warnings(*its),
                         *unheard.warnings(*its), *unpolled.warnings(*its)):
         yield Warned(text, name, token)
+
+
+def of_numbers(program: Program, is_zero_given: bool) -> Iterator[Warned]:
+    """Yields the warnings about results of numbers, which may be values of parameters: about sums and products that are
+    too great, and about times that are 0 or below 0."""
+    its = program.words, program.tokens
+    # (a translated program has the results of C)
+    for text, token in () if program.is_translated else (
+            *(() if is_zero_given else unchanged.times(*its)), *wraps.warnings(*its)):
+        yield Warned(text, program.name, token)
 
 
 def of_losses(scenario: Scenario, report: Report) -> Iterator[Warned]:
@@ -548,13 +559,18 @@ def of_run(scenario: Scenario, report: Report) -> Iterator[Warned]:
     yield from of_used_up(scenario, programs, report, known + loops)
 
 
+def has_zero(text: str) -> bool:
+    """Returns whether a parameter of the plan that made a scenario is 0, by the comment in the scenario's text."""
+    return ZERO_GIVEN.search(text) is not None
+
+
 def warnings(scenario: Scenario, report: Report | None = None, text: str = '') -> list[Warned]:
     """Returns the warnings of a scenario. If its report is given, they include those about what happened in the run.
 
     text  the scenario's text, whose comment has the parameters of the plan that made it
     """
     programs = programs_of(scenario)
-    is_zero_given = ZERO_GIVEN.search(text) is not None
+    is_zero_given = has_zero(text)
     found = [it for program in programs.values() for it in of_program(program, is_zero_given)]
     found += [*of_seeds(scenario, programs), *of_net(scenario, programs, report)]
     loops = list(of_used_up(scenario, programs, report, found)) if report is not None else []

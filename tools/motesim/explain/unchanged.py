@@ -17,8 +17,10 @@ CALCULATES: dict[str, Callable[[int, int], int]] = {
     '%': lambda left, right: left % right if right else 0}
 NEVER_ASSIGNED = ('nothing assigns `%s`, so its value is always %s: this `%s` has this value each time. Assign the '
                   'value that is meant, or write the number itself')
-ZERO = ('`%s` is 0: `/` calculates with whole numbers. So this timer is due at the moment at which it is set; count '
-        'all times of the program in smaller parts of a second')
+ZERO = '`%s` is 0, so this timer is due at the moment at which it is set'
+ZERO_BY_DIVISION = ('`%s` is 0: `/` calculates with whole numbers. So this timer is due at the moment at which it is '
+                    'set; count all times of the program in smaller parts of a second')
+BELOW_0 = '`%s` would be %d, but no value is below 0: the result is %s, so this timer is due much later'
 NEVER_ABOVE = ('`%s` is %d, which is the greatest number, until this test is true, so the test is never true. In C, '
                'this may be -1, the least number: begin with 0 and count from 1, or test for the first value by '
                '`(%s == %d)`')
@@ -48,10 +50,28 @@ def warnings(words: list[str], tokens: list[Token]) -> Iterator[tuple[str, Token
         values = initial_values(words, begin, end)
         fixed = {name: value for name, value in values.items() if not assignments(words, begin, end, name)}
         yield from _never_assigned(words, tokens, range(begin, end), fixed)
+
+
+def times(words: list[str], tokens: list[Token]) -> Iterator[tuple[str, Token]]:
+    """Each time of a timer that is always 0, or that would be below 0, with the warning."""
+    for begin, end in codes_of(words):
+        values = initial_values(words, begin, end)
+        fixed = {name: value for name, value in values.items() if not assignments(words, begin, end, name)}
         for at in range(begin, end):
             value = words[at + 2:words.index(';', at)] if words[at] == 'set' else []
             if len(value) > 1 and result(value, fixed) == 0:
-                yield ZERO % shown(value), tokens[at + 2]
+                yield (ZERO_BY_DIVISION if '/' in value else ZERO) % shown(value), tokens[at + 2]
+            below = difference_below_0(value, fixed)
+            if below is not None:
+                yield BELOW_0 % (shown(value), below, f'{below % (MOST + 1):,}'), tokens[at + 2]
+
+
+def difference_below_0(value: list[str], fixed: dict[str, int]) -> int | None:
+    """A difference of known numbers that is below 0; otherwise None. (Programs write `(0 - 1)` for the greatest
+    number.)"""
+    its = split(value)
+    left, right = (result(its[0], fixed), result(its[2], fixed)) if its and its[1] == '-' else (None, None)
+    return left - right if left and right and left < right else None
 
 
 def never_above(words: list[str], tokens: list[Token]) -> Iterator[tuple[str, Token]]:
