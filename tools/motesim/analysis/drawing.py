@@ -119,11 +119,6 @@ def _figure(pyplot: Any, wish: Wish) -> tuple[Any, Any]:
     return figure, axes
 
 
-def _legend_of(wish: Wish, by: Cell) -> str:
-    """The text of a value of `by` in the legend."""
-    return dict(wish.labels).get(text_of(by), wish.name_of_by(by))
-
-
 def unused_labels(every: Iterable[Cell], wish: Wish) -> list[str]:
     """The line about labels that aren't used, because no curve has their value; `every` has the values of the
     curves."""
@@ -195,7 +190,7 @@ def _draw_steps(axes: Any, shown: Shown, wish: Wish) -> None:
     for number, it in enumerate(curves):
         look, values = _look(number), it.values or [min(every)]
         parts = [at / it.runs for at in range(len(it.values) + 1)]
-        label = _legend_of(wish, it.by) + ('' if it.values else ': no run has a value') if wish.by else None
+        label = wish.legend_of(it.by) + ('' if it.values else ': no run has a value') if wish.by else None
         axes.step([values[0], *it.values, max(every)], [*parts, parts[-1]], where='post', label=label,
                   color=look['color'], linestyle=look['linestyle'])
     if wish.log:
@@ -399,7 +394,7 @@ def _draw_curves(axes: Any, shown: Shown, wish: Wish) -> None:
         _draw_steps(axes, shown, wish)
     groups = _groups(shown) if wish.show != 'cdf' else {}
     for number, (by, points) in enumerate(groups.items()):
-        label = _legend_of(wish, by) if wish.by and wish.against else None
+        label = wish.legend_of(by) if wish.by and wish.against else None
         points = with_gaps(points, shown, places) if wish.show in ('mean', 'median') else points
         xs = [it.x if is_scale else float(places.index(_place_of(it, wish))) for it in points]
         if wish.against and (wish.show in ('mean', 'points') or not is_scale) and shown.points[0].across is None:
@@ -513,7 +508,7 @@ def draw_differences(found: Sequence[Difference], wish: Wish, words: str, notes:
         moved = dict(zip(places, dodged(every, number, len(groups), wish.log) if wish.against else every))
         gaps, look = [it.difference for it in its], _look(number)
         axes.errorbar([moved[_place_of(it, wish)] for it in its], [it.middle for it in gaps], yerr=lengths(gaps),
-                      capsize=3, elinewidth=1, label=_legend_of(wish, by) if wish.by and wish.against else None,
+                      capsize=3, elinewidth=1, label=wish.legend_of(by) if wish.by and wish.against else None,
                       **(look if is_scale else {**look, 'linestyle': ''}))
     axes.axhline(0, color='#555555', linewidth=0.8)
     _scale(axes, places, wish, is_scale)

@@ -118,6 +118,10 @@ class Wish(NamedTuple):
         """A value of `by`, as in `period 20` or `period 20, density thin`."""
         return ', '.join('%s %s' % (name, text_of(it)) for name, it in self.columns_of_by(value).items())
 
+    def legend_of(self, value: Cell) -> str:
+        """The text of the legend for a value of `by`."""
+        return dict(self.labels).get(text_of(value), self.name_of_by(value))
+
     def kind_of(self, name: str, values: Sequence[float]) -> Measured:
         """Returns the kind of a measure: that of all its values in the file if it is known, or that of these values."""
         kind = self.kinds.get(name, measured(values))

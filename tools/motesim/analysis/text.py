@@ -482,7 +482,7 @@ def crossings(shown: Shown, wish: Wish) -> list[str]:
 def crossings_in_short(shown: Shown, wish: Wish) -> list[str]:
     """The crossing of each curve in one line, for the text below a picture."""
     shares = shares_that_cross(shown, wish)
-    return [('%s: ' % wish.name_of_by(by) if wish.by else '') + of_crossing_in_short(
+    return [('%s: ' % wish.legend_of(by) if wish.by else '') + of_crossing_in_short(
         found, wish, neighbours(shown, by), shares.get(by), lacking(shown, by))
         for by, found in crossings_of(shown, wish).items()] or crossings(shown, wish)
 
