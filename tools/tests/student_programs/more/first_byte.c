@@ -1,6 +1,7 @@
 /* Packets of two bytes and acknowledgements of one, read in several ways. */
 #include "contiki.h"
 #include "net/rime.h"
+#include "node-id.h"
 #include <stdio.h>
 #include <string.h>
 

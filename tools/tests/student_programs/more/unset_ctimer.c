@@ -1,6 +1,7 @@
 /* A ctimer that is restarted before it is set runs nothing. */
 #include "contiki.h"
 #include "net/rime.h"
+#include "node-id.h"
 #include <stdio.h>
 
 static struct broadcast_conn bc;
@@ -45,7 +46,7 @@ PROCESS_THREAD(alarm, ev, data)
     packetbuf_copyfrom(&count, sizeof(count));
     broadcast_send(&bc);
     if(count == 2) {
-      ctimer_set(&ct, 5, tick, NULL);
+      ctimer_set(&ct, 6, tick, NULL);
     }
   }
   PROCESS_END();
