@@ -1,16 +1,13 @@
 """Programs in C that are translated as a whole do in motesim what they do in C."""
-import shutil
-import tempfile
 import unittest
-from pathlib import Path
 
 from c_programs import CProgram
 from contiki_callbacks import MOTE, CallbackProgram, first_meeting
 from contiki_programs import SECOND, TEXT, ContikiProgram, OnHost
 from motesim.report import Report
 from motesim.runner.run import answer
-from skips import need_command, need_program
-from student_programs import END, PROGRAMS, SCENARIO, kernel_in, lines_in_motesim, lines_on_host
+from skips import need_program
+from student_programs import END, SCENARIO
 from translated_c import in_process, translation
 
 # The seeds of the random programs that are compared, and the least number that has to be translated.
@@ -67,27 +64,6 @@ MACROS = (
     ('#define CAT(a, b) a##b\n#define XCAT(a, b) CAT(a, b)\n#define N 4', 'int n4 = 6; printf("%d %d %d", XCAT(n, N), '
      'CAT(, n4), CAT(1, 2));', '6 6 12'),
 )
-# Programs of students that aren't translated: they schedule protothreads themselves, start a process with a value, or
-# have callbacks for two connections.
-REFUSED = frozenset({'shared_item', 'side_by_side', 'start_value', 'two_connections'})
-
-
-class Students(unittest.TestCase):
-    def test_programs_of_students_print_what_they_print_with_the_kernel_of_contiki(self) -> None:
-        need_program(self)
-        need_command(self, 'gcc', 'gcc')
-        need_command(self, 'objcopy', 'binutils')
-        folder = Path(tempfile.mkdtemp())
-        self.addCleanup(shutil.rmtree, folder)
-        kernel = kernel_in(folder)
-        for file in sorted((*PROGRAMS.glob('*.c'), *PROGRAMS.glob('more/*.c'))):
-            source = file.read_text()
-            with self.subTest(file.stem):
-                text, notes = translation(source, SECOND)
-                self.assertEqual(text is None, file.stem in REFUSED, notes)
-                if text is not None:
-                    found = lines_in_motesim(SCENARIO % (END, text))
-                    self.assertEqual(found, lines_on_host(source, folder, kernel), text)
 
 
 class Values(unittest.TestCase):

@@ -1,1 +1,0 @@
-#include "students.h"
