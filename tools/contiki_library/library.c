@@ -243,19 +243,13 @@ packetbuf_addr(uint8_t type)
   return type == PACKETBUF_ADDR_SENDER ? &sender : library_address();
 }
 
-void
-packetbuf_clear(void)
-{
-  memset(buffer, 0, sizeof(buffer));
-  length = 0;
-}
+void packetbuf_clear(void) { length = 0; }
 
 int
 packetbuf_copyfrom(const void *from, uint16_t size)
 {
-  packetbuf_clear();
   length = size < PACKETBUF_SIZE ? size : PACKETBUF_SIZE;
-  memcpy(buffer, from, length);
+  memmove(buffer, from, length);
   return length;
 }
 
@@ -340,7 +334,7 @@ send(const void *connection, uint16_t value)
   return from < opened + opened_count ? from->calls : NULL;
 }
 /*---------------------------------------------------------------------------*/
-static uint16_t word_in(void) { return (uint16_t)(buffer[0] | buffer[1] << 8); }
+static uint16_t word_in(void) { return (uint16_t)(buffer[0] | (length > 1 ? buffer[1] << 8 : 0)); }
 
 void abc_close(struct abc_conn *c) { close_connection(c); }
 void broadcast_close(struct broadcast_conn *c) { close_connection(c); }
@@ -426,7 +420,7 @@ deliver(int from, uint16_t value)
   const struct sent_packet *packet = sent_by(from, value);
   int i;
 
-  packetbuf_clear();
+  memset(buffer, 0, sizeof(buffer));
   buffer[0] = (unsigned char)value;
   buffer[1] = (unsigned char)(value >> 8);
   length = packet != NULL ? packet->length : BYTES;

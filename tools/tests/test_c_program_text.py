@@ -1123,7 +1123,7 @@ static const struct broadcast_callbacks calls = { recv };'''
 
     def test_a_packet_of_another_connection_has_a_remark(self) -> None:
         above = ('static struct broadcast_conn bc; static struct unicast_conn uc; static linkaddr_t to;\n'
-                 'static void recv(struct broadcast_conn *c, const linkaddr_t *from) { printf("%d", from->u8[0]); }\n'
+                 'static void recv(struct broadcast_conn *c, const linkaddr_t *from) { broadcast_send(c); }\n'
                  'static const struct broadcast_callbacks calls = {recv};\n'
                  'static const struct unicast_callbacks nothing = {NULL};')
         opened = '  broadcast_open(&bc, 129, &calls); unicast_open(&uc, 146, &nothing); packetbuf_copyfrom(&b, 1);\n  '
@@ -1131,6 +1131,7 @@ static const struct broadcast_callbacks calls = { recv };'''
         for send, is_seen in ('unicast_send(&uc, &to);', True), ('broadcast_send(&bc);', False):
             notes = self.remarks(opened + send, above)
             self.assertEqual(remark in notes, is_seen, notes)
+            self.assertNotIn('packets of `c`', notes)
 
     def test_a_connection_that_is_never_opened_has_a_remark(self) -> None:
         above = 'static struct broadcast_conn bc, other;'

@@ -65,6 +65,17 @@ class Comparison(unittest.TestCase):
         self.assertEqual(self.difference(in_process('  printf("%d", 3);'), in_process('  ;')),
                          'compiled by gcc, mote 0 prints 3 at 0, but its translation prints nothing more')
 
+    def test_a_packet_may_be_copied_from_the_buffer_itself(self) -> None:
+        above = RADIO.replace('printf("%d", *(int *)packetbuf_dataptr());', '''
+  uint16_t *p = packetbuf_dataptr();
+  printf("%d", *p);
+  packetbuf_copyfrom(p, 2);
+  broadcast_send(&bc);''').replace('static struct broadcast_conn bc;', '').replace(
+            'static void recv', 'static struct broadcast_conn bc;\nstatic void recv')
+        body = ('  broadcast_open(&bc, 129, &calls); if(node_id == 0) { n = 7; packetbuf_copyfrom(&n, 2);'
+                ' broadcast_send(&bc); } PROCESS_WAIT_EVENT();')
+        self.assertEqual(self.difference(in_process(body, above, '  ' + TIMER)), '')
+
     def test_a_program_that_leaves_an_array_crashes(self) -> None:
         source = in_process('  n = 9; printf("%d", a[n]);', inside='  static int a[3], n;')
         self.assertEqual(self.difference(source, in_process('  ;')), CRASHES)

@@ -180,7 +180,9 @@ class Radio(Calls):
     def check_connected(self, it: Expression) -> None:
         """Notes that a packet is sent by another connection than the one whose function gets all packets here."""
         variable, usage = base_of(it), self.program.usage
-        if usage.callback and variable is not None and usage.connected not in (variable, None):
+        # (a parameter of the function is the connection that has it)
+        if usage.callback and variable is not None and variable.type.kind == 'connection' \
+                and usage.connected not in (variable, None):
             self.remark_mistake(it.line, OTHER_CONNECTION % (usage.callback.name, variable.name))
 
     def call_of_sent(self, it: Expression) -> None:
