@@ -2,109 +2,13 @@
 waits of the process are for flags, polls, events and timers. Another mote sends packets, or answers each one."""
 from __future__ import annotations
 
-import subprocess
 from collections import Counter
-from pathlib import Path
 
-from contiki_programs import ABOVE, END, HOST, ContikiProgram
+from contiki_programs import ContikiProgram
 from motesim.report import Report
 
-MOTE = '[[mote]]\nx = %d\ny = 0\nprogram = "%s"\n'
-
-# The peer's first packet, the time between two of its packets, and the time of a packet on its way.
-FIRST, PERIOD, DELAY = 3, 7, 1
-# (what Rime declares; a callback runs in the radio's process, when this process is polled)
-RIME = r"""
-#include <string.h>
-typedef union { unsigned char u8[2]; } rimeaddr_t;
-typedef rimeaddr_t linkaddr_t;
-struct broadcast_conn;
-struct broadcast_callbacks {
-  void (*recv)(struct broadcast_conn *c, const rimeaddr_t *from);
-  void (*sent)(struct broadcast_conn *c, int status, int num_tx);
-};
-struct broadcast_conn { const struct broadcast_callbacks *calls; };
-static struct broadcast_conn *opened;
-static uint16_t packet;
-static rimeaddr_t rimeaddr_node_addr;
-#define linkaddr_node_addr rimeaddr_node_addr
-static void broadcast_open(struct broadcast_conn *c, int channel, const struct broadcast_callbacks *calls)
-{
-  c->calls = calls;
-  opened = c;
-}
-static void *packetbuf_dataptr(void) { return &packet; }
-static void packetbuf_copyfrom(const void *from, int size) { packet = 0; memcpy(&packet, from, size < 2 ? size : 2); }
-static void packetbuf_copyto(void *to) { memcpy(to, &packet, 2); }
-static void broadcast_send(struct broadcast_conn *c)
-{
-  (printf)("%lu send %u\n", (unsigned long)clock_time(), packet);
-  medium_send(0, 0, packet);
-}
-SYSTEM_PROCESS(radio_process, "radio");
-const struct host_memory radio_memory[] = { HOST_MEMORY(radio_process), HOST_MEMORY_END };
-static struct { uint16_t value; int from; } ring[8];
-static int ring_count;
-void radio_receive(int from, uint64_t number, uint16_t value)
-{
-  if(mote_number() == 1) {
-    if(ANSWERS) medium_send(1, 0, value + 1);
-    return;
-  }
-  if(ring_count < 8) {
-    ring[ring_count].value = value;
-    ring[ring_count++].from = from;
-    process_poll(&radio_process);
-  }
-}
-uint16_t motesim_word(process_event_t ev, process_data_t data) { return 0; }
-uint16_t motesim_from(process_event_t ev, process_data_t data) { return 0; }
-PROCESS_THREAD(radio_process, ev, data)
-{
-  int i;
-  if(ev == PROCESS_EVENT_POLL) {
-    for(i = 0; i < ring_count; i++) {
-      rimeaddr_t from = {{ 0 }};
-      from.u8[0] = ring[i].from;
-      packet = ring[i].value;
-      if(opened != NULL) opened->calls->recv(opened, &from);
-    }
-    ring_count = 0;
-  }
-  return PT_YIELDED;
-}
-"""
-NET = r"""
-PROCESS(peer, "peer");
-static struct etimer peer_timer;
-static uint16_t peer_value;
-PROCESS_THREAD(peer, ev, data)
-{
-  PROCESS_BEGIN();
-  if(!ANSWERS) {
-    etimer_set(&peer_timer, %d);
-    while(1) {
-      PROCESS_WAIT_EVENT_UNTIL(etimer_expired(&peer_timer));
-      medium_send(1, 0, peer_value);
-      peer_value = (peer_value + 3) %% 8;
-      etimer_set(&peer_timer, %d);
-    }
-  }
-  PROCESS_END();
-}
-static const struct host_memory memory[] = { HOST_MEMORY_END };
-static struct process *const peers[] = { &peer, NULL };
-static const struct host_event events[] = { { NULL, NULL } };
-static const struct host_timer timers[] = { HOST_TIMERS_END };
-static const struct host_program program = {
-  "p", memory, (struct process *const *)autostart_processes, autostart_processes, NULL, events, timers
-};
-static const struct host_program peer_program = { "q", memory, peers, peers, NULL, events, timers };
-static const struct host_mote motes[] = { { 0, 0, &program, 32 }, { 1, 0, &peer_program, 32 } };
-static const struct host_loss losses[] = { { 0, 0, 0 } };
-const struct host_net host_net = { %d, 10, %d, 100, 0, motes, 2, losses, 0 };
-int main(void) { medium_init(); motes_init(); run_net(); return 0; }
-""" % (FIRST, PERIOD, END, DELAY)
+# The peer's first packet, and the time between two of its packets.
+FIRST, PERIOD = 3, 7
 PEER = """
 q = '''
 process peer;
@@ -123,25 +27,11 @@ ANSWER = 'while 1 { yield_until is(packet); send (data + 1); }'
 class CallbackProgram(ContikiProgram):
     """A random program with a callback. Its lines are those of a file in C without the `#include` lines."""
 
-    def prints_on(self, folder: Path, kernel: list[str]) -> list[str] | None:
-        """The lines that the program prints on the host, and the packets that it sends."""
-        file = folder / 'program.c'
-        file.write_text(ABOVE.replace('#define', '#define ANSWERS %d\n#define' % self.answers, 1) + RIME
-                        + '\n'.join(self.lines) + NET)
-        built = subprocess.run(['tcc', '-w', '-I%s' % HOST, '-o', folder / 'program', file,
-                                *(it for it in kernel if not it.endswith('/radio.o'))], capture_output=True, text=True)
-        assert not built.returncode, built.stderr + file.read_text()
-        try:
-            done = subprocess.run([folder / 'program'], capture_output=True, text=True, timeout=5)
-        except subprocess.TimeoutExpired:
-            return None
-        found = [it.replace(' radio ', ' %s ' % self.names[0].removesuffix('_process'))
-                 for it in done.stdout.splitlines()]
-        return None if done.returncode or len(found) > 300 else found
+    motes = '[[mote]]\nx = 1\ny = 0\nprogram = "q"\n'
 
     @property
-    def peer(self) -> str:
-        """The program of the other mote, for a scenario."""
+    def peer(self) -> str:  # type: ignore[override]
+        """The program of the other mote."""
         return PEER % (('receiver peer;\n', ANSWER) if self.answers else ('', BEACON))
 
     def _program(self) -> list[str]:

@@ -1,57 +1,36 @@
-"""Random programs for Contiki 2.x in C, as students type them: one or two processes that wait, post and print. And what
-tests need that compile programs for the host of Contiki's kernel."""
+"""Random programs for Contiki 2.x in C, as students type them: one or two processes that wait, post and print. They are
+compared with their translations by gcc and the simulator in C."""
 from __future__ import annotations
 
 import shutil
-import subprocess
 import tempfile
 import unittest
 from pathlib import Path
 
 from c_programs import LARGEST, MOST_PRINTS, CProgram
-from here import TOOLS
+from motesim.c_program.program import Translation
+from motesim.grading.compiled import Compiled, Deed, InC, NoComparison, deeds_in
 from skips import need_command, need_program
 
-HOST = TOOLS / 'contiki_host'
 NAMES = (('hello', 'other'), ('blink_process', 'sink_process'), ('main_process', 'worker'))
-# A program's prints are compared up to this moment; a second has the length that the messages assume.
-END, SECOND = 60, 10
-# A scenario with a program in the notation on mote 0.
-TEXT = """version = 1
+# A scenario with a program in the notation on mote 0. Its end is after about three seconds of the program.
+END = 400
+SCENARIO = """version = 1
 end = %d
 [medium]
 range = 10
 base = 1
 per = 100
-[programs]
-p = '''
-%%s
-'''
 [[mote]]
 x = 0
 y = 0
 program = 'p'
-""" % END
-ABOVE = r"""#include <stdio.h>
-#include "contiki.h"
-#include "host.h"
-#include "medium.h"
-#include "mote.h"
-#include "run.h"
-#define CLOCK_SECOND %d
-#define printf(...) (printf("%%lu %%s ", (unsigned long)clock_time(), PROCESS_CURRENT()->name), printf(__VA_ARGS__))
-""" % SECOND
-BELOW = """
-static const struct host_memory memory[] = { HOST_MEMORY_END };
-static const struct host_event events[] = { { NULL, NULL } };
-static const struct host_timer timers[] = { HOST_TIMERS_END };
-static const struct host_program program = {
-  "p", memory, (struct process *const *)autostart_processes, autostart_processes, NULL, events, timers
-};
-static const struct host_mote motes[] = { { 0, 0, &program, 32 } };
-static const struct host_loss losses[] = { { 0, 0, 0 } };
-const struct host_net host_net = { %d, 10, 1, 100, 0, motes, 1, losses, 0 };
-int main(void) { medium_init(); motes_init(); run_net(); return 0; }
+%%s
+[programs]
+%%s
+p = '''
+%%s
+'''
 """ % END
 
 
@@ -69,21 +48,16 @@ class ContikiProgram(CProgram):
         self.is_defined = self._is(0.4)
         self.lines = self._program()
 
-    def prints_on(self, folder: Path, kernel: list[str]) -> list[str] | None:
-        """The lines that the program prints on the host: moment, process and number. None if they aren't a few small
-        numbers. `kernel`: the compiled files of the host."""
-        file = folder / 'program.c'
-        file.write_text(ABOVE + '\n'.join(self.lines) + BELOW)
-        built = subprocess.run(['tcc', '-w', '-I%s' % HOST, '-o', folder / 'program', file, *kernel],
-                               capture_output=True, text=True)
-        assert not built.returncode, built.stderr + file.read_text()
-        try:
-            done = subprocess.run([folder / 'program'], capture_output=True, text=True, timeout=5)
-        except subprocess.TimeoutExpired:
-            return None
-        found = done.stdout.splitlines()
-        is_small = len(found) <= MOST_PRINTS and all(0 <= int(it.split()[2]) <= LARGEST for it in found)
-        return found if is_small and not done.returncode else None
+    # The scenario around the translation: further motes, and their programs.
+    motes = peer = ''
+
+    @property
+    def source(self) -> str:
+        return '\n'.join(['#include "contiki.h"', '#include "net/rime.h"', *self.lines])
+
+    def in_net(self, found: Translation) -> InC:
+        """The program in its scenario."""
+        return InC(self.source, found, SCENARIO % (self.motes, self.peer, found.text))
 
     def _program(self) -> list[str]:
         lines = ['PROCESS(%s, "%s");' % (it, it.removesuffix('_process')) for it in self.names]
@@ -250,17 +224,20 @@ class ContikiProgram(CProgram):
 
 
 class OnHost(unittest.TestCase):
-    """Tests that compile programs for the host of Contiki's kernel."""
+    """Tests that compile programs for the simulator in C."""
 
     def setUp(self) -> None:
         need_program(self)
+        need_command(self, 'gcc', 'gcc')
         need_command(self, 'tcc', 'tcc')
-        self.folder = Path(tempfile.mkdtemp())
-        self.addCleanup(shutil.rmtree, self.folder)
+        folder = Path(tempfile.mkdtemp())
+        self.addCleanup(shutil.rmtree, folder)
+        self.compiled = Compiled(folder)
 
-    def kernel(self) -> list[str]:
-        """The compiled files of the host, without its main function."""
-        found = [(it, self.folder / (it.stem + '.o')) for it in HOST.glob('*.c') if it.name != 'main.c']
-        for source, compiled in found:
-            subprocess.run(['tcc', '-c', '-I%s' % HOST, '-o', compiled, source], check=True)
-        return [str(it) for _, it in found]
+    def deeds(self, its: InC) -> list[Deed] | None:
+        """The numbers that mote 0 prints and sends as a compiled program; None if they aren't a few small numbers."""
+        try:
+            found = deeds_in(self.compiled.report(its, 'p'))[0]
+        except NoComparison:
+            return None
+        return found if len(found) <= MOST_PRINTS and all(it.value <= LARGEST for it in found) else None

@@ -2,8 +2,11 @@
 import unittest
 
 from c_programs import CProgram
-from contiki_callbacks import MOTE, CallbackProgram, first_meeting
-from contiki_programs import SECOND, TEXT, ContikiProgram, OnHost
+from contiki_callbacks import CallbackProgram, first_meeting
+from contiki_programs import ContikiProgram, OnHost
+from motesim.c_program.program import translated
+from motesim.c_program.refusal import Refusal
+from motesim.grading.compiled import KINDS, deeds_in
 from motesim.report import Report
 from motesim.runner.run import answer
 from skips import need_program
@@ -142,7 +145,7 @@ class Random(OnHost):
         for seed in OF_C:
             program = CProgram(seed, bool(seed % 2))
             wanted = program.prints()
-            text, notes = translation(in_process('\n'.join(program.body), '\n'.join(program.functions)), SECOND)
+            text, notes = translation(in_process('\n'.join(program.body), '\n'.join(program.functions)))
             # (a program may depend on an order that C leaves open)
             if wanted is None or 'C doesn\'t define when' in notes:
                 continue
@@ -154,41 +157,33 @@ class Random(OnHost):
         self.assertGreaterEqual(count, LEAST_OF_C)
 
     def test_programs_for_contiki_print_what_they_print_with_its_kernel(self) -> None:
-        kernel, count = self.kernel(), 0
-        for seed in OF_CONTIKI:
-            program = ContikiProgram(seed)
-            wanted = program.prints_on(self.folder, kernel)
-            text, notes = translation('\n'.join(program.lines), SECOND)
-            if wanted is None or text is None:
-                self.assertTrue(wanted is None or 'switch' in notes, notes)
-                continue
-            count += 1
-            with self.subTest(seed=seed, text=text):
-                lines = Report.parse(answer((TEXT % text).encode()).report).lines('print')
-                got = ['%s %s %s' % (it.at, str(it.process).removesuffix('_process'), it.value) for it in lines]
-                self.assertEqual(got, wanted)
+        count = 0
+        for program in map(ContikiProgram, OF_CONTIKI):
+            with self.subTest(source=program.source):
+                try:
+                    its = program.in_net(translated(program.source))
+                except Refusal as refusal:
+                    self.assertIn('switch', refusal.reason)
+                    continue
+                if self.deeds(its) is not None:
+                    count += 1
+                    self.assertEqual(self.compiled.difference(its, 'p', answer), '', its.translation.text)
         self.assertGreaterEqual(count, LEAST_OF_CONTIKI)
 
     def test_programs_with_a_callback_print_and_send_what_they_do_with_its_kernel(self) -> None:
-        kernel, count = self.kernel(), 0
-        for seed in OF_CALLBACKS:
-            program = CallbackProgram(seed)
-            wanted = program.prints_on(self.folder, kernel)
-            text, notes = translation('\n'.join(program.lines), SECOND)
+        count = 0
+        for program in map(CallbackProgram, OF_CALLBACKS):
+            its = program.in_net(translated(program.source))
+            wanted = self.deeds(its)
             if wanted is None:
                 continue
             count += 1
-            with self.subTest(seed=seed, text=text, notes=notes):
-                scenario = TEXT.partition('[[mote]]')[0] % text + program.peer + MOTE % (0, 'p') + MOTE % (1, 'q')
-                report = Report.parse(answer(scenario.encode()).report)
-                end = first_meeting(report)
-                prints = ['%s %s %s' % (it.at, str(it.process).removesuffix('_process'), it.value)
-                          for it in report.lines('print') if it.at < end]
-                sends = ['%s send %s' % (it.at, it.value) for it in report.lines('send')
-                         if it.mote == 0 and it.at < end]
-                known = [it for it in wanted if int(it.split()[0]) < end]
-                self.assertEqual(prints, [it for it in known if ' send ' not in it])
-                self.assertEqual(sends, [it for it in known if ' send ' in it])
+            with self.subTest(source=program.source, text=its.translation.text):
+                report = answer(its.scenario.encode()).report
+                end = first_meeting(Report.parse(report))
+                for kind in KINDS:
+                    self.assertEqual(*([it for it in deeds if it.kind == kind and it.at < end]
+                                       for deeds in (deeds_in(report)[0], wanted)))
         self.assertGreaterEqual(count, LEAST_OF_CALLBACKS)
 
 
