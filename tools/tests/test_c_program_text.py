@@ -367,6 +367,17 @@ PROCESS_THREAD(q, ev, data) { static int n; PROCESS_BEGIN(); n = random_rand(); 
             notes = translation(in_process('  ' + body, '', VARIABLES + ' uint8_t low = %s;' % value))[1]
             self.assertIn('gets this value in each call of the process', notes)
 
+    def test_an_address_of_a_value_above_the_beginning_is_possible_if_this_value_never_changes(self) -> None:
+        body = '  PROCESS_YIELD(); packetbuf_copyfrom(&own, sizeof(own)); broadcast_send(&c);'
+        for value, its in ('100 + node_id', '(100 + self)'), ('rimeaddr_node_addr.u8[0]', 'self'), ('5', '5'):
+            text, notes = translation(in_process(body, 'static struct broadcast_conn c;', ' int own = %s;' % value))
+            self.assertEqual(body_of(text), ['own = %s;' % its, 'yield;', 'send own;'], notes)
+        for value, more in ('clock_time()', ''), ('(int)data', ''), ('node_id', ' own++; PROCESS_YIELD(); n = own;'):
+            inside = '%s int own = %s;' % (VARIABLES, value)
+            text, notes = translation(in_process(body + more, 'static struct broadcast_conn c;', inside))
+            self.assertIsNone(text)
+            self.assertIn('in each call of' if not more else 'assigns its first value again', notes)
+
     def test_an_array_of_addresses_is_the_address_of_its_first_member(self) -> None:
         body = '  list->u8[0] = 3; list[1].u8[0] = 4; (list + 1)->u8[0]++; n = list->u8[0];'
         text, notes = translation(in_process(body, 'static linkaddr_t list[2];', VARIABLES))

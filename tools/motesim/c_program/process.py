@@ -22,7 +22,7 @@ OF_ORDER = ('`%s` polls `%s` and also posts to it. In Contiki, the posted event 
 BEFORE_BEGIN = ('In C, this statement runs in each call of the process, because it is above `PROCESS_BEGIN();`. Only '
                 'declarations and handlers are translated there.')
 EACH_CALL = ('In C, `%s` gets this value in each call of the process, because it is above `PROCESS_BEGIN();`. Only a '
-             'constant is translated there: assign the value at the place that needs it.')
+             'value that never changes is translated there: assign the value at the place that needs it.')
 IN_CIRCLE = ('The functions of ctimers set each other. Here, a ctimer may set only those above it: let the process '
              'set them.')
 LATE_RECEIVER = ('In Contiki, `%s` runs for all packets after the connection was opened. Here, it runs in `%s`, whose '
@@ -144,10 +144,10 @@ class ProcessWriter(Functions):
         for part in initial.parts if initial.kind == 'list' else [initial]:
             with self.into([]) as block:
                 value = self.operand(part)
-            if block or self.posts or value.reads or value.constant is None and (
-                    initial.kind == 'list' or variable in self.program.usage.assigned):
+            is_kept = initial.kind == 'list' or variable in self.program.usage.assigned
+            if block or self.posts or value.reads or is_kept and not is_same_in_each_call(value):
                 raise self.refuse(it.line, EACH_CALL % variable.name)
-        if initial.kind != 'list' and value.constant is None:
+        if not is_kept and value.constant is None:
             self.values[variable] = converted(value, variable.type)
         return variable in self.values
 
@@ -311,3 +311,8 @@ class ProcessWriter(Functions):
         heading += ['  etimer %s;' % it for it in code.etimers]
         return ['code %s {' % code.name, *heading, *found, '}']
 
+
+
+def is_same_in_each_call(value: Value) -> bool:
+    """Returns whether a value without variables never changes: it has only constants and the number of the mote."""
+    return {*re.findall(r'[a-z]\w*', value.text)} <= {'self'}
