@@ -212,10 +212,13 @@ library_address(void)
   return &address;
 }
 
+/* An address of zeros is that of mote 0 if the program writes it, and otherwise that of no mote. */
 int
 rimeaddr_cmp(const rimeaddr_t *one, const rimeaddr_t *other)
 {
-  return one->u8[0] == other->u8[0] && (one->u8[0] != 0 || one->u8[2] == other->u8[2]);
+  int is_exact = !library_writes_zero || one == &rimeaddr_null || other == &rimeaddr_null;
+
+  return one->u8[0] == other->u8[0] && (one->u8[0] != 0 || !is_exact || one->u8[2] == other->u8[2]);
 }
 
 void rimeaddr_copy(rimeaddr_t *to, const rimeaddr_t *from) { *to = *from; }

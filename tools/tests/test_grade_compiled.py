@@ -6,7 +6,7 @@ from pathlib import Path
 
 from motesim.c_program.program import translated
 from motesim.c_program.refusal import Refusal
-from motesim.grading.compiled import CRASHES, Compiled, InC, NoComparison
+from motesim.grading.compiled import CRASHES, OF_INT, Compiled, InC, NoComparison, is_meeting
 from motesim.runner.run import answer
 from skips import need_command, need_program
 from student_programs import PROGRAMS, REFUSED, SCENARIO as IN_A_ROW
@@ -61,9 +61,9 @@ class Comparison(unittest.TestCase):
 
     def test_the_first_value_that_differs_is_named(self) -> None:
         self.assertEqual(self.difference(self.counting('1'), self.counting('2')),
-                         'compiled by gcc, mote 0 prints 1 at 20, but its translation prints 2 at 20')
+                         'compiled by gcc, mote 0 prints 1 at 20, but its translation prints 2 at 20' + OF_INT)
         self.assertEqual(self.difference(in_process('  printf("%d", 3);'), in_process('  ;')),
-                         'compiled by gcc, mote 0 prints 3 at 0, but its translation prints nothing more')
+                         'compiled by gcc, mote 0 prints 3 at 0, but its translation prints nothing more' + OF_INT)
 
     def test_a_packet_may_be_copied_from_the_buffer_itself(self) -> None:
         above = RADIO.replace('printf("%d", *(int *)packetbuf_dataptr());', '''
@@ -75,6 +75,18 @@ class Comparison(unittest.TestCase):
         body = ('  broadcast_open(&bc, 129, &calls); if(node_id == 0) { n = 7; packetbuf_copyfrom(&n, 2);'
                 ' broadcast_send(&bc); } PROCESS_WAIT_EVENT();')
         self.assertEqual(self.difference(in_process(body, above, '  ' + TIMER)), '')
+
+    def test_an_address_of_zeros_is_that_of_mote_0_if_the_program_writes_it(self) -> None:
+        above = RADIO.replace('static void recv', 'static rimeaddr_t root;\nstatic void recv')
+        above = above.replace('{ printf', '{ if(rimeaddr_cmp(from, &root)) printf')
+        body = ('  %s broadcast_open(&bc, 129, &calls); if(node_id == 0) { n = 7; packetbuf_copyfrom(&n, 2);'
+                ' broadcast_send(&bc); } PROCESS_WAIT_EVENT();')
+        for written in 'root.u8[0] = 0; root.u8[1] = 0;', 'root.u8[0] = 1;', '':
+            self.assertEqual(self.difference(in_process(body % written, above, '  ' + TIMER)), '', written)
+
+    def test_a_packet_at_the_moment_of_a_timer_is_named(self) -> None:
+        report = b'mote 0 p\n5 recv 1 0 3\n5 post 2 p timer 0\n9 recv 1 1 3\nmedium\nleft 0\n'
+        self.assertEqual([is_meeting(report, 0, at) for at in (5, 9)], [True, False])
 
     def test_a_program_that_leaves_an_array_crashes(self) -> None:
         source = in_process('  n = 9; printf("%d", a[n]);', inside='  static int a[3], n;')

@@ -6,6 +6,7 @@ gcc gets only the tokens that the translator has read, so the program can call n
 from __future__ import annotations
 
 import os
+import re
 import signal
 import subprocess
 import tempfile
@@ -31,7 +32,12 @@ SECTIONS = ('--set-section-flags', '.bss=alloc,load,contents,data', '--rename-se
 LIMITED = 'ulimit -v 2000000; ulimit -t 20; ulimit -f 200000; exec "$0" "$@"'
 SECONDS = 30
 KINDS = 'print', 'send'
+# The tokens that write an address of zeros: an assignment, or an initial value.
+ZERO = re.compile(r'u8 \[ 0 \] = 0 ;|\{ \{ 0 ,')
 CRASHES = 'compiled by gcc, it crashes: it uses memory that it doesn\'t have'
+MEETING = '; at this moment a packet arrives and a timer expires, and their order may differ on a node'
+OF_INT = ('; if the program calculates beyond 16 bits, the translation is probably right: an `int` of gcc has 32 bits '
+          'here, and 16 bits on a node')
 DIFFERS = 'compiled by gcc, mote %d %s, but its translation %s'
 
 
@@ -98,11 +104,15 @@ class Compiled:
             return ''
         except Crash:
             return CRASHES
-        ours = deeds_in(run(it.scenario.encode()).report)
+        report = run(it.scenario.encode()).report
+        ours = deeds_in(report)
         places = Scenario.parse(it.scenario).places
-        found = [one for mote, place in enumerate(places) if place.program == program
+        found = [(*one, mote) for mote, place in enumerate(places) if place.program == program
                  and (one := first_difference(mote, theirs[mote], ours[mote]))]
-        return min(found)[1] if found else ''
+        if not found:
+            return ''
+        at, words, mote = min(found)
+        return words + (MEETING if is_meeting(report, mote, at) else OF_INT)
 
 
 def deeds_in(report: bytes) -> list[list[Deed]]:
@@ -115,6 +125,13 @@ def deeds_in(report: bytes) -> list[list[Deed]]:
         elif words[1] in KINDS:
             motes[-1].append(Deed(int(words[0]), words[1], int(words[3])))
     return motes
+
+
+def is_meeting(report: bytes, mote: int, at: int) -> bool:
+    """Returns whether a mote gets a packet and the event of a timer at a moment."""
+    rows = report.decode().split('\nmote ')[mote].split('\n')
+    here = [row.split(' ')[1:] for row in rows if row.startswith('%d ' % at)]
+    return any(it[0] == 'recv' for it in here) and any(it[0] == 'post' and it[3] == 'timer' for it in here)
 
 
 def first_difference(mote: int, compiled: Sequence[Deed], translated: Sequence[Deed]) -> tuple[int, str] | None:
@@ -159,6 +176,7 @@ def whole(it: InC, program: str, number: int) -> str:
     receiver = '&' + it.translation.receiver if it.translation.receiver else 'NULL'
     return '\n'.join(['#include "library.h"', *rows,
                       'const int library_has_text = %d;' % any(map(PRINTS.fullmatch, rows)),
+                      'const int library_writes_zero = %d;' % bool(ZERO.search(' '.join(rows))),
                       'const struct process *const library_drawing[] = { %s };' % drawing,
                       'const struct process *const library_receiver_of_packets = %s;' % receiver,
                       'LIBRARY_PROGRAM(host_program_%d, "%s");' % (number, program), ''])
