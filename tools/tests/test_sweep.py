@@ -31,7 +31,7 @@ from motesim.report import Report
 from motesim.experiments.results import CsvFile, SqliteFile, cell, line_of, read_results
 from motesim.runner.run import Run
 from motesim.scenario import Scenario
-from motesim.judge.sentences import names_of
+from motesim.judge.sentences import Names, SentenceFault, names_of
 from motesim.experiments.sweep import Sweeper, said
 from motesim.experiments.asked import sweep_of, values_of
 from skips import interpreter_with, need_program
@@ -267,6 +267,13 @@ class MeasuresTest(unittest.TestCase):
             with self.assertRaisesRegex(MeasureFault, seen.replace('?', r'\?')):
                 read_measure(words, self.names)
 
+    def test_several_values_are_suggested_as_any_of_them(self) -> None:
+        for words, like in (
+                ('delivery: mote 1 print a 1 to 7 -> mote 2 prints a', 'mote 1 print a any of 1 to 7'),
+                ('count: motes 1 to 2 print a 1, 2, 3', 'motes 1 to 2 print a any of 1, 2, 3'),
+                ('holds: motes 1 to 2 print a 1, 2, 3', 'motes 1 to 2 print just a 1, 2, 3')):
+            with self.assertRaisesRegex(SentenceFault, 'Did you mean: %s$' % like):
+                read_measure(words, Names(('a',), 3))
 
     def test_a_function_of_two_arguments_gets_the_parameters_of_the_run(self) -> None:
         sources = {'m.py': 'def both(run, its):\n    return its.pop("period") * run.scenario.motes\n'

@@ -34,7 +34,9 @@ from motesim.report import Line
 from motesim.runner.run import Run
 from motesim.scenario import Scenario
 from motesim.scenario.scenario import hops_over
-from motesim.judge.sentences import PARAMETER, Copies, Does, Motes, Names, Packets, Refused, Sentence, read_sentence
+from motesim.judge.sentences import (
+    PARAMETER, Copies, Does, Motes, Names, Packets, Refused, Sentence, SentenceFault, read_sentence,
+)
 
 Cell = int | float | str | None
 
@@ -58,6 +60,8 @@ OF_COUNT = re.compile(r'(?:%s)(?:\s+of\s+mote\s+[0-9]+)?|(?:count|motes|moment|l
                                                      for its in (SUMMARY, FLOWS)), re.S)
 # The texts of measures of packets or messages that arrive.
 OF_DELIVERY = re.compile(r'(?:ratio|received)(?:\s+of\s+mote\s+[0-9]+)?|(?:delivery|flow\s+[a-z]+)\s*:.*', re.S)
+# `just` and the process whose values follow, in a sentence that is suggested.
+JUST = re.compile(r'\bjust (\w+) (?=\d)')
 OF_PYTHON = re.compile(r'python\s*:\s*([^:]+?)\s*:\s*([A-Za-z_]\w*)')
 
 # The beginnings of the warnings about a mote that has to receive its own messages, and about a line of both sentences.
@@ -279,12 +283,24 @@ def _guarded(work: Callable[[Judge], Cell]) -> Callable[[Bench], Cell]:
     return of
 
 
+def _read(kind: str, sentence: str, names: Names) -> Sentence:
+    """Reads the sentence of a measure. `just` is only suggested to `holds`: the other measures are about single
+    lines."""
+    try:
+        return read_sentence(sentence, names)
+    except SentenceFault as fault:
+        like = JUST.sub(r'\1 any of ', fault.like)
+        if kind == 'holds' or like == fault.like:
+            raise
+        raise SentenceFault(sentence, fault.place, fault.wanted, fault.hint, like) from None
+
+
 def _of_sentence(kind: str, words: str, names: Names) -> Callable[[Bench], Cell]:
     parts = [part.strip() for part in words.split('->')]
     if len(parts) != (2 if kind in OF_TWO else 1):
         raise MeasureFault('%s need two sentences, `A -> B`%s' % (
             ' and '.join(OF_TWO), '; other measures need one' if '->' in words else ''))
-    sentences = [read_sentence(part, names) for part in parts]
+    sentences = [_read(kind, part, names) for part in parts]
     first = sentences[0]
     if isinstance(first, Refused):
         raise MeasureFault('nothing can be measured in a run that has no report')

@@ -38,7 +38,7 @@ def _bound(found: re.Match[str]) -> str:
 
 def _just(found: re.Match[str]) -> str:
     """Several values of a process, such as `prints flood 1 and 2`, as the list of all its values."""
-    return 'prints just %s %s' % (found['process'], ', '.join(re.findall(r'\d+', found['values'])))
+    return '%s just %s %s' % (found['verb'], found['process'], ', '.join(re.findall(r'\d+', found['values'])))
 
 
 def _received(found: re.Match[str]) -> str:
@@ -95,10 +95,12 @@ OTHER_WORDS: list[tuple[str, Replaced]] = [
     (r'\b(sends?|receives?) (?:packets|messages)(?= from mote \d|$)', r'\1'),
     (r'^mote (?P<sender>\d+) sends?(?P<value> \d+)? to mote (?P<to>\d+)', _received),
     (r'\b(?:prints? (?:only|exactly)|only prints?) (?=[a-z]\w* \d)', 'prints just '),
-    (r'\bprints? (?P<process>[a-z]\w*) (?:just |only |exactly )?(?P<begin>\d+) ?(?:-|\.\.|to) ?(?P<end>\d+)$',
-     r'prints just \g<process> \g<begin> to \g<end>'),
-    (r'\bprints? (?P<process>[a-z]\w*) (?:just|only|exactly) (?P<values>\d+(?:, ?\d+)*)$', _just),
-    (r'\bprints? (?:just )?(?P<process>[a-z]\w*) (?P<values>\d+(?:(?:,? (?:and |then )?|,)(?:(?P=process) )?\d+)+)$',
+    (r'\b(?P<verb>prints?) (?P<process>[a-z]\w*) (?:just |only |exactly )?'
+     r'(?P<begin>\d+) ?(?:-|\.\.|to) ?(?P<end>\d+)$',
+     r'\g<verb> just \g<process> \g<begin> to \g<end>'),
+    (r'\b(?P<verb>prints?) (?P<process>[a-z]\w*) (?:just|only|exactly) (?P<values>\d+(?:, ?\d+)*)$', _just),
+    (r'\b(?P<verb>prints?) (?:just )?(?P<process>[a-z]\w*) '
+     r'(?P<values>\d+(?:(?:,? (?:and |then )?|,)(?:(?P=process) )?\d+)+)$',
      _just),
     (r'\b(?:last|lastly|in the end) (prints?)\b', r'finally \1'),
     (r'\b(prints? [a-z]\w* \d+) (?:last|(?:at|in) the end)$', r'finally \1'),

@@ -155,6 +155,7 @@ class SentenceFault(Fault):
         may = textwrap.wrap('Allowed here: ' + ', '.join(shown), WIDTH, break_on_hyphens=False)
         advice = redirected(sentence, place)
         like = like or other_form(sentence, place, wanted) or (None if advice else meant(sentence[place:], wanted))
+        self.like = like or ''
         lines = [sentence, ' ' * place + '^', *may]
         lines += ['Did you mean: %s' % like] if like else []
         hints = textwrap.wrap('Hint: %s' % hint, WIDTH, break_on_hyphens=False) if hint else []
