@@ -835,6 +835,19 @@ program = "flood.mote"
             self.assertIn('found.csv; make the scenario of the plan by `tools/scenario net.plan.toml -o NAME.toml`; '
                           'then `tools/studio FILE --against NAME.toml` shows both\n', said)
 
+    def test_a_value_of_a_parameter_with_which_a_number_is_too_great_has_a_remark(self) -> None:
+        plan = ('end = 100\n[medium]\nrange = 10\nbase = 2\nper = 1000\n[parameters]\nperiod = 400\n[places]\n'
+                'rule = "line"\ncount = 2\nstep = 10\nprogram = "flood.mote"\n')
+        with tempfile.TemporaryDirectory() as room:
+            folder = Path(room)
+            (folder / 'net.plan.toml').write_text(plan)
+            (folder / 'flood.mote').write_text(PROGRAM.replace('set t 10', 'set t (${period} * 90)'))
+            for values, counted in ('400,800,900', '2 of 3 scenarios of the plan have'), ('800', '1 of 2'), ('9', ''):
+                said = search(folder, '--expect', 'no mote halts', '--set', 'period=' + values,
+                              scenario='net.plan.toml')[1]
+                first = 'a warning about a number in a program; the first (period is 800): `(800 * 90)` would be 72,000'
+                self.assertEqual((first in said, said.startswith(counted)), (counted != '', True), said)
+
     def test_limit_on_runs(self) -> None:
         with folder_with() as folder:
             status, said, _ = search(folder, '--faults', 'links', '--at-most', '2', '--most-runs', '20', '--jobs', '1')

@@ -10,6 +10,7 @@ from motesim.judge.sentences import Sentence
 from motesim.notation.faults import tokens_of
 from motesim.runner.optimized import optimized_path
 from motesim.scenario import Scenario
+from motesim.search import calculated
 from motesim.search.by_dask import ByDask
 from motesim.search.change import Base
 from motesim.search.faults import WHY_NONE, Asked, absent_kinds, faults_of, untried_copies, without_effect
@@ -83,8 +84,10 @@ class Asking:
     @property
     def remarks(self) -> list[str]:
         """The notes, a line about the single copies whose loss isn't tried, because the results say nothing about
-        these copies, a line about faults without an effect, and a line about programs that draw random numbers."""
-        return [*self.notes, *self.left_out, *filter(None, [self.idle, drawn(self.base.scenario_itself)])]
+        these copies, and lines about faults without an effect, about programs that draw random numbers, and about
+        numbers in programs that are too great, below 0, or 0 with a value of a parameter."""
+        of_numbers = calculated.remark(self.base, self.prepared.faults)
+        return [*self.notes, *self.left_out, *filter(None, [self.idle, drawn(self.base.scenario_itself), of_numbers])]
 
     def digest(self) -> str:
         """The identity of a search, by which it differs from others."""
