@@ -38,7 +38,8 @@ IN_MEDIUM = [
     (('range = 10', 'range = 10.2'), '10.2', 'range = 10'), (('base = 2', 'base = 0'), '0', 'base = 1'),
     (('base = 2', 'base = -2'), '-2', 'base = 1'), (('per = 100', 'per = "100"'), '"100"', 'per = 100'),
     (('collide = false', 'collide = 0'), '0', 'collide = false'), (('range', 'radius'), None, 'range'),
-    (('per = 100, ', ''), None, None), (('per = 100', 'per = 100, loss = 0.1'), 'loss', ''),
+    (('per = 100, ', ''), None, None), (('per = 100', 'per = 100, speed = 1'), 'speed', ''),
+    (('per = 100', 'per = 100, loss = 0.1'), 'loss', None),
     (('collide', 'colide'), None, 'collide'),
 ]
 
