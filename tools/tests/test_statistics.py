@@ -1259,6 +1259,13 @@ class Command(unittest.TestCase):
         texts = re.findall(r'y="([-0-9.]+)"[^>]*>(density [a-z]+|threshold 60|interval of the crossing)</text>',
                            (self.folder / 'a.svg').read_text())
         self.assertEqual(len({y for y, _ in texts}), 2, texts)
+        # (with a longer label, the last entry has two lines, so that there are two columns)
+        self.plot('--measure', 'sent', '--against', 'period', '--by', 'density', '--show', 'mean', '--threshold', '60',
+                  '--size', 'column', '--label', 'thin=a net that is thin', '-o', 'a.svg')
+        picture = (self.folder / 'a.svg').read_text()
+        first, last = (re.findall('y="([-0-9.]+)"[^>]*>%s</text>' % it, picture)
+                       for it in ('density dense', 'threshold 60'))
+        self.assertEqual((first, '>interval of</text>' in picture), (last, True))
 
     def test_numbers_of_narrow_cells_do_not_touch(self) -> None:
         for width, digits in (60.0, '0.202'), (21.0, '0.20'), (16.0, '0.2'):

@@ -43,8 +43,8 @@ THICK, THIN = 5, 3
 ABOVE_AXES, NEAR_END = 3, 0.03
 # The angle of labels that don't fit next to each other.
 ANGLE = 30
-# The texts of the legend about a threshold. They follow the texts of the curves.
-THRESHOLD, CROSSING = 'threshold ', 'interval of the crossing'
+# The texts of the legend about a threshold, and another form of the second one. They follow the texts of the curves.
+THRESHOLD, CROSSING, IN_TWO_LINES = 'threshold ', 'interval of the crossing', 'interval of\nthe crossing'
 # The beginning of matplotlib's warning about a picture without room for its axes.
 NO_ROOM = 'constrained_layout not applied'
 # Colours that readers with colour blindness can distinguish (Okabe and Ito); lines differ by their marks too.
@@ -456,10 +456,16 @@ def _legend(axes: Any) -> None:
     # as wide as 4.6 letters, and the last one needs 0.6 less)
     left = (1.25 * (axes.get_ylabel().count('\n') + 1) + 4) * points_of(inches * INCH, 'text')
     room, of_line = min(inches * POINTS * OF_AXES, inches * POINTS - left), 4.6 * points
+
+    def columns(texts: Sequence[str]) -> int:
+        widths = [max(width_of(axes.figure, line, points) for line in it.split('\n')) + of_line for it in texts]
+        return columns_of(widths, room + 0.6 * points)
+
     labels = [folded(axes.figure, it, points, room - of_line) for it in labels]
-    widths = [max(width_of(axes.figure, line, points) for line in it.split('\n')) + of_line for it in labels]
+    if columns(labels) == 1:
+        labels = max(labels, [IN_TWO_LINES if it == CROSSING else it for it in labels], key=columns)
     axes.legend(handles, labels, frameon=False, loc='lower left', bbox_to_anchor=(0.0, 1.0), borderaxespad=0.0,
-                fontsize=points, ncols=columns_of(widths, room + 0.6 * points), handlelength=2.4, columnspacing=1.4)
+                fontsize=points, ncols=columns(labels), handlelength=2.4, columnspacing=1.4)
 
 
 def _draw_threshold(axes: Any, shown: Shown, wish: Wish) -> None:
