@@ -61,6 +61,28 @@ PROCESS_THREAD(a, ev, data) {
 }
 '''
 
+# The callback uses a variable of the process a, but b opens the connection.
+TWO_PROCESSES = '''#include "contiki.h"
+#include "net/rime.h"
+PROCESS(a, "a");
+PROCESS(b, "b");
+AUTOSTART_PROCESSES(&b, &a);
+static int is_heard;
+static void recv(struct broadcast_conn *c, const rimeaddr_t *from) { READS process_poll(&a); }
+static const struct broadcast_callbacks calls = {recv};
+static struct broadcast_conn bc;
+PROCESS_THREAD(a, ev, data) {
+  static uint8_t n = 7;
+  PROCESS_BEGIN();
+  if(node_id == 0) { packetbuf_copyfrom(&n, 1); broadcast_send(&bc); PROCESS_EXIT(); }
+  printf("%d", 2);
+  PROCESS_WAIT_UNTIL(is_heard);
+  printf("%d", 1);
+  PROCESS_END();
+}
+PROCESS_THREAD(b, ev, data) { PROCESS_BEGIN(); broadcast_open(&bc, 129, &calls); PROCESS_YIELD(); PROCESS_END(); }
+'''
+
 
 def net(program: str, motes: int = 2, name: str = 'task') -> str:
     text = NET.replace('task', name) + "'''\n%s'''\n" % program
@@ -760,6 +782,28 @@ PROCESS_THREAD(a, ev, data) {
         page = self.page('marks_runs/ben.c_in_task.toml.html')
         self.assertRegex(page, 'a, line [0-9]+ of the translation of ben[.]c: `print 4`')
         self.assertNotIn('(ben.c:', page)
+
+
+    def test_a_callback_of_a_program_in_c_prints_for_the_process_that_a_sentence_names(self) -> None:
+        need_program(self)
+        self.stub = program_path()
+        wanted = 'mote 1 prints just b 7', 'mote 1 prints just a 2, 1', 'mote 0 never prints b', 'mote 1 prints b 8'
+        (self.top / 'task.expect.toml').write_text('expect = %s\n' % json.dumps(wanted))
+        in_c = TWO_PROCESSES.replace('READS', 'is_heard = 1; printf("%d", *(uint8_t *)packetbuf_dataptr());')
+        self.hand_in('ben.c', in_c)
+        self.hand_in('ida.c', in_c.replace('"%d", 1', '"%d", 7').replace('printf("%d", *(u', 'is_heard = (*(u'))
+        rows = self.rows('--net', 'task.toml')
+        self.assertEqual(rows['ben.c'], '3 of 4  broken: 4')
+        self.assertEqual(rows['ida.c'], '1 of 4  broken: 1, 2, 4')
+        self.assertIn('holds   mote 1 prints just b 7\n          the callback for packets prints this, and counts for '
+                      '`b`', self.grade('--net', 'task.toml', '--why', 'ben.c'))
+
+    def test_the_row_of_a_solution_has_the_process_that_prints_the_wanted_values(self) -> None:
+        need_program(self)
+        self.stub = program_path()
+        self.hand_in('ben.mote', 'process a, b; autostart b; code a { body { exit; } } code b { body { print 3; } }\n')
+        self.assertEqual(self.rows('--net', 'task.toml')['ben.mote'],
+                         '1 of 3  broken: 1, 2; process b prints these values')
 
 
 class Pages(Folder):

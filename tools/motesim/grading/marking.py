@@ -16,6 +16,7 @@ from motesim.explain.whole import line_at
 from motesim.explain.within import busiest
 from motesim.faults import Fault, tried
 from motesim.files import replace_whole
+from motesim.grading.callbacks import OF_CALLBACK, readings
 from motesim.grading.compiled import Compiled, InC
 from motesim.grading.entries import Entry, data_of, without_program
 from motesim.grading.in_c import NotTranslated, in_words_of_c, remarks_of
@@ -312,9 +313,13 @@ class Task:
         report = Report.parse(got.report)
         judge = Judge(report, scenario)
         broken = [judge.broken(it) for it in sentences]
+        by_callback = dict[int, str]()
+        if file[0].endswith('.c') and any(broken) and len(got.report) <= MOST_SHOWN:
+            by_callback = of_callbacks(got.report, scenario, program, sentences, broken)
+            broken = [None if at in by_callback else it for at, it in enumerate(broken)]
         held = iter([Mark(words, it is None, (), tuple(more_of(it, judge.rows)) if it else (),
-                          remark=remark_or_none(words, sentence, judge, it is None))
-                     for words, sentence, it in zip(part.sentences, sentences, broken)])
+                          remark=by_callback.get(at) or remark_or_none(words, sentence, judge, it is None))
+                     for at, (words, sentence, it) in enumerate(zip(part.sentences, sentences, broken))])
         places = iter(broken)
         marks = self.spread(held, lacks)
         if self.part.report is not None:
@@ -399,6 +404,18 @@ def difference_in(found: Sequence[InNet]) -> list[Remark]:
     if its is None:
         return []
     return [Remark(0, OF_HIDDEN_RUN if its.is_hidden else '%s (in %s)' % (its.differs, its.net), True)]
+
+
+def of_callbacks(report: bytes, scenario: Scenario, program: str, sentences: Sequence[Sentence],
+                 broken: Sequence[Broken | None]) -> dict[int, str]:
+    """The places of the broken sentences that hold if another process prints what the callback for packets prints, each
+    with a remark that says so."""
+    found = dict[int, str]()
+    for process, text in readings(report.decode(), program, scenario.programs[program]):
+        judge = Judge(Report.parse(text), scenario)
+        found.update((at, OF_CALLBACK % process) for at, it in enumerate(broken)
+                     if it and at not in found and judge.broken(sentences[at]) is None)
+    return found
 
 
 def remark_or_none(text: str, sentence: Sentence, judge: Judge, holds: bool) -> str:

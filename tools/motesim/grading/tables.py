@@ -3,6 +3,7 @@ from __future__ import annotations
 
 import csv
 import io
+import re
 import shlex
 import unicodedata
 from collections.abc import Sequence
@@ -24,6 +25,8 @@ USED_UP = '%s: it used up its work there, maybe in a loop without a wait'
 ONLY_HERE = ' (on a node, maybe not)'
 OF_C = '. On a node, it may have enough: each index and each operation on bits needs more work in a translation'
 SHARED = 'in all solutions and nets, this or a similar remark: %s'
+# The words of a reason about the process that prints the wanted values instead of the one that a sentence names.
+OTHER_PROCESS = re.compile(r'; (process \w+ prints) (?:exactly these values|this value)')
 ESCAPES = {'\\': '\\\\', '"': '\\"', '\n': '\\n', '\t': '\\t', '\r': '\\r'}
 
 
@@ -51,10 +54,17 @@ def table(marked: Sequence[Marks], sentences: Sequence[str]) -> list[str]:
                            if not one.holds)
         count = count_of(it, len(sentences))
         halts = it.halts and it.halts + ONLY_HERE * it.name.endswith('.c')
-        parts = broken and 'broken: %s' % broken, it.fault, halts, broken and it.unused, on_node(it.of_c)
+        parts = (broken and 'broken: %s' % broken, *printers(it), it.fault, halts, broken and it.unused,
+                 on_node(it.of_c))
         words = it.why or '; '.join(one for one in parts if one)
         rows.append(('%s  %s  %s' % (it.short_name.ljust(width), count, words)).rstrip())
     return rows
+
+
+def printers(marks: Marks) -> list[str]:
+    """The other processes that print the values of broken sentences, in words."""
+    found = (OTHER_PROCESS.search(row) for it in marks.marks for row in it.more)
+    return list(dict.fromkeys('%s these values' % it[1] for it in found if it))
 
 
 def below(marked: Sequence[Marks], sentences: Sequence[str]) -> list[str]:

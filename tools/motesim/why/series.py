@@ -64,7 +64,7 @@ class Series:
             if kind == 'post':
                 posted.append(at)
             elif kind in ('take', 'drop') and int(words[2]) > last_taken:
-                # (each process takes an event for all, but the event leaves the queue only once)
+                # (each process gets an event for all, but the event leaves the queue only once)
                 last_taken = int(words[2])
                 self.waits[part] += at - posted[last_taken]
                 self.taken[part] += 1
