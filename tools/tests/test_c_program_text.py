@@ -357,6 +357,16 @@ PROCESS_THREAD(q, ev, data) { static int n; PROCESS_BEGIN(); n = random_rand(); 
         self.assertEqual([it.strip() for it in (text or '').split('\n') if 'self' in it],
                          ['dice = ((self * 257) + 1);', 'dice = ((self * 257) + 129);'])
 
+    def test_a_header_of_a_project_is_refused(self) -> None:
+        for name in 'project-conf.h', './own.h', 'common/own.h':
+            text, notes = translation(in_process('  printf("%d", 3);', '#include "%s"' % name))
+            self.assertIsNone(text)
+            self.assertIn('Headers of a project, such as `%s`, aren\'t read.' % name, notes)
+        for line in ('#include "contiki-net.h"', '#include "dev/button-sensor.h"', '#include <msp430.h>',
+                     '#ifdef NEVER\n#include "own.h"\n#endif', '#include "ctimer.h"', '#include "stdio.h"'):
+            text, notes = translation(in_process('  printf("%d", 3);', line))
+            self.assertEqual(body_of(text), ['print 3;'], notes)
+
     def test_a_value_above_the_beginning_is_that_of_each_call(self) -> None:
         inside = VARIABLES + ' uint8_t low = (int)data; uint16_t here = clock_time() + node_id;'
         body = 'process_post(&p, 9, (process_data_t)u); u++; PROCESS_YIELD(); printf("%d %u", low, here);'

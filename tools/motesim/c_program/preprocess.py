@@ -1,13 +1,19 @@
-"""The preprocessor: macros and conditions. Files that are included are ignored."""
+"""The preprocessor: macros and conditions. Headers of Contiki and C are ignored, and those of a project refused."""
 from __future__ import annotations
 
 from collections.abc import Callable, Sequence
 from typing import NamedTuple
 
+from motesim.c_program.compiler import HEADER_OF, OF_LIBRARY
 from motesim.c_program.refusal import Refusal
 from motesim.c_program.tokens import Token, tokens_of
 
 MOST_TOKENS = 200_000
+# Further headers of Contiki, which declare nothing that is translated, and the folders of others.
+OF_CONTIKI = ('contiki-net.h', 'simple-udp.h', 'cc2420.h', 'powertrace.h', 'sky.h', 'button-sensor.h')
+FOLDERS = ('net', 'sys', 'dev', 'lib', 'cfs', 'loader', 'apps')
+OF_PROJECT = ('Headers of a project, such as `%s`, aren\'t read. Instead of this line, write the lines of the header '
+              'that the program needs.')
 NO_TEST = 'The test of this `#%s` can\'t be evaluated.'
 
 
@@ -82,6 +88,8 @@ class Preprocessor:
             self.define(rest)
         elif word == 'undef' and rest:
             self.macros.pop(rest[0].text, None)
+        elif word == 'include' and rest and is_of_project(rest[0].text):
+            raise Refusal(number, OF_PROJECT % rest[0].text.strip('"'))
         elif word == 'error':
             raise Refusal(number, 'The program has an `#error` here.')
 
@@ -194,6 +202,13 @@ class Preprocessor:
             found[-1:] = [found[-1]._replace(kind=joined.kind, text=found[-1].text + behind[0].text), *behind[1:]]
         else:
             found += behind
+
+
+def is_of_project(name: str) -> bool:
+    """Returns whether a header is one of a project: its name is in quotes, without a folder of Contiki, and unknown."""
+    path = name.strip('"')
+    folder = path.rpartition('/')[0].partition('/')[0]
+    return name.startswith('"') and folder not in FOLDERS and path not in (*HEADER_OF, *OF_LIBRARY, *OF_CONTIKI)
 
 
 def arguments_of(tokens: Sequence[Token], at: int, use: Token) -> tuple[list[list[Token]], int]:
