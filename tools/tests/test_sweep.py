@@ -535,6 +535,13 @@ class SweepTest(Bed):
                 self.assertEqual((row['chance_seeds'], row['note']),
                                  (column, note % (5, before) if before else None))
 
+    def test_the_corrected_seed_of_a_second_process_has_the_parameter(self) -> None:
+        code = 'code %s { var dice = 0; body { dice = ((self * 257) + ${period}); dice = (dice * 3); print 3; } }\n'
+        (self.folder / 'a.mote').write_text('process a, b; autostart a, b;\n' + code % 'a' + code % 'b')
+        done = self.sweep('--vary', 'period=7', '--measure', 'sent', '-o', 'a.csv')
+        self.assertEqual(done.returncode, 0, done)
+        self.assertIn('in `b`, write `dice = (((self * 257) + ${period}) + 128);`', done.stderr)
+
     def test_seeds_of_two_commands_draw_alike(self) -> None:
         source = 'process a;\ncode a { var dice = 0; body { dice = ((self * 257) + ${period}); print 3; } }\n'
         (self.folder / 'a.mote').write_text(source)

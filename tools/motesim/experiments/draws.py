@@ -40,6 +40,8 @@ CHANCE, APART = 'chance_seeds', 257
 DRAWS = re.compile(r'self\s*\*\s*257\s*\)?\s*\+\s*\(?\s*\$\{(\w+)\}(?:\s*\)?\s*\+\s*(\d+))?')
 # The sum of the mote's number, or of a multiple of it, and a parameter.
 SUM = re.compile(r'[^=!<>]=[\s(]*(?:self(?:\s*\*\s*(\d+)\s*\))?\s*\+\s*\$\{(\w+)\}|\$\{(\w+)\}\s*\+\s*self\b)')
+# The seed in a line that a warning corrects, with the value of a parameter.
+VALUE = re.compile(r'(\(self \* 257\) \+ )(\d+)\b')
 ADVICE, OF_FACTOR = 'use at most %d seeds in a row', 'begin with `((self * 257) + ${%s})`'
 # The part of a note that this module writes; it is the last one.
 NOTE = re.compile(r'(?:; )?%swith \w+ = -?\d+ (?:mote k|a process) draws .*' % re.escape(WARNING), re.S)
@@ -55,6 +57,13 @@ def seeds_of(text: str) -> list[str]:
     found = [it for name, its in distances.items() for it in (name, *('%s+%d' % (name, number) for number in its))]
     factors = {(first or second, int(factor or 1)) for factor, first, second in SUM.findall(text)}
     return found + ['%s*%d' % it for it in sorted(factors) if it[1] not in (0, APART)]
+
+
+def with_parameter(warning: str, texts: Iterable[str], given: Mapping[str, Cell]) -> str:
+    """A warning with the parameter that the programs in these texts have as a seed, instead of its value."""
+    names = {name for text in texts for name, _ in DRAWS.findall(text)}
+    of_value = {str(given.get(it)): '${%s}' % it for it in names}
+    return VALUE.sub(lambda it: it[1] + of_value.get(it[2], it[2]), warning)
 
 
 class Seeds:

@@ -22,7 +22,7 @@ from motesim.explain.lint import programs_of
 from motesim.faults import Fault
 from motesim.runner.batch import fault_of
 from motesim.runner.process import LimitMet, Limits, Runner
-from motesim.experiments.draws import WARNING
+from motesim.experiments.draws import WARNING, with_parameter
 from motesim.experiments.measures import Bench, Cell, is_delivery, name_of, read_measure
 from motesim.experiments.overflow import of_overflow
 from motesim.plan.plan import Plan
@@ -212,8 +212,9 @@ def run_job(job: Job) -> Result:
         report = digest(got.report)
         known, read = Scenario.parse(text), Report.parse(got.report)
         places = digest(repr([(it.x, it.y) for it in known.places]).encode())
-        measures, note = measured(work, Bench(Run(work.plan, read, known), plan.with_given(dict(job.given))), known)
-        found = warned(read, known, work.seconds, text)
+        given, texts = plan.with_given(dict(job.given)), [it.decode('utf-8', 'replace') for _, it in job.files]
+        measures, note = measured(work, Bench(Run(work.plan, read, known), given), known)
+        found = [with_parameter(it, texts, given) for it in warned(read, known, work.seconds, text)]
         note = '; '.join(filter(None, [note, *map(one_line, found)]))
     except BaseException as failure:
         fault = reason_of(failure)
