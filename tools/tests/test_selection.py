@@ -1,4 +1,4 @@
-"""The warning of tools/plot about points whose nets `connected = true` selected very differently."""
+"""The warning of tools/plot about points whose nets `connected = true` selected differently."""
 import contextlib
 import io
 import unittest
@@ -38,6 +38,8 @@ class Selection(unittest.TestCase):
         rows = runs(m20=(40, 30), m80=(0, 0))
         for wish in Wish('got', 'k', over='motes,seed'), Wish('rejected', 'motes'), Wish('got', over='motes,k,seed'):
             self.assertEqual(of_selection(rows, wish), [])
+        # (two nets of one density)
+        self.assertEqual(of_selection(runs(m20=(40, 0)), Wish('got', 'seed', by='k')), [])
         wish = Wish('got', 'motes', over='k,seed')
         # (2.5 draws for a net are fewer than twice the 1.5 draws for another one, and 3 are as many)
         self.assertEqual(of_selection(runs(m20=(2, 1), m40=(1, 0)), wish), [])

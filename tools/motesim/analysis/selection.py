@@ -1,26 +1,28 @@
-"""The warning about points whose nets were selected very differently, because their plan has `connected = true`."""
+"""The warning about points whose nets were selected differently, because their plan has `connected = true`."""
 from __future__ import annotations
 
 from collections.abc import Sequence
 from statistics import fmean
 
-from motesim.analysis.points import REJECTED, Wish, is_repeat, measures_of, parameters_of
+from motesim.analysis.points import REJECTED, Wish, is_repeat, is_seed, measures_of, parameters_of
 from motesim.analysis.rows import Key, shown_key
 from motesim.experiments.results import Row
 
 # The draws for a net at the point with the most draws, as a multiple of those at the point with the fewest.
 LEAST = 2
-SELECTED = ('the nets were selected very differently: on average, `connected = true` rejected %.1f nets before each '
+SELECTED = ('the nets were selected differently: on average, `connected = true` rejected %.1f nets before each '
             'net with %s, and %.1f with %s; don\'t compare the two, because nets that are rarely connected aren\'t '
             'typical of their density')
 
 
 def _names(rows: Sequence[Row], wish: Wish, compared: Sequence[str]) -> list[str]:
-    """The parameters in which the points of a picture, or the two sides of a comparison, differ."""
+    """The parameters in which the points of a picture, or the two sides of a comparison, differ, without seeds: the nets
+    of two seeds have the same density."""
     names = [*compared, wish.pair.partition('=')[0], wish.by, wish.against]
     if wish.against in measures_of(rows):
         names = [*names[:-1], *(it for it in parameters_of(rows) if not is_repeat(it, wish.over))]
-    return [it for it in dict.fromkeys(names) if it in rows[0] and len({row[it] for row in rows}) > 1]
+    return [it for it in dict.fromkeys(names)
+            if it in rows[0] and not is_seed(it) and len({row[it] for row in rows}) > 1]
 
 
 def of_selection(rows: Sequence[Row], wish: Wish, compared: Sequence[str] = ()) -> list[str]:
