@@ -542,6 +542,25 @@ class SweepTest(Bed):
         self.assertEqual(done.returncode, 0, done)
         self.assertIn('in `b`, write `dice = (((self * 257) + ${period}) + 128);`', done.stderr)
 
+    def test_seeds_that_do_not_depend_on_the_mote_or_that_motes_of_two_runs_share(self) -> None:
+        plan = self.folder / 'net.plan.toml'
+        plan.write_text(plan.read_text().replace('period = 4', 'period = 4\nseed = 1'))
+        alike = ('all motes that draw numbers draw the same ones: the seed `dice = %s;` doesn\'t depend on the mote; '
+                 'begin with `((self * 257) + ${seed})`')
+        shared = ('motes of two runs draw the same numbers: mote k + 2 draws the numbers of mote k in the run with the '
+                  'next seed; begin with `((self * 257) + ${seed})`')
+        for seed, draw, wanted in (
+                ('${seed}', '', alike), ('(${seed} + 5)', '', alike), ('${seed}', 'dice = (dice + self);', ''),
+                ('${period}', '', ''), ('((${seed} * 2) + self)', '', shared), ('(self + (${seed} * 2))', '', shared),
+                ('((${seed} * 4) + self)', '', ''), ('((self * 257) + ${seed})', '', '')):
+            with self.subTest(seed + draw):
+                (self.folder / 'a.mote').write_text(
+                    'process a; autostart a; code a { var dice = 0; // dice = self;\nbody { dice = %s; %s print 3; '
+                    'dice = ((dice * 25173) + 13849); } }' % (seed, draw))
+                self.sweep('--vary', 'seed=1', '--vary', 'motes=3', '--measure', 'sent', '-o', 'a.csv', '--renew')
+                note = read_results(self.folder / 'a.csv')[1][0]['note']
+                self.assertEqual(note, 'warning: ' + wanted.replace('%s', seed) if wanted else None)
+
     def test_seeds_of_two_commands_draw_alike(self) -> None:
         source = 'process a;\ncode a { var dice = 0; body { dice = ((self * 257) + ${period}); print 3; } }\n'
         (self.folder / 'a.mote').write_text(source)

@@ -31,9 +31,11 @@ from motesim.summary.flows import SHARED, TWICE
 
 # A note with this beginning is about a run that has all its measures.
 WARNING = 'warning: '
+# The beginnings of the warnings about seeds that motes, or motes of two runs, share.
+OF_MOTES, OF_RUNS = 'all motes that draw numbers draw the same ones', 'motes of two runs draw the same numbers'
 # The beginnings of warnings that a sweep counts separately: for each, it reports the number of runs that have it.
 ONCE = (SHARED, TWICE, OWN, OWN_LINE, IGNORED, OVERFLOW, SAME_MOMENT, IDLE, FEW, ALL_HALTED, IN_STEP, SAME_DRAWS,
-        SAME_SEED)
+        SAME_SEED, OF_MOTES, OF_RUNS)
 # The column with the parameters that are seeds of the pattern; and the number of consecutive seeds that draw different
 # numbers.
 CHANCE, APART = 'chance_seeds', 257

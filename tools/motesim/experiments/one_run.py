@@ -22,6 +22,7 @@ from motesim.explain.lint import programs_of
 from motesim.faults import Fault
 from motesim.runner.batch import fault_of
 from motesim.runner.process import LimitMet, Limits, Runner
+from motesim.experiments import seeded
 from motesim.experiments.draws import WARNING, with_parameter
 from motesim.experiments.measures import Bench, Cell, is_delivery, name_of, read_measure
 from motesim.experiments.overflow import of_overflow
@@ -215,6 +216,7 @@ def run_job(job: Job) -> Result:
         given, texts = plan.with_given(dict(job.given)), [it.decode('utf-8', 'replace') for _, it in job.files]
         measures, note = measured(work, Bench(Run(work.plan, read, known), given), known)
         found = [with_parameter(it, texts, given) for it in warned(read, known, work.seconds, text)]
+        found += [WARNING + it for it in seeded.warnings(texts, known, given)]
         note = '; '.join(filter(None, [note, *map(one_line, found)]))
     except BaseException as failure:
         fault = reason_of(failure)
