@@ -1,11 +1,12 @@
-"""The warning about copies that are lost because eight packets are waiting at the receiver."""
+"""The warnings about copies that are lost because eight packets are waiting at the receiver, and about packets that a
+full event queue refuses."""
 import unittest
 
 import here  # noqa: F401
 from motesim.experiments.draws import warnings_in
 from motesim.experiments.measures import Bench
 from motesim.experiments.one_run import Work, measured
-from motesim.experiments.overflow import OVERFLOW
+from motesim.experiments.overflow import OVERFLOW, REFUSED
 from motesim.report import Report
 from motesim.runner.run import Run
 from motesim.scenario import Scenario
@@ -34,6 +35,13 @@ class Overflow(unittest.TestCase):
         self.assertEqual([*warnings_in(note)], [OVERFLOW])
         self.assertEqual(self.note('lost 0 0', 'sent', 'collided'), '')
         self.assertEqual(self.note('recv 0 0 7', *deliveries), '')
+
+    def test_packets_that_a_full_queue_refuses_have_a_warning(self) -> None:
+        note = self.note('recv 0 0 7\n2 full p packet 7', 'ratio', 'sent')
+        self.assertEqual(note, 'warning: ' + REFUSED + ': 1 of 1. No process gets these packets, though `ratio` and '
+                         '`received` count them (measure ratio)')
+        self.assertEqual([*warnings_in(note)], [REFUSED])
+        self.assertEqual(self.note('recv 0 0 7\n2 full p msg 7', 'ratio'), '')
 
 
 if __name__ == '__main__':

@@ -19,7 +19,7 @@ from collections.abc import Collection, Iterable, Mapping
 
 from motesim.experiments.ignored import IGNORED
 from motesim.experiments.measures import OWN, OWN_LINE, Cell
-from motesim.experiments.overflow import OVERFLOW
+from motesim.experiments.overflow import OVERFLOW, REFUSED
 from motesim.experiments.results import Row
 from motesim.explain.halted import ALL_HALTED
 from motesim.explain.idle import FEW, IDLE
@@ -34,8 +34,8 @@ WARNING = 'warning: '
 # The beginnings of the warnings about seeds that motes, or motes of two runs, share.
 OF_MOTES, OF_RUNS = 'all motes that draw numbers draw the same ones', 'motes of two runs draw the same numbers'
 # The beginnings of warnings that a sweep counts separately: for each, it reports the number of runs that have it.
-ONCE = (SHARED, TWICE, OWN, OWN_LINE, IGNORED, OVERFLOW, SAME_MOMENT, IDLE, FEW, ALL_HALTED, IN_STEP, SAME_DRAWS,
-        SAME_SEED, OF_MOTES, OF_RUNS)
+ONCE = (SHARED, TWICE, OWN, OWN_LINE, IGNORED, OVERFLOW, REFUSED, SAME_MOMENT, IDLE, FEW, ALL_HALTED, IN_STEP,
+        SAME_DRAWS, SAME_SEED, OF_MOTES, OF_RUNS)
 # The column with the parameters that are seeds of the pattern; and the number of consecutive seeds that draw different
 # numbers.
 CHANCE, APART = 'chance_seeds', 257

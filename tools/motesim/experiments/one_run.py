@@ -162,7 +162,8 @@ def measured(work: Work, bench: Bench, known: Scenario) -> tuple[dict[str, Cell]
                 found[name] = measure.of(bench)
                 doubts.setdefault(measure.warning(bench), []).append(name)
                 if is_delivery(words):
-                    doubts.setdefault(of_overflow(bench.summary[1]), []).append(name)
+                    for text in of_overflow(bench.summary[1], bench.run.report):
+                        doubts.setdefault(text, []).append(name)
         except BaseException as failure:
             # (a user's measure may raise any exception, even one that asks Python to exit)
             found[name] = None
