@@ -41,7 +41,8 @@ WARNINGS = ('parentheses', 'unused-value', 'return-type', 'empty-body', 'mislead
 # Newer compilers refuse what those for nodes warn of.
 PERMITTED = ('implicit-function-declaration', 'implicit-int', 'int-conversion', 'incompatible-pointer-types')
 GCC = ('gcc', '-x', 'c', '-std=gnu99', '-S', '-o', '/dev/null', '-I%s' % HEADERS, '-DMOTESIM_FOR_CONTIKI',
-       '-ftrack-macro-expansion=0', '-fno-diagnostics-show-caret', '-fdiagnostics-color=never',
+       '-DCONTIKI_TARGET_SKY=1', '-ftrack-macro-expansion=0', '-fno-diagnostics-show-caret',
+       '-fdiagnostics-color=never',
        *('-W' + it for it in WARNINGS), *('-Wno-error=' + it for it in PERMITTED))
 # (a program may be made to keep a compiler busy)
 LIMITED = 'ulimit -v 2000000; ulimit -t 10; exec "$0" "$@"'

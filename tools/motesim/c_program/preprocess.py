@@ -9,9 +9,10 @@ from motesim.c_program.refusal import Refusal
 from motesim.c_program.tokens import Token, tokens_of
 
 MOST_TOKENS = 200_000
-# Further headers of Contiki, which declare nothing that is translated, and the folders of others.
-OF_CONTIKI = ('contiki-net.h', 'simple-udp.h', 'cc2420.h', 'powertrace.h', 'sky.h', 'button-sensor.h')
-FOLDERS = ('net', 'sys', 'dev', 'lib', 'cfs', 'loader', 'apps')
+# Further headers of Contiki, of C and of nodes, which declare nothing that is translated, and the folders of others.
+OTHERS = ('contiki-net.h', 'simple-udp.h', 'cc2420.h', 'powertrace.h', 'sky.h', 'button-sensor.h', 'math.h', 'time.h',
+          'errno.h', 'assert.h', 'float.h', 'stdarg.h', 'signal.h', 'io.h', 'msp430.h')
+FOLDERS = ('net', 'sys', 'dev', 'lib', 'cfs', 'loader', 'apps', 'avr')
 OF_PROJECT = ('Headers of a project, such as `%s`, aren\'t read. Instead of this line, write the lines of the header '
               'that the program needs.')
 NO_TEST = 'The test of this `#%s` can\'t be evaluated.'
@@ -28,7 +29,8 @@ class Preprocessor:
 
     def __init__(self, text: str, evaluate: Callable[[Sequence[Token]], int]):
         self.tokens, self.evaluate = tokens_of(text), evaluate
-        self.macros: dict[str, Macro] = {}
+        # (a translation aims at the Tmote Sky)
+        self.macros = {'CONTIKI_TARGET_SKY': Macro(None, (Token('number', '1', 1),))}
         # For each `#if` around: whether its lines are read, and whether one of its branches was; and its line.
         self.opened: list[int] = []
         self.branches: list[tuple[bool, bool]] = []
@@ -88,8 +90,8 @@ class Preprocessor:
             self.define(rest)
         elif word == 'undef' and rest:
             self.macros.pop(rest[0].text, None)
-        elif word == 'include' and rest and is_of_project(rest[0].text):
-            raise Refusal(number, OF_PROJECT % rest[0].text.strip('"'))
+        elif word == 'include' and rest[:1] and rest[0].text[0] in '"<':
+            check_header(''.join(it.text for it in rest).strip('"<>'), number)
         elif word == 'error':
             raise Refusal(number, 'The program has an `#error` here.')
 
@@ -204,11 +206,11 @@ class Preprocessor:
             found += behind
 
 
-def is_of_project(name: str) -> bool:
-    """Returns whether a header is one of a project: its name is in quotes, without a folder of Contiki, and unknown."""
-    path = name.strip('"')
+def check_header(path: str, line: int) -> None:
+    """Raises a Refusal for a header of a project: it is unknown, and in no folder of Contiki."""
     folder = path.rpartition('/')[0].partition('/')[0]
-    return name.startswith('"') and folder not in FOLDERS and path not in (*HEADER_OF, *OF_LIBRARY, *OF_CONTIKI)
+    if folder not in FOLDERS and path not in (*HEADER_OF, *OF_LIBRARY, *OTHERS):
+        raise Refusal(line, OF_PROJECT % path)
 
 
 def arguments_of(tokens: Sequence[Token], at: int, use: Token) -> tuple[list[list[Token]], int]:
