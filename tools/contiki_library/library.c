@@ -178,11 +178,11 @@ random_rand(void)
   if(!its->has_seed) {
     seed(its, (unsigned)mote_number());
   }
-  upper = drawn_byte(its);
+  upper = drawn_byte(its) / 2;
   return (unsigned short)(upper * 256 + drawn_byte(its));
 }
 
-int library_rand(void) { return random_rand() % 32768; }
+int library_rand(void) { return random_rand(); }
 /*---------------------------------------------------------------------------*/
 unsigned long clock_seconds(void) { return (unsigned long)(clock_time() / CLOCK_SECOND); }
 clock_time_t timer_remaining(struct timer *t) { return timer_expiration_time(t) - clock_time(); }

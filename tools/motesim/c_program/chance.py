@@ -8,7 +8,7 @@ from motesim.c_program.constants import constant_of
 from motesim.c_program.expressions import COMPARES, Expressions
 from motesim.c_program.tree import Expression, Function
 from motesim.c_program.types import INT, UNSIGNED
-from motesim.c_program.values import HALF, Value, added, divided, multiplied, number
+from motesim.c_program.values import Value, added, multiplied, number
 from motesim.c_program.walk import all_parts, without_casts
 from motesim.explain.same_seed import APART
 from motesim.from_c.expressions import MIXED, STEP
@@ -21,9 +21,8 @@ OF_CHANCE = ('A mote has no random numbers: each run is the same. `dice` and `lu
              'differs by mote, for at most 255 motes, unless `random_init` sets another seed. A step of both makes 8 '
              'random bits, so a value of `random_rand()` needs two steps if fewer bits aren\'t enough. '
              'docs/use/LOSSES.md has a pattern for packets that are lost by chance.')
-OF_HALF = ('On the Tmote Sky, `random_rand()` is at most 32,767, although `RANDOM_RAND_MAX` is 65535. Here, it is at '
-           'most 65,535, so a comparison or a division of it has other results: use the remainder, such as '
-           '`random_rand() % 10`.')
+OF_HALF = ('On the Tmote Sky and here, `random_rand()` is at most 32,767, although `RANDOM_RAND_MAX` is 65535: use '
+           'the remainder, such as `random_rand() % 10`.')
 OF_SAME_SEED = 'The seed is the same on all motes, so all of them draw the same numbers, as in Contiki.'
 OF_SUM = ('If you add the number of a run to this seed, as in `random_init(node_id + RUN)`, mote 1 of run 2 draws the '
           'same numbers as mote 2 of run 1. For a sweep over seeds, use `((self * 257) + ${seed})` instead.')
@@ -58,7 +57,7 @@ class Chance(Expressions):
     def _binary(self, it: Expression) -> Value:
         if it.text in (*COMPARES, '/', '>>') and any(
                 one.kind == 'call' and one.text == 'random_rand' for one in map(without_casts, it.parts)):
-            self.remark_mistake(it.line, OF_HALF)
+            self.remark(it.line, OF_HALF)
         draw = without_casts(it.parts[0])
         bits = self.bits_of(it) if is_draw(draw) and not self.program.draws_words else None
         if bits is None:
@@ -78,9 +77,9 @@ class Chance(Expressions):
         self.code.is_random = True
 
     def value_random_rand(self, it: Expression) -> Value:
-        """A random number of 16 bits."""
+        """A random number of 15 bits."""
         self.note_draw(it.line)
-        upper = self.temporary(self.drawn(8))
+        upper = self.temporary(self.drawn(7))
         return added(multiplied(upper._replace(type=UNSIGNED), number(256, UNSIGNED)), self.drawn(8), '+')
 
     def drawn(self, bits: int) -> Value:
@@ -123,6 +122,4 @@ class Chance(Expressions):
         return [named(it, self.generators()) for it in (first, *others)]
 
     def value_rand(self, it: Expression) -> Value:
-        """A random number of 15 bits."""
-        found = self.value_random_rand(it)
-        return (divided(found, number(HALF, UNSIGNED), '%') or found)._replace(type=INT)
+        return self.value_random_rand(it)._replace(type=INT)

@@ -72,7 +72,7 @@ class Translation(NamedTuple):
 
 def translated(text: str, second: int = SECOND, draws_words: bool = False) -> Translation:
     """A program in C in the notation. Raises a Refusal if it isn't translated. `second`: the moments of a second.
-    `draws_words`: each draw of a random number has 16 bits, even if the program needs fewer."""
+    `draws_words`: each draw of a random number has 15 bits, even if the program needs fewer."""
     file = None
     try:
         file = read_file(text)
