@@ -311,11 +311,11 @@ class Forms(unittest.TestCase):
         self.assertEqual(body_of(text), ['set et 1;', 'set et (6 * (n + 1));', 'set et 30;'])
         self.assertIn('A second has 10 moments here, so `CLOCK_SECOND` is 10. `end`', notes)
 
-    def test_a_random_number_has_16_bits_unless_8_are_enough(self) -> None:
+    def test_a_random_number_has_15_bits_as_on_the_tmote_sky_unless_8_are_enough(self) -> None:
         step = ['dice = ((dice * 25173) + 13849);', 'luck = ((luck * 225) % 239);']
         total = '(dice + (luck * 257))'
         whole = '((t * 256) + (%s / 256))' % total
-        two = [*step, 't = (%s / 256);' % total, *step]
+        two = [*step, 't = (%s / 512);' % total, *step]
         for drawn, lines in (
                 ('random_rand() % 8', [*step, 'u = (%s / 8192);' % total]),
                 ('random_rand() & 1', [*step, 'u = (%s / 32768);' % total]),
@@ -323,7 +323,7 @@ class Forms(unittest.TestCase):
                 ('random_rand() % CLOCK_SECOND', [*step, 'u = (%s / 512);' % total]),
                 ('random_rand() % 1000', [*two, 'u = (%s %% 1000);' % whole]),
                 ('random_rand()', [*two, 'u = %s;' % whole]),
-                ('rand() % 100', [*two, 'u = ((%s %% 32768) %% 100);' % whole]),
+                ('rand() % 100', [*two, 'u = (%s %% 100);' % whole]),
                 ('random_rand() < RANDOM_RAND_MAX / 4', [*two, 'u = (%s < 16383);' % whole])):
             with self.subTest(drawn):
                 text, _ = translation(in_process('  u = %s;' % drawn, '', VARIABLES))
@@ -357,10 +357,15 @@ PROCESS_THREAD(q, ev, data) { static int n; PROCESS_BEGIN(); n = random_rand(); 
         self.assertEqual([it.strip() for it in (text or '').split('\n') if 'self' in it],
                          ['dice = ((self * 257) + 1);', 'dice = ((self * 257) + 129);'])
 
+    def test_the_node_is_a_tmote_sky(self) -> None:
+        above = '#if CONTIKI_TARGET_SKY\n#define BASE 100\n#else\n#define BASE 200\n#endif'
+        self.assertEqual(body_of(translation(in_process('  printf("%d", BASE);', above))[0]), ['print 100;'])
+
     def test_a_header_of_a_project_is_refused(self) -> None:
         for name in 'project-conf.h', './own.h', 'common/own.h':
             text, notes = translation(in_process('  printf("%d", 3);', '#include "%s"' % name))
             self.assertIsNone(text)
+            self.assertIsNone(translation(in_process('  printf("%d", 3);', '#include <%s>' % name))[0])
             self.assertIn('Headers of a project, such as `%s`, aren\'t read.' % name, notes)
         for line in ('#include "contiki-net.h"', '#include "dev/button-sensor.h"', '#include <msp430.h>',
                      '#ifdef NEVER\n#include "own.h"\n#endif', '#include "ctimer.h"', '#include "stdio.h"'):
@@ -1213,11 +1218,23 @@ static const struct broadcast_callbacks calls = { recv };'''
             self.assertTrue(words is None or words in notes, (body, notes))
             self.assertEqual('overwrites it' in notes, 'overwrites' in (words or ''))
 
+    def test_a_quotient_of_a_product_with_32_bits_is_exact(self) -> None:
+        for quotient, its in (
+                ('node_id * 500 * CLOCK_SECOND / 1000', '(self * 64)'),
+                ('node_id * CLOCK_SECOND / 2', '((self * 128) / 2)'),
+                ('10000UL * node_id / 3', '(((self / 3) * 10000) + (((self % 3) * 10000) / 3))'),
+                ('u * CLOCK_SECOND / 1000', '(((u / 125) * 16) + (((u % 125) * 16) / 125))')):
+            body = '  u = node_id * 250; PROCESS_YIELD(); etimer_set(&et, %s);' % quotient
+            text, notes = translation(in_process(body, 'static struct etimer et;', VARIABLES))
+            self.assertIn('set et %s;' % its, body_of(text), notes)
+
     def test_a_time_that_16_bits_do_not_hold_has_a_remark(self) -> None:
         wait = 'while(1) { u++; etimer_set(&et, %s); PROCESS_WAIT_EVENT_UNTIL(etimer_expired(&et)); }'
         for ticks, is_seen in (
-                ('u * CLOCK_SECOND / 1000', True), ('u * CLOCK_SECOND', True), ('x * CLOCK_SECOND', False),
-                ('(1 + node_id) * CLOCK_SECOND / 16', False), ('(u % 9) * CLOCK_SECOND', False)):
+                ('u * CLOCK_SECOND / 1000', False), ('u * CLOCK_SECOND', True), ('u * CLOCK_SECOND / 30001', True),
+                ('x * CLOCK_SECOND', False), ('(1 + node_id) * CLOCK_SECOND / 16', False),
+                ('(u % 9) * CLOCK_SECOND', False),
+                ('(1 + node_id) * 500 * CLOCK_SECOND', True), ('node_id * 60 * CLOCK_SECOND', False)):
             body = '  x = 30; ' + wait % ticks
             text, notes = translation(in_process(body, 'static struct etimer et;\n', VARIABLES))
             self.assertIsNotNone(text, notes)

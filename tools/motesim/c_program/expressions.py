@@ -1,6 +1,7 @@
 """Translates expressions: values, tests, assignments and their effects."""
 from __future__ import annotations
 
+import math
 import re
 from collections.abc import Sequence
 
@@ -8,7 +9,7 @@ from motesim.c_program import bits
 from motesim.c_program.base import OF_LONG, joined_limits
 from motesim.c_program.constants import EVENT_NUMBERS, NUMBERS, OPERATIONS, SECOND, constant_of
 from motesim.c_program.events import Events
-from motesim.c_program.places import ADDRESSES, NO_MOTE, OF_ADDRESS, OF_CHANGE, SELF, TEXTS, Place
+from motesim.c_program.places import ADDRESSES, NO_MOTE, OF_ADDRESS, OF_CHANGE, SELF, TEXTS, Place, has_effects
 from motesim.c_program.refusal import Refusal
 from motesim.c_program.tree import Expression
 from motesim.c_program.types import INT, UNSIGNED, Type, size_of
@@ -39,6 +40,8 @@ OF_STRUCTURE = ('An address is a structure in C: compare its first byte, such as
 OF_EQUAL = 'In a test, `=` assigns a value: write `==` for a comparison.'
 # A smaller constant is added so often before a sum has more than 16 bits that this seldom matters.
 MOST_ADDED = 255
+# The number of a mote is seldom greater.
+FEW_MOTES = 8
 NO_BITS = 'This operation on bits needs statements of its own: write it above, into a variable.'
 OF_OVERFLOW = ('An `int` of a node has 16 bits, so a result above 32,767 is below 0 there. Here, it isn\'t: calculate '
                'with `uint16_t`, or with smaller values.')
@@ -232,6 +235,9 @@ class Expressions(Events):
             if pointers and it.text not in ('==', '!='):
                 raise self.refuse(it.line, OF_CHANGE % pointers[0])
         self.check_size(it.text, it.parts, it.line)
+        exact = self.exact_quotient(it) if it.text == '/' else None
+        if exact is not None:
+            return exact
         left, right = self.two(it.parts[0], it.parts[1])
         if it.text in COMPARES:
             for one, other in ((it.parts[0], right), (it.parts[1], left)):
@@ -242,13 +248,41 @@ class Expressions(Events):
         self.note_size(it.text, left, right, [it], it.line)
         return self.operation(it.text, left, right, it.line)
 
+    def exact_quotient(self, it: Expression) -> Value | None:
+        """The quotient of a product that has 32 bits in C and may have more than 16, if all its factors but one, and
+        the divisor, are constants, such as `x * CLOCK_SECOND / 1000`. None if there is no such product, or 16 bits
+        don't hold the parts of the quotient."""
+        second, factors = self.program.second, factors_of(it.parts[0])
+        others = [one for one in factors if constant_of(one, second) is None]
+        divisor = constant_of(it.parts[1], second) or 0
+        if len(others) != 1 or divisor < 1 or not self.is_long(it.parts[0]) \
+                or any(map(has_effects, parts_of(others[0]))):
+            return None
+        factor = math.prod(constant_of(one, second) or 0 for one in factors if one is not others[0])
+        above, below = factor // math.gcd(factor, divisor), divisor // math.gcd(factor, divisor)
+        with self.into([]):
+            value = self.operand(others[0])
+        if value.is_negative or not exceeds('*', value, number(factor)) or not 0 < above * max(below - 1, 1) <= MOST:
+            return None
+        for one in parts_of(it):
+            # (the name has a remark)
+            if one.kind == 'name' and one.text == 'CLOCK_SECOND':
+                self.evaluate(one)
+        value = self.operand(others[0])._replace(type=UNSIGNED)
+        by, high = number(above, UNSIGNED), value.high * above // below
+        if high > MOST and exceeds('*', value, by):
+            self.remark_mistake(it.line, OF_LONG)
+        if below == 1:
+            return multiplied(value, by)
+        whole, rest = (divided(value, number(below), sign) or value for sign in '/%')
+        found = added(multiplied(whole, by), divided(multiplied(rest, by), number(below), '/') or rest, '+')
+        return found._replace(high=min(high, MOST))
+
     def note_size(self, sign: str, left: Value, right: Value, parts: Sequence[Expression], line: int) -> None:
         """Notes that a result may have more bits than a value has here, or than an `int` has on a node."""
         # (times are added in both sizes, because only their differences count)
         is_long = any(self.is_long(it, sign != '+') for it in parts)
-        # (a net has few motes)
-        is_of_self = sign == '*' and any(re.search(r'\bself\b', it.text) for it in (left, right))
-        if is_long and not is_of_self and exceeds(sign, left, right):
+        if is_long and exceeds(sign, left, right):
             self.remark_mistake(line, OF_LONG)
         is_compared = sign in ('/', '%', '>>', *COMPARES) and (left.wraps or right.wraps)
         is_certain = sign in '*+' and common(left, right).signed and min(left.low, right.low) > 0 and \
@@ -690,11 +724,20 @@ def is_own_number(it: Expression) -> bool:
     return it.kind == 'name' and it.variable is None and it.text == 'node_id'
 
 
+def factors_of(it: Expression) -> list[Expression]:
+    """The factors of a product."""
+    is_product = it.kind == 'binary' and it.text == '*'
+    return [one for part in it.parts for one in factors_of(part)] if is_product else [it]
+
+
 def exceeds(sign: str, left: Value, right: Value) -> bool:
     """Returns whether a result may have more than 16 bits: a product, a sum of two variables, or a value that is
     shifted."""
     if left.constant is not None and right.constant is not None:
         return False
+    if sign == '*' and any(re.search(r'\bself\b', it.text) for it in (left, right)):
+        factors = re.findall(r'(?<=\* )\d+|\d+(?= \*)', '%s * %s' % (left.text, right.text))
+        return math.prod(map(int, factors)) * FEW_MOTES > MOST
     most = max(abs(left.low), left.high) * max(abs(right.low), right.high) if sign == '*' else 0
     if sign == '+' and min(left.constant or MOST, right.constant or MOST) > MOST_ADDED:
         most = left.high + right.high

@@ -38,6 +38,7 @@ CRASHES = 'compiled by gcc, it crashes: it uses memory that it doesn\'t have'
 MEETING = '; at this moment a packet arrives and a timer expires, and their order may differ on a node'
 OF_INT = ('; if the program calculates beyond 16 bits, the translation is probably right: an `int` of gcc has 32 bits '
           'here, and 16 bits on a node')
+OF_REMARK = '; see the remark on line %d'
 DIFFERS = 'compiled by gcc, mote %d %s, but its translation %s'
 
 
@@ -50,7 +51,7 @@ class Crash(Exception):
 
 
 class InC(NamedTuple):
-    """A program in C in a net: its text, its translation, in which each random number has 16 bits as in C, and the
+    """A program in C in a net: its text, its translation, in which each random number has 15 bits as in C, and the
     scenario with this translation."""
     source: str
     translation: Translation
@@ -112,7 +113,9 @@ class Compiled:
         if not found:
             return ''
         at, words, mote = min(found)
-        return words + (MEETING if is_meeting(report, mote, at) else OF_INT)
+        mistaken = next((one.line for one in it.translation.remarks if one.is_mistake), 0)
+        why = OF_REMARK % mistaken if mistaken else OF_INT
+        return words + (MEETING if is_meeting(report, mote, at) else why)
 
 
 def deeds_in(report: bytes) -> list[list[Deed]]:
