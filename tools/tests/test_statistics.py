@@ -242,6 +242,12 @@ class Crossings(unittest.TestCase):
             '  how often the true curve crosses isn\'t known: report the range from before the first point to beyond '
             'the last point, or make more runs there'])
         wish = Wish('m', 'x', show='mean', threshold='0.6')
+        # (if a curve rises and falls, as nearly all drawn curves do, the two intervals are the result)
+        curve = curve_of([(x, [y, y + 0.2]) for x, y in ((0, 0.0), (1, 1.0), (2, 1.0), (4, 0.0))])
+        hill = crossing(curve, 0.6, 0.95)
+        assert hill
+        for it, is_seen in (hill, False), (hill._replace(share=0.9), True), (hill._replace(high=2.5), True):
+            self.assertEqual('how often' in of_crossing(it, wish), is_seen, it)
         self.assertEqual(of_crossing_in_short(found, wish), 'the mean crosses 0.6 3 times (95 %: 0 to 4)')
         self.assertEqual(of_crossing_in_short(found._replace(share=0.9), wish),
                          'the mean crosses 0.6 3 times (95 %: 0 to 4; 90 % of the drawn curves cross upwards)')

@@ -28,6 +28,8 @@ NETS, MOST_BELOW = 'nets with missing runs', 6
 
 # The columns of a comparison that no side may have as its name.
 OF_COMPARISON = 'nets', 'pairs', 'left out', 'difference', 'low', 'high', 'interval', 'greater', 'less', NETS
+# The part of the drawn curves above which nearly all of them cross as the curve does.
+MOST_SHARE = 0.995
 # The directions of a crossing, by whether the curve rises there.
 DIRECTIONS = {True: 'upwards', False: 'downwards'}
 # The ends of the interval of a crossing beyond all points, if the axis shows a parameter, and if it shows a measure.
@@ -574,7 +576,13 @@ def _of_interval(found: Crossing, low: float, high: float, wish: Wish, between: 
              for name, ends in its]
     lines[-1] += _share(found)
     return lines + ['how often the true curve crosses isn\'t known: report the range from %s to %s, or make more runs '
-                    'there' % _ends(*_range(found), between)] * (found.last is not None)
+                    'there' % _ends(*_range(found), between)] * (found.last is not None and not _is_bend(found))
+
+
+def _is_bend(found: Crossing) -> bool:
+    """Returns whether a curve crosses twice, as nearly all drawn curves do, and these two intervals are apart."""
+    return (found.last is not None and found.high is not None and found.high < found.last[0]
+            and len(found.places) == 2 and found.share > MOST_SHARE)
 
 
 def _share(found: Crossing) -> str:
@@ -584,7 +592,7 @@ def _share(found: Crossing) -> str:
     way = 'in both directions' if found.last and found.is_rising != ends[1].is_rising else DIRECTIONS[ends[0].rises]
     # (if a line turns back, one direction along the line may be both directions in the picture)
     way = 'in the same direction' if any(it.is_leftwards for it in found.places) else way
-    return '' if found.share > 0.995 else '; %d %% of the drawn curves cross %s' % (round(100 * found.share), way)
+    return '' if found.share > MOST_SHARE else '; %d %% of the drawn curves cross %s' % (round(100 * found.share), way)
 
 
 def _ends(low: float, high: float, between: Sequence[str]) -> tuple[str, str]:
