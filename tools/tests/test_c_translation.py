@@ -167,7 +167,7 @@ class Random(OnHost):
                     continue
                 if self.deeds(its) is not None:
                     count += 1
-                    self.assertEqual(self.compiled.difference(its, 'p', answer), '', its.translation.text)
+                    self.assertIsNone(self.compiled.difference(its, 'p', answer), its.translation.text)
         self.assertGreaterEqual(count, LEAST_OF_CONTIKI)
 
     def test_programs_with_a_callback_print_and_send_what_they_do_with_its_kernel(self) -> None:

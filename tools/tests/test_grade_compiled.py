@@ -6,7 +6,8 @@ from pathlib import Path
 
 from motesim.c_program.program import translated
 from motesim.c_program.refusal import Refusal
-from motesim.grading.compiled import CRASHES, OF_INT, Compiled, InC, NoComparison, is_meeting
+from motesim.grading.compiled import CRASHES, OF_INT, Compiled, Difference, InC, NoComparison, first_meeting
+from motesim.grading.marking import InNet, difference_in
 from motesim.runner.run import answer
 from skips import need_command, need_program
 from student_programs import PROGRAMS, REFUSED, SCENARIO as IN_A_ROW
@@ -35,6 +36,10 @@ static const struct broadcast_callbacks calls = {recv};
 static struct broadcast_conn bc;'''
 
 
+def in_net(differs: Difference) -> InNet:
+    return InNet([], [], '', None, [], differs=differs, net='n')
+
+
 class Comparison(unittest.TestCase):
     def setUp(self) -> None:
         need_program(self)
@@ -51,7 +56,8 @@ class Comparison(unittest.TestCase):
 
     def difference(self, source: str, other: str = '') -> str:
         """The difference between a program and its translation, or that of another program."""
-        return self.compiled.difference(self.in_c(source, other), 'p', answer)
+        found = self.compiled.difference(self.in_c(source, other), 'p', answer)
+        return found.words if found else ''
 
     def counting(self, step: str) -> str:
         return in_process('  broadcast_open(&bc, 129, &calls);\n' + COUNTS % step, RADIO, '  ' + TIMER)
@@ -84,9 +90,14 @@ class Comparison(unittest.TestCase):
         for written in 'root.u8[0] = 0; root.u8[1] = 0;', 'root.u8[0] = 1;', '':
             self.assertEqual(self.difference(in_process(body % written, above, '  ' + TIMER)), '', written)
 
-    def test_a_packet_at_the_moment_of_a_timer_is_named(self) -> None:
-        report = b'mote 0 p\n5 recv 1 0 3\n5 post 2 p timer 0\n9 recv 1 1 3\nmedium\nleft 0\n'
-        self.assertEqual([is_meeting(report, 0, at) for at in (5, 9)], [True, False])
+    def test_from_a_packet_at_the_moment_of_a_timer_on_runs_may_differ(self) -> None:
+        report = (b'mote 0 p\n3 recv 1 0 3\n5 recv 1 1 3\n5 post 2 p timer 0\n'
+                  b'mote 1 q\n1 recv 0 0 3\n1 recv 0 1 3\nmedium\nleft 0\n')
+        self.assertEqual([first_meeting(report, it) for it in 'pqr'], [5, 1, None])
+        source = self.counting('1')
+        self.assertTrue(difference_in([in_net(Difference('a')), in_net(Difference('b', True))])[0].is_mistake)
+        self.assertFalse(difference_in([in_net(Difference('b', True))])[0].is_mistake)
+        self.assertNotIn('another event', self.difference(source, self.counting('2')))
 
     def test_a_program_that_leaves_an_array_crashes(self) -> None:
         source = in_process('  n = 9; printf("%d", a[n]);', inside='  static int a[3], n;')
@@ -123,7 +134,7 @@ PROCESS_THREAD(q, ev, data) { PROCESS_BEGIN(); printf("%d", random_rand() & 15);
                     continue
                 its = InC(path.read_text(), found, IN_A_ROW % (ENDS.get(path.stem, 1_000), found.text))
                 self.compiled.report(its, 'p')
-                self.assertEqual(self.compiled.difference(its, 'p', answer), '')
+                self.assertIsNone(self.compiled.difference(its, 'p', answer))
 
 
 if __name__ == '__main__':

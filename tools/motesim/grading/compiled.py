@@ -10,6 +10,7 @@ import re
 import signal
 import subprocess
 import tempfile
+from collections import Counter
 from collections.abc import Callable, Sequence
 from itertools import zip_longest
 from pathlib import Path
@@ -35,7 +36,7 @@ KINDS = 'print', 'send'
 # The tokens that write an address of zeros: an assignment, or an initial value.
 ZERO = re.compile(r'u8 \[ 0 \] = 0 ;|\{ \{ 0 ,')
 CRASHES = 'compiled by gcc, it crashes: it uses memory that it doesn\'t have'
-MEETING = '; at this moment a packet arrives and a timer expires, and their order may differ on a node'
+MEETING = '; at %d, a packet and another event have the same moment, and their order may differ on a node'
 OF_INT = ('; if the program calculates beyond 16 bits, the translation is probably right: an `int` of gcc has 32 bits '
           'here, and 16 bits on a node')
 OF_REMARK = '; see the remark on line %d'
@@ -56,6 +57,13 @@ class InC(NamedTuple):
     source: str
     translation: Translation
     scenario: str
+
+
+class Difference(NamedTuple):
+    """A difference between a program in C and its translation, in words. `may_differ`: their runs may also differ because
+    of events of one moment."""
+    words: str
+    may_differ: bool = False
 
 
 class Deed(NamedTuple):
@@ -96,26 +104,27 @@ class Compiled:
             called(['gcc', *FLAGS, '-no-pie', '-o', 'run', *sources], place)
             return called(['./run'], place)
 
-    def difference(self, it: InC, program: str, run: Callable[[bytes], Answer]) -> str:
-        """The first difference between the motes of a program in C and those of its translation, in words; an empty
-        text if there is none, or if they can't be compared. `run` runs a scenario in motesim."""
+    def difference(self, it: InC, program: str, run: Callable[[bytes], Answer]) -> Difference | None:
+        """The first difference between the motes of a program in C and those of its translation; None if there is none,
+        or if they can't be compared. `run` runs a scenario in motesim."""
         try:
             theirs = deeds_in(self.report(it, program))
         except NoComparison:
-            return ''
+            return None
         except Crash:
-            return CRASHES
+            return Difference(CRASHES)
         report = run(it.scenario.encode()).report
-        ours = deeds_in(report)
-        places = Scenario.parse(it.scenario).places
-        found = [(*one, mote) for mote, place in enumerate(places) if place.program == program
+        ours, places = deeds_in(report), Scenario.parse(it.scenario).places
+        found = [one for mote, place in enumerate(places) if place.program == program
                  and (one := first_difference(mote, theirs[mote], ours[mote]))]
         if not found:
-            return ''
-        at, words, mote = min(found)
+            return None
+        at, words = min(found)
+        meeting = first_meeting(report, program)
+        if meeting is not None and meeting <= at:
+            return Difference(words + MEETING % meeting, True)
         mistaken = next((one.line for one in it.translation.remarks if one.is_mistake), 0)
-        why = OF_REMARK % mistaken if mistaken else OF_INT
-        return words + (MEETING if is_meeting(report, mote, at) else why)
+        return Difference(words + (OF_REMARK % mistaken if mistaken else OF_INT))
 
 
 def deeds_in(report: bytes) -> list[list[Deed]]:
@@ -130,11 +139,18 @@ def deeds_in(report: bytes) -> list[list[Deed]]:
     return motes
 
 
-def is_meeting(report: bytes, mote: int, at: int) -> bool:
-    """Returns whether a mote gets a packet and the event of a timer at a moment."""
-    rows = report.decode().split('\nmote ')[mote].split('\n')
-    here = [row.split(' ')[1:] for row in rows if row.startswith('%d ' % at)]
-    return any(it[0] == 'recv' for it in here) and any(it[0] == 'post' and it[3] == 'timer' for it in here)
+def first_meeting(report: bytes, program: str) -> int | None:
+    """The first moment at which a mote of a program gets several packets, or a packet and the event of a timer: in
+    Contiki, their order may be another one."""
+    found, mote, is_here = Counter[tuple[int, int, str]](), 0, False
+    for row in report.decode().partition('\nmedium\n')[0].split('\n'):
+        words = row.split(' ')
+        if words[0] == 'mote':
+            mote, is_here = int(words[1]), words[2] == program
+        elif is_here and (words[1] == 'recv' or words[1] == 'post' and words[4] == 'timer'):
+            found[mote, int(words[0]), words[1]] += 1
+    return min((at for (mote, at, kind), count in found.items()
+                if kind == 'recv' and (count > 1 or (mote, at, 'post') in found)), default=None)
 
 
 def first_difference(mote: int, compiled: Sequence[Deed], translated: Sequence[Deed]) -> tuple[int, str] | None:

@@ -17,7 +17,7 @@ from motesim.explain.within import busiest
 from motesim.faults import Fault, tried
 from motesim.files import replace_whole
 from motesim.grading.callbacks import OF_CALLBACK, readings
-from motesim.grading.compiled import Compiled, InC
+from motesim.grading.compiled import Compiled, Difference, InC
 from motesim.grading.entries import Entry, data_of, without_program
 from motesim.grading.in_c import NotTranslated, in_words_of_c, remarks_of
 from motesim.grading.nets import NOT_UTF8, Net, NoProgram, program_of, unused_of
@@ -178,7 +178,7 @@ class InNet(NamedTuple):
     run: Run | None
     broken: list[Broken | None]
     is_refused: bool = False
-    differs: str = ''
+    differs: Difference | None = None
     net: str = ''
     is_hidden: bool = False
     bytes: int = 0
@@ -326,7 +326,7 @@ class Task:
             whole = same_report(judge.rows, self.part.report)
             marks.append(Mark(whole.sentence, whole.holds, (), tuple(whole.more)))
         run = Run('', report, scenario, file) if len(got.report) <= MOST_SHOWN else None
-        differs = self.compiled.difference(in_c, program, self.answer) if in_c and self.compiled else ''
+        differs = self.compiled.difference(in_c, program, self.answer) if in_c and self.compiled else None
         programs = {program: scenario.programs[program]} if program else scenario.programs
         return InNet(marks, lacks, '', run, [None if lack else next(places) for lack in lacks], bytes=len(got.report),
                      differs=differs, halts=halt_of(report), moments=seen_of(scenario, report, program),
@@ -400,10 +400,11 @@ def first_shown(marks: Marks, found: Sequence[InNet]) -> tuple[int, InNet | None
 
 def difference_in(found: Sequence[InNet]) -> list[Remark]:
     """The first difference between a program in C and its translation, without the values of a hidden net."""
-    its = next((it for it in sorted(found, key=lambda it: it.is_hidden) if it.differs), None)
-    if its is None:
+    its = [(it.differs.may_differ, it.is_hidden, it.differs.words, it.net) for it in found if it.differs]
+    if not its:
         return []
-    return [Remark(0, OF_HIDDEN_RUN if its.is_hidden else '%s (in %s)' % (its.differs, its.net), True)]
+    may_differ, is_hidden, words, net = min(its, key=lambda it: it[:2])
+    return [Remark(0, OF_HIDDEN_RUN if is_hidden else '%s (in %s)' % (words, net), not may_differ)]
 
 
 def of_callbacks(report: bytes, scenario: Scenario, program: str, sentences: Sequence[Sentence],
