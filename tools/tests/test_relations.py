@@ -219,7 +219,9 @@ SENTENCES: list[tuple[str, str | None, int | None]] = [
     ('all motes together send exactly 5', None, None),
     # (the line at 0 is the first one, though it is below that of mote 1, at 13)
     ('motes 1 and 2 together print just a 1 in any order',
-     'the motes together print a value that is not left in the list', 9),
+     'the motes together print 1, more often than the list has it', 9),
+    ('motes 1 and 2 together print just a 2 in any order',
+     'the motes together print 1, which is not in the list', 14),
 ]
 REFUSED = [
     ('any mote sends', 'Hint: write `every mote` or `some mote`.'),

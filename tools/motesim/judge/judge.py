@@ -237,9 +237,11 @@ class Judge:
         """Checks that the values of all lines in a span are those of a list, in any order."""
         left = list(deed.values)
         for event in events:
-            if event.line.value not in left:
-                return Broken('%s a value that is not left in the list' % verb(self.name(motes), 'print'), event.row)
-            left.remove(event.line.value)
+            value = event.line.value
+            if value not in left:
+                why = 'more often than the list has it' if value in deed.values else 'which is not in the list'
+                return Broken('%s %s, %s' % (verb(self.name(motes), 'print'), value, why), event.row)
+            left.remove(value)
         never = verb(self.name(motes), 'print', 'never ')
         return Broken('%s %s%s' % (never, ', '.join(map(str, left)), span_in_words(span))) if left else None
 
