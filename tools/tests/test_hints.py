@@ -690,6 +690,11 @@ class Warnings(unittest.TestCase):
         self.assertEqual(self.seen(two % ('b', 'post a packet 1;')), [])
         self.assertIn('the process `a` waits for packets, but they go to the `receiver`, which is `b`; write '
                       '`receiver a;`', self.seen(two % ('b', ''))[0])
+        both = two % ('b', 'yield_until is(packet);')
+        self.assertEqual(self.seen(both), [
+            '`is(packet)` is never true in `a`: packets go only to the `receiver`, which is `b`; let `b` post an event '
+            'with the value to `a`'])
+        self.assertEqual(self.seen(both.replace('is(packet); }', 'is(packet); post a packet data; }')), [])
         alone = CODE.replace('code', 'receiver a; code') % 'set t 1; yield_until fired(t);'
         self.assertIn('packets go to the process `a`, which never waits for them: while it runs, it takes them without '
                       'a look, and after its end, the report shows them as `drop`', self.seen(alone)[0])

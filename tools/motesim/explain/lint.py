@@ -53,6 +53,8 @@ SAME_DRAWS = ('in a net of more than 255 motes, mote k + 255 with one seed draws
               'use at most 255 motes')
 OTHER_RECEIVER = ('the process `%s` waits for packets, but they go to the `receiver`, which is `%s`; write `receiver '
                   '%s;` if `%s` is meant')
+ONLY_TO_RECEIVER = ('`is(packet)` is never true in `%s`: packets go only to the `receiver`, which is `%s`; let `%s` '
+                    'post an event with the value to `%s`')
 NEVER_RECEIVES = ('packets go to the process `%s`, which never waits for them: while it runs, it takes them without a '
                   'look, and after its end, the report shows them as `drop`; %s, or leave the `receiver` out')
 IGNORES = ('packets go to the process `%s`, which ignores them: its `yield` waits for any event, and nothing tests '
@@ -307,6 +309,13 @@ class Program:
                 is_receiver = any(it.text in code[1:2] for it in self.receivers)
                 yield NEVER_POSTED % (name, name) + OF_PACKET * is_receiver, first
 
+    def tests_of_others(self, receiver: str, others: Sequence[str]) -> Iterator[Warned]:
+        """The first test for a packet in each of some processes that get no packets, with the warning."""
+        for other in others:
+            begin = next(at for at in range(len(self.words)) if [*self.words[at:at + 2]] == ['code', other])
+            test = self.words.index('packet', begin)
+            yield Warned(ONLY_TO_RECEIVER % (other, receiver, receiver, other), self.name, self.tokens[test])
+
     def unset_timers(self) -> Iterator[tuple[str, Token]]:
         """Each timer that its code never sets, with the warning. (Another code may have a timer of this name.)"""
         for at, word in enumerate(self.words):
@@ -374,6 +383,8 @@ def of_receiver(program: Program) -> Iterator[Warned]:
         is_posted = any(words[at - 1] in ('post', 'synch', 'broadcast') or words[at - 2] in ('post', 'synch')
                         for at, it in enumerate(words) if it == 'packet')
         code = codes[receiver.text]
+        if 'packet' in code and not is_posted:
+            yield from program.tests_of_others(receiver.text, waits)
         yields = [at for at, it in enumerate(code) if it == 'yield']
         # (what follows another `yield` may be meant for packets)
         is_used = any(code[at - 1:at + 3] != ['{', 'yield', ';', '}'] for at in yields)
