@@ -467,6 +467,16 @@ class Warnings(unittest.TestCase):
                                   'the greatest value is' in it],
                                  [it % ', but the greatest value is 65,535: the result is ' for it in wanted] * 2)
 
+    def test_a_variable_with_only_one_value_counts_as_a_number(self) -> None:
+        for declared, assigned, is_seen in (
+                ('var k = 0;', 'k = 600;', True), ('var k = 600;', '', True), ('var k = 0;', 'k = 600; k = 5;', False),
+                ('var k = 600;', 'k = (k + 1);', False), ('var k = 600;', 'post b msg 1 into k;', False),
+                ('var k = 600;', 'k = 5;', False)):
+            with self.subTest(declared + assigned):
+                code = ('process a, b; event msg; autostart a; code a { %s etimer t; body { %s set t (k * 128); } } '
+                        'code b { var k = 1; body { k = 600; k = 7; print k; } }' % (declared, assigned))
+                self.assertEqual(any('`(k * 128)` would be 76,800, but' in it for it in self.seen(code)), is_seen)
+
     def test_a_test_of_sign_has_advice_on_counting_only_in_a_while(self) -> None:
         loop, branch = (CODE % ('set t 1; %s (seq >= 0) { pause; }' % it) for it in ('while', 'if'))
         self.assertEqual([['to count down' in it for it in self.seen(program)] for program in (loop, branch)],

@@ -44,6 +44,17 @@ def assignments(words: Sequence[str], begin: int, end: int, name: str) -> list[i
         words[at - 1] == 'into' or list(words[at + 1:at + 2]) == ['='] and words[at - 1] != 'var')]
 
 
+def fixed_values(words: Sequence[str], begin: int, end: int) -> dict[str, int]:
+    """The variables of a code that nothing assigns, and those with only one assignment, if it is one of a number."""
+    found = {}
+    for name, value in initial_values(words, begin, end).items():
+        places = assignments(words, begin, end, name)
+        sign, number, last = words[places[0] + 1:places[0] + 4] if places else ('=', str(value), ';')
+        if len(places) < 2 and (sign, last) == ('=', ';') and number.isdecimal():
+            found[name] = int(number)
+    return found
+
+
 def warnings(words: list[str], tokens: list[Token]) -> Iterator[tuple[str, Token]]:
     """Each value of a program that never changes and is surely meant to, with the warning."""
     for begin, end in codes_of(words):
@@ -55,8 +66,7 @@ def warnings(words: list[str], tokens: list[Token]) -> Iterator[tuple[str, Token
 def times(words: list[str], tokens: list[Token]) -> Iterator[tuple[str, Token]]:
     """Each time of a timer that is always 0, or that would be below 0, with the warning."""
     for begin, end in codes_of(words):
-        values = initial_values(words, begin, end)
-        fixed = {name: value for name, value in values.items() if not assignments(words, begin, end, name)}
+        fixed = fixed_values(words, begin, end)
         for at in range(begin, end):
             value = words[at + 2:words.index(';', at)] if words[at] == 'set' else []
             if len(value) > 1 and result(value, fixed) == 0:

@@ -1,4 +1,5 @@
-"""Sums and products of numbers that are greater than a value can be, such as `(60000 + 10000)`, which is 4,464.
+"""Sums and products of numbers that are greater than a value can be, such as `(60000 + 10000)`, which is 4,464. A number
+may also be the only value of a variable.
 
 A difference such as `(0 - 1)` has no warning: programs write it for the greatest value.
 """
@@ -6,6 +7,7 @@ from __future__ import annotations
 
 from collections.abc import Iterator
 
+from motesim.explain.unchanged import codes_of, fixed_values
 from motesim.notation.faults import Token
 
 VALUES = 65_536
@@ -17,7 +19,10 @@ def warnings(words: list[str], tokens: list[Token]) -> Iterator[tuple[str, Token
     # (for each open parenthesis its place, and the parts behind it; None is a part that isn't a known number)
     open_at: list[int] = []
     parts: list[list[int | None]] = [[]]
+    codes, fixed = dict(codes_of(words)), dict[str, int]()
     for at, word in enumerate(words):
+        if at in codes:
+            fixed = fixed_values(words, at, codes[at])
         if word == '(':
             open_at.append(at)
             parts.append([])
@@ -35,7 +40,7 @@ def warnings(words: list[str], tokens: list[Token]) -> Iterator[tuple[str, Token
         elif tokens[at].kind == 'number':
             parts[-1].append(int(word))
         elif tokens[at].kind == 'name' or word in ('data', 'from', 'self'):
-            parts[-1].append(None)
+            parts[-1].append(fixed.get(word))
 
 
 def _sign(words: list[str], begin: int, end: int) -> int | None:
