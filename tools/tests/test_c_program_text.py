@@ -311,16 +311,13 @@ class Forms(unittest.TestCase):
         self.assertEqual(body_of(text), ['set et 1;', 'set et (6 * (n + 1));', 'set et 30;'])
         self.assertIn('A second has 10 moments here, so `CLOCK_SECOND` is 10. `end`', notes)
 
-    def test_a_random_number_has_15_bits_as_on_the_tmote_sky_unless_8_are_enough(self) -> None:
+    def test_a_random_number_has_15_bits_as_on_the_tmote_sky(self) -> None:
         step = ['dice = ((dice * 25173) + 13849);', 'luck = ((luck * 225) % 239);']
         total = '(dice + (luck * 257))'
         whole = '((t * 256) + (%s / 256))' % total
         two = [*step, 't = (%s / 512);' % total, *step]
         for drawn, lines in (
-                ('random_rand() % 8', [*step, 'u = (%s / 8192);' % total]),
-                ('random_rand() & 1', [*step, 'u = (%s / 32768);' % total]),
-                ('random_rand() & 0x7f', [*step, 'u = (%s / 512);' % total]),
-                ('random_rand() % CLOCK_SECOND', [*step, 'u = (%s / 512);' % total]),
+                ('random_rand() % 8', [*two, 'u = (%s %% 8);' % whole]),
                 ('random_rand() % 1000', [*two, 'u = (%s %% 1000);' % whole]),
                 ('random_rand()', [*two, 'u = %s;' % whole]),
                 ('rand() % 100', [*two, 'u = (%s %% 100);' % whole]),
@@ -332,7 +329,7 @@ class Forms(unittest.TestCase):
     def test_a_remainder_of_rand_is_an_int_and_one_of_random_rand_has_no_sign(self) -> None:
         for draw, test in ('rand', '>= 32768'), ('random_rand', '< 0'):
             text, _ = translation(in_process('  if(%s() %% 8 - 4 < 0) { x = 1; }' % draw, '', VARIABLES))
-            self.assertIn('if ((((dice + (luck * 257)) / 8192) - 4) %s) {' % test, body_of(text))
+            self.assertIn('if (((((t * 256) + ((dice + (luck * 257)) / 256)) %% 8) - 4) %s) {' % test, body_of(text))
 
     def test_the_seed_of_a_program_is_kept(self) -> None:
         mixed = ['dice = (dice * ((2 * dice) + 1));', 'dice = (dice + (dice / 256));',

@@ -167,7 +167,8 @@ class Random(OnHost):
                     continue
                 if self.deeds(its) is not None:
                     count += 1
-                    self.assertIsNone(self.compiled.difference(its, 'p', answer), its.translation.text)
+                    report = answer(its.scenario.encode()).report
+                    self.assertIsNone(self.compiled.difference(its, 'p', report), its.translation.text)
         self.assertGreaterEqual(count, LEAST_OF_CONTIKI)
 
     def test_programs_with_a_callback_print_and_send_what_they_do_with_its_kernel(self) -> None:

@@ -51,12 +51,13 @@ class Comparison(unittest.TestCase):
 
     def in_c(self, source: str, other: str = '') -> InC:
         """A program in a net, with its translation or that of another program."""
-        found = translated(other or source, draws_words=True)
+        found = translated(other or source)
         return InC(source, found, SCENARIO % found.text)
 
     def difference(self, source: str, other: str = '') -> str:
         """The difference between a program and its translation, or that of another program."""
-        found = self.compiled.difference(self.in_c(source, other), 'p', answer)
+        its = self.in_c(source, other)
+        found = self.compiled.difference(its, 'p', answer(its.scenario.encode()).report)
         return found.words if found else ''
 
     def counting(self, step: str) -> str:
@@ -128,13 +129,13 @@ PROCESS_THREAD(q, ev, data) { PROCESS_BEGIN(); printf("%d", random_rand() & 15);
         for path in sorted((*PROGRAMS.glob('*.c'), *PROGRAMS.glob('more/*.c'))):
             with self.subTest(path.stem):
                 try:
-                    found = translated(path.read_text(), draws_words=True)
+                    found = translated(path.read_text())
                 except Refusal:
                     self.assertIn(path.stem, REFUSED)
                     continue
                 its = InC(path.read_text(), found, IN_A_ROW % (ENDS.get(path.stem, 1_000), found.text))
                 self.compiled.report(its, 'p')
-                self.assertIsNone(self.compiled.difference(its, 'p', answer))
+                self.assertIsNone(self.compiled.difference(its, 'p', answer(its.scenario.encode()).report))
 
 
 if __name__ == '__main__':

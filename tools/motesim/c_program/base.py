@@ -28,8 +28,6 @@ class Program:
     usage: Usage
     knowledge: Knowledge
     second: int
-    # Whether each draw of a random number has 15 bits, even if the program needs fewer.
-    draws_words: bool = False
     names: dict[str, str] = field(default_factory=dict)
     # The names of events, by their numbers, and by the variables that have them.
     events: dict[int, str] = field(default_factory=dict)

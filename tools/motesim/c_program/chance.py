@@ -4,7 +4,6 @@ from __future__ import annotations
 from collections.abc import Iterable
 
 from motesim.c_program.base import Program
-from motesim.c_program.constants import constant_of
 from motesim.c_program.expressions import COMPARES, Expressions
 from motesim.c_program.tree import Expression, Function
 from motesim.c_program.types import INT, UNSIGNED
@@ -19,7 +18,7 @@ STEPS = STEP, 'luck = ((luck * 225) % 239);'
 SUM = '(dice + (luck * 257))'
 OF_CHANCE = ('A mote has no random numbers: each run is the same. `dice` and `luck` are generators. The seed of `dice` '
              'differs by mote, for at most 255 motes, unless `random_init` sets another seed. A step of both makes 8 '
-             'random bits, so a value of `random_rand()` needs two steps if fewer bits aren\'t enough. '
+             'random bits, so a value of `random_rand()` needs two steps. '
              'docs/use/LOSSES.md has a pattern for packets that are lost by chance.')
 OF_HALF = ('On the Tmote Sky and here, `random_rand()` is at most 32,767, although `RANDOM_RAND_MAX` is 65535: use '
            'the remainder, such as `random_rand() % 10`.')
@@ -58,19 +57,7 @@ class Chance(Expressions):
         if it.text in (*COMPARES, '/', '>>') and any(
                 one.kind == 'call' and one.text == 'random_rand' for one in map(without_casts, it.parts)):
             self.remark(it.line, OF_HALF)
-        draw = without_casts(it.parts[0])
-        bits = self.bits_of(it) if is_draw(draw) and not self.program.draws_words else None
-        if bits is None:
-            return super()._binary(it)
-        self.note_draw(it.line)
-        # (in C, `rand()` is an `int`, and `random_rand()` has no sign)
-        return self.drawn(bits)._replace(type=INT if draw.text == 'rand' else UNSIGNED)
-
-    def bits_of(self, it: Expression) -> int | None:
-        """The number of random bits that an operation keeps, if these are at most 8 and it keeps no others."""
-        right = constant_of(it.parts[1], self.program.second)
-        values = {'%': right, '&': None if right is None else right + 1}.get(it.text)
-        return values.bit_length() - 1 if values in (2, 4, 8, 16, 32, 64, 128, 256) else None
+        return super()._binary(it)
 
     def note_draw(self, line: int) -> None:
         self.remark(line, OF_CHANCE)

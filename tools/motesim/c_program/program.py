@@ -70,9 +70,8 @@ class Translation(NamedTuple):
         return self._replace(remarks=tuple(sorted((*self.remarks, *more))))
 
 
-def translated(text: str, second: int = SECOND, draws_words: bool = False) -> Translation:
-    """A program in C in the notation. Raises a Refusal if it isn't translated. `second`: the moments of a second.
-    `draws_words`: each draw of a random number has 15 bits, even if the program needs fewer."""
+def translated(text: str, second: int = SECOND) -> Translation:
+    """A program in C in the notation. Raises a Refusal if it isn't translated. `second`: the moments of a second."""
     file = None
     try:
         file = read_file(text)
@@ -80,7 +79,7 @@ def translated(text: str, second: int = SECOND, draws_words: bool = False) -> Tr
         check_order(file)
         without_value = check_locals((*file.bodies.values(), *file.functions.values()))
         remarks = indexes_for_pointers(file)
-        program, lines = settled(file, second, draws_words)
+        program, lines = settled(file, second)
         check_ends(program)
         check_allocated(file)
         for it in early_posts(file):
@@ -151,11 +150,11 @@ def check_ends(program: Program) -> None:
             raise Refusal(line, NO_END % (name, program.endless[name], name))
 
 
-def settled(file: File, second: int, draws_words: bool) -> tuple[Program, list[str]]:
+def settled(file: File, second: int) -> tuple[Program, list[str]]:
     """Translates a file until the translation is what it relies on."""
     knowledge, usage = Knowledge(), usage_of(file)
     for _ in range(MOST_ROUNDS):
-        program = Program(file, usage, knowledge, second, draws_words)
+        program = Program(file, usage, knowledge, second)
         lines = written(program)
         if knowledge.settle():
             if program.refusals:

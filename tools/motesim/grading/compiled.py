@@ -11,7 +11,7 @@ import signal
 import subprocess
 import tempfile
 from collections import Counter
-from collections.abc import Callable, Sequence
+from collections.abc import Sequence
 from itertools import zip_longest
 from pathlib import Path
 from typing import NamedTuple
@@ -22,7 +22,6 @@ from motesim.c_program.parse_file import tokens_in
 from motesim.c_program.program import Translation
 from motesim.contiki.folder import HOST, host_tables, program_files, text_of
 from motesim.contiki.names import file_names
-from motesim.runner.run import Answer
 from motesim.scenario import Scenario
 
 FLAGS = ('-w', '-O0', '-fno-pic', '-std=gnu99', '-fsanitize=bounds', '-fsanitize-undefined-trap-on-error',
@@ -52,8 +51,7 @@ class Crash(Exception):
 
 
 class InC(NamedTuple):
-    """A program in C in a net: its text, its translation, in which each random number has 15 bits as in C, and the
-    scenario with this translation."""
+    """A program in C in a net: its text, its translation, and the scenario with this translation."""
     source: str
     translation: Translation
     scenario: str
@@ -104,16 +102,15 @@ class Compiled:
             called(['gcc', *FLAGS, '-no-pie', '-o', 'run', *sources], place)
             return called(['./run'], place)
 
-    def difference(self, it: InC, program: str, run: Callable[[bytes], Answer]) -> Difference | None:
-        """The first difference between the motes of a program in C and those of its translation; None if there is none,
-        or if they can't be compared. `run` runs a scenario in motesim."""
+    def difference(self, it: InC, program: str, report: bytes) -> Difference | None:
+        """The first difference between the motes of a program in C and those of its translation, whose report is given;
+        None if there is none, or if they can't be compared."""
         try:
             theirs = deeds_in(self.report(it, program))
         except NoComparison:
             return None
         except Crash:
             return Difference(CRASHES)
-        report = run(it.scenario.encode()).report
         ours, places = deeds_in(report), Scenario.parse(it.scenario).places
         found = [one for mote, place in enumerate(places) if place.program == program
                  and (one := first_difference(mote, theirs[mote], ours[mote]))]

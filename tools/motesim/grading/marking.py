@@ -7,7 +7,7 @@ from dataclasses import dataclass, replace
 from pathlib import Path
 from typing import NamedTuple
 
-from motesim.c_program.program import Remark, translated
+from motesim.c_program.program import Remark
 from motesim.explain.explanation import explanation, of_program as fault_of_program, of_program_file, tables_or_none
 from motesim.explain.lint import (
     ZERO_GIVEN, Program, by_cause, of_moments, of_net, of_program, of_run, of_seeds, of_start, programs_of,
@@ -19,7 +19,7 @@ from motesim.files import replace_whole
 from motesim.grading.callbacks import OF_CALLBACK, readings
 from motesim.grading.compiled import Compiled, Difference, InC
 from motesim.grading.entries import Entry, data_of, without_program
-from motesim.grading.in_c import NotTranslated, in_words_of_c, remarks_of
+from motesim.grading.in_c import NotTranslated, in_words_of_c, made_of, remarks_of
 from motesim.grading.nets import NOT_UTF8, Net, NoProgram, program_of, unused_of
 from motesim.judge.expectations import (
     REFUSED, REQUIRED, Part, UnknownSentence, known_of, more_of, read_all, refused, same_report,
@@ -232,8 +232,7 @@ class Task:
                 in_c = encodings.text_of_c(data).removeprefix(MARK) if entry.path.suffix == '.c' else ''
                 found = []
                 for at, (each, text) in enumerate(zip(self.nets, source)):
-                    compared = self.in_c(in_c, each) if in_c and at < MOST_COMPARED else None
-                    marks_here = self.in_net(each.with_program(text), its, each.program, compared)
+                    marks_here = self.in_net(each.with_program(text), its, each.program, in_c * (at < MOST_COMPARED))
                     found.append(marks_here._replace(net=each.name, is_hidden=each.is_hidden))
         except UnicodeDecodeError:
             return Marks(entry.name, why=NOT_UTF8)
@@ -294,10 +293,10 @@ class Task:
                 lines = explanation(entry.name, data, 'motesim: ' + fault.message) if fault else []
         return tuple(line[:LONGEST_WHY] for line in lines[:MOST_LINES])
 
-    def in_net(self, text: str, file: tuple[str, str], program: str = '', in_c: InC | None = None) -> InNet:
+    def in_net(self, text: str, file: tuple[str, str], program: str = '', in_c: str = '') -> InNet:
         """The marks of a scenario. `file` is the name and the text of the solution's file. `program` is the program
-        that the solution has; if it is empty, all programs of the scenario are the solution's. `in_c` is this program
-        in C, if it is compared with its translation."""
+        that the solution has; if it is empty, all programs of the scenario are the solution's. `in_c` is the text of
+        this program in C, if it is compared with its translation."""
         known, names = known_of(text)
         lacks = [lacking(it, names) for it in self.part.sentences]
         part = replace(self.part, sentences=[it for it, lack in zip(self.part.sentences, lacks) if not lack])
@@ -326,16 +325,15 @@ class Task:
             whole = same_report(judge.rows, self.part.report)
             marks.append(Mark(whole.sentence, whole.holds, (), tuple(whole.more)))
         run = Run('', report, scenario, file) if len(got.report) <= MOST_SHOWN else None
-        differs = self.compiled.difference(in_c, program, self.answer) if in_c and self.compiled else None
+        differs = self.difference(InC(in_c, made_of(in_c), text), program, got.report) if in_c else None
         programs = {program: scenario.programs[program]} if program else scenario.programs
         return InNet(marks, lacks, '', run, [None if lack else next(places) for lack in lacks], bytes=len(got.report),
                      differs=differs, halts=halt_of(report), moments=seen_of(scenario, report, program),
                      warned=warned_of(programs, ZERO_GIVEN.search(text) is not None))
 
-    def in_c(self, source: str, net: Net) -> InC:
-        """A program in C for a comparison in a net."""
-        translation = translated(source, draws_words=True)
-        return InC(source, translation, net.with_program(translation.text))
+    def difference(self, it: InC, program: str, report: bytes) -> Difference | None:
+        """The difference between a program in C and its translation, if gcc is installed."""
+        return self.compiled.difference(it, program, report) if self.compiled else None
 
     def answer(self, scenario: bytes) -> Answer:
         """The answer of `motesim`, within the limits. The error at a limit says what the run does most often."""
