@@ -206,6 +206,9 @@ flood = 5
         sinks = [number for number, place in enumerate(scenario.places) if place.program == 'sink']
         self.assertEqual(sinks, [0, 3, 4, 25, 26])
         self.assertEqual(scenario.queue, {'flood': 5})
+        # (a comma would separate two values of a sweep)
+        other = plan(text.replace('0, 3 to 4', '0 and 3 to 4'))
+        self.assertEqual(Scenario.parse(other.scenario({})).places, scenario.places)
 
     def test_tables_with_one_seed_are_drawn_independently(self) -> None:
         group = 'rule = "%s"\nprogram = "sink.mote"\ncount = 40\nwidth = 99\nheight = 99\nseed = 7\n%s'

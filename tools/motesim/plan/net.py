@@ -248,15 +248,15 @@ class Builder:
         return CsvTable(file, self.read_file(file, path), columns, more)
 
     def numbers(self, value: object, path: Path, count: int) -> list[int]:
-        """Motes by their numbers: one number, an array of numbers, or a text such as `0, 3 to 5`."""
+        """Motes by their numbers: one number, an array of numbers, or a text such as `0, 3 to 5` or `3 and 7`."""
         value = self.tables.filled(value, path)
         found: list[int] = []
-        for part in value if type(value) is list else str(value).split(','):
+        for part in value if type(value) is list else re.split(',| and ', str(value)):
             words = re.fullmatch(r'\s*([0-9]{1,4})(?:\s+to\s+([0-9]{1,4}))?\s*', str(part))
             begin, end = (int(words[1]), int(words[2] or words[1])) if words else (1, 0)
             if not begin <= end < count:
                 raise self.tables.fault(path, 'These are not motes of the plan.',
-                                        'numbers of motes, 0 to %d, as in `"0, 3 to 5"`' % (count - 1))
+                                        'numbers of motes, 0 to %d, as in `"0, 3 to 5"` or `"3 and 7"`' % (count - 1))
             found += range(begin, end + 1)
         return found
 
