@@ -355,8 +355,9 @@ PROCESS_THREAD(q, ev, data) { static int n; PROCESS_BEGIN(); n = random_rand(); 
                          ['dice = ((self * 257) + 1);', 'dice = ((self * 257) + 129);'])
 
     def test_the_node_is_a_tmote_sky(self) -> None:
-        above = '#if CONTIKI_TARGET_SKY\n#define BASE 100\n#else\n#define BASE 200\n#endif'
-        self.assertEqual(body_of(translation(in_process('  printf("%d", BASE);', above))[0]), ['print 100;'])
+        for test in 'CONTIKI_TARGET_SKY', 'RIMEADDR_SIZE == 2':
+            above = '#if %s\n#define BASE 100\n#else\n#define BASE 200\n#endif' % test
+            self.assertEqual(body_of(translation(in_process('  printf("%d", BASE);', above))[0]), ['print 100;'])
 
     def test_a_header_of_a_project_is_refused(self) -> None:
         for name in 'project-conf.h', './own.h', 'common/own.h':

@@ -15,6 +15,8 @@ OTHERS = ('contiki-net.h', 'simple-udp.h', 'cc2420.h', 'powertrace.h', 'sky.h', 
 FOLDERS = ('net', 'sys', 'dev', 'lib', 'cfs', 'loader', 'apps', 'avr')
 OF_PROJECT = ('Headers of a project, such as `%s`, aren\'t read. Instead of this line, write the lines of the header '
               'that the program needs.')
+# The macros of a node such as the Tmote Sky that programs test.
+OF_NODE = {'CONTIKI_TARGET_SKY': '1', 'LINKADDR_SIZE': '2', 'RIMEADDR_SIZE': '2'}
 NO_TEST = 'The test of this `#%s` can\'t be evaluated.'
 
 
@@ -30,7 +32,7 @@ class Preprocessor:
     def __init__(self, text: str, evaluate: Callable[[Sequence[Token]], int]):
         self.tokens, self.evaluate = tokens_of(text), evaluate
         # (a translation aims at the Tmote Sky)
-        self.macros = {'CONTIKI_TARGET_SKY': Macro(None, (Token('number', '1', 1),))}
+        self.macros = {name: Macro(None, (Token('number', value, 1),)) for name, value in OF_NODE.items()}
         # For each `#if` around: whether its lines are read, and whether one of its branches was; and its line.
         self.opened: list[int] = []
         self.branches: list[tuple[bool, bool]] = []
