@@ -619,6 +619,11 @@ PROCESS_THREAD(b, ev, data) { PROCESS_BEGIN(); printf("%d", shared + limit); PRO
         text, notes = translation(source)
         self.assertIsNone(text)
         self.assertTrue(notes.startswith('line 7: Several processes use `shared`: `a` and `b`.'), notes)
+        self.assertIn('post its value to the other one by `process_post(&p, EVENT, (process_data_t)shared)`', notes)
+        of_array = source.replace('int shared', 'int shared[4]').replace('shared =', 'shared[1] =')
+        notes = translation(of_array.replace('shared + limit', 'shared[1] + limit'))[1]
+        self.assertIn('post each of its values to the other one by `process_post(&p, EVENT, '
+                      '(process_data_t)shared[i])`', notes)
         self.assertIsNotNone(translation(source.replace('shared = limit', ''))[0])
 
     def test_a_static_variable_of_a_function_belongs_to_one_process(self) -> None:

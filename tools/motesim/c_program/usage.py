@@ -10,8 +10,8 @@ from motesim.c_program.walk import all_parts, assigned_in, base_of, parts_of, va
 # The types of variables that belong to no process.
 GLOBAL = ('event', 'semaphore', 'process', 'connection', 'callbacks', 'pt', 'data')
 TIMERS = ('etimer', 'ctimer', 'timer', 'stimer', 'rtimer')
-SHARED = ('Several processes use `%s`: %s. Processes share no variables here. Let one process have it, and post its '
-          'value to the other one by `process_post(&p, EVENT, (process_data_t)%s)`.')
+SHARED = ('Several processes use `%s`: %s. Processes share no variables here. Let one process have it, and post %s '
+          'to the other one by `process_post(&p, EVENT, (process_data_t)%s)`.')
 SHARED_TIMER = ('Several processes use the timer `%s`: %s. Here, a timer belongs to one process, which gets its event: '
                 'declare a timer for each of them. A process lets another one set its timer by an event, '
                 '`process_post(&p, EVENT, NULL)`.')
@@ -168,4 +168,6 @@ def check_shared(usage: Usage) -> None:
                     variable.name, variable.function, listed, variable.function))
             if variable.type.kind in TIMERS:
                 raise Refusal(line, SHARED_TIMER % (variable.name, listed))
-            raise Refusal(line, SHARED % (variable.name, listed, variable.name))
+            is_array = variable.type.kind == 'array'
+            raise Refusal(line, SHARED % (variable.name, listed, 'each of its values' if is_array else 'its value',
+                                          variable.name + '[i]' * is_array))
