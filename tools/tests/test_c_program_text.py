@@ -1169,6 +1169,14 @@ static const struct broadcast_callbacks calls = { recv };'''
             notes = self.remarks(body, above)
             self.assertEqual('`bc` is never opened by `broadcast_open`' in notes, is_seen)
 
+    def test_a_connection_that_is_opened_after_a_send_has_a_remark(self) -> None:
+        above, opens = 'static struct broadcast_conn bc;', 'broadcast_open(&bc, 129, NULL);'
+        sends = 'packetbuf_copyfrom(&u, 2);\nbroadcast_send(&bc);'
+        for body, is_seen in ((sends + '\n' + opens, True), (opens + '\n' + sends, False),
+                              ('while(1) {\n%s\nPROCESS_PAUSE();\n%s\n}' % (sends, opens), False)):
+            notes = self.remarks(body, above)
+            self.assertEqual('is opened only in line' in notes, is_seen, (body, notes))
+
     def test_a_comparison_of_a_random_number_has_a_remark(self) -> None:
         for body, is_seen in (
                 ('if(random_rand() > RANDOM_RAND_MAX / 2) x = 1;', True), ('u = random_rand() / 6554;', True),

@@ -29,6 +29,8 @@ OF_BYTES = 'These %d bytes aren\'t whole variables: assign the values one by one
 OF_TYPES = 'The values that are copied here have other sizes than those they are copied to: assign them one by one.'
 NEVER_OPEN = ('The connection `%s` is never opened by `%s_open`. So in Contiki, it can\'t send; here, the packet is '
               'sent: open `%s` by `%s_open` at the beginning of the process.')
+LATE_OPEN = ('The connection `%s` is opened only in line %d. So in Contiki, it can\'t send here; in the translation, '
+             'the packet is sent: open the connection before.')
 OTHER_CONNECTION = ('In Contiki, `%s` doesn\'t run for the packets of `%s`, which is another connection. Here, it '
                     'does: send by the connection that has this function.')
 OF_POINTER = ('`packetbuf_dataptr()` is the address of a packet: write `*(uint8_t *)packetbuf_dataptr()` for its first '
@@ -176,6 +178,11 @@ class Radio(Calls):
         variable = base_of(it)
         if variable is not None and variable.type.kind == 'connection' and variable not in opened:
             self.remark_mistake(it.line, NEVER_OPEN % ((variable.name, variable.type.name) * 2))
+        calls = all_parts(self.unit.function.body)
+        lines = [one.line for one in calls if one.kind == 'call' and one.text.endswith('_open') and one.parts
+                 and base_of(one.parts[0]) == variable]
+        if variable is not None and not self.open_loops and it.line < min(lines, default=0):
+            self.remark_mistake(it.line, LATE_OPEN % (variable.name, min(lines)))
 
     def check_connected(self, it: Expression) -> None:
         """Notes that a packet is sent by another connection than the one whose function gets all packets here."""
