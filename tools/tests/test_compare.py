@@ -201,6 +201,11 @@ The first difference in a trace is at moment 9, in the trace of mote 1:
         text, first, _ = compared(A, A.replace('mote 2 talker', 'mote 2 other'))
         self.assertIsNone(first)
         self.assertIn('  mote 2 runs talker in A and runs other in B', text)
+        text = compared(A, A.replace(' talker', ' other').replace(' hearer', ' other'))[0]
+        self.assertIn('  mote 0 runs talker in A and runs other in B', text)
+        text = compared(A.replace('mote 1 hearer', 'mote 1 talker'), A.replace('mote 0 talker', 'mote 0 other').replace(
+            'mote 1 hearer', 'mote 1 other').replace('mote 2 talker', 'mote 2 other'))[0]
+        self.assertIn('  motes 0 to 2 run talker in A and run other in B', text)
         text, first, _ = compared('mote 0 a\nmedium\nleft 0\n', 'mote 0 a\nmote 1 b\n4 halt\nmedium\nleft 2\n')
         self.assertEqual(first and tuple(first), (4, 1, 0))
         for line in ['  mote 1 is not in A and runs b in B', '  A has no such mote', '  B, line 3: 4 halt',
@@ -263,6 +268,10 @@ every = 2
                          ['queue of program p is none in A and 3 in B'])
         self.assertEqual(self.seen(('[[loss]]', '[[mote]]\nx = 1\ny = 1\nprogram = "p"\n[[loss]]')), [
             'there are 2 motes in A and 3 in B'])
+        self.assertEqual(self.seen(('"p"', '"q"'), ('\np = ', '\nq = '), ('print 1;', 'print 2;')), [
+            'the program of motes 0 to 1 is p in A and q in B', 'only A has a program p', 'only B has a program q',
+            'program p (q in B) differs in its line 2', '  A: code a { body { print 1; } }',
+            '  B: code a { body { print 2; } }'])
 
     def test_only_so_many_are_shown(self) -> None:
         a, b = Scenario.parse(self.A), Scenario.parse(self.A.replace('end = 20', 'end = 21').replace('per = 100',

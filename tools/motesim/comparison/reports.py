@@ -67,11 +67,13 @@ def differences(a: Report, b: Report) -> list[Difference]:
 def heads(a: Report, b: Report) -> list[str]:
     """The motes that run another program, or that only one report has."""
     found = []
-    for number in range(max(len(a.motes), len(b.motes))):
-        names = [it.motes[number].program if number < len(it.motes) else None for it in (a, b)]
+    every = [tuple(it.motes[number].program if number < len(it.motes) else None for it in (a, b))
+             for number in range(max(len(a.motes), len(b.motes)))]
+    for motes, names in scenario_differences.alike(every):
+        runs, exists = ('run', 'are') if motes.startswith('motes') else ('runs', 'is')
         if names[0] != names[1]:
-            found.append('mote %d %s' % (number, ' and '.join(
-                'runs %s in %s' % (name, letter) if name else 'is not in %s' % letter
+            found.append('%s %s' % (motes, ' and '.join(
+                '%s %s in %s' % (runs, name, letter) if name else '%s not in %s' % (exists, letter)
                 for name, letter in zip(names, LETTERS))))
     return found
 

@@ -1,8 +1,8 @@
 """The differences of two scenarios, in words."""
 from __future__ import annotations
 
-from collections.abc import Iterator
-from itertools import zip_longest
+from collections.abc import Iterator, Sequence
+from itertools import groupby, zip_longest
 
 from motesim.scenario import Scenario
 
@@ -16,6 +16,15 @@ def shown(value: object) -> str:
 
 def both(what: str, one: object, other: object) -> str:
     return '%s is %s in A and %s in B' % (what, shown(one), shown(other))
+
+
+def alike(values: Sequence[tuple[str | None, ...]]) -> Iterator[tuple[str, tuple[str | None, ...]]]:
+    """The values of motes, each with the neighbouring motes that have it, as in `mote 3` or `motes 3 to 9`."""
+    begin = 0
+    for value, its in groupby(values):
+        end = begin + len(list(its)) - 1
+        yield 'mote %d' % begin if begin == end else 'motes %d to %d' % (begin, end), value
+        begin = end + 1
 
 
 def of_keys(a: Scenario, b: Scenario) -> Iterator[str]:
@@ -50,6 +59,9 @@ def of_programs(a: Scenario, b: Scenario) -> Iterator[str]:
             yield from of_text(name, a.programs[name], b.programs[name])
         if a.queue.get(name) != b.queue.get(name):
             yield both('queue of program %s' % name, a.queue.get(name), b.queue.get(name))
+    for one, other in sorted({(one.program, other.program) for one, other in zip(a.places, b.places)}):
+        if one != other and a.programs[one] != b.programs[other]:
+            yield from of_text('%s (%s in B)' % (one, other), a.programs[one], b.programs[other])
 
 
 def of_motes(a: Scenario, b: Scenario) -> Iterator[str]:
@@ -58,8 +70,9 @@ def of_motes(a: Scenario, b: Scenario) -> Iterator[str]:
     for number, (one, other) in enumerate(zip(a.places, b.places)):
         if one[:2] != other[:2]:
             yield both('the place of mote %d' % number, '(%d, %d)' % one[:2], '(%d, %d)' % other[:2])
-        if one.program != other.program:
-            yield both('the program of mote %d' % number, one.program, other.program)
+    for motes, names in alike([(one.program, other.program) for one, other in zip(a.places, b.places)]):
+        if names[0] != names[1]:
+            yield both('the program of %s' % motes, *names)
 
 
 def of_losses(a: Scenario, b: Scenario) -> Iterator[str]:
