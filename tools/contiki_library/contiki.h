@@ -11,7 +11,8 @@ typedef uint8_t u8_t;
 typedef uint16_t u16_t;
 typedef uint32_t u32_t;
 
-#define CLOCK_SECOND 128UL
+#define CLOCK_SECOND      128UL
+#define CLOCK_CONF_SECOND CLOCK_SECOND
 #define CC_CONST_FUNCTION
 
 unsigned long clock_seconds(void);

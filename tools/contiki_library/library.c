@@ -202,6 +202,15 @@ unsigned long stimer_elapsed(struct stimer *t) { return clock_seconds() - t->sta
 /*---------------------------------------------------------------------------*/
 const rimeaddr_t rimeaddr_null = {{ 0, 0, 0 }};
 
+unsigned short *
+library_node_id(void)
+{
+  static unsigned short number;
+
+  number = (unsigned short)mote_number();
+  return &number;
+}
+
 const rimeaddr_t *
 library_address(void)
 {

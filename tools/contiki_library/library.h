@@ -50,6 +50,7 @@ extern const struct host_timer library_timers[];
 int library_print(const char *format, ...);
 int library_text(const char *text);
 int library_rand(void);
+unsigned short *library_node_id(void);
 const rimeaddr_t *library_address(void);
 
 #define printf(...)        library_print(__VA_ARGS__)
@@ -57,7 +58,7 @@ const rimeaddr_t *library_address(void);
 #define rand()             library_rand()
 #define putchar(character) library_text("1")
 
-#define node_id            ((unsigned short)mote_number())
+#define node_id            (*library_node_id())
 #define rimeaddr_node_addr (*library_address())
 #define linkaddr_node_addr (*library_address())
 #define linkaddr_null      rimeaddr_null
