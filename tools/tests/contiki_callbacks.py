@@ -149,7 +149,8 @@ class CallbackProgram(ContikiProgram):
         return ['PROCESS_THREAD(%s, ev, data)' % self.other, '{', '  static struct etimer ty;',
                 '  static uint16_t y;', '  PROCESS_BEGIN();', '  etimer_set(&ty, 8);', '  while(1) {',
                 '    PROCESS_WAIT_EVENT_UNTIL(%s);' % self._one_of(
-                    'etimer_expired(&ty)', 'etimer_expired(&ty) || ev == PROCESS_EVENT_MSG'), '    y++;', '    printf("%u\\n", y);',
+                    'etimer_expired(&ty)', 'etimer_expired(&ty) || ev == PROCESS_EVENT_MSG'), '    y++;',
+                '    printf("%u\\n", y);',
                 '    etimer_set(&ty, 8);', *('    ' + it for it in [self.chance.choice(wakes)] if it), '  }',
                 '  PROCESS_END();', '}']
 

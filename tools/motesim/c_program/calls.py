@@ -39,8 +39,9 @@ OF_LEDS = ('A mote has no LEDs: each change prints those that this process has s
 OF_DARK = 'A mote has no LEDs. This program prints numbers by `printf`, so a change of its LEDs prints nothing.'
 PRINTS = re.compile(r'printf|put(char|s)')
 OF_TEXT = ('There are no texts: each value of a `printf` has a `print`, whose comment has the text. A `printf` without '
-           'a value prints the number in its text, or 1, or nothing if its text has no letter and no digit. A line of the report shows the process and the number, but '
-           'not which `printf` it is from: if this matters, print numbers that differ, such as `1000 + n`.')
+           'a value prints the number in its text, or 1, or nothing if its text has no letter and no digit. A line of '
+           'the report shows the process and the number, but not which `printf` it is from: if this matters, print '
+           'numbers that differ, such as `1000 + n`.')
 # A number in the text of a `printf`.
 NUMBER_IN_TEXT = re.compile(r'(?<![\w.%-])[0-9]+(?!\w|\.[0-9])')
 OF_CHOSEN_TEXT = ('Which text this `printf` prints depends on `%s`, but texts aren\'t printed here: print the number '
