@@ -192,7 +192,8 @@ class Absent(unittest.TestCase):
             self.assertIn('send self;', text or notes)
             self.assertIn(wanted, text or '')
         body = '  packetbuf_copyfrom(&node_id, 1);'
-        self.assertRefused(in_process(body), 9, 'These 1 bytes aren\'t whole variables')
+        self.assertRefused(in_process(body), 9, 'and 1 isn\'t the size of these in bytes')
+        self.assertRefused(in_process('  process_post(&p, 0x80, NULL);'), 9, 'use a number below 128')
 
     def test_a_change_of_leds_prints_those_that_are_on(self) -> None:
         for statements, wanted in (

@@ -66,8 +66,8 @@ FROM_CALLBACK = ('In Contiki, the function that is called for packets runs in a 
 OF_SYNCH = '`process_post_synch` can\'t reach all processes here.'
 OF_STRUCT_TIMER = ('A `struct timer` and a `struct stimer` post no event when they expire, so `%s` has two variables '
                    'here, and a wait for it ends only if another event arrives.')
-TOO_LONG = ('A timer is set to at most 65,535 moments, and a second has %d: wait for it several times, or translate '
-            'with fewer moments, such as `--clock-second 10`.')
+TOO_LONG = ('A timer is set to at most 65,535 moments, and a second has %d: wait for it several times. '
+            '(`tools/explain --apply` can also translate with fewer moments: `--clock-second 10`.)')
 OF_NOW = ('Here, a time has 16 bits, so `%s()` begins again at 0 after each 65,536 moments, which are %d seconds.')
 OF_ATTRIBUTE = ('Packets have no attributes here: no packet is sent again by itself, each radio has the range of the '
                 'scenario, and nobody acknowledges a packet.')

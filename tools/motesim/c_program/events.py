@@ -16,7 +16,8 @@ NO_DATA = 'The data of an event is compared with a number, with `&` and a timer,
 OF_CONNECTION = ('A packet goes to all motes in range, whatever connection their programs open, so `%s` isn\'t known '
                  'here: if the program has one connection, leave this test out. If it has several ones, let a field of '
                  'the packet say its kind.')
-NO_KERNEL_EVENT = 'motesim has no event with the number %d.'
+NO_KERNEL_EVENT = ('The events of the kernel have numbers from 128 on, and none has the number %d: use a number below '
+                   '128, or `process_alloc_event()`.')
 
 
 class Events(Places):

@@ -25,7 +25,8 @@ KEPT = ('Contiki has one packet buffer: each packet that arrives overwrites it, 
 OF_SENT = 'In Contiki, `%s` is called when the send has ended. Here, its statements follow the `send`.'
 TOO_LARGE = ('A packet to one mote has 8 bits for its value, and this one has more: send smaller values, such as a '
              'quarter of each, or use `broadcast_send`.')
-OF_BYTES = 'These %d bytes aren\'t whole variables: assign the values one by one.'
+OF_BYTES = ('Only whole variables are copied here, and %d isn\'t the size of these in bytes: write `sizeof` with the '
+            'variable, or assign the values one by one.')
 OF_TYPES = 'The values that are copied here have other sizes than those they are copied to: assign them one by one.'
 NEVER_OPEN = ('The connection `%s` is never opened by `%s_open`. So in Contiki, it can\'t send; here, the packet is '
               'sent: open `%s` by `%s_open` at the beginning of the process.')
