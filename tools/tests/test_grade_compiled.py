@@ -6,7 +6,7 @@ from pathlib import Path
 
 from motesim.c_program.program import translated
 from motesim.c_program.refusal import Refusal
-from motesim.grading.compiled import CRASHES, OF_INT, Compiled, Difference, InC, NoComparison, first_meeting
+from motesim.grading.compiled import CRASHES, DIVIDES, OF_INT, Compiled, Difference, InC, NoComparison, first_meeting
 from motesim.grading.marking import InNet, difference_in
 from motesim.runner.run import answer
 from skips import need_command, need_program
@@ -103,6 +103,10 @@ class Comparison(unittest.TestCase):
     def test_a_program_that_leaves_an_array_crashes(self) -> None:
         source = in_process('  n = 9; printf("%d", a[n]);', inside='  static int a[3], n;')
         self.assertEqual(self.difference(source, in_process('  ;')), CRASHES)
+
+    def test_a_program_that_divides_by_0_is_named(self) -> None:
+        source = in_process('  printf("%d", 7 / n);', inside='  static uint16_t n;')
+        self.assertEqual(self.difference(source), DIVIDES)
 
     def test_gcc_gets_only_what_the_translator_has_read(self) -> None:
         body = '\n#ifdef __GNUC__\n  printf("%d", 2);\n#endif\n  printf("%d", 1);\n'

@@ -35,6 +35,10 @@ KINDS = 'print', 'send'
 # The tokens that write an address of zeros: an assignment, or an initial value.
 ZERO = re.compile(r'u8 \[ 0 \] = 0 ;|\{ \{ 0 ,')
 CRASHES = 'compiled by gcc, it crashes: it uses memory that it doesn\'t have'
+DIVIDES = 'compiled by gcc, it crashes: it divides by 0, which is 0 in the translation'
+# The signals that end a program because of a mistake.
+ENDS = {-it: CRASHES for it in (signal.SIGSEGV, signal.SIGBUS, signal.SIGILL, signal.SIGABRT)} | {
+    -signal.SIGFPE: DIVIDES}
 MEETING = '; at %d, a packet and another event have the same moment, and their order may differ on a node'
 OF_INT = ('; if the program calculates beyond 16 bits, the translation is probably right: an `int` of gcc has 32 bits '
           'here, and 16 bits on a node')
@@ -47,7 +51,7 @@ class NoComparison(Exception):
 
 
 class Crash(Exception):
-    """A program that runs uses memory that it doesn't have."""
+    """A program is ended because of a mistake; the argument names it."""
 
 
 class InC(NamedTuple):
@@ -109,8 +113,8 @@ class Compiled:
             theirs = deeds_in(self.report(it, program))
         except NoComparison:
             return None
-        except Crash:
-            return Difference(CRASHES)
+        except Crash as crash:
+            return Difference(str(crash))
         ours, places = deeds_in(report), Scenario.parse(it.scenario).places
         found = [one for mote, place in enumerate(places) if place.program == program
                  and (one := first_difference(mote, theirs[mote], ours[mote]))]
@@ -174,8 +178,8 @@ def called(command: Sequence[str], folder: Path) -> bytes:
                               env={**os.environ, 'LC_ALL': 'C'})
     except (subprocess.TimeoutExpired, OSError):
         raise NoComparison from None
-    if done.returncode in (-signal.SIGSEGV, -signal.SIGBUS, -signal.SIGILL, -signal.SIGABRT):
-        raise Crash
+    if done.returncode in ENDS:
+        raise Crash(ENDS[done.returncode])
     if done.returncode:
         raise NoComparison(done.stderr.decode(errors='replace'))
     return done.stdout
