@@ -57,8 +57,6 @@ OF_C = 'its program is in C'
 NOT_NOTATION = ', not in the notation of mote programs (tools/explain FILE.c --apply NEW.toml translates it)'
 OF_LINE = re.compile(r'\(line (\d+) of the program\)')
 OF_TRANSLATED = '(at `%s` of the translated program)'
-# The most nets in which a program in C is compared with its translation.
-MOST_COMPARED = 3
 # The most lines of an error, and the most warnings, that are shown.
 MOST_LINES, MOST_WARNED = 60, 3
 
@@ -231,8 +229,8 @@ class Task:
                 its = file, source[0] if entry.path.suffix == '.c' else data.decode('utf-8')
                 in_c = encodings.text_of_c(data).removeprefix(MARK) if entry.path.suffix == '.c' else ''
                 found = []
-                for at, (each, text) in enumerate(zip(self.nets, source)):
-                    marks_here = self.in_net(each.with_program(text), its, each.program, in_c * (at < MOST_COMPARED))
+                for each, text in zip(self.nets, source):
+                    marks_here = self.in_net(each.with_program(text), its, each.program, in_c)
                     found.append(marks_here._replace(net=each.name, is_hidden=each.is_hidden))
         except UnicodeDecodeError:
             return Marks(entry.name, why=NOT_UTF8)
