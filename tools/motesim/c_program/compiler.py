@@ -44,9 +44,9 @@ GCC = ('gcc', '-x', 'c', '-std=gnu99', '-S', '-o', '/dev/null', '-I%s' % HEADERS
        '-DCONTIKI_TARGET_SKY=1', '-ftrack-macro-expansion=0', '-fno-diagnostics-show-caret',
        '-fdiagnostics-color=never',
        *('-W' + it for it in WARNINGS), *('-Wno-error=' + it for it in PERMITTED))
-# (a program may be made to keep a compiler busy)
-LIMITED = 'ulimit -v 2000000; ulimit -t 10; exec "$0" "$@"'
-SECONDS = 20
+# (a program may be made to keep a compiler busy, and a compiled one runs for as long as it likes)
+LIMITED = 'ulimit -v 2000000; ulimit -t 20; ulimit -f 200000; exec "$0" "$@"'
+SECONDS = 30
 NO_SUCH_FILE = 'No such file or directory'
 COMPLAINT = re.compile(r'^<stdin>:(\d+):\d+: (?:fatal )?(error|warning): (.*?)(?: \[-W[^\]]*\])?$', re.M)
 REFUSED, WARNED = 'gcc refuses it: %s.', 'gcc warns: %s.'
@@ -124,9 +124,15 @@ def complaints_of(source: str) -> list[Complaint]:
     """The errors and warnings that gcc prints about a text. There are none if gcc reaches a limit, or lacks the files
     of C's library."""
     try:
-        done = subprocess.run(['sh', '-c', LIMITED, *GCC, '-'], input=source, capture_output=True, text=True,
-                              errors='replace', timeout=SECONDS, env={**os.environ, 'LC_ALL': 'C'})
+        said = limited([*GCC, '-'], source.encode(errors='replace')).stderr.decode(errors='replace')
     except subprocess.TimeoutExpired:
         return []
-    found = [Complaint(int(line), words, kind == 'error') for line, kind, words in COMPLAINT.findall(done.stderr)]
+    found = [Complaint(int(line), words, kind == 'error') for line, kind, words in COMPLAINT.findall(said)]
     return [] if any(NO_SUCH_FILE in it.words for it in found) else found
+
+
+def limited(command: Sequence[str], data: bytes = b'',
+            folder: Path | None = None) -> subprocess.CompletedProcess[bytes]:
+    """Runs a command in a folder within limits. Its messages are in English."""
+    return subprocess.run(['sh', '-c', LIMITED, *command], input=data, cwd=folder, capture_output=True, timeout=SECONDS,
+                          env={**os.environ, 'LC_ALL': 'C'})

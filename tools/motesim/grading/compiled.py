@@ -5,7 +5,6 @@ gcc gets only the tokens that the translator has read, so the program can call n
 """
 from __future__ import annotations
 
-import os
 import re
 import signal
 import subprocess
@@ -17,7 +16,7 @@ from pathlib import Path
 from typing import NamedTuple
 
 from motesim.c_program.calls import PRINTS
-from motesim.c_program.compiler import HEADERS as LIBRARY
+from motesim.c_program.compiler import HEADERS as LIBRARY, limited
 from motesim.c_program.parse_file import tokens_in
 from motesim.c_program.program import Translation
 from motesim.contiki.folder import HOST, host_tables, program_files, text_of
@@ -29,8 +28,6 @@ FLAGS = ('-w', '-O0', '-fno-pic', '-std=gnu99', '-fsanitize=bounds', '-fsanitize
 # (the linker defines symbols at the ends of a section whose name is one of C)
 SECTIONS = ('--set-section-flags', '.bss=alloc,load,contents,data', '--rename-section', '.bss=library_zeros',
             '--rename-section', '.data=library_data')
-LIMITED = 'ulimit -v 2000000; ulimit -t 20; ulimit -f 200000; exec "$0" "$@"'
-SECONDS = 30
 KINDS = 'print', 'send'
 # The tokens that write an address of zeros: an assignment, or an initial value.
 ZERO = re.compile(r'u8 \[ 0 \] = 0 ;|\{ \{ 0 ,')
@@ -174,8 +171,7 @@ def words_of(deed: Deed | None, kind: str) -> str:
 def called(command: Sequence[str], folder: Path) -> bytes:
     """The output of a command within limits. Raises NoComparison if it fails."""
     try:
-        done = subprocess.run(['sh', '-c', LIMITED, *command], cwd=folder, capture_output=True, timeout=SECONDS,
-                              env={**os.environ, 'LC_ALL': 'C'})
+        done = limited(command, folder=folder)
     except (subprocess.TimeoutExpired, OSError):
         raise NoComparison from None
     if done.returncode in ENDS:
