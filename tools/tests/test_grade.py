@@ -123,8 +123,8 @@ class Folder(unittest.TestCase):
     def page(self, name: str = 'marks.html') -> str:
         return (self.top / name).read_text('utf-8')
 
-    def rows(self, *words: str) -> dict[str, str]:
-        rows = self.grade(*words).split('\n\n')[0].split('\n')
+    def rows(self, *words: str, status: int = 0) -> dict[str, str]:
+        rows = self.grade(*words, status=status).split('\n\n')[0].split('\n')
         return {row.split('  ')[0]: row.split('  ', 1)[1].strip() for row in rows}
 
 
@@ -211,17 +211,19 @@ PROCESS_THREAD(a, ev, data) {
             self.hand_in(name, in_c % value)
         self.hand_in('kai.c', '\ufeff' + (in_c % '3').replace('"%d"', '"three %d"'))
         (self.folder / 'rene.c').write_bytes(('// Ren\u00e9\n' + in_c % '3').encode('latin-1'))
-        rows = self.rows('--net', 'task.toml')
+        rows = self.rows('--net', 'task.toml', status=1)
         self.assertIn('a second of a program in C has 128 moments, so the nets run for ', self.seen)
         self.assertEqual({name: rows[name] for name in ('kai.c', 'lea.c', 'max.c', 'nina.c')}, {
-            'kai.c': rows['rene.c'], 'lea.c': self.rows('--net', 'task.toml')['lea.c'],
-            'max.c': '1 of 3  broken: 1, 2', 'nina.c': '0 of 3  its line 6 can\'t be translated from C'})
+            'kai.c': rows['rene.c'], 'lea.c': self.rows('--net', 'task.toml', status=1)['lea.c'],
+            'max.c': '1 of 3  broken: 1, 2',
+            'nina.c': '- of 3  not marked: its line 6 may be right in C, but the tool can\'t translate it'})
         self.hand_in('omar.mote', PROGRAM % 3)
-        self.assertEqual(rows['lea.c'], self.rows('--net', 'task.toml')['omar.mote'])
-        said = self.grade('--net', 'task.toml', '--why', 'nina.c')
+        self.assertEqual(rows['lea.c'], self.rows('--net', 'task.toml', status=1)['omar.mote'])
+        said = self.grade('--net', 'task.toml', '--why', 'nina.c', status=1)
         self.assertIn('line 6: printf("%d", strlen("abc"));', said)
         self.assertIn('\nline 6 in C: ', self.grade('--net', 'task.toml', '--why', 'kai.c'))
         self.assertIn('motesim has no `strlen`', said)
+        (self.folder / 'nina.c').unlink()
         pauses = 'etimer_set(&et, 5); while(!etimer_expired(&et)) { PROCESS_PAUSE(); } printf("%d", 4);'
         timer = '  static struct etimer et;\n  PROCESS_BEGIN();'
         self.hand_in('pia.c', (in_c % 4).replace('  PROCESS_BEGIN();', timer).replace('printf("%d", 4);', pauses))
@@ -232,6 +234,21 @@ PROCESS_THREAD(a, ev, data) {
         written = (self.folder.parent / 'scenarios' / 'lea.c_in_task.toml').read_text()
         self.assertIn('// Translated from C', written)
         self.assertEqual(self.rows()['lea.c'], '0 of 3  a program needs a net: name one with --net')
+
+    def test_a_line_in_c_that_is_a_mistake_has_the_mark_0(self) -> None:
+        for name, line in (('lost.c', 'int i; PROCESS_BEGIN(); i = 3; PROCESS_PAUSE(); printf("%d", i);'),
+                           ('index.c', 'static int a[3]; PROCESS_BEGIN(); printf("%d", a[3]);'),
+                           ('busy.c', 'PROCESS_BEGIN(); while(1) { } printf("3");')):
+            self.hand_in(name, '''#include "contiki.h"
+PROCESS(a, "a");
+AUTOSTART_PROCESSES(&a);
+PROCESS_THREAD(a, ev, data) {
+  %s
+  PROCESS_END();
+}
+''' % line)
+            with self.subTest(name):
+                self.assertEqual(self.rows('--net', 'task.toml')[name], '0 of 3  its line 5 is a mistake in C')
 
     def test_lines_in_c_that_may_do_something_else_on_a_node_are_named(self) -> None:
         in_c = '''#include "contiki.h"

@@ -6,7 +6,7 @@ from itertools import takewhile
 from typing import NamedTuple
 
 from motesim.c_program.control import WAITS
-from motesim.c_program.refusal import Refusal
+from motesim.c_program.refusal import Mistake
 from motesim.c_program.tree import Expression, File, Statement, Variable
 from motesim.c_program.walk import all_parts
 
@@ -38,7 +38,7 @@ def check_allocated(file: File) -> None:
     for it in parts:
         its = it.variable
         if its and its.type.kind == 'event' and not its.is_parameter and not its.initial and its not in found:
-            raise Refusal(it.line, NEVER % (its.name, its.name))
+            raise Mistake(it.line, NEVER % (its.name, its.name))
 
 
 def early_posts(file: File) -> Iterator[Early]:

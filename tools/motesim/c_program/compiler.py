@@ -2,7 +2,7 @@
 
     from motesim.c_program.compiler import check
 
-    remarks = check(text)       raises a Refusal for a line that gcc refuses
+    remarks = check(text)       raises a Mistake for a line that gcc refuses
 
 The translator accepts some programs that no compiler accepts, since it knows only as much of C as a translation needs.
 The headers are those of tools/contiki_library.
@@ -17,7 +17,7 @@ from collections.abc import Iterable, Sequence
 from pathlib import Path
 from typing import NamedTuple
 
-from motesim.c_program.refusal import Refusal
+from motesim.c_program.refusal import Mistake
 
 HEADERS = Path(__file__).resolve().parents[2] / 'contiki_library'
 # The files that programs include, by the header that declares the same.
@@ -88,7 +88,7 @@ def check(text: str) -> list[tuple[int, str, bool]]:
     lasting = errors_in(complete)
     if lasting:
         error = next((it for it in lasting if it in errors), errors[0])
-        raise Refusal(error.line, REFUSED % error.words)
+        raise Mistake(error.line, REFUSED % error.words)
     return [(errors[0].line, lacks(source, errors[0]), True), *warnings_in(complete)]
 
 

@@ -10,6 +10,7 @@ from motesim.c_program.calls import TIMER
 from motesim.c_program.constants import constant_of
 from motesim.c_program.places import NOWHERE, OVERWRITING
 from motesim.c_program.radio import FILLED, Radio
+from motesim.c_program.refusal import Mistake
 from motesim.c_program.tree import Expression, Statement, Variable
 from motesim.c_program.types import INT
 from motesim.c_program.knowledge import LoopLimits
@@ -346,7 +347,7 @@ class Control(Radio):
         if self.waits_in((*parts, *all_parts(body))) or not self.is_steady(parts, body):
             return
         are_of_time = all(any(one.text in TIMES for one in parts_of(each)) for each in tests)
-        raise self.refuse(it.line, NO_END if not tests else BUSY if are_of_time else NEVER_ENDS)
+        raise Mistake(it.line, NO_END if not tests else BUSY if are_of_time else NEVER_ENDS)
 
     @staticmethod
     def waits_in(parts: Iterable[Expression]) -> bool:

@@ -8,7 +8,7 @@ from typing import NamedTuple
 
 from motesim.c_program.constants import constant_of
 from motesim.c_program.control import WAITS
-from motesim.c_program.refusal import Refusal
+from motesim.c_program.refusal import Mistake
 from motesim.c_program.tree import Expression, Function, Statement, Variable
 from motesim.c_program.walk import all_parts, assigned_in, declared_in, with_called, without_casts
 
@@ -93,7 +93,7 @@ class Locals:
         """The readings of variables without a value, in the order of their lines."""
         for it in declared_in(self.function.body):
             if it.variable and not it.variable.is_static and it.variable.type.kind in LASTING:
-                raise Refusal(it.line, NOT_STATIC % it.variable.name)
+                raise Mistake(it.line, NOT_STATIC % it.variable.name)
         self.run(self.function.body)
         self.kept, self.state = self.above - self.changed, State()
         self.found.clear()
@@ -305,7 +305,7 @@ class Locals:
     def check_data(self, it: Expression) -> None:
         """Checks a variable whose address is the data of an event."""
         if it.variable and self.is_followed(it.variable):
-            raise Refusal(it.line, LOST_DATA % (it.variable.name, it.variable.line))
+            raise Mistake(it.line, LOST_DATA % (it.variable.name, it.variable.line))
 
     def wait(self, it: Expression) -> None:
         """A wait: the variables lose their values, and its test is evaluated in later calls of the function."""
@@ -357,10 +357,10 @@ def posted_by(it: Expression) -> frozenset[Variable]:
 
 
 def check_locals(functions: Collection[Function]) -> list[tuple[int, str]]:
-    """The remarks about local variables that may have no value. Raises a Refusal for those that certainly have none,
+    """The remarks about local variables that may have no value. Raises a Mistake for those that certainly have none,
     or lose it."""
     readings = [it for function in functions for it in Locals(function, functions).check()]
     for it in readings:
         if not it.is_remark:
-            raise Refusal(it.line, it.text)
+            raise Mistake(it.line, it.text)
     return [(it.line, it.text) for it in readings]

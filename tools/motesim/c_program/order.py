@@ -3,7 +3,7 @@ from __future__ import annotations
 
 from typing import NamedTuple
 
-from motesim.c_program.refusal import Refusal
+from motesim.c_program.refusal import Mistake
 from motesim.c_program.tree import Expression, File, Variable
 from motesim.c_program.walk import expressions_in
 
@@ -29,7 +29,7 @@ def check_order(file: File) -> None:
 
 
 def uses_of(it: Expression) -> Uses:
-    """Follows an expression: returns what it reads and changes. Raises a Refusal if an open order of this matters."""
+    """Follows an expression: returns what it reads and changes. Raises a Mistake if an open order of this matters."""
     if it.kind == 'name':
         return Uses(frozenset([it.variable] if it.variable else []))
     if it.kind == 'sizeof' or it.kind == 'unary' and it.text == '&':
@@ -53,11 +53,11 @@ def of_change(target: Expression, value: Uses, line: int) -> Uses:
     check_pair(place, value, line)
     changed = frozenset([target.variable] if target.kind == 'name' and target.variable else [])
     for it in changed & value.changes:
-        raise Refusal(line, UNORDERED % (it.name, it.name))
+        raise Mistake(line, UNORDERED % (it.name, it.name))
     return place | value | Uses(changed, changed)
 
 
 def check_pair(one: Uses, other: Uses, line: int) -> None:
     """Refuses two operands of which one changes what the other one uses."""
     for it in one.changes & (other.reads | other.changes) | other.changes & one.reads:
-        raise Refusal(line, UNORDERED % (it.name, it.name))
+        raise Mistake(line, UNORDERED % (it.name, it.name))

@@ -5,6 +5,7 @@ from typing import NamedTuple
 
 from motesim.c_program.absent import absent, advice_for
 from motesim.c_program.base import Base, joined_limits
+from motesim.c_program.refusal import Mistake
 from motesim.c_program.tree import Expression, Variable
 from motesim.c_program.types import (
     ADDRESS, BYTE, INT, UNSIGNED, Type, leaves_of, pointer_to, size_of,
@@ -145,7 +146,7 @@ class Places(Base):
         size, of = base.type.size, base.type.of
         assert of is not None
         if index.low == index.high and not 0 <= index.low < size:
-            self.program.refusals.append(self.refuse(it.line, NO_INDEX % (array.text, size - 1, index.low)))
+            self.program.refusals.append(Mistake(it.line, NO_INDEX % (array.text, size - 1, index.low)))
         elif index.low == index.high:
             return base._replace(type=of, paths=tuple((*path, index.low) for path in base.paths))
         if index.high == size and it.parts[1].kind == 'name':

@@ -24,7 +24,7 @@ from motesim.c_program.order import check_order
 from motesim.c_program.others import with_others
 from motesim.c_program.parse_file import read_file
 from motesim.c_program.process import ProcessWriter
-from motesim.c_program.refusal import Refusal
+from motesim.c_program.refusal import Mistake, Refusal
 from motesim.c_program.tree import Expression, File, Statement
 from motesim.c_program.usage import usage_of
 from motesim.c_program.walk import all_parts, declared_in, without_casts
@@ -130,13 +130,13 @@ def exceeded(text: str) -> str:
 
 def check_processes(file: File) -> None:
     if not file.processes:
-        raise Refusal(1, NO_PROCESS)
+        raise Mistake(1, NO_PROCESS)
     for name in [*file.processes]:
         if name not in file.bodies:
-            raise Refusal(file.processes[name], NO_BODY % (name, name))
+            raise Mistake(file.processes[name], NO_BODY % (name, name))
     for name in file.autostart:
         if name not in file.processes:
-            raise Refusal(file.autostart_line, NO_BODY % (name, name))
+            raise Mistake(file.autostart_line, NO_BODY % (name, name))
 
 
 def check_ends(program: Program) -> None:

@@ -8,3 +8,7 @@ class Refusal(Exception):
     def __init__(self, line: int, reason: str):
         super().__init__(reason)
         self.line, self.reason = line, reason
+
+
+class Mistake(Refusal):
+    """A line that is refused because it doesn't work on a node either. Other refused lines may be right in C."""

@@ -6,7 +6,7 @@ from collections.abc import Sequence
 from motesim.c_program import compiler
 from motesim.c_program.constants import SECOND
 from motesim.c_program.program import Remark, Translation
-from motesim.c_program.refusal import Refusal
+from motesim.c_program.refusal import Mistake, Refusal
 from motesim.c_program.values import MOST
 from motesim.explain.whole import line_at, translation_of, with_comment
 from motesim.faults import Fault
@@ -18,15 +18,19 @@ WORDS_OF_C = {'wait by `yield_until`': 'wait by `PROCESS_WAIT_EVENT_UNTIL(etimer
               '`etimer_set(&et, 10); PROCESS_WAIT_EVENT_UNTIL(etimer_expired(&et));`',
               '`yield_until`': '`PROCESS_WAIT_EVENT_UNTIL`', '`wait_until`': '`PROCESS_WAIT_UNTIL`',
               '`wait_while`': '`PROCESS_WAIT_WHILE`', '`yield`': '`PROCESS_YIELD`', '`pause`': '`PROCESS_PAUSE`'}
+NO_TRANSLATION = 'not marked: its line %d may be right in C, but the tool can\'t translate it'
+MISTAKEN = 'its line %d is a mistake in C'
 # (a time has 16 bits here)
 WRAPS = '; clock_time() and clock_seconds() begin again at 0 after %d seconds, which they don\'t do on a node'
 
 
 class NotTranslated(Fault):
-    """A line of a program in C isn't translated. `lines` are the line and the reason."""
+    """A line of a program in C isn't translated. `lines` are the line and the reason; `may_be_right`: whether the line
+    may be right on a node."""
 
     def __init__(self, refusal: Refusal, source: str):
-        super().__init__('its line %d can\'t be translated from C' % refusal.line)
+        self.may_be_right = not isinstance(refusal, Mistake)
+        super().__init__((NO_TRANSLATION if self.may_be_right else MISTAKEN) % refusal.line)
         row = one_line(line_at(source, refusal.line))
         self.lines = ('line %d:%s' % (refusal.line, ' ' + row if row else ''), refusal.reason)
 

@@ -104,7 +104,7 @@ class Marks:
     """A solution: its name; a mark for each sentence, or the reason why there are none; and the names that occur in
     sentences, but not in the solution.
 
-    is_open  whether it has to be marked again, because the reason isn't in the solution
+    is_open  whether it isn't marked, though it is a solution and may be right
     is_solution  whether it is marked: other files than solutions have no mark, and don't count
     picture  the page with the timeline of the first sentence that fails in a net that isn't hidden, in the folder of
              pictures; and `pictured`, the place of this sentence
@@ -241,7 +241,7 @@ class Task:
         except NoProgram as fault:
             return Marks(entry.name, why=str(fault), fix=(fault.hint,))
         except NotTranslated as fault:
-            return Marks(entry.name, why=str(fault), fix=fault.lines)
+            return Marks(entry.name, why=str(fault), fix=fault.lines, is_open=fault.may_be_right)
         except UnknownSentence as fault:
             return Marks(entry.name, why=fault.which, fix=self.fix(entry, data))
         except Fault as fault:
