@@ -6,10 +6,10 @@ from unittest import mock
 from motesim.c_program import compiler
 from motesim.c_program.compiler import FILES, HEADERS, check
 from motesim.c_program.process import ProcessWriter
-from motesim.c_program.program import translated
+from motesim.c_program.program import Remark, translated
 from motesim.c_program.refusal import Refusal
 from motesim.explain.whole import translation_of
-from motesim.grading.in_c import of_programs
+from motesim.grading.in_c import of_programs, on_node
 from skips import need_command
 from student_programs import PROGRAMS
 
@@ -67,10 +67,11 @@ class Checks(unittest.TestCase):
     def test_a_missing_file_is_named(self) -> None:
         last = HEAD.splitlines(True)[-1]
         for head, body, wanted in (HEAD, 'leds_on(LEDS_RED);', 'dev/leds.h'), (last, '', 'net/rime.h'):
-            (_, words, is_mistake), (_, warned, _) = check(head + PROGRAM % (body + ' done == 1;'))
+            (line, words, is_mistake), (_, warned, _) = check(head + PROGRAM % (body + ' done == 1;'))
             self.assertIn('needs `#include "%s"`' % wanted, words)
             self.assertIn('no effect', warned)
-            self.assertTrue(is_mistake)
+            self.assertEqual(on_node([Remark(line, words, is_mistake)]),
+                             'gcc refuses line %d, because an #include is missing' % line)
 
     def test_a_program_that_includes_nothing_is_checked_as_if_it_included_all(self) -> None:
         self.assertEqual(check(PROGRAM % 'leds_on(LEDS_RED); x = random_rand();'), [])

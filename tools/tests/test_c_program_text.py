@@ -420,6 +420,13 @@ PROCESS_THREAD(q, ev, data) { static int n; PROCESS_BEGIN(); n = random_rand(); 
             text, notes = translation(in_process(body, 'static linkaddr_t parent%s;' % first, VARIABLES))
             self.assertIn('var parent = %d;' % value, text or notes)
 
+    def test_an_address_of_zeros_is_that_of_mote_0_if_it_is_constant_or_no_other_one_is_null(self) -> None:
+        for word, other in ('const', 'linkaddr_null'), ('', 'linkaddr_node_addr'):
+            above = 'static %s linkaddr_t sink = {{0, 0}};' % word
+            body = '  printf("%%d", linkaddr_cmp(&sink, &%s));' % other
+            text, notes = translation(in_process(body, above, VARIABLES))
+            self.assertIn('var sink = 0;', text or notes)
+
     def test_an_address_that_is_not_set_has_the_bytes_0(self) -> None:
         above = 'static linkaddr_t parent; static linkaddr_t own;'
         body = ('  if(parent.u8[0] == 0) printf("%d", linkaddr_null.u8[0]); own.u8[0] = 3; printf("%d", own.u8[0]);'

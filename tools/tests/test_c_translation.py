@@ -56,7 +56,7 @@ VALUES = (
      ' printf("%d %d %d %d", q[0], q[2], r[1], r[2]);', '65535 0 2 0'),
     ('static linkaddr_t none; static const rimeaddr_t all[2] = {{{3, 0}}, {{0, 0}}}; rimeaddr_t one = {{5, 0}};'
      ' printf("%d %d", rimeaddr_cmp(&none, &linkaddr_null), rimeaddr_cmp(&all[1], &rimeaddr_node_addr));'
-     ' printf("%d %d", all[0].u8[0], one.u8[0]);', '1 0 3 5'),
+     ' printf("%d %d", all[0].u8[0], one.u8[0]);', '1 1 3 5'),
 )
 # Macros, and what the numbers that a program prints with them are.
 MACROS = (

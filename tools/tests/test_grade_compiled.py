@@ -6,7 +6,9 @@ from pathlib import Path
 
 from motesim.c_program.program import translated
 from motesim.c_program.refusal import Refusal
-from motesim.grading.compiled import CRASHES, DIVIDES, OF_INT, Compiled, Difference, InC, NoComparison, first_meeting
+from motesim.grading.compiled import (
+    CRASHES, DIVIDES, OF_INT, OF_REMARK, Compiled, Difference, InC, NoComparison, first_meeting,
+)
 from motesim.grading.marking import InNet, difference_in
 from motesim.runner.run import answer
 from skips import need_command, need_program
@@ -90,6 +92,14 @@ class Comparison(unittest.TestCase):
                 ' broadcast_send(&bc); } PROCESS_WAIT_EVENT();')
         for written in 'root.u8[0] = 0; root.u8[1] = 0;', 'root.u8[0] = 1;', '':
             self.assertEqual(self.difference(in_process(body % written, above, '  ' + TIMER)), '', written)
+        for word in 'const ', '':
+            first = above.replace('static rimeaddr_t root', 'static %srimeaddr_t root = {{0, 0}}' % word)
+            self.assertEqual(self.difference(in_process(body % '', first, '  ' + TIMER)), '', word)
+        asks = 'if(rimeaddr_cmp(&root, &rimeaddr_null)) root.u8[0] = 1;'
+        self.assertEqual(self.difference(in_process(body % asks, first, '  ' + TIMER)), '')
+        asks = 'printf("%d", rimeaddr_cmp(&root, &rimeaddr_null) + 2 * rimeaddr_cmp(&root, &rimeaddr_node_addr));'
+        self.assertEqual(self.difference(in_process(body % asks, first, '  ' + TIMER)),
+                         'compiled by gcc, mote 0 prints 3 at 0, but its translation prints 1 at 0' + OF_REMARK % 5)
 
     def test_from_a_packet_at_the_moment_of_a_timer_on_runs_may_differ(self) -> None:
         report = (b'mote 0 p\n3 recv 1 0 3\n5 recv 1 1 3\n5 post 2 p timer 0\n'

@@ -50,8 +50,9 @@ SECONDS = 30
 NO_SUCH_FILE = 'No such file or directory'
 COMPLAINT = re.compile(r'^<stdin>:(\d+):\d+: (?:fatal )?(error|warning): (.*?)(?: \[-W[^\]]*\])?$', re.M)
 REFUSED, WARNED = 'gcc refuses it: %s.', 'gcc warns: %s.'
-LACKS_ONE = 'gcc refuses this line: %s. The program needs `#include "%s"`.'
-LACKS_SEVERAL = 'gcc refuses this line: %s. The program doesn\'t include all files that it needs.'
+LACKS = 'gcc refuses this line: '
+LACKS_ONE = LACKS + '%s. The program needs `#include "%s"`.'
+LACKS_SEVERAL = LACKS + '%s. The program doesn\'t include all files that it needs.'
 # (the translator has its own words about it)
 OF_TRANSLATOR = 'assignment used as truth value'
 HOW_TO_INSTALL = ('gcc isn\'t installed, so no compiler checks the programs in C: on Debian `apt-get install gcc` '

@@ -10,8 +10,8 @@ from motesim.c_program.calls import ELAPSED
 from motesim.c_program.constants import constant_of
 from motesim.c_program.control import ENDS, FALLS, Control, Flow
 from motesim.c_program.places import (
-    EVERYWHERE, NO_MOTE, NOWHERE, OF_ADDRESS, OF_CHANGE, OF_EVENTS, OF_NULL, OF_RESULT, ONE_BYTE, OVERWRITING, SELF,
-    Path, Place, Pointer, owner_of,
+    EVERYWHERE, NO_MOTE, NOWHERE, OF_ADDRESS, OF_CHANGE, OF_EVENTS, OF_RESULT, OF_ZEROS, ONE_BYTE, OVERWRITING,
+    SELF, Path, Place, Pointer, owner_of,
 )
 from motesim.c_program.radio import FILLED, SENDS
 from motesim.c_program.refusal import Refusal
@@ -84,8 +84,10 @@ class Functions(Control):
     def first_value(self, variable: Variable, it: Expression, its: Type) -> int:
         value = constant_of(it, self.program.second)
         if its.kind == 'address':
-            self.remark(variable.line, OF_NULL if value == 0 else OF_ADDRESS)
-            value = NO_MOTE if value == 0 else value
+            # (zeros are those of mote 0, too)
+            is_null = value == 0 and self.program.usage.names_null and not variable.is_constant
+            self.remark(variable.line, OF_ZEROS if is_null else OF_ADDRESS)
+            value = NO_MOTE if is_null else value
         if value is None:
             raise self.refuse(variable.line, NO_STATIC % variable.name)
         return converted(number(value), its).low % 65_536 if its.is_number else value % 65_536

@@ -55,6 +55,8 @@ NO_MOTE = 255
 MOST_IN_ROW = 8
 ONE_BYTE = 'Only the first byte of an address, `u8[0]`, has a value here: the other bytes are 0, and aren\'t assigned.'
 OF_NULL = 'The address that no mote has is %d here.' % NO_MOTE
+OF_ZEROS = ('The program names `linkaddr_null` or `rimeaddr_null`, so these zeros are the address of no mote, %d, and '
+            'not that of mote 0. For mote 0, declare the variable as `const`.' % NO_MOTE)
 OF_CAST = ('`%s` is read with another type than it has: calculate the value instead, as by `x & 0xff`, `x >> 8`, or '
            '`low | (high << 8)`.')
 OF_CHARACTER = ('Whether a `char` may be below 0 depends on the compiler of C: it is one of -128 to 127 here. `int8_t` '

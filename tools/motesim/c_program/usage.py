@@ -9,6 +9,7 @@ from motesim.c_program.walk import all_parts, assigned_in, base_of, parts_of, va
 
 # The types of variables that belong to no process.
 GLOBAL = ('event', 'semaphore', 'process', 'connection', 'callbacks', 'pt', 'data')
+NULLS = ('rimeaddr_null', 'linkaddr_null')
 TIMERS = ('etimer', 'ctimer', 'timer', 'stimer', 'rtimer')
 SHARED = ('Several processes use `%s`: %s. Processes share no variables here. Let one process have it, and post %s '
           'to the other one by `process_post(&p, EVENT, (process_data_t)%s)`.')
@@ -38,6 +39,7 @@ class Usage:
     receiver   the process that gets packets, with the callbacks of its connection
     connected  the variable of this connection
     assigned   the variables that are assigned somewhere
+    names_null whether the address that no mote has is named
     """
     uses: dict[str, Use] = field(default_factory=dict)
     receiver: str = ''
@@ -47,6 +49,7 @@ class Usage:
     callback: Function | None = None
     sent: Function | None = None
     assigned: set[Variable] = field(default_factory=set)
+    names_null: bool = False
 
 
 def usage_of(file: File) -> Usage:
@@ -58,6 +61,7 @@ def usage_of(file: File) -> Usage:
             found.uses[name] = use_of(file, file.bodies[name])
     for function in (*file.functions.values(), *file.bodies.values()):
         found.assigned.update(assigned_in(function.body))
+        found.names_null |= any(it.kind == 'name' and it.text in NULLS for it in all_parts(function.body))
     find_receiver(file, found)
     check_shared(found)
     return found

@@ -18,6 +18,7 @@ from typing import NamedTuple
 from motesim.c_program.calls import PRINTS
 from motesim.c_program.compiler import HEADERS as LIBRARY, limited
 from motesim.c_program.parse_file import tokens_in
+from motesim.c_program.places import OF_ZEROS
 from motesim.c_program.program import Translation
 from motesim.contiki.folder import HOST, host_tables, program_files, text_of
 from motesim.contiki.names import file_names
@@ -121,7 +122,7 @@ class Compiled:
         meeting = first_meeting(report, program)
         if meeting is not None and meeting <= at:
             return Difference(words + MEETING % meeting, True)
-        mistaken = next((one.line for one in it.translation.remarks if one.is_mistake), 0)
+        mistaken = next((one.line for one in it.translation.remarks if one.is_mistake or one.text == OF_ZEROS), 0)
         return Difference(words + (OF_REMARK % mistaken if mistaken else OF_INT))
 
 

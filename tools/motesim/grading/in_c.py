@@ -82,8 +82,11 @@ def shown(remark: Remark) -> str:
 
 def on_node(remarks: Sequence[Remark]) -> str:
     """The words about a program in C that works here, but probably not on a node; an empty text if there are none."""
-    found = sorted({it.line for it in remarks if it.is_mistake})
-    lines = ['%d' % it for it in found if it]
+    mistakes = [it for it in remarks if it.is_mistake]
+    lacking = [it.line for it in mistakes if it.text.startswith(compiler.LACKS)]
+    others = sorted({it.line for it in mistakes if it.line} - {*lacking})
+    lines = ['%d' % it for it in others]
     listed = ' and '.join(filter(None, [', '.join(lines[:-1]), *lines[-1:]]))
-    return '; '.join([*['compiled by gcc, it does something else'] * (0 in found),
+    return '; '.join([*['compiled by gcc, it does something else'] * any(not it.line for it in mistakes),
+                      *['gcc refuses line %d, because an #include is missing' % it for it in lacking],
                       *['on a node, line%s %s may do something else' % ('s' * (len(lines) > 1), listed)] * bool(lines)])
