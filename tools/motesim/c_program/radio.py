@@ -7,6 +7,7 @@ from motesim.c_program.calls import Calls
 from motesim.c_program.places import (
     EVERYWHERE, NO_MOTE, OF_PACKET, OVERWRITING, SELF, Place, Pointer, shown_type,
 )
+from motesim.c_program.refusal import Mistake
 from motesim.c_program.tree import Expression, Statement
 from motesim.c_program.types import BYTE, UNSIGNED, Type, leaves_of, size_of
 from motesim.c_program.values import MOST, Value, added, converted, multiplied, number, united
@@ -44,6 +45,15 @@ OF_DATALEN = ('This program sends no packets, and the length of those that arriv
 # The name under which it is known that the packet buffer has the value to send.
 FILLED = 'value to send'
 SIZES = 'The packets of this program have several sizes, and none of them is known here.'
+OF_ITSELF = ('`&%s` is the address of the pointer `%s` itself: write `%s`, without `&`, for the address of what it '
+             'points to.')
+
+
+def check_target(it: Expression) -> None:
+    """Refuses the address of a pointer, whose own bytes no program means to copy."""
+    its = it.parts[0].variable if it.kind == 'unary' and it.text == '&' and it.parts[0].kind == 'name' else None
+    if its and its.type.kind == 'pointer':
+        raise Mistake(it.line, OF_ITSELF % ((its.name,) * 3))
 
 
 class Radio(Calls):
@@ -87,6 +97,7 @@ class Radio(Calls):
     def call_packetbuf_copyfrom(self, it: Expression) -> None:
         first, size = self.arguments(it, 2)
         source = without_casts(first)
+        check_target(source)
         if source.kind == 'text' or self.pointer(source).kind == 'text':
             self.remark(it.line, OF_TEXT)
             self.fill(number(1, UNSIGNED), it)
@@ -313,6 +324,7 @@ class Radio(Calls):
 
     def copy(self, target: Expression, source: Place, line: int) -> None:
         """Copies a packet or the data of an event into a variable."""
+        check_target(without_casts(target))
         pointer = self.pointer(target)
         if pointer.place is None or pointer.place.source != 'variable':
             raise self.refuse(line, 'The address of a variable is expected here.')
