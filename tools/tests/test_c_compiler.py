@@ -4,12 +4,12 @@ from pathlib import Path
 from unittest import mock
 
 from motesim.c_program import compiler
-from motesim.c_program.compiler import FILES, HEADERS, check
+from motesim.c_program.compiler import FILES, HEADERS, check, has_syntax_error
 from motesim.c_program.process import ProcessWriter
 from motesim.c_program.program import Remark, translated
 from motesim.c_program.refusal import Refusal
 from motesim.explain.whole import translation_of
-from motesim.grading.in_c import of_programs, on_node
+from motesim.grading.in_c import NotTranslated, of_programs, on_node
 from skips import need_command
 from student_programs import PROGRAMS
 
@@ -72,6 +72,13 @@ class Checks(unittest.TestCase):
             self.assertIn('no effect', warned)
             self.assertEqual(on_node([Remark(line, words, is_mistake)]),
                              'gcc refuses line %d, because an #include is missing' % line)
+
+    def test_errors_in_the_syntax_differ_from_missing_parts_of_contiki(self) -> None:
+        for line, wanted in (('done = 1', True), ('static struct runicast_conn c; runicast_open(&c, 1, NULL);', False),
+                             ('done = 1;', False), ('if(done == 1 { }', True), ('done = "a;', True)):
+            self.assertEqual(has_syntax_error(HEAD + PROGRAM % line), wanted, line)
+        found = NotTranslated(Refusal(3, ''), HEAD + PROGRAM % 'done = 1'), NotTranslated(Refusal(3, ''), HEAD)
+        self.assertEqual([it.may_be_right for it in found], [False, True])
 
     def test_a_program_that_includes_nothing_is_checked_as_if_it_included_all(self) -> None:
         self.assertEqual(check(PROGRAM % 'leds_on(LEDS_RED); x = random_rand();'), [])

@@ -49,6 +49,7 @@ LIMITED = 'ulimit -v 2000000; ulimit -t 20; ulimit -f 200000; exec "$0" "$@"'
 SECONDS = 30
 NO_SUCH_FILE = 'No such file or directory'
 COMPLAINT = re.compile(r'^<stdin>:(\d+):\d+: (?:fatal )?(error|warning): (.*?)(?: \[-W[^\]]*\])?$', re.M)
+OF_SYNTAX = ('expected ', 'stray ', 'missing terminating', 'unterminated', 'unmatched')
 REFUSED, WARNED = 'gcc refuses it: %s.', 'gcc warns: %s.'
 LACKS = 'gcc refuses this line: '
 LACKS_ONE = LACKS + '%s. The program needs `#include "%s"`.'
@@ -91,6 +92,14 @@ def check(text: str) -> list[tuple[int, str, bool]]:
         error = next((it for it in lasting if it in errors), errors[0])
         raise Mistake(error.line, REFUSED % error.words)
     return [(errors[0].line, lacks(source, errors[0]), True), *warnings_in(complete)]
+
+
+def has_syntax_error(text: str) -> bool:
+    """Returns whether gcc, if it is installed, finds an error in the syntax of a program. Other errors may be due to
+    parts of Contiki that aren't here."""
+    source = with_headers(text)
+    return source is not None and is_installed() and any(
+        it.words.startswith(OF_SYNTAX) for it in errors_in(complaints_of(source)))
 
 
 def errors_in(complaints: Sequence[Complaint]) -> list[Complaint]:
