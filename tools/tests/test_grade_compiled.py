@@ -68,6 +68,16 @@ class Comparison(unittest.TestCase):
     def test_a_program_and_its_translation_do_the_same_in_a_net_with_another_program(self) -> None:
         self.assertEqual(self.difference(self.counting('1')), '')
 
+    def test_a_packet_may_be_filled_at_its_address(self) -> None:
+        filled, length = 'memcpy(packetbuf_dataptr(), &n, sizeof(n));', 'packetbuf_set_datalen(sizeof(n));'
+        by_copy = self.counting('1').replace('#include "net/rime.h"', '#include "net/rime.h"\n#include <string.h>')
+        source = by_copy.replace('packetbuf_copyfrom(&n, sizeof(n));', 'packetbuf_clear(); %s %s' % (filled, length))
+        self.assertIn(filled, source)
+        self.assertEqual(self.difference(source, by_copy), '')
+        self.assertEqual(self.difference(source), '')
+        for text, count in (source, 0), (source.replace(length, ''), 1):
+            self.assertEqual([it.is_mistake for it in translated(text).remarks].count(True), count)
+
     def test_the_first_value_that_differs_is_named(self) -> None:
         self.assertEqual(self.difference(self.counting('1'), self.counting('2')),
                          'compiled by gcc, mote 0 prints 1 at 20, but its translation prints 2 at 20' + OF_INT)

@@ -40,6 +40,8 @@ OF_POINTER = ('`packetbuf_dataptr()` is the address of a packet: write `*(uint8_
 OF_NEGATIVE = ('This value may be below 0, but 8 bits are left for it here: -5, for example, arrives as 251. Send a '
                'value that isn\'t below 0, such as `t + 100`, or use `broadcast_send`.')
 OF_LENGTH = 'A packet is one number of 16 bits here, so `packetbuf_set_datalen` doesn\'t change it.'
+NO_LENGTH = ('In Contiki, this packet has no bytes, because its length is set nowhere: write '
+             '`packetbuf_set_datalen(..);` behind this statement, or fill the packet by `packetbuf_copyfrom`.')
 OF_DATALEN = ('This program sends no packets, and the length of those that arrive isn\'t known: it is taken to be 2 '
               'bytes here.')
 # The name under which it is known that the packet buffer has the value to send.
@@ -271,7 +273,10 @@ class Radio(Calls):
                 self.copy(target, Place(pointer.kind, UNSIGNED), it.line)
             return
         if to.kind == 'packet':
-            raise self.refuse(it.line, 'Use `packetbuf_copyfrom` to fill a packet.')
+            if not self.first_call('packetbuf_set_datalen'):
+                self.remark_mistake(it.line, NO_LENGTH)
+            self.call_packetbuf_copyfrom(it._replace(parts=(source, size)))
+            return
         if pointer.place is None or to.place is None:
             raise self.refuse(it.line, 'The addresses of two variables are expected here.')
         parts, others = self.span(to.place, size, it.line), self.span(pointer.place, size, it.line)
