@@ -78,6 +78,16 @@ class Comparison(unittest.TestCase):
         for text, count in (source, 0), (source.replace(length, ''), 1):
             self.assertEqual([it.is_mistake for it in translated(text).remarks].count(True), count)
 
+    def test_the_first_characters_of_a_text_are_sent(self) -> None:
+        above = RADIO.replace('printf("%d", *(int *)packetbuf_dataptr());', 'char *m = packetbuf_dataptr();'
+                              ' if(m[0] == \'P\' || m[0] == \'\\n\') printf("%d", m[0]);')
+        for text, size, value in (('"P"', 1, 80), ('"PING"', 5, 80 + 256 * 73), ('"\\nP"', 2, 10 + 256 * 80),
+                                  ('word', 2, 80)):
+            body = '  broadcast_open(&bc, 129, &calls); packetbuf_copyfrom(%s, %d); broadcast_send(&bc);' % (text, size)
+            source = in_process(body + ' PROCESS_WAIT_EVENT();', above + '\nstatic char word[] = "P";', '  ' + TIMER)
+            self.assertEqual(self.difference(source), '', text)
+            self.assertIn('send %d;' % value, translated(source).text)
+
     def test_the_first_value_that_differs_is_named(self) -> None:
         self.assertEqual(self.difference(self.counting('1'), self.counting('2')),
                          'compiled by gcc, mote 0 prints 1 at 20, but its translation prints 2 at 20' + OF_INT)

@@ -14,6 +14,7 @@ from motesim.c_program.types import INT, UNSIGNED, Type, size_of
 ASSIGNS = ('=', '+=', '-=', '*=', '/=', '%=', '&=', '|=', '^=', '<<=', '>>=')
 LEVELS = (('||',), ('&&',), ('|',), ('^',), ('&',), ('==', '!='), ('<', '<=', '>', '>='), ('<<', '>>'), ('+', '-'),
           ('*', '/', '%'))
+ESCAPE = r'\\(?:x([0-9A-Fa-f]{1,2})|([0-7]{1,3})|(.))'
 ESCAPES = {'n': 10, 't': 9, 'r': 13, 'a': 7, 'b': 8, 'f': 12, 'v': 11}
 LONG = Type('int', 32)
 NO_SEMICOLON = 'A `;` is missing at the end of this line.'
@@ -26,11 +27,22 @@ def character(it: Token) -> int:
     inner = it.text[1:-1]
     if len(inner) == 1:
         return ord(inner)
-    found = re.fullmatch(r'\\(?:x([0-9A-Fa-f]{1,2})|([0-7]{1,3})|(.))', inner)
+    found = re.fullmatch(ESCAPE, inner)
     if found is None:
         raise Refusal(it.line, OF_CHARACTER % it.text)
-    value = int(found[1], 16) if found[1] else int(found[2], 8) if found[2] else ESCAPES.get(found[3], ord(found[3]))
+    value = of_escape(found)
     return value - 256 if 127 < value < 256 else value
+
+
+def of_escape(it: re.Match[str]) -> int:
+    """The number of a character that is written as an escape."""
+    return int(it[1], 16) if it[1] else int(it[2], 8) if it[2] else ESCAPES.get(it[3], ord(it[3]))
+
+
+def bytes_of(text: str) -> bytes:
+    """The bytes of a text in a program."""
+    return b''.join(bytes([of_escape(it) % 256]) if len(it[0]) > 1 else it[0].encode()
+                    for it in re.finditer(ESCAPE + '|.', text, re.S))
 
 
 class Expressions:

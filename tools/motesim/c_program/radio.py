@@ -4,6 +4,7 @@ from __future__ import annotations
 from collections.abc import Sequence
 
 from motesim.c_program.calls import Calls
+from motesim.c_program.parse_expressions import bytes_of
 from motesim.c_program.places import (
     EVERYWHERE, NO_MOTE, OF_PACKET, OVERWRITING, SELF, Place, Pointer, shown_type,
 )
@@ -15,7 +16,9 @@ from motesim.c_program.walk import all_parts, base_of, without_casts
 from motesim.c_program.written import Line, While
 
 SENDS = ('broadcast_send', 'abc_send', 'unicast_send')
-OF_TEXT = 'A packet is one number: the text is sent as 1.'
+OF_TEXT = 'A packet is one number: the text is sent as %d, which is %s.'
+OF_CHARACTERS = 'its first character', 'its first character, and 256 times the second one'
+OF_UNKNOWN_TEXT = 'A packet is one number: the text is sent as 1.'
 OF_TWO = ('A packet, or the data of an event, is one number of 16 bits: `%s` is its lower 8 bits, and `%s` its upper '
           '8, as on the Tmote Sky. In the notation, they are `(data %% 256)` and `(data / 256)`.')
 OF_ONE_MOTE = ('A packet goes to all motes that hear it: its upper 8 bits say for which mote it is, and its lower 8 '
@@ -35,8 +38,8 @@ LATE_OPEN = ('The connection `%s` is opened only in line %d. So in Contiki, it c
              'the packet is sent: open the connection before.')
 OTHER_CONNECTION = ('In Contiki, `%s` doesn\'t run for the packets of `%s`, which is another connection. Here, it '
                     'does: send by the connection that has this function.')
-OF_POINTER = ('`packetbuf_dataptr()` is the address of a packet: write `*(uint8_t *)packetbuf_dataptr()` for its first '
-              '8 bits, or `*(uint16_t *)packetbuf_dataptr()` for 16 bits.')
+OF_POINTER = ('`packetbuf_dataptr()` is the address of a packet: write `*(uint8_t *)packetbuf_dataptr()` for its '
+              'first 8 bits, or `*(uint16_t *)packetbuf_dataptr()` for 16 bits.')
 OF_NEGATIVE = ('This value may be below 0, but 8 bits are left for it here: -5, for example, arrives as 251. Send a '
                'value that isn\'t below 0, such as `t + 100`, or use `broadcast_send`.')
 OF_LENGTH = 'A packet is one number of 16 bits here, so `packetbuf_set_datalen` doesn\'t change it.'
@@ -88,8 +91,11 @@ class Radio(Calls):
 
     def note_form(self, source: str, places: Sequence[Place]) -> None:
         """Notes the form of a packet, or of the data of an event: byte, word or pair."""
-        form = 'pair' if len(places) == 2 else 'byte' if size_of(places[0].type) == 1 else 'word'
-        self.program.knowledge.new_forms.add('%s %s' % (source, form))
+        self.note_bytes(source, len(places) if len(places) == 2 or size_of(places[0].type) == 1 else 0)
+
+    def note_bytes(self, source: str, count: int) -> None:
+        """Notes the form of a packet, or of the data of an event, of one or two bytes; 0: of one value of 16 bits."""
+        self.program.knowledge.new_forms.add('%s %s' % (source, ('word', 'byte', 'pair')[count]))
 
     def data_of(self, place: Place, line: int) -> Value:
         places = self.parts_of_packet(place, None, line)
@@ -101,8 +107,7 @@ class Radio(Calls):
         source = without_casts(first)
         check_target(source)
         if source.kind == 'text' or self.pointer(source).kind == 'text':
-            self.remark(it.line, OF_TEXT)
-            self.fill(number(1, UNSIGNED), it)
+            self.fill(self.sent_text(source, self.evaluate(size).constant, it.line), it)
             return
         pointer = self.pointer(source)
         if pointer.kind in ('packet', 'data'):
@@ -113,6 +118,19 @@ class Radio(Calls):
         places = self.copied(pointer, size, it.line)
         self.note_form('packet', places)
         self.fill(pointer.value or self.packed(places, it.line), it)
+
+    def sent_text(self, it: Expression, size: int | None, line: int) -> Value:
+        """The value of a packet with a text: as in C, its first bytes are those of the characters."""
+        variable = it.variable
+        text = it if it.kind == 'text' else variable.initial if variable else None
+        if text is None or text.kind != 'text' or variable in self.program.usage.assigned:
+            self.remark(line, OF_UNKNOWN_TEXT)
+            return number(1, UNSIGNED)
+        count = 1 if self.is_to_one or size == 1 else 2
+        value = int.from_bytes(bytes_of(text.text)[:count], 'little')
+        self.note_bytes('packet', count)
+        self.remark(line, OF_TEXT % (value, OF_CHARACTERS[count - 1]))
+        return number(value, UNSIGNED)
 
     def copied(self, pointer: Pointer, size: Expression, line: int) -> list[Place]:
         """The variables that a packet is filled with; for the number of the mote, a place of its size."""

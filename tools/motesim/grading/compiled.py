@@ -185,10 +185,6 @@ def called(command: Sequence[str], folder: Path) -> bytes:
 def whole(it: InC, program: str, number: int) -> str:
     """The text that is compiled. Each token has a line of its own: a wait keeps its line as its place."""
     rows = [token.text for token in tokens_in(it.source)]
-    for at in range(2, len(rows)):
-        # (a text is the number 1 in the translation)
-        if rows[at].startswith('"') and rows[at - 2:at] == ['packetbuf_copyfrom', '(']:
-            rows[at] = '"\\1"'
     drawing = ', '.join(['&' + name for name in it.translation.drawing] + ['NULL'])
     receiver = '&' + it.translation.receiver if it.translation.receiver else 'NULL'
     return '\n'.join(['#include "library.h"', *rows,
