@@ -86,9 +86,11 @@ class Checks(unittest.TestCase):
             check(PROGRAM % 'n = 4;')
         self.assertEqual(caught.exception.line, 10)
 
-    def test_nothing_is_checked_if_a_file_is_not_known(self) -> None:
+    def test_only_warnings_count_if_a_file_is_not_known(self) -> None:
         for name in '"my.h"', '</dev/zero>', 'NAME':
-            self.assertEqual(check('#include %s\n' % name + HEAD + PROGRAM % 'n = 4;'), [])
+            self.assertEqual(check('#include %s\n' % name + HEAD + PROGRAM % 'n = 4; done == 1;'), [])
+            found = check('#include %s\n' % name + HEAD + PROGRAM % 'done == 1;')
+            self.assertEqual([(it[0], it[2]) for it in found], [(LINE + 1, False)])
 
     def test_programs_of_students_are_accepted(self) -> None:
         for path in sorted((*PROGRAMS.glob('*.c'), *PROGRAMS.glob('more/*.c'))):

@@ -34,7 +34,7 @@ FILES = {
 OF_LIBRARY = ('ctype.h', 'inttypes.h', 'limits.h', 'stdbool.h', 'stddef.h', 'stdint.h', 'stdio.h', 'stdlib.h',
               'string.h', 'strings.h')
 HEADER_OF = {it: header for header, names in FILES.items() for name in names for it in (name, name.split('/')[-1])}
-INCLUDE = re.compile(r'^([ \t]*#[ \t]*include[ \t]*)(?:[<"]([^<>"\n]*)[>"])?', re.M)
+INCLUDE = re.compile(r'^([ \t]*#[ \t]*include[ \t]*)(?:[<"]([^<>"\n]*)[>"]|[^\n]*)', re.M)
 # The warnings that name a mistake in most programs of beginners.
 WARNINGS = ('parentheses', 'unused-value', 'return-type', 'empty-body', 'misleading-indentation', 'type-limits',
             'tautological-compare', 'logical-not-parentheses', 'no-int-to-pointer-cast', 'no-pointer-to-int-cast')
@@ -75,17 +75,17 @@ def check(text: str) -> list[tuple[int, str, bool]]:
     """The warnings about a program, each with its line, and whether the program can't be compiled for a node, because
     it lacks an `#include`. A program that includes no file is checked as if it included all.
 
-    Nothing is checked if gcc isn't installed, or if the program includes a file that isn't known here.
+    Nothing is checked if gcc isn't installed. Errors don't matter if the program includes a file that isn't known here.
     """
-    source = with_headers(text)
-    if source is None or not is_installed():
+    if not is_installed():
         return []
+    source = with_headers(text)
     if not INCLUDE.search(text):
         source = with_more(source, FILES)
     own = complaints_of(source)
     errors = errors_in(own)
-    if not errors:
-        return warnings_in(own)
+    if not errors or not knows_files_of(text):
+        return [] if errors else warnings_in(own)
     complete = complaints_of(with_more(source, FILES))
     lasting = errors_in(complete)
     if lasting:
@@ -97,9 +97,8 @@ def check(text: str) -> list[tuple[int, str, bool]]:
 def has_syntax_error(text: str) -> bool:
     """Returns whether gcc, if it is installed, finds an error in the syntax of a program. Other errors may be due to
     parts of Contiki that aren't here."""
-    source = with_headers(text)
-    return source is not None and is_installed() and any(
-        it.words.startswith(OF_SYNTAX) for it in errors_in(complaints_of(source)))
+    return is_installed() and knows_files_of(text) and any(
+        it.words.startswith(OF_SYNTAX) for it in errors_in(complaints_of(with_headers(text))))
 
 
 def errors_in(complaints: Sequence[Complaint]) -> list[Complaint]:
@@ -117,12 +116,18 @@ def lacks(source: str, error: Complaint) -> str:
     return LACKS_ONE % (error.words, one) if one else LACKS_SEVERAL % error.words
 
 
-def with_headers(text: str) -> str | None:
-    """A program that includes the headers that are here; None if one of the files it includes isn't known."""
-    names = [it[2] for it in INCLUDE.finditer(text)]
-    if any(it not in HEADER_OF and it not in OF_LIBRARY for it in names):
-        return None
-    return INCLUDE.sub(lambda it: '%s<%s>' % (it[1], it[2] if it[2] in OF_LIBRARY else HEADER_OF[it[2]]), text)
+def is_known(name: str | None) -> bool:
+    return name in HEADER_OF or name in OF_LIBRARY
+
+
+def knows_files_of(text: str) -> bool:
+    """Returns whether all files that a program includes are known here."""
+    return all(is_known(it[2]) for it in INCLUDE.finditer(text))
+
+
+def with_headers(text: str) -> str:
+    """A program that includes the headers that are here. Its lines keep their numbers."""
+    return INCLUDE.sub(lambda it: '%s<%s>' % (it[1], HEADER_OF.get(it[2], it[2])) if is_known(it[2]) else '', text)
 
 
 def with_more(source: str, headers: Iterable[str]) -> str:
