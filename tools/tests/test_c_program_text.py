@@ -408,6 +408,18 @@ PROCESS_THREAD(q, ev, data) { static int n; PROCESS_BEGIN(); n = random_rand(); 
             for test in 'if fired(e) {', 'if ((data == 0) && !(is(timer) || is(exited))) {', 'if gone(p) {':
                 self.assertIn(test, text or '')
 
+    def test_data_after_the_event_of_a_timer_is_no_value(self) -> None:
+        waits = 'PROCESS_WAIT_EVENT_UNTIL(ev == 140);', 'PROCESS_PAUSE();', *(
+            'etimer_set(&et, 5); PROCESS_WAIT_EVENT_UNTIL(%s);' % it
+            for it in ('etimer_expired(&et)', 'ev == PROCESS_EVENT_TIMER && data == &et',
+                       'ev == 140 || etimer_expired(&et)'))
+        for wait, is_named in zip(waits, (False, True, True, True, False)):
+            for use in 'n = (int)data;', 'if(n) n = *(int *)data;':
+                body = '  PROCESS_WAIT_EVENT_UNTIL(ev == 140); if(n == 3) { %s } %s' % (wait, use)
+                source = in_process(body, '', '  static int n; static struct etimer et;')
+                found = [it for it in translated(source).remarks if 'keep its value in a static' in it.text]
+                self.assertEqual([it.is_mistake for it in found], [True] * is_named, source)
+
     def test_a_cast_of_a_constant_is_a_constant(self) -> None:
         inside = '  static int8_t s = (int8_t)0xff; static uint8_t u = (uint8_t)300; static int n = (int)-4;'
         text, notes = translation(in_process('  printf("%d %u %d", s, u, n);', '', inside))

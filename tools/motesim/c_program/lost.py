@@ -10,7 +10,7 @@ from motesim.c_program.constants import constant_of
 from motesim.c_program.control import WAITS
 from motesim.c_program.refusal import Mistake
 from motesim.c_program.tree import Expression, Function, Statement, Variable
-from motesim.c_program.walk import all_parts, assigned_in, declared_in, with_called, without_casts
+from motesim.c_program.walk import all_parts, assigned_in, declared_in, parts_of, with_called, without_casts
 
 LOST = ('In C, `%s` isn\'t static, so its value is lost at each wait of its process, and this line reads it after a '
         'wait: declare it as `static` in line %d.')
@@ -25,6 +25,8 @@ CHANGED = ('The data of an event that was posted above is the address of `%s`, a
            'process gets the event. So in Contiki, this process reads the new value. Post the value itself, '
            '`process_post(&p, EVENT, (process_data_t)%s)`, which the other process reads by `(int)data`, or wait '
            'between the two, such as by `PROCESS_PAUSE();`.')
+OTHER_DATA = ('The wait in line %d ends with the event of a timer or of a pause, so `data` isn\'t that of an earlier '
+              'event here: before the wait, keep its value in a static variable.')
 NOT_STATIC = ('In C, `%s` isn\'t static, so its memory has other values after a wait, and it doesn\'t work: declare '
               'it as `static`.')
 # The kinds of objects that are in use after the function that declares them is left.
@@ -46,11 +48,13 @@ class State(NamedTuple):
     possible  those that have a value if it has taken some way
     waited    whether it may have waited
     posted    those whose address is the data of an event that no process has got yet
+    ended     the line of a wait that may have ended last, with the event of a timer or of a pause; otherwise 0
     """
     certain: frozenset[Variable] = frozenset()
     possible: frozenset[Variable] = frozenset()
     waited: bool = False
     posted: frozenset[Variable] = frozenset()
+    ended: int = 0
 
     def with_value(self, it: Variable) -> State:
         return self._replace(certain=self.certain | {it}, possible=self.possible | {it})
@@ -64,7 +68,7 @@ def joined(states: Iterable[State | None]) -> State | None:
     known = [it for it in states if it is not None]
     return State(frozenset.intersection(*(it.certain for it in known)),
                  frozenset.union(*(it.possible for it in known)), any(it.waited for it in known),
-                 frozenset.union(*(it.posted for it in known))) if known else None
+                 frozenset.union(*(it.posted for it in known)), max(it.ended for it in known)) if known else None
 
 
 class Reading(NamedTuple):
@@ -214,6 +218,8 @@ class Locals:
             self.at_place(it.parts[0], self.note_step)
         elif it.kind == 'unary' and it.text == '&':
             self.give(it.parts[0])
+        elif is_value_of_data(it):
+            self.note_data(it)
         elif it.kind == 'call':
             self.call(it)
         elif it.kind == 'choice' or it.kind == 'binary' and it.text in ('&&', '||'):
@@ -312,9 +318,14 @@ class Locals:
         if it.text in TESTS_FIRST:
             self.read_parts(it)
         if self.state is not None:
-            self.state = State(self.kept, self.kept, True)
+            self.state = State(self.kept, self.kept, True, ended=it.line if has_own_event(it) else 0)
         if not it.text.endswith(('PT_SPAWN', 'PT_WAIT_THREAD')):
             self.read_parts(it)
+
+    def note_data(self, it: Expression) -> None:
+        """Notes that the value of the data of an event is used after an event that has none."""
+        if self.state is not None and self.state.ended:
+            self.found[id(it)] = Reading(it.line, OTHER_DATA % self.state.ended, True)
 
     def is_followed(self, it: Variable) -> bool:
         return it.function == self.function.name and not it.is_static and not it.is_parameter
@@ -339,6 +350,24 @@ def is_array(it: Expression) -> bool:
 
 def is_pointer(it: Expression) -> bool:
     return it.variable is not None and it.variable.type.kind in ('pointer', 'data')
+
+
+def is_value_of_data(it: Expression) -> bool:
+    """Returns whether an expression is the data of the event as a number, or what this points to."""
+    is_number = it.kind == 'cast' and it.type is not None and it.type.is_number
+    if not is_number and it.kind != 'arrow' and not (it.kind == 'unary' and it.text == '*'):
+        return False
+    inner = without_casts(it.parts[0])
+    return inner.kind == 'name' and inner.variable is not None and inner.variable.type.kind == 'data' \
+        and inner.variable.is_parameter
+
+
+def has_own_event(it: Expression) -> bool:
+    """Returns whether a wait ends with the event of a timer or of a pause."""
+    parts = [*parts_of(it)]
+    asks = any(one.kind == 'name' and one.variable and one.variable.type.kind == 'event' for one in parts)
+    is_timer = any(one.text == 'PROCESS_EVENT_TIMER' or one.text == 'etimer_expired' and not asks for one in parts)
+    return it.text == 'PROCESS_PAUSE' or is_timer and not any(one.text == '||' for one in parts)
 
 
 def is_always(test: Expression | None) -> bool:

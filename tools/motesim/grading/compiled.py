@@ -38,8 +38,8 @@ DIVIDES = 'compiled by gcc, it crashes: it divides by 0, which is 0 in the trans
 ENDS = {-it: CRASHES for it in (signal.SIGSEGV, signal.SIGBUS, signal.SIGILL, signal.SIGABRT)} | {
     -signal.SIGFPE: DIVIDES}
 MEETING = '; at %d, a packet and another event have the same moment, and their order may differ on a node'
-OF_INT = ('; if the program calculates beyond 16 bits, the translation is probably right: an `int` of gcc has 32 bits '
-          'here, and 16 bits on a node')
+OF_INT = ('; gcc is right, unless the program calculates beyond 16 bits: an `int` has 32 bits for gcc here, and 16 '
+          'bits on a node')
 OF_REMARK = '; see the remark on line %d'
 DIFFERS = 'compiled by gcc, mote %d %s, but its translation %s'
 
