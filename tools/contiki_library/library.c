@@ -227,7 +227,10 @@ rimeaddr_cmp(const rimeaddr_t *one, const rimeaddr_t *other)
 {
   int is_exact = !library_writes_zero || one == &rimeaddr_null || other == &rimeaddr_null;
 
-  return one->u8[0] == other->u8[0] && (one->u8[0] != 0 || !is_exact || one->u8[2] == other->u8[2]);
+  if(one->u8[0] != other->u8[0] || one->u8[1] != other->u8[1]) {
+    return 0;
+  }
+  return one->u8[0] != 0 || !is_exact || (one->u8[2] != 0) == (other->u8[2] != 0);
 }
 
 void rimeaddr_copy(rimeaddr_t *to, const rimeaddr_t *from) { *to = *from; }
@@ -238,7 +241,8 @@ void linkaddr_copy(rimeaddr_t *to, const rimeaddr_t *from) { *to = *from; }
  * The packet buffer. A packet has two bytes: the first one is the lower one of its value. A
  * packet from a program in the notation has two bytes, too.
  */
-#define BYTES 2
+#define BYTES   2
+#define NO_MOTE 255
 static unsigned char buffer[PACKETBUF_SIZE];
 static uint16_t length;
 static rimeaddr_t sender;
@@ -392,11 +396,14 @@ broadcast_send(struct broadcast_conn *c)
   return 1;
 }
 
-/* The upper byte of a packet for one mote is the number of this mote. */
+/*
+ * The upper byte of a packet for one mote is the number of this mote. No mote has an address whose
+ * second byte isn't 0.
+ */
 int
 unicast_send(struct unicast_conn *c, const rimeaddr_t *to)
 {
-  const struct unicast_callbacks *calls = send(c, (uint16_t)(to->u8[0] << 8 | buffer[0]));
+  const struct unicast_callbacks *calls = send(c, (uint16_t)((to->u8[1] == 0 ? to->u8[0] : NO_MOTE) << 8 | buffer[0]));
 
   if(calls != NULL && calls->sent != NULL) {
     calls->sent(c, MAC_TX_OK, 1);

@@ -7,7 +7,7 @@ from pathlib import Path
 from motesim.c_program.program import translated
 from motesim.c_program.refusal import Refusal
 from motesim.grading.compiled import (
-    CRASHES, DIVIDES, OF_INT, OF_REMARK, Compiled, Difference, InC, NoComparison, first_meeting,
+    CRASHES, DIVIDES, OF_INT, OF_REMARK, OF_UNSET, Compiled, Difference, InC, NoComparison, first_meeting,
 )
 from motesim.grading.marking import InNet, difference_in
 from motesim.runner.run import answer
@@ -83,7 +83,8 @@ class Comparison(unittest.TestCase):
                               ' if(m[0] == \'P\' || m[0] == \'\\n\') printf("%d", m[0]);')
         for text, size, value in (('"P"', 1, 80), ('"PING"', 5, 80 + 256 * 73), ('"\\nP"', 2, 10 + 256 * 80),
                                   ('word', 2, 80)):
-            body = '  broadcast_open(&bc, 129, &calls); packetbuf_copyfrom(%s, %d); broadcast_send(&bc);' % (text, size)
+            filled = 'packetbuf_copyfrom(%s, %d);' % (text, size)
+            body = '  broadcast_open(&bc, 129, &calls); %s broadcast_send(&bc);' % filled
             source = in_process(body + ' PROCESS_WAIT_EVENT();', above + '\nstatic char word[] = "P";', '  ' + TIMER)
             self.assertEqual(self.difference(source), '', text)
             self.assertIn('send %d;' % value, translated(source).text)
@@ -120,6 +121,22 @@ class Comparison(unittest.TestCase):
         asks = 'printf("%d", rimeaddr_cmp(&root, &rimeaddr_null) + 2 * rimeaddr_cmp(&root, &rimeaddr_node_addr));'
         self.assertEqual(self.difference(in_process(body % asks, first, '  ' + TIMER)),
                          'compiled by gcc, mote 0 prints 3 at 0, but its translation prints 1 at 0' + OF_REMARK % 5)
+
+    def test_a_part_of_a_local_variable_without_a_value_is_named(self) -> None:
+        above = '#include "net/rime.h"\nstatic struct unicast_conn uc;'
+        body = ('  unicast_open(&uc, 9, NULL); { rimeaddr_t to; uint8_t b[2]; b[0] = 7; %s to.u8[0] = 1;'
+                ' packetbuf_copyfrom(b, 1); unicast_send(&uc, &to); printf("%%d", b[1] == 3); }')
+        for values, unset in (('to.u8[1] = 0; b[1] = 2;', False), ('b[1] = 2;', True), ('to.u8[1] = 0;', False)):
+            self.assertEqual(OF_UNSET in self.difference(in_process(body % values, above)), unset, values)
+        body = '  { uint8_t b[2]; b[0] = 7; printf("%d", b[0] + b[1]); }'
+        self.assertEqual(self.difference(in_process(body)),
+                         'compiled by gcc, mote 0 prints 261 at 0, but its translation prints 7 at 0' + OF_UNSET)
+
+    def test_the_second_byte_of_an_address_is_0(self) -> None:
+        above = '#include "net/rime.h"\nstatic struct unicast_conn uc; static rimeaddr_t to; static uint8_t v;'
+        body = ('  unicast_open(&uc, 9, NULL); to.u8[0] = 1; to.u8[1] = %d; packetbuf_copyfrom(&v, 1);'
+                ' unicast_send(&uc, &to);')
+        self.assertEqual([self.difference(in_process(body % it, above)) != '' for it in (0, 1)], [False, True])
 
     def test_from_a_packet_at_the_moment_of_a_timer_on_runs_may_differ(self) -> None:
         report = (b'mote 0 p\n3 recv 1 0 3\n5 recv 1 1 3\n5 post 2 p timer 0\n'

@@ -26,6 +26,8 @@ from motesim.scenario import Scenario
 
 FLAGS = ('-w', '-O0', '-fno-pic', '-std=gnu99', '-fsanitize=bounds', '-fsanitize-undefined-trap-on-error',
          '-I.', '-I%s' % LIBRARY, '-I%s' % HOST)
+# The memory of local variables that have no value has bytes that are rarely right by chance; or zeros.
+GARBAGE, ZEROS = '-ftrivial-auto-var-init=pattern', '-ftrivial-auto-var-init=zero'
 # (the linker defines symbols at the ends of a section whose name is one of C)
 SECTIONS = ('--set-section-flags', '.bss=alloc,load,contents,data', '--rename-section', '.bss=library_zeros',
             '--rename-section', '.data=library_data')
@@ -40,6 +42,8 @@ ENDS = {-it: CRASHES for it in (signal.SIGSEGV, signal.SIGBUS, signal.SIGILL, si
 MEETING = '; at %d, a packet and another event have the same moment, and their order may differ on a node'
 OF_INT = ('; gcc is right, unless the program calculates beyond 16 bits: an `int` has 32 bits for gcc here, and 16 '
           'bits on a node')
+OF_UNSET = ('; a local variable, or a part of it, is used before it has a value: on a node, its memory may have any '
+            'value')
 OF_REMARK = '; see the remark on line %d'
 DIFFERS = 'compiled by gcc, mote %d %s, but its translation %s'
 
@@ -78,6 +82,7 @@ class Compiled:
 
     def __init__(self, folder: Path):
         self.folder = folder
+        self.can_fill = is_possible(['gcc', GARBAGE, '-E', '-x', 'c', '/dev/null'], folder)
         for path in (*HOST.glob('*.c'), LIBRARY / 'library.c'):
             # (the radio calls the callback of a program in C, instead of posting the packet)
             more = ['-Dprocess_post=library_post'] if path.name == 'radio.c' else []
@@ -85,8 +90,9 @@ class Compiled:
         called(['objcopy', *SECTIONS, 'library.o'], folder)
         self.objects = [str(it) for it in sorted(folder.glob('*.o'))]
 
-    def report(self, it: InC, program: str) -> bytes:
-        """The report of a scenario in which a program is the one in C. Raises NoComparison."""
+    def report(self, it: InC, program: str, fill: str = GARBAGE) -> bytes:
+        """The report of a scenario in which a program is the one in C. `fill`: the bytes of local variables without a
+        value. Raises NoComparison."""
         scenario = Scenario.parse(it.scenario)
         files = program_files(scenario, counts_work=True)
         file_of = file_names(files)
@@ -98,7 +104,7 @@ class Compiled:
             for its, text in tables:
                 (place / its).write_text(text, 'utf-8')
             (place / 'solution.c').write_text(whole(it, program, [*files].index(program)), 'utf-8')
-            called(['gcc', *FLAGS, '-c', 'solution.c'], place)
+            called(['gcc', *FLAGS, *[fill] * self.can_fill, '-c', 'solution.c'], place)
             called(['objcopy', *SECTIONS, 'solution.o'], place)
             sources = ['solution.o', *(name for name, _ in tables), *self.objects]
             called(['gcc', *FLAGS, '-no-pie', '-o', 'run', *sources], place)
@@ -108,22 +114,29 @@ class Compiled:
         """The first difference between the motes of a program in C and those of its translation, whose report is given;
         None if there is none, or if they can't be compared."""
         try:
-            theirs = deeds_in(self.report(it, program))
+            found = self.first(it, program, report, GARBAGE)
+            if found is None:
+                return None
+            at, words = found
+            if self.can_fill and self.first(it, program, report, ZEROS) != found:
+                return Difference(words + OF_UNSET)
         except NoComparison:
             return None
         except Crash as crash:
             return Difference(str(crash))
-        ours, places = deeds_in(report), Scenario.parse(it.scenario).places
-        found = [one for mote, place in enumerate(places) if place.program == program
-                 and (one := first_difference(mote, theirs[mote], ours[mote]))]
-        if not found:
-            return None
-        at, words = min(found)
         meeting = first_meeting(report, program)
         if meeting is not None and meeting <= at:
             return Difference(words + MEETING % meeting, True)
         mistaken = next((one.line for one in it.translation.remarks if one.is_mistake or one.text == OF_ZEROS), 0)
         return Difference(words + (OF_REMARK % mistaken if mistaken else OF_INT))
+
+
+    def first(self, it: InC, program: str, report: bytes, fill: str) -> tuple[int, str] | None:
+        """The moment of the first difference, and the words about it; None if there is none."""
+        theirs, ours = deeds_in(self.report(it, program, fill)), deeds_in(report)
+        found = [one for mote, place in enumerate(Scenario.parse(it.scenario).places) if place.program == program
+                 and (one := first_difference(mote, theirs[mote], ours[mote]))]
+        return min(found, default=None)
 
 
 def deeds_in(report: bytes) -> list[list[Deed]]:
@@ -180,6 +193,15 @@ def called(command: Sequence[str], folder: Path) -> bytes:
     if done.returncode:
         raise NoComparison(done.stderr.decode(errors='replace'))
     return done.stdout
+
+
+def is_possible(command: Sequence[str], folder: Path) -> bool:
+    """Returns whether a command succeeds."""
+    try:
+        called(command, folder)
+    except NoComparison:
+        return False
+    return True
 
 
 def whole(it: InC, program: str, number: int) -> str:
