@@ -243,6 +243,8 @@ void linkaddr_copy(rimeaddr_t *to, const rimeaddr_t *from) { *to = *from; }
  */
 #define BYTES   2
 #define NO_MOTE 255
+/* The byte behind a packet that has one byte: a value that is rarely right by chance. */
+#define UNSET   0xfe
 static unsigned char buffer[PACKETBUF_SIZE];
 static uint16_t length;
 static rimeaddr_t sender;
@@ -269,10 +271,20 @@ packetbuf_copyfrom(const void *from, uint16_t size)
   return length;
 }
 
-int
-packetbuf_copyto(void *to)
+/* (an `int` has two bytes on a node, and more here) */
+size_t
+library_size(size_t size, size_t room)
 {
-  memcpy(to, buffer, length);
+  if(size > room && (size != sizeof(int) || room < BYTES)) {
+    abort();
+  }
+  return size < room ? size : room;
+}
+
+int
+library_copyto(void *to, size_t room)
+{
+  memcpy(to, buffer, library_size(length, room));
   return length;
 }
 /*---------------------------------------------------------------------------*/
@@ -423,7 +435,7 @@ call(const struct opened *it, uint16_t value)
   }
   if(it->kind == UNICAST && value >> 8 == mote_number() && of_unicast->recv != NULL) {
     length = 1;
-    buffer[1] = 0;
+    buffer[1] = UNSET;
     of_unicast->recv(it->connection, &sender);
   } else if(it->kind == BROADCAST && of_broadcast->recv != NULL) {
     of_broadcast->recv(it->connection, &sender);
@@ -440,9 +452,9 @@ deliver(int from, uint16_t value)
   int i;
 
   memset(buffer, 0, sizeof(buffer));
-  buffer[0] = (unsigned char)value;
-  buffer[1] = (unsigned char)(value >> 8);
   length = packet != NULL ? packet->length : BYTES;
+  buffer[0] = (unsigned char)value;
+  buffer[1] = length > 1 ? (unsigned char)(value >> 8) : UNSET;
   sender.u8[0] = (unsigned char)from;
   sender.u8[2] = 1;
   for(i = opened_count - 1; i >= 0; i--) {

@@ -53,6 +53,15 @@ int library_rand(void);
 unsigned short *library_node_id(void);
 const rimeaddr_t *library_address(void);
 
+/* The number of bytes that are copied into a variable; bytes that have no room there end the program. */
+size_t library_size(size_t size, size_t room);
+int library_copyto(void *to, size_t room);
+#define LIBRARY_SIZE(to, size)  library_size(size, __builtin_object_size(to, 0))
+#define memcpy(to, from, size)  memcpy(to, from, LIBRARY_SIZE(to, size))
+#define memmove(to, from, size) memmove(to, from, LIBRARY_SIZE(to, size))
+#define memset(to, value, size) memset(to, value, LIBRARY_SIZE(to, size))
+#define packetbuf_copyto(to)    library_copyto(to, __builtin_object_size(to, 0))
+
 #define printf(...)        library_print(__VA_ARGS__)
 #define puts(text)         library_text(text)
 #define rand()             library_rand()

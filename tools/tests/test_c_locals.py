@@ -28,7 +28,9 @@ class Locals(unittest.TestCase):
                 (' int n;', 'while(1) { PROCESS_YIELD(); if(ev == PROCESS_EVENT_MSG) n = 2; printf("%d", n); }', 'n'),
                 ('', 'int n = 2; if(ev == PROCESS_EVENT_MSG) PROCESS_PAUSE(); else n = 3; printf("%d", n);', 'n'),
                 (' int n;', 'n = 1; do { PROCESS_PAUSE(); } while(n++ < 3);', 'n'),
-                (' int n;', 'n = 1; switch(n) { case 1: break; } PROCESS_PAUSE(); printf("%d", n + 1);', 'n')):
+                (' int n;', 'n = 1; switch(n) { case 1: break; } PROCESS_PAUSE(); printf("%d", n + 1);', 'n'),
+                (' rimeaddr_t to; static struct unicast_conn uc;', 'to.u8[0] = 1; to.u8[1] = 0; PROCESS_PAUSE(); '
+                 'packetbuf_copyfrom("x", 1); unicast_send(&uc, &to);', 'to')):
             self.check(in_process('  ' + body, '', TIMER + inside), '`%s` isn\'t static, so ' % name)
 
     def test_a_value_that_no_wait_loses_is_translated(self) -> None:

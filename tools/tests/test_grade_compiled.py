@@ -132,6 +132,20 @@ class Comparison(unittest.TestCase):
         self.assertEqual(self.difference(in_process(body)),
                          'compiled by gcc, mote 0 prints 261 at 0, but its translation prints 7 at 0' + OF_UNSET)
 
+    def test_a_variable_has_room_for_the_packet(self) -> None:
+        for sent, kept, copied, wanted in (
+                ('uint16_t', 'uint8_t', 'packetbuf_copyto(&v)', CRASHES),
+                ('uint8_t', 'uint8_t', 'packetbuf_copyto(&v)', ''),
+                ('uint16_t', 'uint8_t', 'memcpy(&v, packetbuf_dataptr(), sizeof(v))', ''),
+                ('int', 'uint16_t', 'packetbuf_copyto(&v)', ''), ('int', 'int', 'packetbuf_copyto(&v)', ''),
+                ('uint8_t', 'uint16_t', 'memcpy(&v, packetbuf_dataptr(), 2)', 'prints 65031 at')):
+            above = RADIO.replace('printf("%d", *(int *)packetbuf_dataptr());', copied + '; printf("%u", v);')
+            above = above.replace('static void recv', 'static %s v;\nstatic void recv' % kept)
+            body = ('  broadcast_open(&bc, 129, &calls); { %s n = 7; packetbuf_copyfrom(&n, sizeof(n));'
+                    ' broadcast_send(&bc); } PROCESS_WAIT_EVENT();' % sent)
+            found = self.difference(in_process(body, above))
+            self.assertTrue(wanted in found and bool(wanted) == bool(found), (sent, kept, copied, found))
+
     def test_the_second_byte_of_an_address_is_0(self) -> None:
         above = '#include "net/rime.h"\nstatic struct unicast_conn uc; static rimeaddr_t to; static uint8_t v;'
         body = ('  unicast_open(&uc, 9, NULL); to.u8[0] = 1; to.u8[1] = %d; packetbuf_copyfrom(&v, 1);'

@@ -35,7 +35,7 @@ LASTING = ('etimer', 'ctimer', 'timer', 'stimer', 'rtimer', 'pt', 'semaphore', '
 # and those that read what their second address points to.
 TESTS_FIRST = ('PROCESS_WAIT_UNTIL', 'PROCESS_WAIT_WHILE', 'PT_WAIT_UNTIL', 'PT_WAIT_WHILE')
 READS_ALL = ('packetbuf_copyfrom', 'process_post', 'process_post_synch', 'linkaddr_cmp', 'rimeaddr_cmp', 'memcmp')
-READS_SECOND = ('linkaddr_copy', 'rimeaddr_copy', 'memcpy', 'memmove')
+READS_SECOND = ('linkaddr_copy', 'rimeaddr_copy', 'memcpy', 'memmove', 'unicast_send')
 # Calls that keep an address after the function that calls them is left.
 KEEPS = ('process_post', 'ctimer_set')
 BEGINS, ENDS = ('PROCESS_BEGIN', 'PT_BEGIN'), ('PROCESS_EXIT', 'PT_EXIT', 'PT_RESTART')

@@ -42,8 +42,8 @@ ENDS = {-it: CRASHES for it in (signal.SIGSEGV, signal.SIGBUS, signal.SIGILL, si
 MEETING = '; at %d, a packet and another event have the same moment, and their order may differ on a node'
 OF_INT = ('; gcc is right, unless the program calculates beyond 16 bits: an `int` has 32 bits for gcc here, and 16 '
           'bits on a node')
-OF_UNSET = ('; a local variable, or a part of it, is used before it has a value: on a node, its memory may have any '
-            'value')
+OF_UNSET = ('; a local variable, or a part of it, has no value there: the program assigns none before, or it isn\'t '
+            '`static`, and its value is lost at a wait')
 OF_REMARK = '; see the remark on line %d'
 DIFFERS = 'compiled by gcc, mote %d %s, but its translation %s'
 
