@@ -1252,6 +1252,7 @@ static const struct broadcast_callbacks calls = { recv };'''
     def test_a_quotient_of_a_product_with_32_bits_is_exact(self) -> None:
         for quotient, its in (
                 ('node_id * 500 * CLOCK_SECOND / 1000', '(self * 64)'),
+                ('600 * CLOCK_SECOND / 1000', '76'), ('1 + CLOCK_SECOND * 1500UL % 1000', '1'),
                 ('node_id * CLOCK_SECOND / 2', '((self * 128) / 2)'),
                 ('10000UL * node_id / 3', '(((self / 3) * 10000) + (((self % 3) * 10000) / 3))'),
                 ('u * CLOCK_SECOND / 1000', '(((u / 125) * 16) + (((u % 125) * 16) / 125))')):

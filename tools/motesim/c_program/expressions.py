@@ -234,8 +234,10 @@ class Expressions(Events):
             pointers = [one.text for one in it.parts if one.kind == 'name' and self.type_of(one).kind == 'pointer']
             if pointers and it.text not in ('==', '!='):
                 raise self.refuse(it.line, OF_CHANGE % pointers[0])
-        self.check_size(it.text, it.parts, it.line)
-        exact = self.exact_quotient(it) if it.text == '/' else None
+        exact = self.long_constant(it)
+        if exact is None:
+            self.check_size(it.text, it.parts, it.line)
+            exact = self.exact_quotient(it) if it.text == '/' else None
         if exact is not None:
             return exact
         left, right = self.two(it.parts[0], it.parts[1])
@@ -247,6 +249,22 @@ class Expressions(Events):
             return compared(it.text, left, right)
         self.note_size(it.text, left, right, [it], it.line)
         return self.operation(it.text, left, right, it.line)
+
+    def long_constant(self, it: Expression) -> Value | None:
+        """The value of a constant quotient or remainder whose dividend has 32 bits in C, such as
+        `600 * CLOCK_SECOND / 1000`. None if it is another expression."""
+        found, dividend = (constant_of(one, self.program.second) for one in (it, it.parts[0]))
+        if it.text not in ('/', '%') or found is None or not 0 <= found <= MOST < (dividend or 0) < 1 << 32 \
+                or not self.is_long(it.parts[0]):
+            return None
+        self.note_second(it)
+        return number(found, UNSIGNED)
+
+    def note_second(self, it: Expression) -> None:
+        """Evaluates `CLOCK_SECOND` in an expression, since the name has a remark."""
+        for one in parts_of(it):
+            if one.kind == 'name' and one.text == 'CLOCK_SECOND':
+                self.evaluate(one)
 
     def exact_quotient(self, it: Expression) -> Value | None:
         """The quotient of a product that has 32 bits in C and may have more than 16, if all its factors but one, and
@@ -264,10 +282,7 @@ class Expressions(Events):
             value = self.operand(others[0])
         if value.is_negative or not exceeds('*', value, number(factor)) or not 0 < above * max(below - 1, 1) <= MOST:
             return None
-        for one in parts_of(it):
-            # (the name has a remark)
-            if one.kind == 'name' and one.text == 'CLOCK_SECOND':
-                self.evaluate(one)
+        self.note_second(it)
         value = self.operand(others[0])._replace(type=UNSIGNED)
         by, high = number(above, UNSIGNED), value.high * above // below
         if high > MOST and exceeds('*', value, by):
