@@ -362,7 +362,11 @@ send(const void *connection, uint16_t value)
   return from < opened + opened_count ? from->calls : NULL;
 }
 /*---------------------------------------------------------------------------*/
-static uint16_t word_in(void) { return (uint16_t)(buffer[0] | (length > 1 ? buffer[1] << 8 : 0)); }
+static uint16_t
+word_in(void)
+{
+  return (uint16_t)((length > 0 ? buffer[0] : 0) | (length > 1 ? buffer[1] << 8 : 0));
+}
 
 void abc_close(struct abc_conn *c) { close_connection(c); }
 void broadcast_close(struct broadcast_conn *c) { close_connection(c); }

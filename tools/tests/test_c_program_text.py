@@ -1220,7 +1220,7 @@ static void recv(struct broadcast_conn *c, const rimeaddr_t *from) { LINES; }
 static const struct broadcast_callbacks calls = { recv };'''
         fill, send = 'packetbuf_copyfrom(&k, 2); ', 'broadcast_send(&bc); '
         for body, lines, is_seen in (
-                (fill + send + send, '', True), (fill + send + 'packetbuf_clear(); ' + send, '', True),
+                (fill + send + send, '', True), (fill + send + 'packetbuf_clear(); ' + send, '', False),
                 ('packetbuf_clear(); ' + fill + send, '', False), (fill + 'for(m = 0; m < 3; m++) ' + send, '', True),
                 (fill + 'out(); fill(3); ' + send + 'both(4); both(5);', '', False), ('both(4); ' + send, '', True),
                 ('if(k) { %s } else { packetbuf_copyfrom(&m, 2); } %s' % (fill, send), '', False),

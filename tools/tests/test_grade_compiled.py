@@ -89,6 +89,12 @@ class Comparison(unittest.TestCase):
             self.assertEqual(self.difference(source), '', text)
             self.assertIn('send %d;' % value, translated(source).text)
 
+    def test_a_packet_may_be_empty(self) -> None:
+        source = self.counting('1').replace('packetbuf_copyfrom(&n, sizeof(n));', 'packetbuf_clear();')
+        source = source.replace('printf("%d", *(int *)packetbuf_dataptr());', 'printf("%d", 5);')
+        self.assertEqual(self.difference(source), '')
+        self.assertEqual([it.line for it in translated(source).remarks if it.is_mistake], [])
+
     def test_the_first_value_that_differs_is_named(self) -> None:
         self.assertEqual(self.difference(self.counting('1'), self.counting('2')),
                          'compiled by gcc, mote 0 prints 1 at 20, but its translation prints 2 at 20' + OF_INT)

@@ -26,6 +26,7 @@ OF_ONE_MOTE = ('A packet goes to all motes that hear it: its upper 8 bits say fo
 KEPT = ('Contiki has one packet buffer: each packet that arrives overwrites it, and a send and `packetbuf_clear` '
         'change it, too. Here, this statement sends the value of the last `packetbuf_copyfrom`, or of the packet that '
         'arrived: fill the buffer directly before each send.')
+OF_EMPTY = 'A packet is one number: one without bytes is sent as 0.'
 OF_SENT = 'In Contiki, `%s` is called when the send has ended. Here, its statements follow the `send`.'
 TOO_LARGE = ('A packet to one mote has 8 bits for its value, and this one has more: send smaller values, such as a '
              'quarter of each, or use `broadcast_send`.')
@@ -157,7 +158,10 @@ class Radio(Calls):
         self.buffer = Value(kept, UNSIGNED, *self.limits(kept, UNSIGNED), frozenset([kept]))
 
     def note_buffer(self, it: Expression) -> None:
-        if it.text == 'packetbuf_clear':
+        if it.text == 'packetbuf_clear' and self.next_sends:
+            self.remark(it.line, OF_EMPTY)
+            self.fill(number(0, UNSIGNED), it)
+        elif it.text == 'packetbuf_clear':
             self.note_effects([FILLED])
         elif it.text == 'packetbuf_set_datalen':
             sizes = {{'byte': 1}.get(form, 2) for form in self.forms('packet')}
