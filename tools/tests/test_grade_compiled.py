@@ -6,9 +6,11 @@ from pathlib import Path
 
 from motesim.c_program.program import translated
 from motesim.c_program.refusal import Refusal
+from motesim.explain.moments import Burst
 from motesim.grading.compiled import (
     CRASHES, DIVIDES, OF_INT, OF_REMARK, OF_UNSET, Compiled, Difference, InC, NoComparison, first_meeting,
 )
+from motesim.grading.in_c import in_words_of_c
 from motesim.grading.marking import InNet, difference_in
 from motesim.runner.run import answer
 from skips import need_command, need_program
@@ -94,6 +96,9 @@ class Comparison(unittest.TestCase):
         source = source.replace('printf("%d", *(int *)packetbuf_dataptr());', 'printf("%d", 5);')
         self.assertEqual(self.difference(source), '')
         self.assertEqual([it.line for it in translated(source).remarks if it.is_mistake], [])
+
+    def test_advice_on_packets_of_one_moment_is_in_words_of_c(self) -> None:
+        self.assertIn('(`etimer_set(&et, 1);` and a wait in a process', in_words_of_c(str(Burst(0, 3, 2, 1))))
 
     def test_the_first_value_that_differs_is_named(self) -> None:
         self.assertEqual(self.difference(self.counting('1'), self.counting('2')),

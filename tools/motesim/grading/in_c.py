@@ -16,6 +16,8 @@ from motesim.terminal import one_line
 WORDS_OF_C = {'wait by `yield_until`': 'wait by `PROCESS_WAIT_EVENT_UNTIL(etimer_expired(&et))`',
               '`set t 10; yield_until fired(t);`':
               '`etimer_set(&et, 10); PROCESS_WAIT_EVENT_UNTIL(etimer_expired(&et));`',
+              '`set t 1; yield_until fired(t);`':
+              '`etimer_set(&et, 1);` and a wait in a process, or a ctimer in the function for packets',
               '`yield_until`': '`PROCESS_WAIT_EVENT_UNTIL`', '`wait_until`': '`PROCESS_WAIT_UNTIL`',
               '`wait_while`': '`PROCESS_WAIT_WHILE`', '`yield`': '`PROCESS_YIELD`', '`pause`': '`PROCESS_PAUSE`'}
 NO_TRANSLATION = 'not marked: its line %d may be right in C, but the tool can\'t translate it'
