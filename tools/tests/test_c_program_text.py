@@ -420,6 +420,15 @@ PROCESS_THREAD(q, ev, data) { static int n; PROCESS_BEGIN(); n = random_rand(); 
                 found = [it for it in translated(source).remarks if 'keep its value in a static' in it.text]
                 self.assertEqual([it.is_mistake for it in found], [True] * is_named, source)
 
+    def test_a_variable_that_is_smaller_than_the_packets_has_a_remark(self) -> None:
+        above = '''static struct broadcast_conn bc; static uint8_t d; static %s n;
+static void recv(struct broadcast_conn *c, const rimeaddr_t *from) { packetbuf_copyto(&d); }
+static const struct broadcast_callbacks calls = { recv };'''
+        body = '  broadcast_open(&bc, 129, &calls); packetbuf_copyfrom(&n, sizeof(n)); broadcast_send(&bc);'
+        for its, is_named in ('uint16_t', True), ('uint8_t', False):
+            found = [it.text for it in translated(in_process(body, above % its)).remarks if it.is_mistake]
+            self.assertEqual(['overwrites the memory behind `d`' in it for it in found], [True] * is_named)
+
     def test_a_cast_of_a_constant_is_a_constant(self) -> None:
         inside = '  static int8_t s = (int8_t)0xff; static uint8_t u = (uint8_t)300; static int n = (int)-4;'
         text, notes = translation(in_process('  printf("%d %u %d", s, u, n);', '', inside))

@@ -46,6 +46,8 @@ OF_NEGATIVE = ('This value may be below 0, but 8 bits are left for it here: -5, 
 OF_LENGTH = 'A packet is one number of 16 bits here, so `packetbuf_set_datalen` doesn\'t change it.'
 NO_LENGTH = ('In Contiki, this packet has no bytes, because its length is set nowhere: write '
              '`packetbuf_set_datalen(..);` behind this statement, or fill the packet by `packetbuf_copyfrom`.')
+NO_ROOM_FOR_ALL = ('`packetbuf_copyto` copies all bytes of a packet, and packets of this program have two. So in C, it '
+                   'overwrites the memory behind `%s`: use a larger variable, or `memcpy` with a length.')
 OF_DATALEN = ('This program sends no packets, and the length of those that arrive isn\'t known: it is taken to be 2 '
               'bytes here.')
 # The name under which it is known that the packet buffer has the value to send.
@@ -284,6 +286,9 @@ class Radio(Calls):
 
     def call_packetbuf_copyto(self, it: Expression) -> None:
         self.copy(self.first(it), Place('packet', UNSIGNED), it.line)
+        place = self.pointer(self.first(it)).place
+        if place and place.variable and size_of(place.type) == 1 and self.forms('packet') - {'byte'}:
+            self.remark_mistake(it.line, NO_ROOM_FOR_ALL % place.variable.name)
 
     def call_memcpy(self, it: Expression) -> None:
         target, source, size = self.arguments(it, 3)
