@@ -1741,7 +1741,7 @@ class Command(unittest.TestCase):
         rows = self.plot(*words, '--nets', '-o', 'a.svg')
         self.assertIn(missing, [' '.join(row) for row in rows])
         picture = ' '.join(re.sub('<[^>]*>', ' ', (self.folder / 'a.svg').read_text()).split())
-        for shown in out, missing, '(2 to 3 nets of 8 runs)':
+        for shown in out, missing, '(2 to 3 nets, 8 runs)':
             self.assertIn(shown, picture)
         origin = (self.folder / 'a.origin.csv').read_text()
         self.assertTrue(out in origin and missing in origin, origin)

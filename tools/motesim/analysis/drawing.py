@@ -342,7 +342,7 @@ def _note(shown: Shown, wish: Wish) -> str:
     """The text below a picture."""
     of_points = [point.estimate.runs for point in shown.points]
     runs = between([curve.runs for curve in shown.curves()] if wish.show == 'cdf' else of_points)
-    of_nets = ' of %s runs' % between(list(shown.runs_at.values())) if shown.runs_at and wish.show != 'cdf' else ''
+    of_nets = ', %s runs' % between(list(shown.runs_at.values())) if shown.runs_at and wish.show != 'cdf' else ''
     of_mean = 'mean, and intervals of %g %% %s' % (wish.confidence, by_methods(shown.methods()))
     of_heat = 'mean (the table has its interval)'
     what = {'median': 'median, and quartiles', 'points': 'all runs', 'cdf': 'part of the runs'}.get(
