@@ -40,7 +40,7 @@ uint16_t motesim_word(process_event_t ev, process_data_t data);
 #include "work.h"
 
 #define MOTESIM_PACKET PROCESS_EVENT_MAX
-#define MOTESIM_PRINT(value) trace_print(PROCESS_CURRENT(), (value))
+#define MOTESIM_PRINT(value) trace_print(PROCESS_CURRENT(), (uint16_t)(value))
 
 #else /* MOTESIM_HOST */
 

@@ -169,7 +169,7 @@ trace_drop(uint64_t serial, const struct process *p)
 }
 
 void
-trace_print(const struct process *p, uint16_t value)
+trace_print(const struct process *p, uint32_t value)
 {
   struct text *trace = begin("print");
 

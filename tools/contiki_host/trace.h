@@ -19,7 +19,7 @@ void trace_full(const struct process *p, process_event_t ev, process_data_t data
 void trace_take(uint64_t serial, const struct process *p);
 void trace_drop(uint64_t serial, const struct process *p);
 
-void trace_print(const struct process *p, uint16_t value);
+void trace_print(const struct process *p, uint32_t value);
 
 void trace_send(uint64_t number, uint16_t value);
 void trace_recv(int from, uint64_t number, uint16_t value);

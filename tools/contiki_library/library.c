@@ -58,26 +58,34 @@ library_text(const char *text)
   return 0;
 }
 
+/* A long value is printed as it is on a node, where it has 32 bits. */
+static uint32_t
+long_number(int32_t value)
+{
+  return value < 0 && value >= -32768 ? (uint16_t)value : (uint32_t)value;
+}
+
 int
 library_print(const char *format, ...)
 {
   va_list values;
   const char *text = format;
-  int count = 0;
+  int count = 0, is_long;
 
   va_start(values, format);
   for(; *format != '\0'; format++) {
     if(*format != '%' || *++format == '%') {
       continue;
     }
-    while(*format != '\0' && strchr("0123456789.-+ #hlzjt", *format) != NULL) {
-      format++;
+    for(is_long = 0; *format != '\0' && strchr("0123456789.-+ #hlzjt", *format) != NULL; format++) {
+      is_long |= *format == 'l';
     }
     if(*format == 's' || *format == 'p') {
       (void)va_arg(values, char *);
       continue;
     }
-    trace_print(PROCESS_CURRENT(), (uint16_t)va_arg(values, int));
+    trace_print(PROCESS_CURRENT(), is_long ? long_number((int32_t)va_arg(values, long))
+                                           : (uint16_t)va_arg(values, int));
     count++;
   }
   va_end(values);

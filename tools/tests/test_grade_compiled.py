@@ -4,14 +4,16 @@ import tempfile
 import unittest
 from pathlib import Path
 
+from motesim.c_program.base import OF_LONG
 from motesim.c_program.program import translated
 from motesim.c_program.refusal import Refusal
 from motesim.explain.moments import Burst
 from motesim.grading.compiled import (
-    CRASHES, DIVIDES, OF_INT, OF_REMARK, OF_UNSET, Compiled, Difference, InC, NoComparison, first_meeting,
+    CRASHES, DIVIDES, MEETING, OF_INT, OF_REMARK, OF_UNSET, SAME, Compiled, Difference, InC, NoComparison,
+    first_meeting,
 )
 from motesim.grading.in_c import in_words_of_c
-from motesim.grading.marking import InNet, difference_in
+from motesim.grading.marking import InNet, difference_in, remarks_in
 from motesim.runner.run import answer
 from skips import need_command, need_program
 from student_programs import PROGRAMS, REFUSED, SCENARIO as IN_A_ROW
@@ -172,6 +174,30 @@ class Comparison(unittest.TestCase):
         self.assertFalse(difference_in([in_net(Difference('b', True))])[0].is_mistake)
         self.assertNotIn('another event', self.difference(source, self.counting('2')))
 
+    def test_a_long_value_that_does_not_wrap_in_the_nets_is_no_mistake(self) -> None:
+        doubled = ('static clock_time_t wait = 1; for(n = 0; n < %d; n++) { wait *= 2; }'
+                   ' printf("%%lu", (unsigned long)wait);')
+        wraps = 'compiled by gcc, mote 0 prints 65536 at 0, but its translation prints 0 at 0'
+        for times, words in (9, ''), (16, wraps):
+            its = self.in_c(in_process('  ' + doubled % times, '', '  ' + TIMER))
+            found = self.compiled.difference(its, 'p', answer(its.scenario.encode()).report)
+            assert found
+            remarks = remarks_in([in_net(found)], its.source)
+            self.assertIn(OF_LONG, [it.text for it in remarks])
+            self.assertEqual(found.words.partition(';')[0], words)
+            self.assertEqual(any(it.is_mistake for it in remarks), bool(words))
+        uncompared = [in_net(found)._replace(differs=None)]
+        self.assertTrue(any(it.is_mistake for it in remarks_in(uncompared, its.source)))
+
+    def test_a_difference_names_a_remark_and_a_meeting_of_events(self) -> None:
+        body = '  broadcast_open(&bc, 129 + node_id, &calls); while(1) { PROCESS_WAIT_EVENT(); }'
+        its = self.in_c(in_process(body, RADIO, '  ' + TIMER))
+        report = b'mote 0 p\n3 recv 1 0 3\n3 recv 1 1 3\n3 print p 3\nmote 1 p\nmote 2 other\nmedium\nleft 0\n'
+        found = self.compiled.difference(its, 'p', report)
+        line = next(it.line for it in its.translation.remarks if it.is_mistake)
+        assert found
+        self.assertTrue(found.words.endswith(OF_REMARK % line + MEETING % 3), found.words)
+
     def test_a_program_that_leaves_an_array_crashes(self) -> None:
         source = in_process('  n = 9; printf("%d", a[n]);', inside='  static int a[3], n;')
         self.assertEqual(self.difference(source, in_process('  ;')), CRASHES)
@@ -211,7 +237,7 @@ PROCESS_THREAD(q, ev, data) { PROCESS_BEGIN(); printf("%d", random_rand() & 15);
                     continue
                 its = InC(path.read_text(), found, IN_A_ROW % (ENDS.get(path.stem, 1_000), found.text))
                 self.compiled.report(its, 'p')
-                self.assertIsNone(self.compiled.difference(its, 'p', answer(its.scenario.encode()).report))
+                self.assertEqual(self.compiled.difference(its, 'p', answer(its.scenario.encode()).report), SAME)
 
 
 if __name__ == '__main__':

@@ -64,10 +64,13 @@ class InC(NamedTuple):
 
 
 class Difference(NamedTuple):
-    """A difference between a program in C and its translation, in words. `may_differ`: their runs may also differ because
-    of events of one moment."""
+    """A difference between a program in C and its translation, in words; the words are empty if there is none.
+    `may_differ`: their runs may also differ because of events of one moment."""
     words: str
     may_differ: bool = False
+
+
+SAME = Difference('')
 
 
 class Deed(NamedTuple):
@@ -112,11 +115,11 @@ class Compiled:
 
     def difference(self, it: InC, program: str, report: bytes) -> Difference | None:
         """The first difference between the motes of a program in C and those of its translation, whose report is given;
-        None if there is none, or if they can't be compared."""
+        None if they can't be compared."""
         try:
             found = self.first(it, program, report, GARBAGE)
             if found is None:
-                return None
+                return SAME
             at, words = found
             if self.can_fill and self.first(it, program, report, ZEROS) != found:
                 return Difference(words + OF_UNSET)
@@ -125,11 +128,10 @@ class Compiled:
         except Crash as crash:
             return Difference(str(crash))
         meeting = first_meeting(report, program)
-        if meeting is not None and meeting <= at:
-            return Difference(words + MEETING % meeting, True)
+        may_differ = meeting is not None and meeting <= at
         mistaken = next((one.line for one in it.translation.remarks if one.is_mistake or one.text == OF_ZEROS), 0)
-        return Difference(words + (OF_REMARK % mistaken if mistaken else OF_INT))
-
+        causes = (OF_REMARK % mistaken if mistaken else '') + (MEETING % meeting if may_differ else '')
+        return Difference(words + (causes or OF_INT), may_differ)
 
     def first(self, it: InC, program: str, report: bytes, fill: str) -> tuple[int, str] | None:
         """The moment of the first difference, and the words about it; None if there is none."""

@@ -7,6 +7,7 @@ from dataclasses import dataclass, replace
 from pathlib import Path
 from typing import NamedTuple
 
+from motesim.c_program.base import OF_LONG
 from motesim.c_program.program import Remark
 from motesim.explain.explanation import explanation, of_program as fault_of_program, of_program_file, tables_or_none
 from motesim.explain.lint import (
@@ -17,7 +18,7 @@ from motesim.explain.within import busiest
 from motesim.faults import Fault, tried
 from motesim.files import replace_whole
 from motesim.grading.callbacks import OF_CALLBACK, readings
-from motesim.grading.compiled import Compiled, Difference, InC
+from motesim.grading.compiled import SAME, Compiled, Difference, InC
 from motesim.grading.entries import Entry, data_of, without_program
 from motesim.grading.in_c import NotTranslated, in_words_of_c, made_of, remarks_of
 from motesim.grading.nets import NOT_UTF8, Net, NoProgram, program_of, unused_of
@@ -250,7 +251,7 @@ class Task:
         marks = replace(self.together(entry.name, found), unused=unused)
         if entry.path.suffix == '.c':
             marks = replace(marks, warned=tuple(in_translation(it, its[1]) for it in marks.warned),
-                            of_c=(*difference_in(found), *remarks_of(in_c)))
+                            of_c=(*difference_in(found), *remarks_in(found, in_c)))
         if any(its.is_refused for its in found):
             # (a file whose programs are expected to be refused keeps its marks)
             if any(its.why for its in found) and self.has_c(data, entry.path.name):
@@ -396,11 +397,19 @@ def first_shown(marks: Marks, found: Sequence[InNet]) -> tuple[int, InNet | None
 
 def difference_in(found: Sequence[InNet]) -> list[Remark]:
     """The first difference between a program in C and its translation, without the values of a hidden net."""
-    its = [(it.differs.may_differ, it.is_hidden, it.differs.words, it.net) for it in found if it.differs]
+    its = [(it.differs.may_differ, it.is_hidden, it.differs.words, it.net) for it in found
+           if it.differs and it.differs.words]
     if not its:
         return []
     may_differ, is_hidden, words, net = min(its, key=lambda it: it[:2])
     return [Remark(0, OF_HIDDEN_RUN if is_hidden else '%s (in %s)' % (words, net), not may_differ)]
+
+
+def remarks_in(found: Sequence[InNet], source: str) -> list[Remark]:
+    """The remarks about a program in C. If the compiled program does the same in each net, no value wraps there that
+    has more bits in C: so a remark about such values names no mistake."""
+    is_same = all(it.differs == SAME for it in found)
+    return [it._replace(is_mistake=False) if is_same and it.text == OF_LONG else it for it in remarks_of(source)]
 
 
 def of_callbacks(report: bytes, scenario: Scenario, program: str, sentences: Sequence[Sentence],
