@@ -5,15 +5,16 @@ import unittest
 from pathlib import Path
 
 from motesim.c_program.base import OF_LONG
-from motesim.c_program.program import translated
+from motesim.c_program.program import Remark, translated
 from motesim.c_program.refusal import Refusal
 from motesim.explain.moments import Burst
 from motesim.grading.compiled import (
     CRASHES, DIVIDES, MEETING, OF_INT, OF_REMARK, OF_UNSET, SAME, Compiled, Difference, InC, NoComparison,
     first_meeting,
 )
-from motesim.grading.in_c import in_words_of_c
-from motesim.grading.marking import InNet, difference_in, remarks_in
+from motesim.grading.in_c import in_words_of_c, on_node
+from motesim.grading.marking import InNet, Mark, Marks, by_gcc_in, compiled_holds, difference_in, remarks_in
+from motesim.judge.expectations import known_of, read_all
 from motesim.runner.run import answer
 from skips import need_command, need_program
 from student_programs import PROGRAMS, REFUSED, SCENARIO as IN_A_ROW
@@ -165,6 +166,28 @@ class Comparison(unittest.TestCase):
                 ' unicast_send(&uc, &to);')
         self.assertEqual([self.difference(in_process(body % it, above)) != '' for it in (0, 1)], [False, True])
 
+    def test_the_mark_of_the_compiled_program_is_known(self) -> None:
+        body = ('  { uint8_t b[2]; b[0] = 7; printf("%d", b[0] + b[1]); } broadcast_open(&bc, 129, &calls);'
+                ' if(node_id == 0) { packetbuf_copyfrom("a", 1); broadcast_send(&bc); } PROCESS_WAIT_EVENT();')
+        above = RADIO.replace('*(int *)packetbuf_dataptr()', '*(uint8_t *)packetbuf_dataptr()')
+        its = self.in_c(in_process(body, above))
+        found = self.compiled.difference(its, 'p', answer(its.scenario.encode()).report)
+        assert found is not None
+        scenario, words = known_of(its.scenario)
+        assert scenario is not None
+        sentences = read_all(['mote 0 prints p 7', 'mote 0 prints p 261', 'mote 1 prints p 97', 'mote 0 sends once',
+                              'mote 1 never prints p 97', 'no mote halts'], words)
+        holds = compiled_holds(found.report, scenario, 'p', sentences)
+        self.assertEqual(holds, [False, True, True, True, False, True])
+        marks = [Mark('', True, is_required=at == 3) for at in range(6)]
+        differs = in_net(found)._replace(marks=marks, by_gcc=tuple(holds or ()))
+        self.assertEqual(by_gcc_in([differs, in_net(found)._replace(marks=marks, differs=SAME)]), tuple(holds or ()))
+        self.assertEqual(by_gcc_in([differs, differs._replace(by_gcc=())]), ())
+        self.assertEqual(Marks('', tuple(marks), by_gcc=tuple(holds or ())).held_by_gcc, 4)
+        self.assertEqual(on_node([Remark(0, found.words, True)], '4 of 6'),
+                         'compiled by gcc, it does something else (4 of 6)')
+        self.assertEqual(on_node([Remark(0, DIVIDES, True)], ''), 'compiled by gcc, it crashes')
+
     def test_from_a_packet_at_the_moment_of_a_timer_on_runs_may_differ(self) -> None:
         report = (b'mote 0 p\n3 recv 1 0 3\n5 recv 1 1 3\n5 post 2 p timer 0\n'
                   b'mote 1 q\n1 recv 0 0 3\n1 recv 0 1 3\nmedium\nleft 0\n')
@@ -186,7 +209,7 @@ class Comparison(unittest.TestCase):
             self.assertIn(OF_LONG, [it.text for it in remarks])
             self.assertEqual(found.words.partition(';')[0], words)
             self.assertEqual(any(it.is_mistake for it in remarks), bool(words))
-        uncompared = [in_net(found)._replace(differs=None)]
+        uncompared = [in_net(SAME)._replace(differs=None)]
         self.assertTrue(any(it.is_mistake for it in remarks_in(uncompared, its.source)))
 
     def test_a_difference_names_a_remark_and_a_meeting_of_events(self) -> None:

@@ -9,6 +9,9 @@ from __future__ import annotations
 import re
 from collections.abc import Iterator
 
+EVENTS = 'post', 'take'
+# The process of Contiki in which the callback runs.
+OF_RADIO = 'radio'
 OF_CALLBACK = 'the callback for packets prints this, and counts for `%s`: in C, a callback belongs to no process'
 PROCESSES, RECEIVER = re.compile(r'^process (.*);$', re.M), re.compile(r'^receiver (.*);$', re.M)
 
@@ -36,11 +39,25 @@ def rows(report: str, program: str, receiver: str, other: str, has_one: bool) ->
         if words[0] in ('mote', 'medium'):
             is_own, is_called = words[2:] == [program], False
             packets.clear()
-        elif is_own and words[1] == 'post':
+        elif is_own and words[1] == EVENTS[0]:
             packets[words[2]] = words[3:5] == [receiver, 'packet']
-        elif is_own and words[1] == 'take':
+        elif is_own and words[1] == EVENTS[1]:
             is_called = packets.get(words[2], False)
         elif is_called and words[1:3] == ['print', receiver]:
             row = ' '.join((*words[:2], other, *words[3:]))
             is_called = not has_one
         yield row
+
+
+def compiled_readings(report: str, text: str) -> dict[str, str]:
+    """The report of a compiled program, for each process of its translation: this process prints what the callback
+    prints. There is none if the compiled program has other names."""
+    found = PROCESSES.search(text)
+    processes = found[1].split(', ') if found else []
+    # (the events of a compiled program have no names)
+    traces, medium = report.split('\nmedium\n')
+    rows = [row for row in traces.split('\n') if row.split(' ')[1] not in EVENTS]
+    names = {row.split(' ')[2] for row in rows if row.split(' ')[1] == 'print'}
+    whole = '%s\nmedium\n%s' % ('\n'.join(rows), medium)
+    return {it: whole.replace(' print %s ' % OF_RADIO, ' print %s ' % it) for it in processes
+            } if names <= {OF_RADIO, *processes} else {}

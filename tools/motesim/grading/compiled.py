@@ -22,6 +22,7 @@ from motesim.c_program.places import OF_ZEROS
 from motesim.c_program.program import Translation
 from motesim.contiki.folder import HOST, host_tables, program_files, text_of
 from motesim.contiki.names import file_names
+from motesim.grading.in_c import CRASHED
 from motesim.scenario import Scenario
 
 FLAGS = ('-w', '-O0', '-fno-pic', '-std=gnu99', '-fsanitize=bounds', '-fsanitize-undefined-trap-on-error',
@@ -34,8 +35,8 @@ SECTIONS = ('--set-section-flags', '.bss=alloc,load,contents,data', '--rename-se
 KINDS = 'print', 'send'
 # The tokens that write an address of zeros: an assignment, or an initial value.
 ZERO = re.compile(r'u8 \[ 0 \] = 0 ;|\{ \{ 0 ,')
-CRASHES = 'compiled by gcc, it crashes: it uses memory that it doesn\'t have'
-DIVIDES = 'compiled by gcc, it crashes: it divides by 0, which is 0 in the translation'
+CRASHES = CRASHED + ': it uses memory that it doesn\'t have'
+DIVIDES = CRASHED + ': it divides by 0, which is 0 in the translation'
 # The signals that end a program because of a mistake.
 ENDS = {-it: CRASHES for it in (signal.SIGSEGV, signal.SIGBUS, signal.SIGILL, signal.SIGABRT)} | {
     -signal.SIGFPE: DIVIDES}
@@ -65,9 +66,10 @@ class InC(NamedTuple):
 
 class Difference(NamedTuple):
     """A difference between a program in C and its translation, in words; the words are empty if there is none.
-    `may_differ`: their runs may also differ because of events of one moment."""
+    `may_differ`: their runs may also differ because of events of one moment. `report`: that of the program in C."""
     words: str
     may_differ: bool = False
+    report: bytes = b''
 
 
 SAME = Difference('')
@@ -117,12 +119,13 @@ class Compiled:
         """The first difference between the motes of a program in C and those of its translation, whose report is given;
         None if they can't be compared."""
         try:
-            found = self.first(it, program, report, GARBAGE)
+            theirs = self.report(it, program)
+            found = first(it, program, theirs, report)
             if found is None:
                 return SAME
             at, words = found
-            if self.can_fill and self.first(it, program, report, ZEROS) != found:
-                return Difference(words + OF_UNSET)
+            if self.can_fill and first(it, program, self.report(it, program, ZEROS), report) != found:
+                return Difference(words + OF_UNSET, False, theirs)
         except NoComparison:
             return None
         except Crash as crash:
@@ -131,14 +134,15 @@ class Compiled:
         may_differ = meeting is not None and meeting <= at
         mistaken = next((one.line for one in it.translation.remarks if one.is_mistake or one.text == OF_ZEROS), 0)
         causes = (OF_REMARK % mistaken if mistaken else '') + (MEETING % meeting if may_differ else '')
-        return Difference(words + (causes or OF_INT), may_differ)
+        return Difference(words + (causes or OF_INT), may_differ, theirs)
 
-    def first(self, it: InC, program: str, report: bytes, fill: str) -> tuple[int, str] | None:
-        """The moment of the first difference, and the words about it; None if there is none."""
-        theirs, ours = deeds_in(self.report(it, program, fill)), deeds_in(report)
-        found = [one for mote, place in enumerate(Scenario.parse(it.scenario).places) if place.program == program
-                 and (one := first_difference(mote, theirs[mote], ours[mote]))]
-        return min(found, default=None)
+
+def first(it: InC, program: str, compiled: bytes, report: bytes) -> tuple[int, str] | None:
+    """The moment of the first difference between two reports, and the words about it; None if there is none."""
+    theirs, ours = deeds_in(compiled), deeds_in(report)
+    found = [one for mote, place in enumerate(Scenario.parse(it.scenario).places) if place.program == program
+             and (one := first_difference(mote, theirs[mote], ours[mote]))]
+    return min(found, default=None)
 
 
 def deeds_in(report: bytes) -> list[list[Deed]]:

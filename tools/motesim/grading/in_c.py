@@ -21,6 +21,7 @@ WORDS_OF_C = {'wait by `yield_until`': 'wait by `PROCESS_WAIT_EVENT_UNTIL(etimer
               '`yield_until`': '`PROCESS_WAIT_EVENT_UNTIL`', '`wait_until`': '`PROCESS_WAIT_UNTIL`',
               '`wait_while`': '`PROCESS_WAIT_WHILE`', '`yield`': '`PROCESS_YIELD`', '`pause`': '`PROCESS_PAUSE`'}
 NO_TRANSLATION = 'not marked: its line %d may be right in C, but the tool can\'t translate it'
+CRASHED, DIFFERS = 'compiled by gcc, it crashes', 'compiled by gcc, it does something else'
 MISTAKEN = 'its line %d is a mistake in C'
 # (a time has 16 bits here)
 WRAPS = '; clock_time() and clock_seconds() begin again at 0 after %d seconds, which they don\'t do on a node'
@@ -82,13 +83,16 @@ def shown(remark: Remark) -> str:
     return one_line('line %d in C: %s' % (remark.line, remark.text) if remark.line else remark.text)
 
 
-def on_node(remarks: Sequence[Remark]) -> str:
-    """The words about a program in C that works here, but probably not on a node; an empty text if there are none."""
+def on_node(remarks: Sequence[Remark], mark: str = '') -> str:
+    """The words about a program in C that works here, but probably not on a node; an empty text if there are none.
+    `mark`: the one that the compiled program would have, if it is known."""
     mistakes = [it for it in remarks if it.is_mistake]
     lacking = [it.line for it in mistakes if it.text.startswith(compiler.LACKS)]
     others = sorted({it.line for it in mistakes if it.line} - {*lacking})
     lines = ['%d' % it for it in others]
     listed = ' and '.join(filter(None, [', '.join(lines[:-1]), *lines[-1:]]))
-    return '; '.join([*['compiled by gcc, it does something else'] * any(not it.line for it in mistakes),
+    compiled = [CRASHED if it.text.startswith(CRASHED) else DIFFERS + ' (%s)' % mark * bool(mark)
+                for it in mistakes if not it.line]
+    return '; '.join([*compiled,
                       *['gcc refuses line %d, because an #include is missing' % it for it in lacking],
                       *['on a node, line%s %s may do something else' % ('s' * (len(lines) > 1), listed)] * bool(lines)])

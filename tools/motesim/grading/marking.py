@@ -17,7 +17,7 @@ from motesim.explain.whole import line_at
 from motesim.explain.within import busiest
 from motesim.faults import Fault, tried
 from motesim.files import replace_whole
-from motesim.grading.callbacks import OF_CALLBACK, readings
+from motesim.grading.callbacks import OF_CALLBACK, compiled_readings, readings
 from motesim.grading.compiled import SAME, Compiled, Difference, InC
 from motesim.grading.entries import Entry, data_of, without_program
 from motesim.grading.in_c import NotTranslated, in_words_of_c, made_of, remarks_of
@@ -116,6 +116,7 @@ class Marks:
              if a sentence is broken, about losses, ranges and seeds
     unused   its programs that no mote of the nets runs, in words
     of_c     for a program in C, the remarks about differences between it and its translation
+    by_gcc   for a program in C that does something else than its translation: which sentences hold for it, compiled
     """
     name: str
     marks: tuple[Mark, ...] = ()
@@ -132,6 +133,7 @@ class Marks:
     warned: tuple[str, ...] = ()
     unused: str = ''
     of_c: tuple[Remark, ...] = ()
+    by_gcc: tuple[bool, ...] = ()
 
     @property
     def has_mark(self) -> bool:
@@ -154,8 +156,15 @@ class Marks:
     @property
     def held(self) -> int:
         """The mark: how many sentences hold, or 0 if a required one doesn't."""
-        has_all = all(it.holds for it in self.marks if it.is_required)
-        return sum(it.holds for it in self.marks) if has_all else 0
+        return self.count_of([it.holds for it in self.marks])
+
+    @property
+    def held_by_gcc(self) -> int | None:
+        """The mark that the compiled program would have, if it does something else and can be judged."""
+        return self.count_of(self.by_gcc) if self.by_gcc else None
+
+    def count_of(self, holds: Sequence[bool]) -> int:
+        return sum(holds) if all(holds[at] for at, it in enumerate(self.marks) if it.is_required) else 0
 
     @property
     def fault(self) -> str:
@@ -184,6 +193,7 @@ class InNet(NamedTuple):
     halts: str = ''
     warned: tuple[str, ...] = ()
     moments: tuple[str, ...] = ()
+    by_gcc: tuple[bool, ...] = ()
 
 
 @dataclass(frozen=True)
@@ -251,7 +261,7 @@ class Task:
         marks = replace(self.together(entry.name, found), unused=unused)
         if entry.path.suffix == '.c':
             marks = replace(marks, warned=tuple(in_translation(it, its[1]) for it in marks.warned),
-                            of_c=(*difference_in(found), *remarks_in(found, in_c)))
+                            of_c=(*difference_in(found), *remarks_in(found, in_c)), by_gcc=by_gcc_in(found))
         if any(its.is_refused for its in found):
             # (a file whose programs are expected to be refused keeps its marks)
             if any(its.why for its in found) and self.has_c(data, entry.path.name):
@@ -326,8 +336,11 @@ class Task:
         run = Run('', report, scenario, file) if len(got.report) <= MOST_SHOWN else None
         differs = self.difference(InC(in_c, made_of(in_c), text), program, got.report) if in_c else None
         programs = {program: scenario.programs[program]} if program else scenario.programs
+        compiled = differs.report if differs else b''
+        by_gcc = compiled_holds(compiled, scenario, program, sentences) if compiled else None
         return InNet(marks, lacks, '', run, [None if lack else next(places) for lack in lacks], bytes=len(got.report),
-                     differs=differs, halts=halt_of(report), moments=seen_of(scenario, report, program),
+                     differs=differs, by_gcc=spread_over(by_gcc, lacks), halts=halt_of(report),
+                     moments=seen_of(scenario, report, program),
                      warned=warned_of(programs, ZERO_GIVEN.search(text) is not None))
 
     def difference(self, it: InC, program: str, report: bytes) -> Difference | None:
@@ -410,6 +423,43 @@ def remarks_in(found: Sequence[InNet], source: str) -> list[Remark]:
     has more bits in C: so a remark about such values names no mistake."""
     is_same = all(it.differs == SAME for it in found)
     return [it._replace(is_mistake=False) if is_same and it.text == OF_LONG else it for it in remarks_of(source)]
+
+
+def by_gcc_in(found: Sequence[InNet]) -> tuple[bool, ...]:
+    """Which sentences hold in all nets for the compiled program; nothing if it does the same as its translation, or
+    can't be judged."""
+    differ = [it for it in found if it.differs and it.differs != SAME and not it.differs.may_differ]
+    if not differ or not all(it.by_gcc for it in differ):
+        return ()
+    return tuple(map(all, zip(*(it.by_gcc if it in differ else [mark.holds for mark in it.marks] for it in found))))
+
+
+def spread_over(holds: Sequence[bool] | None, lacks: Sequence[str]) -> tuple[bool, ...]:
+    """Which sentences hold, if those about something that the scenario lacks don't."""
+    known = iter(holds or ())
+    return tuple(not lack and next(known) for lack in lacks) if holds is not None else ()
+
+
+def compiled_holds(report: bytes, scenario: Scenario, program: str, sentences: Sequence[Sentence]
+                   ) -> list[bool] | None:
+    """Which sentences hold for a compiled program; None if it has other names. What its callback prints counts for the
+    process that a sentence names."""
+    def found() -> list[bool] | None:
+        judges = {name: Judge(Report.parse(text), scenario)
+                  for name, text in compiled_readings(report.decode(), scenario.programs[program]).items()}
+        return [any(judge.broken(it) is None for name, judge in judges.items() if name in names_in(it, judges))
+                for it in sentences] if judges else None
+
+    try:
+        return tried(found, lambda words: None)
+    except Fault:
+        return None
+
+
+def names_in(sentence: Sentence, names: Iterable[str]) -> list[str]:
+    """The processes that a sentence names; the first one if it names none."""
+    known = [*names]
+    return [it for it in known if repr(it) in repr(sentence)] or known[:1]
 
 
 def of_callbacks(report: bytes, scenario: Scenario, program: str, sentences: Sequence[Sentence],

@@ -55,10 +55,16 @@ def table(marked: Sequence[Marks], sentences: Sequence[str]) -> list[str]:
         count = count_of(it, len(sentences))
         halts = it.halts and it.halts + ONLY_HERE * it.name.endswith('.c')
         parts = (broken and 'broken: %s' % broken, *printers(it), it.fault, halts, broken and it.unused,
-                 on_node(it.of_c))
+                 of_node(it))
         words = it.why or '; '.join(one for one in parts if one)
         rows.append(('%s  %s  %s' % (it.short_name.ljust(width), count, words)).rstrip())
     return rows
+
+
+def of_node(marks: Marks) -> str:
+    """The words about a program in C that may do something else on a node."""
+    by_gcc = marks.held_by_gcc
+    return on_node(marks.of_c, '' if by_gcc is None else '%d of %d' % (by_gcc, len(marks.marks)))
 
 
 def printers(marks: Marks) -> list[str]:
@@ -102,7 +108,7 @@ def without_separators(text: str) -> str:
 
 def fault_of(marks: Marks) -> str:
     """The reason why a solution has no mark, or the lines in C that may do something else on a node."""
-    return '; '.join(filter(None, (marks.fault, on_node(marks.of_c))))
+    return '; '.join(filter(None, (marks.fault, of_node(marks))))
 
 
 def csv_of(marked: Sequence[Marks], sentences: Sequence[str], is_for_excel: bool = False) -> str:
