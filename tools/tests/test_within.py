@@ -106,6 +106,15 @@ class Endless(unittest.TestCase):
             r'^ Up to moment \d+, the motes send [\d,]+ packets, [\d,]+ of them mote \d: does each packet that'))
         self.assertEqual(busiest(data.replace('while 1', 'if 1').encode()), '')
 
+    def test_a_storm_may_begin_late_and_a_mote_may_print_more_often_than_it_sends(self) -> None:
+        storm = ('process p;\nautostart p;\nreceiver p;\ncode p { etimer t; body { set t 1030; '
+                 'while 1 { yield; print 1; print 2; send 1; } } }\n')
+        motes = ''.join('[[mote]]\nx = %d\ny = 0\nprogram = "p"\n' % x for x in range(1, 10))
+        data = (NET % storm + motes).replace('per = 100', 'per = 40').replace('1000000', '100000')
+        self.assertRegex(busiest(data.encode()), (
+            r'^ Up to moment 1\d{3}, the motes send [\d,]+ packets, [\d,]+ of them mote \d: does each packet that'))
+        self.assertEqual(busiest(data.replace('while 1', 'if 1').encode()), '')
+
     def test_the_message_names_the_process_that_pauses(self) -> None:
         text = (NET % PAUSES).replace('1000000', '20000')
         with self.assertRaises(ProgramFault) as caught:

@@ -71,28 +71,47 @@ def busiest(data: bytes, file_lines: bool = True) -> str:
     file_lines  whether the sentence has lines of the scenario; otherwise it has lines of the program's text, or none if
                 this text is translated
     """
-    written, found = END.search(data), None
+    written = END.search(data)
     if written is None:
         return ''
-    for end in ENDS:
-        try:
-            got = Runner(limits=TRIED).answer(END.sub(rb'\g<1>%d' % end, data, 1))
-        except LimitMet:
+    low, high, found = 0, 0, None
+    for high in ENDS:
+        got = report_until(data, high) if high < int(written[2]) else None
+        if got is None:
             break
-        if got.status or end >= int(written[2]):
-            break
-        found = end, Report.parse(got.report)
-    if found is None:
-        return ''
-    its, count = most_of(found[1])
-    if count < MANY * (found[0] + 1):
-        packets = sum(1 for _ in found[1].lines('send'))
-        is_storm = its.kind == 'send' and packets >= MANY * (found[0] + 1)
-        return IS_STORM.format(found[0], packets, count, its.mote) if is_storm else ''
+        low, found = high, got
+    does = done_in(data, found, low, low + 1, file_lines) if found else ''
+    if does or found is None or high >= int(written[2]):
+        return does
+    # (it does nothing so often up to there: maybe it begins later)
+    while high - low > 1:
+        got = report_until(data, (low + high) // 2)
+        low, high, found = (low, (low + high) // 2, found) if got is None else ((low + high) // 2, high, got)
+    moments = {it.at for it in found.lines('print', 'send', 'post')}
+    return done_in(data, found, low, len(moments), file_lines)
+
+
+def report_until(data: bytes, end: int) -> Report | None:
+    """The report of a run that ends earlier; None if it is refused or reaches a limit."""
+    try:
+        got = Runner(limits=TRIED).answer(END.sub(rb'\g<1>%d' % end, data, 1))
+    except LimitMet:
+        return None
+    return None if got.status else Report.parse(got.report)
+
+
+def done_in(data: bytes, report: Report, end: int, moments: int, file_lines: bool) -> str:
+    """A sentence about what a run does most up to its end; an empty text if it doesn't do so often in each of some
+    moments."""
+    its, count = most_of(report)
+    if count < MANY * moments:
+        packets = Counter(it.mote for it in report.lines('send'))
+        is_storm = packets.total() >= MANY * moments
+        return IS_STORM.format(end, packets.total(), *packets.most_common(1)[0][::-1]) if is_storm else ''
     if its.kind not in ('print', 'pause'):
-        return ' Up to moment %d, %s%s' % (found[0], DOES[its.kind].format(its, count), IS_ENDLESS)
+        return ' Up to moment %d, %s%s' % (end, DOES[its.kind].format(its, count), IS_ENDLESS)
     where, only_pauses = lines_of(data, its, file_lines)
-    return ' Up to moment %d, %s%s%s' % (found[0], DOES[its.kind].format(its, count), where, (
+    return ' Up to moment %d, %s%s%s' % (end, DOES[its.kind].format(its, count), where, (
         PAUSES if its.kind == 'pause' else ONLY_PAUSES if only_pauses else IS_ENDLESS))
 
 
