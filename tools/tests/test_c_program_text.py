@@ -995,6 +995,20 @@ static struct item *unused(void) {
         found = self.remarks('PROCESS_PT_SPAWN(&pt, sub(&pt, 3));', thread % 'printf("%d", k);')
         self.assertNotIn('isn\'t static', found)
 
+    def test_a_parameter_of_a_protothread_may_be_the_address_of_a_static_variable(self) -> None:
+        above = ('static struct pt pt; static struct etimer et; static uint8_t ok, a[3];\n'
+                 'static PT_THREAD(sub(struct pt *pt, struct etimer *t, uint8_t *result)) { PT_BEGIN(pt); '
+                 'etimer_set(t, 5); PT_WAIT_UNTIL(pt, etimer_expired(t)); *result = 7; PT_END(pt); }')
+        spawn = 'PROCESS_PT_SPAWN(&pt, sub(&pt, &et, %s)); '
+        for results, printed in (['&ok'], 'ok'), (['&ok', '&ok'], 'ok'), (['&a[2]'], 'a[2]'), (['a'], 'a[0]'):
+            text, notes = translation(in_process('  %sprintf("%%d", %s);' % (
+                ''.join(spawn % it for it in results), printed), above))
+            self.assertIn('print %s;' % printed.replace('[0]', '').replace('[2]', '2'), text or '', notes)
+        for results in ['&ok', 'a'], ['NULL'], ['&a[1]', '&a[2]'], ['&a[ok]']:
+            text, notes = translation(in_process('  ok = 1; %s' % ''.join(spawn % it for it in results), above))
+            self.assertIsNone(text)
+            self.assertIn('is here that of a static variable, the same one at each `PT_SPAWN`', notes)
+
     def test_a_post_before_the_allocation_of_its_event_has_a_remark(self) -> None:
         source = '''PROCESS(app, "app"); PROCESS(mac, "mac");
 AUTOSTART_PROCESSES(&app, &mac);

@@ -18,7 +18,7 @@ from motesim.c_program.refusal import Refusal
 from motesim.c_program.tree import Expression, Function, Statement, Variable
 from motesim.c_program.types import INT, Type, leaves_of
 from motesim.c_program.values import Value, converted, negated, number
-from motesim.c_program.walk import all_parts, has_jump
+from motesim.c_program.walk import all_parts, base_of, has_jump, parts_of
 from motesim.c_program.written import Block, Comment, Flag, If, Line, While
 
 OF_MOTE_0 = ('The motes are numbered from 0, so this is the address of mote 0 here. For the address that no mote has, '
@@ -46,6 +46,8 @@ OF_INIT = 'The count of a semaphore is set once, at the beginning of a process, 
 OF_END = 'In C, `%s` also runs after the end of the process: here, the process waits for packets.'
 RETURNS = 'A `return` in a process ends it: use `PROCESS_EXIT();`.'
 NO_PARAMETER = 'A parameter of a protothread is a constant here: use a variable of its process instead.'
+NO_TARGET = ('A parameter of a protothread that is an address is here that of a static variable, the same one at each '
+             '`PT_SPAWN`: let the protothread use a variable of its process instead.')
 
 
 class Functions(Control):
@@ -608,11 +610,21 @@ class Functions(Control):
                 self.is_data(part)
             if variable.type.kind == 'data' and is_same:
                 self.aliases[variable] = Pointer('data')
-            if not is_same and not (variable.type.of and variable.type.of.kind == 'pt'):
-                self.give_constant(variable, part, it.line)
+            if is_same or variable.type.of and variable.type.of.kind == 'pt':
+                continue
+            give = self.give_address if variable.type.kind == 'pointer' else self.give_constant
+            give(variable, part, it.line)
         self.emit('spawn %s;' % self.thread(function))
         self.note_effects(self.effects[function.name])
         self.forget_others()
+
+    def give_address(self, variable: Variable, part: Expression, line: int) -> None:
+        """The parameter of a protothread that is the address of a static variable: a name for this variable."""
+        base, found = base_of(part), self.pointer(part)
+        is_fixed = all(constant_of(it.parts[1]) is not None for it in parts_of(part) if it.kind == 'index')
+        if found.kind not in ('place', 'timer') or base is None or not base.is_static or not is_fixed \
+                or self.aliases.setdefault(variable, found) != found:
+            raise self.refuse(line, NO_TARGET)
 
     def give_constant(self, variable: Variable, part: Expression, line: int) -> None:
         """The parameter of a protothread, which gets its value in each call in C: a constant."""
