@@ -6,7 +6,7 @@ from motesim.c_program.absent import NO_NAME
 from motesim.c_program.others import with_others
 from motesim.c_program.parse_file import read_file
 from motesim.c_program.program import translated
-from motesim.c_program.refusal import Refusal
+from motesim.c_program.refusal import Mistake, Refusal
 from student_programs import PROGRAMS
 from translated_c import in_process, translation
 
@@ -149,6 +149,9 @@ class Absent(unittest.TestCase):
         above = 'static int n; static linkaddr_t a;'
         equal = 'In a test, `=` assigns a value: write `==` for a comparison.'
         self.assertRefused(in_process('  if(linkaddr_node_addr.u8[0] = 0) { n = 1; }', above), 9, equal)
+        with self.assertRaisesRegex(Mistake, equal + ' So this test is always false.'):
+            translated(in_process('  if(node_id = 0) { n = 1; }', above))
+        self.assertRefused(in_process('  node_id = 3;', above), 9, '`node_id` is the number of the mote')
         for test, wanted in (('n = 3', equal + ' So this test is always true.'),
                              ('n = 0', equal + ' So this test is always false.'), ('n = a.u8[0]', ''), ('n == 3', '')):
             text, notes = translation(in_process('  if(%s) { n = 1; }' % test, above))

@@ -668,7 +668,12 @@ PROCESS_THREAD(b, ev, data) { PROCESS_BEGIN(); printf("%d", next()); PROCESS_END
     def test_ctimers_that_set_each_other_are_refused(self) -> None:
         above = ('static struct ctimer one, two;\nstatic void b(void *p) { ctimer_stop(&one); }\n'
                  'static void a(void *p) { ctimer_set(&two, 3, b, NULL); }')
-        self.assertIn('set each other', translation(in_process('  ctimer_set(&one, 5, a, NULL);', above))[1])
+        text, notes = translation(in_process('  ctimer_set(&one, 5, a, NULL);', above))
+        self.assertIsNone(text)
+        self.assertTrue(notes.startswith('line 6: The functions of ctimers set or stop the timers of '), notes)
+        self.assertIn('use one `struct ctimer` for all these functions', notes)
+        above = above.replace('one, two', 'one').replace('two', 'one')
+        self.assertIsNotNone(translation(in_process('  ctimer_set(&one, 5, a, NULL);', above))[0])
 
     def test_a_function_that_calls_itself_is_refused(self) -> None:
         for above in ('static int f(int n) { return n ? f(n - 1) : 0; }',

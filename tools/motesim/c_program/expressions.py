@@ -10,7 +10,7 @@ from motesim.c_program.base import OF_LONG, joined_limits
 from motesim.c_program.constants import EVENT_NUMBERS, NUMBERS, OPERATIONS, SECOND, constant_of
 from motesim.c_program.events import Events
 from motesim.c_program.places import ADDRESSES, NO_MOTE, OF_ADDRESS, OF_CHANGE, SELF, TEXTS, Place, has_effects
-from motesim.c_program.refusal import Refusal
+from motesim.c_program.refusal import Mistake, Refusal
 from motesim.c_program.tree import Expression
 from motesim.c_program.types import INT, UNSIGNED, Type, size_of
 from motesim.c_program.values import (
@@ -73,7 +73,10 @@ class Expressions(Events):
         """An assignment as a test: often, it is meant as a comparison."""
         value = constant_of(it.parts[1])
         if value is not None:
-            self.remark(it.line, OF_EQUAL + ' So this test is always %s.' % ('true' if value else 'false'))
+            text = OF_EQUAL + ' So this test is always %s.' % ('true' if value else 'false')
+            if is_own_number(it.parts[0]):
+                raise Mistake(it.line, text)
+            self.remark(it.line, text)
         try:
             return self.evaluate(it)
         except Refusal as fault:

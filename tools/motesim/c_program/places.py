@@ -20,6 +20,7 @@ OF_PAST = ('`%s` points to a packet, its sender or the data of an event. Here, t
            'wait, and only in the function that sets the pointer: keep the value in a variable instead.')
 # The kinds of such pointers.
 OF_EVENTS = ('data', 'packet', 'sender')
+OF_OWN_NUMBER = '`node_id` is the number of the mote, which is always the same here: declare a variable of your own.'
 NO_PLACE = 'A value can\'t be assigned to this.'
 NO_INDEX = 'The array `%s` has the members 0 to %d: there is no member %d.'
 NEXT_INDEX = ('The array `%s` has the members 0 to %d, but `%s` may be %d here: then, C reads or writes something '
@@ -126,6 +127,8 @@ class Places(Base):
             return base._replace(type=field, paths=tuple((*path, it.text) for path in base.paths))
         if it.kind == 'unary' and it.text == '*':
             return self.pointed(it.parts[0])
+        if it.kind == 'name' and it.text == 'node_id':
+            raise self.refuse(it.line, OF_OWN_NUMBER)
         if it.kind == 'name':
             raise self.absent_variable(it.text, it.line)
         raise self.refuse(it.line, NO_PLACE)

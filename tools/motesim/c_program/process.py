@@ -23,8 +23,9 @@ BEFORE_BEGIN = ('In C, this statement runs in each call of the process, because 
                 'declarations and handlers are translated there.')
 EACH_CALL = ('In C, `%s` gets this value in each call of the process, because it is above `PROCESS_BEGIN();`. Only a '
              'value that never changes is translated there: assign the value at the place that needs it.')
-IN_CIRCLE = ('The functions of ctimers set each other. Here, a ctimer may set only those above it: let the process '
-             'set them.')
+IN_CIRCLE = ('The functions of ctimers set or stop the timers of each other, but here, a ctimer may use only those '
+             'above it. If these timers never run at the same time, use one `struct ctimer` for all these functions. '
+             'Otherwise, let the process set them.')
 LATE_RECEIVER = ('In Contiki, `%s` runs for all packets after the connection was opened. Here, it runs in `%s`, whose '
                  'variables it uses, and packets that arrive before `%s` starts are dropped.')
 OF_CONTEXT = ('The function of a ctimer gets no event: set the ctimer outside of `PROCESS_CONTEXT_BEGIN` and '
@@ -293,7 +294,9 @@ class ProcessWriter(Functions):
         while len(found) < len(uses):
             following = next((name for name in uses if name not in found and uses[name] <= {*found}), None)
             if following is None:
-                raise self.refuse(self.file.bodies[self.process].line, IN_CIRCLE)
+                sets = [it.line for one in self.use.functions.values() for it in all_parts(one.body)
+                        if it.kind == 'call' and it.text == 'ctimer_set']
+                raise self.refuse(min(sets, default=self.file.bodies[self.process].line), IN_CIRCLE)
             found.append(following)
         return found
 
