@@ -11,7 +11,7 @@ from motesim.c_program.expressions import COMPARES
 from motesim.c_program.parse_expressions import OF_FUNCTION_POINTER
 from motesim.c_program.places import OF_DATA, TEXTS, Place, Pointer, has_effects
 from motesim.c_program.tree import Expression, Function, Variable
-from motesim.c_program.types import BYTE, INT, UNSIGNED, leaves_of
+from motesim.c_program.types import BYTE, INT, UNSIGNED, fields_of, leaves_of
 from motesim.c_program.usage import members_of
 from motesim.c_program.values import MOST, NOTHING, Limits, Value, added, as_type, compared, number
 from motesim.c_program.walk import all_parts, base_of, parts_of, shown, without_casts
@@ -65,7 +65,7 @@ FROM_CALLBACK = ('In Contiki, the function that is called for packets runs in a 
                  '`process_post`.')
 OF_SYNCH = '`process_post_synch` can\'t reach all processes here.'
 OF_STRUCT_TIMER = ('A `struct timer` and a `struct stimer` post no event when they expire, so `%s` has two variables '
-                   'here, and a wait for it ends only if another event arrives.')
+                   'for each here, and a wait for it ends only if another event arrives.')
 TOO_LONG = ('A timer is set to at most 65,535 moments, and a second has %d: wait for it several times. '
             '(`tools/explain --apply` can also translate with fewer moments: `--clock-second 10`.)')
 OF_NOW = ('Here, a time has 16 bits, so `%s()` begins again at 0 after each 65,536 moments, which are %d seconds.')
@@ -513,37 +513,36 @@ class Calls(Chance):
 
     # Timers without an event.
 
-    def parts_of_timer(self, it: Expression, kind: str) -> tuple[str, str, Value]:
-        """The variables of a timer without an event: its start and its interval; and the time now."""
+    def parts_of_timer(self, it: Expression, kind: str) -> tuple[Place, Place, Value]:
+        """The parts of a timer without an event: its start and its interval; and the time now."""
         pointer = self.pointer(it)
         place = pointer.place
-        if pointer.kind != 'timer' or place is None or place.type.kind != kind or place.variable is None \
-                or place.chosen is not None:
+        if pointer.kind != 'timer' or place is None or place.type.kind != kind or place.variable is None:
             raise self.refuse(it.line, 'The address of a `struct %s` is expected here.' % kind)
         self.remark(it.line, OF_STRUCT_TIMER % place.variable.name)
-        names = [self.declare(self.named(place.variable, (*place.paths[0], part))) for part in ('start', 'interval')]
+        start, length = (place._replace(type=its, paths=tuple((*path, part) for path in place.paths))
+                         for part, its in fields_of(place.type))
         now = Value('now', UNSIGNED, 0, MOST)
         if kind == 'stimer':
             now = Value('(now / %d)' % self.program.second, UNSIGNED, 0, MOST // self.program.second)
-        return names[0], names[1], now
+        return start, length, now
 
-    def in_variable(self, name: str) -> Value:
-        return Value(name, UNSIGNED, 0, MOST, frozenset([name]))
+    def end_of_timer(self, start: Place, length: Place, line: int) -> Value:
+        return added(self.read(start, line), self.read(length, line), '+')
 
     def set_timer(self, it: Expression, kind: str) -> None:
         timer, interval = self.arguments(it, 2)
         start, length, now = self.parts_of_timer(timer, kind)
         value = self.operand(interval)
-        self.assign(start, now, UNSIGNED)
-        self.assign(length, value, UNSIGNED)
+        self.write(start, now, it.line)
+        self.write(length, value, it.line)
 
     def expired_timer(self, it: Expression, kind: str) -> Value:
         start, length, now = self.parts_of_timer(self.arguments(it, 1)[0], kind)
         if kind == 'stimer':
             # (as in Contiki's stimer.c: less than half of all numbers ago)
-            end = added(self.in_variable(start), self.in_variable(length), '+')
-            return compared('<', added(now, end, '-'), number(32_768, UNSIGNED))
-        return compared('>=', added(now, self.in_variable(start), '-'), self.in_variable(length))
+            return compared('<', added(now, self.end_of_timer(start, length, it.line), '-'), number(32_768, UNSIGNED))
+        return compared('>=', added(now, self.read(start, it.line), '-'), self.read(length, it.line))
 
     def call_timer_set(self, it: Expression) -> None:
         self.set_timer(it, 'timer')
@@ -559,8 +558,7 @@ class Calls(Chance):
 
     def again(self, it: Expression, kind: str, is_reset: bool) -> None:
         start, length, now = self.parts_of_timer(self.arguments(it, 1)[0], kind)
-        its = added(self.in_variable(start), self.in_variable(length), '+') if is_reset else now
-        self.assign(start, its, UNSIGNED)
+        self.write(start, self.end_of_timer(start, length, it.line) if is_reset else now, it.line)
 
     def call_timer_reset(self, it: Expression) -> None:
         self.again(it, 'timer', True)
@@ -576,7 +574,7 @@ class Calls(Chance):
 
     def remaining(self, it: Expression, kind: str) -> Value:
         start, length, now = self.parts_of_timer(self.arguments(it, 1)[0], kind)
-        return added(added(self.in_variable(start), self.in_variable(length), '+'), now, '-')
+        return added(self.end_of_timer(start, length, it.line), now, '-')
 
     def value_timer_remaining(self, it: Expression) -> Value:
         return self.remaining(it, 'timer')
@@ -586,7 +584,7 @@ class Calls(Chance):
 
     def value_stimer_elapsed(self, it: Expression) -> Value:
         start, _, now = self.parts_of_timer(self.arguments(it, 1)[0], 'stimer')
-        return added(now, self.in_variable(start), '-')
+        return added(now, self.read(start, it.line), '-')
 
     def value_clock_time(self, it: Expression) -> Value:
         self.note_wrap(it)

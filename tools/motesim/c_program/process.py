@@ -56,10 +56,7 @@ class ProcessWriter(Functions):
             if its.kind in (*GLOBAL, 'pointer', 'function') or its.of and its.of.name == 'char':
                 continue
             for path, leaf in leaves_of(its):
-                if leaf.kind in ('timer', 'stimer'):
-                    for part in ('start', 'interval'):
-                        self.named(variable, (*path, part))
-                elif leaf.kind != 'pointer':
+                if leaf.kind != 'pointer':
                     if leaf.kind == 'int' and leaf.bits > 16:
                         self.remark(variable.line, OF_LONG)
                     name = self.named(variable, path)

@@ -56,6 +56,11 @@ SIZES = 'The packets of this program have several sizes, and none of them is kno
 OF_ITSELF = ('`&%s` is the address of the pointer `%s` itself: write `%s`, without `&`, for the address of what it '
              'points to.')
 
+CLEARS = ('`memset` doesn\'t change a timer here. In Contiki, it destroys the list of timers if the timer is running: '
+          'use it only before the timer is set for the first time.')
+# The timers of the kernel, which have no values here.
+TIMERS = ('etimer', 'ctimer', 'rtimer')
+
 
 def check_target(it: Expression) -> None:
     """Refuses the address of a pointer, whose own bytes no program means to copy."""
@@ -323,6 +328,10 @@ class Radio(Calls):
         if place is None or byte is None:
             raise self.refuse(it.line, '`memset` sets a variable to a constant here.')
         for one in self.span(place, size, it.line):
+            if one.type.kind in TIMERS and not byte:
+                # (a timer that isn't set is one of zeros)
+                self.remark(it.line, CLEARS)
+                continue
             # (an address whose bytes are 0 is the one that no mote has)
             whole = byte % 256 * (257 if size_of(one.type) == 2 else 1)
             self.write(one, number(NO_MOTE if one.type.kind == 'address' and not whole else whole), it.line)

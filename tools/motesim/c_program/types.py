@@ -71,6 +71,9 @@ STRUCTURES = {
     **{it + '_callbacks': Type('callbacks', name=it) for it in CONNECTIONS},
 }
 
+# The kinds of types that have fields here. (A timer without an event is a moment and an interval.)
+WITH_FIELDS = ('struct', 'timer', 'stimer')
+
 
 def pointer_to(its: Type) -> Type:
     return Type('pointer', of=its)
@@ -94,10 +97,15 @@ def size_of(its: Type) -> int:
     return size + (size % 2 if any(size_of(it) > 1 for _, it in its.fields) else 0)
 
 
+def fields_of(its: Type) -> tuple[tuple[str, Type], ...]:
+    """The fields of a structure. A timer without an event has two: the moment at which it was set, and its interval."""
+    return its.fields if its.kind == 'struct' else (('start', UNSIGNED), ('interval', UNSIGNED))
+
+
 def members_of(its: Type) -> int:
     """The number of the parts of a type that are no arrays and no structures."""
-    if its.kind == 'struct':
-        return sum(members_of(field) for _, field in its.fields)
+    if its.kind in WITH_FIELDS:
+        return sum(members_of(field) for _, field in fields_of(its))
     return its.size * members_of(its.of) if its.kind == 'array' and its.of else 1
 
 
@@ -110,8 +118,8 @@ def has_empty(its: Type) -> bool:
 
 def leaves_of(its: Type, path: tuple[str | int, ...] = ()) -> list[tuple[tuple[str | int, ...], Type]]:
     """The parts of a type that are no arrays and no structures, with their paths."""
-    if its.kind == 'struct':
-        return [leaf for name, field in its.fields for leaf in leaves_of(field, (*path, name))]
+    if its.kind in WITH_FIELDS:
+        return [leaf for name, field in fields_of(its) for leaf in leaves_of(field, (*path, name))]
     if its.kind == 'array' and its.of:
         return [leaf for at in range(its.size) for leaf in leaves_of(its.of, (*path, at))]
     return [(path, its)]
