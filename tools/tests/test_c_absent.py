@@ -159,6 +159,16 @@ class Absent(unittest.TestCase):
             self.assertEqual(equal in notes, bool(wanted))
             self.assertIn(wanted, notes)
 
+    def test_bytes_of_addresses_are_assigned_in_a_row(self) -> None:
+        above = 'static linkaddr_t a, b; static uint8_t n;'
+        for body, wanted in (('a.u8[0] = a.u8[1] = 0;', ['a = 0;']), ('a.u8[1] = a.u8[0] = 0;', ['a = 0;']),
+                             ('a.u8[0] = b.u8[0] = 3;', ['b = 3;', 'a = 3;']),
+                             ('a.u8[0] = b.u8[0] = n;', ['b = n;', 'a = (b * (b != 255));'])):
+            text, notes = translation(in_process('  n++; %s n = a.u8[0] + b.u8[0];' % body, above))
+            lines = [it.strip() for it in (text or notes).split('\n')]
+            self.assertEqual([it for it in lines if it[:4] in ('a = ', 'b = ')], wanted)
+        self.assertRefused(in_process('  n++; a.u8[0] = a.u8[1] = n;', above), 9, 'Only the first byte of an address')
+
     def test_a_number_as_a_text_of_a_printf_is_named(self) -> None:
         above = 'static uint8_t n, a[2]; static const char *names[] = {"a", "b"};\n#define NAME "c"'
         for value, is_number in (('n', True), ('a[1]', True), ('n + 1', True), ('3', True), ('names[n]', False),

@@ -500,7 +500,15 @@ class Expressions(Events):
 
     def _assign(self, it: Expression) -> Value:
         self.assigned(it)
+        value = it.parts[1]
+        while value.kind == 'assign':
+            value = value.parts[1]
+        is_byte = self.is_byte_of_address(it.parts[0])
+        if is_byte and constant_of(value) is not None:
+            return self.evaluate(value)
         place = self.place(it.parts[0])
+        if is_byte:
+            return self.evaluate(it.parts[0])
         if place.type.kind in ('struct', 'pointer', 'event', 'address'):
             return number(0)
         return self.read(place, it.line)

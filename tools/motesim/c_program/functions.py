@@ -190,11 +190,9 @@ class Functions(Control):
     def byte_assigned(self, it: Expression) -> bool:
         """`a.u8[0] = 3;` for an address: the address is this number, and its other bytes are left out."""
         target = it.parts[0]
-        if it.text != '=' or target.kind != 'index' or target.parts[0].kind not in ('member', 'arrow'):
+        if it.text != '=' or not self.is_byte_of_address(target):
             return False
         owner = owner_of(target.parts[0])
-        if self.type_of(owner).kind != 'address':
-            return False
         value, index = self.evaluate(it.parts[1]), self.evaluate(target.parts[1])
         if index.constant == 0:
             self.remark(it.line, OF_MOTE_0 if value.constant == 0 else OF_ADDRESS)

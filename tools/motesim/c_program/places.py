@@ -163,6 +163,11 @@ class Places(Base):
         whole = index if base.chosen is None else added(multiplied(base.chosen, number(size)), index, '+')
         return base._replace(type=of, paths=paths, chosen=whole)
 
+    def is_byte_of_address(self, it: Expression) -> bool:
+        """Returns whether an expression is a byte of an address, such as `a.u8[0]`."""
+        return it.kind == 'index' and it.parts[0].kind in ('member', 'arrow') and \
+            self.type_of(owner_of(it.parts[0])).kind == 'address'
+
     def address_of_byte(self, it: Expression) -> Place:
         """The address whose first byte is changed: `a.u8[0]++;`."""
         if self.evaluate(it.parts[1]).constant != 0:
