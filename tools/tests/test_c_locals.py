@@ -71,6 +71,16 @@ class Locals(unittest.TestCase):
                              ('  int local = 3;', 'process_post(&p, PROCESS_EVENT_MSG, &local); PROCESS_YIELD();')):
             self.check(in_process('  ' + body, '', inside), '`local` isn\'t static, so its memory has other values')
 
+    def test_the_data_of_an_event_is_no_part_of_a_variable_that_is_left(self) -> None:
+        for inside, data, is_refused in (
+                ('struct { uint8_t a, b; } m; m.a = 1; m.b = 2;', '&m.b', True),
+                ('uint8_t m[2] = { 1, 2 };', '&m[1]', True),
+                ('static struct { uint8_t a, b; } m; m.b = 2;', '&m.b', False),
+                ('static uint8_t m[2];', '&m[1]', False)):
+            above = 'static void post(void) { %s process_post(&p, 6, %s); }' % (inside, data)
+            wanted = '`m` isn\'t static, so its memory has other values' * is_refused
+            self.check(in_process('  post();', above), wanted, is_refused)
+
     def test_the_data_of_an_event_changes_only_after_its_process_has_got_it(self) -> None:
         above = ('static int n, m; static uint8_t k[2]; static void next(void) { n++; process_post(&p, 6, &n); }\n'
                  'static void post(void) { process_post(&p, 6, &n); }')

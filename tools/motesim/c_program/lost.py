@@ -309,7 +309,9 @@ class Locals:
             self.state = self.state._replace(posted=self.state.posted | posted)
 
     def check_data(self, it: Expression) -> None:
-        """Checks a variable whose address is the data of an event."""
+        """Checks a variable whose address, or that of a part of it, is the data of an event."""
+        while it.kind in ('index', 'member') and not is_pointer(it.parts[0]):
+            it = it.parts[0]
         if it.variable and self.is_followed(it.variable):
             raise Mistake(it.line, LOST_DATA % (it.variable.name, it.variable.line))
 
