@@ -177,14 +177,19 @@ class Absent(unittest.TestCase):
             self.assertIsNotNone(text)
             self.assertEqual('A `%s` of a `printf` needs a text' in notes, is_number, (value, notes))
 
-    def test_an_event_that_no_process_allocates_is_refused(self) -> None:
-        above = 'static process_event_t one, other; static const process_event_t fixed = 9;'
-        body = '  one = process_alloc_event();\n  process_post(&p, %s, NULL);'
-        for event in 'one', 'fixed':
-            self.assertIsNotNone(translation(in_process(body % event, above))[0])
-        self.assertRefused(in_process(body % 'other', above), 10, 'write `other = process_alloc_event();`')
-        source = in_process('  PROCESS_YIELD();\n  if(ev == other) n = 1;', above + ' int n;')
-        self.assertRefused(source, 10, '`other` never gets a number')
+    def test_only_one_event_has_no_number(self) -> None:
+        above = 'static process_event_t one, other, third; static const process_event_t fixed = 9;'
+        body = '  one = process_alloc_event();\n  process_post(&p, %s, NULL); PROCESS_YIELD(); if(ev == %s) n = 1;'
+        for events, works in ((('one', 'fixed'), ''), (('other', 'other'), '`other` never gets a number'),
+                              (('other', 'one'), 'no other event of the program has this number')):
+            text, notes = translation(in_process(body % events, above, '  static int n;'))
+            self.assertIsNotNone(text, notes)
+            self.assertEqual('`other` never gets a number' in notes, bool(works), notes)
+            self.assertIn(works, notes)
+        for event in 'third', '0':
+            source = in_process(body % ('other', event), above, '  static int n;')
+            shown = event if event != '0' else 'event_0'
+            self.assertRefused(source, 10, 'the event 0, like `%s`: write `other = process_alloc_event();`' % shown)
 
     def test_a_second_has_two_names(self) -> None:
         source = in_process('  printf("%d", CLOCK_CONF_SECOND / 2);')

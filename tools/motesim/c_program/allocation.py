@@ -1,7 +1,7 @@
 """Events without a number: in Contiki, an event of a program has none before `process_alloc_event()`."""
 from __future__ import annotations
 
-from collections.abc import Iterable, Iterator
+from collections.abc import Iterable, Iterator, Mapping
 from itertools import takewhile
 from typing import NamedTuple
 
@@ -17,8 +17,10 @@ EARLY = ('In Contiki, `%s` has no number of its own until `%s` calls `process_al
          'start.')
 
 
-NEVER = ('`%s` never gets a number, so in Contiki it is the event 0, like each other event without one: write '
-         '`%s = process_alloc_event();` at the beginning of the process that posts it.')
+NEVER = ('`%s` never gets a number, so in Contiki it is the event 0%s: write `%s = process_alloc_event();` at the '
+         'beginning of the process that posts it.')
+# The words about an event of the same number, and those if there is none: then the program works.
+LIKE_ANOTHER, ONLY_ONE = ', like `%s`', '. It works only because no other event of the program has this number'
 
 
 class Early(NamedTuple):
@@ -31,14 +33,18 @@ class Early(NamedTuple):
         return EARLY % (self.event, self.allocator, self.event)
 
 
-def check_allocated(file: File) -> None:
-    """Refuses an event that no process allocates."""
+def check_allocated(file: File, numbered: Mapping[int, str]) -> Iterator[tuple[int, str]]:
+    """The remark about an event that no process allocates. Refuses one if another event is the event 0, too.
+    `numbered` has the numbers that are events of the program, with their names."""
     parts = [it for one in (*file.bodies.values(), *file.functions.values()) for it in all_parts(one.body)]
     found = allocated(parts)
-    for it in parts:
-        its = it.variable
-        if its and its.type.kind == 'event' and not its.is_parameter and not its.initial and its not in found:
-            raise Mistake(it.line, NEVER % (its.name, its.name))
+    lacking = [it for it in parts if (its := it.variable) and its.type.kind == 'event' and not its.is_parameter
+               and not its.initial and its not in found]
+    for it in lacking[:1]:
+        other = numbered.get(0) or next((one.text for one in lacking if one.variable is not it.variable), '')
+        if other:
+            raise Mistake(it.line, NEVER % (it.text, LIKE_ANOTHER % other, it.text))
+        yield it.line, NEVER % (it.text, ONLY_ONE, it.text)
 
 
 def early_posts(file: File) -> Iterator[Early]:

@@ -81,7 +81,8 @@ def translated(text: str, second: int = SECOND) -> Translation:
         remarks = indexes_for_pointers(file)
         program, lines = settled(file, second)
         check_ends(program)
-        check_allocated(file)
+        for line, remark in check_allocated(file, program.events):
+            program.remark(line, remark)
         for it in early_posts(file):
             program.remark(it.line, it.remark(), True)
         remark_names(program)
