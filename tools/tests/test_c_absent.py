@@ -159,6 +159,22 @@ class Absent(unittest.TestCase):
             self.assertEqual(equal in notes, bool(wanted))
             self.assertIn(wanted, notes)
 
+    def test_a_function_of_a_ctimer_that_is_called_is_a_mistake(self) -> None:
+        for result in 'void', 'int':
+            above = 'static struct ctimer c;\nstatic %s later(void *p) { printf("%%d", 1); }' % result
+            self.assertIsNotNone(translation(in_process('  ctimer_set(&c, 3, later, NULL);', above))[0])
+            with self.assertRaisesRegex(Mistake, '^This line calls `later` at once, .* write `later` without parenth'):
+                translated(in_process('  ctimer_set(&c, 3, later(NULL), NULL);', above))
+
+    def test_a_sender_that_is_assigned_is_a_mistake(self) -> None:
+        above = '''static struct broadcast_conn bc; static rimeaddr_t parent;
+static void recv(struct broadcast_conn *c, const rimeaddr_t *from) { rimeaddr_copy(%s); }
+static const struct broadcast_callbacks calls = {recv};'''
+        body = '  broadcast_open(&bc, 129, &calls); PROCESS_WAIT_EVENT();'
+        self.assertIsNotNone(translation(in_process(body, above % '&parent, from'))[0])
+        with self.assertRaisesRegex(Mistake, '^`rimeaddr_copy` .*, the sender of the packet: exchange the two'):
+            translated(in_process(body, above % 'from, &parent'))
+
     def test_bytes_of_addresses_are_assigned_in_a_row(self) -> None:
         above = 'static linkaddr_t a, b; static uint8_t n;'
         for body, wanted in (('a.u8[0] = a.u8[1] = 0;', ['a = 0;']), ('a.u8[1] = a.u8[0] = 0;', ['a = 0;']),

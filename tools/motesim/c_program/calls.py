@@ -10,6 +10,7 @@ from motesim.c_program.constants import EVENT_NUMBERS, constant_of
 from motesim.c_program.expressions import COMPARES
 from motesim.c_program.parse_expressions import OF_FUNCTION_POINTER
 from motesim.c_program.places import OF_DATA, TEXTS, Place, Pointer, has_effects
+from motesim.c_program.refusal import Mistake
 from motesim.c_program.tree import Expression, Function, Variable
 from motesim.c_program.types import BYTE, INT, UNSIGNED, fields_of, leaves_of
 from motesim.c_program.usage import members_of
@@ -81,6 +82,7 @@ OF_RESET = ('In Contiki, a timer that is reset before it has expired expires at 
             'in the future. Here, `%s` expires at the end of that interval. To start it from now, use `%s_restart`.')
 # The name under which it is known that a timer has expired; without a timer, that the event is that of a timer.
 ELAPSED = 'end of '
+OF_COPY = '`%s` assigns its second address to its first one, the sender of the packet: exchange the two.'
 OF_CONNECTION = 'The address of a `struct %s_conn` is expected here.'
 OF_CALLBACKS = ('The address of a `struct %s_callbacks` is expected here, such as `&calls`, with `static const struct '
                 '%s_callbacks calls = {recv};` above the process.')
@@ -692,6 +694,8 @@ class Calls(Chance):
         target, source = self.arguments(it, 2)
         value = self.address(source)
         pointer = self.pointer(target)
+        if pointer.kind == 'sender':
+            raise Mistake(it.line, OF_COPY % it.text)
         if pointer.place is None:
             raise self.refuse(it.line, 'The address of a variable is expected here.')
         self.write(pointer.place, value, it.line)

@@ -9,6 +9,7 @@ from motesim.c_program.base import OF_LONG, Program, Unit
 from motesim.c_program.calls import ELAPSED
 from motesim.c_program.functions import Functions, without_last_exit
 from motesim.c_program.places import OF_EVENTS, Pointer
+from motesim.c_program.refusal import Mistake
 from motesim.c_program.tree import Expression, Function, Statement, Variable
 from motesim.c_program.types import INT, Type, leaves_of
 from motesim.c_program.usage import GLOBAL
@@ -32,6 +33,8 @@ OF_CONTEXT = ('The function of a ctimer gets no event: set the ctimer outside of
               '`PROCESS_CONTEXT_END`.')
 # The name under which it is known that a callback timer has its function.
 IS_SET = 'function of '
+IS_CALLED = ('This line calls `%s` at once, and the ctimer gets its result instead of the function: write `%s` '
+             'without parentheses.')
 NO_CALLBACK = 'The function of a ctimer is expected here.'
 OF_POINTER = 'The last value of `ctimer_set` is NULL, a constant, or the address of a variable here.'
 
@@ -205,6 +208,12 @@ class ProcessWriter(Functions):
 
     # Callback timers.
 
+    def check_not_called(self, it: Expression) -> None:
+        """Checks that the function of a ctimer isn't called when the ctimer is set."""
+        called = self.file.functions.get(without_casts(it).text) if without_casts(it).kind == 'call' else None
+        if called and called.result.kind in ('void', 'int'):
+            raise Mistake(it.line, IS_CALLED % (called.name, called.name))
+
     def call_ctimer_set(self, it: Expression) -> None:
         """A ctimer is set: its block has the statements of its function."""
         timer, interval, function, pointer = self.arguments(it, 4)
@@ -213,6 +222,7 @@ class ProcessWriter(Functions):
             raise self.refuse(it.line, OF_CONTEXT)
         self.emit('set %s %s;' % (name, self.interval(interval)))
         self.note_running(name)
+        self.check_not_called(function)
         target = self.pointer(function)
         if target.kind != 'function':
             raise self.refuse(it.line, NO_CALLBACK)
