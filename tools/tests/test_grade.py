@@ -822,6 +822,15 @@ PROCESS_THREAD(a, ev, data) {
         self.assertEqual(self.rows('--net', 'task.toml')['ben.mote'],
                          '1 of 3  broken: 1, 2; process b prints these values')
 
+    def test_a_process_that_prints_values_of_its_own_is_not_named(self) -> None:
+        need_program(self)
+        self.stub = program_path()
+        self.hand_in('ben.mote', 'process a, b; autostart b; code a { body { exit; } } code b { body { print 3; } }\n')
+        for number, wanted in (3, '1 of 2  broken: 1'), (4, '0 of 2  broken: 1, 2; process b prints these values'):
+            wishes = 'mote 0 prints a 3', 'mote 0 finally prints b %d' % number
+            (self.top / 'task.expect.toml').write_text('expect = %s\n' % json.dumps(wishes))
+            self.assertEqual(self.rows('--net', 'task.toml')['ben.mote'], wanted)
+
 
 class Pages(Folder):
     def test_the_pages_of_an_earlier_marking_are_removed_and_no_others(self) -> None:

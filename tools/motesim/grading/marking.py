@@ -58,6 +58,10 @@ OF_C = 'its program is in C'
 NOT_NOTATION = ', not in the notation of mote programs (tools/explain FILE.c --apply NEW.toml translates it)'
 OF_LINE = re.compile(r'\(line (\d+) of the program\)')
 OF_TRANSLATED = '(at `%s` of the translated program)'
+# The words of a reason about the process that prints the wanted values instead of the one that a sentence names; and
+# those of a sentence about a process that prints.
+OTHER_PROCESS = re.compile(r'; (process (\w+) prints) (?:exactly these values|this value)')
+PRINTS = re.compile(r'\bprints? (?:just )?(\w+)')
 # The most lines of an error, and the most warnings, that are shown.
 MOST_LINES, MOST_WARNED = 60, 3
 
@@ -88,6 +92,14 @@ class Mark(NamedTuple):
     def words(self) -> str:
         """The sentence, with a remark if it is required."""
         return self.sentence + REQUIRED * self.is_required
+
+
+def without_own(broken: Sequence[Broken | None], sentences: Sequence[str]) -> list[Broken | None]:
+    """The reasons of broken sentences. None names another process that prints the wanted values if a sentence about
+    this process holds: then it prints values of its own."""
+    own = {name for words, it in zip(sentences, broken) if it is None for name in PRINTS.findall(words)}
+    return [it and it._replace(why=OTHER_PROCESS.sub(lambda found: '' if found[2] in own else found[0], it.why))
+            for it in broken]
 
 
 def in_translation(warning: str, text: str) -> str:
@@ -320,7 +332,7 @@ class Task:
         scenario = known or Scenario.parse(text)
         report = Report.parse(got.report)
         judge = Judge(report, scenario)
-        broken = [judge.broken(it) for it in sentences]
+        broken = without_own([judge.broken(it) for it in sentences], part.sentences)
         by_callback = dict[int, str]()
         if file[0].endswith('.c') and any(broken) and len(got.report) <= MOST_SHOWN:
             by_callback = of_callbacks(got.report, scenario, program, sentences, broken)

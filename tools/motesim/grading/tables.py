@@ -9,7 +9,7 @@ import unicodedata
 from collections.abc import Sequence
 
 from motesim.grading.in_c import on_node, shown
-from motesim.grading.marking import Marks
+from motesim.grading.marking import OTHER_PROCESS, Marks
 from motesim.grading.own import COLUMNS, OF_TOML
 from motesim.judge.expectations import REQUIRED
 from motesim.toml import MARK
@@ -25,8 +25,6 @@ USED_UP = '%s: it used up its work there, maybe in a loop without a wait'
 ONLY_HERE = ' (on a node, maybe not)'
 OF_C = '. On a node, it may have enough: each index and each operation on bits needs more work in a translation'
 SHARED = 'in all solutions and nets, this or a similar remark: %s'
-# The words of a reason about the process that prints the wanted values instead of the one that a sentence names.
-OTHER_PROCESS = re.compile(r'; (process \w+ prints) (?:exactly these values|this value)')
 ESCAPES = {'\\': '\\\\', '"': '\\"', '\n': '\\n', '\t': '\\t', '\r': '\\r'}
 
 
