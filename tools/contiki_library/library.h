@@ -14,6 +14,7 @@
 
 #include "contiki.h"
 #include "leds.h"
+#include "lists.h"
 #include "node-id.h"
 #include "random.h"
 #include "rime.h"

@@ -4,7 +4,7 @@ from pathlib import Path
 from unittest import mock
 
 from motesim.c_program import compiler
-from motesim.c_program.compiler import FILES, HEADERS, check, has_syntax_error
+from motesim.c_program.compiler import FILES, HEADERS, check, has_certain_error
 from motesim.c_program.process import ProcessWriter
 from motesim.c_program.program import Remark, translated
 from motesim.c_program.refusal import Refusal
@@ -73,10 +73,11 @@ class Checks(unittest.TestCase):
             self.assertEqual(on_node([Remark(line, words, is_mistake)]),
                              'gcc refuses line %d, because an #include is missing' % line)
 
-    def test_errors_in_the_syntax_differ_from_missing_parts_of_contiki(self) -> None:
+    def test_certain_errors_differ_from_missing_parts_of_contiki(self) -> None:
         for line, wanted in (('done = 1', True), ('static struct runicast_conn c; runicast_open(&c, 1, NULL);', False),
-                             ('done = 1;', False), ('if(done == 1 { }', True), ('done = "a;', True)):
-            self.assertEqual(has_syntax_error(HEAD + PROGRAM % line), wanted, line)
+                             ('done = 1;', False), ('if(done == 1 { }', True), ('done = "a;', True),
+                             ('static struct etimer et; etimer_set(et, 3);', True), ('etimer_set(3);', True)):
+            self.assertEqual(has_certain_error(HEAD + PROGRAM % line), wanted, line)
         found = NotTranslated(Refusal(3, ''), HEAD + PROGRAM % 'done = 1'), NotTranslated(Refusal(3, ''), HEAD)
         self.assertEqual([it.may_be_right for it in found], [False, True])
 
@@ -107,7 +108,7 @@ class Checks(unittest.TestCase):
         names = {it.partition('_')[2] for it in methods}
         library = {'abs', 'memcpy', 'memmove', 'memset', 'printf', 'putchar', 'puts', 'rand'}
         self.assertEqual({it for it in names - library if it + '(' not in declared}, set())
-        self.assertEqual({*FILES, 'library.c', 'library.h'}, {it.name for it in HEADERS.iterdir()})
+        self.assertEqual({*FILES, 'library.c', 'library.h', 'lists.c'}, {it.name for it in HEADERS.iterdir()})
 
 
 class Missing(unittest.TestCase):

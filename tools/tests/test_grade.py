@@ -814,6 +814,10 @@ PROCESS_THREAD(a, ev, data) {
         self.assertEqual(rows['ida.c'], '1 of 4  broken: 1, 2, 4')
         self.assertIn('holds   mote 1 prints just b 7\n          the callback for packets prints this, and counts for '
                       '`b`', self.grade('--net', 'task.toml', '--why', 'ben.c'))
+        part = parts_of('expect = %s' % json.dumps(wanted), 'task.expect.toml')[0]
+        task = Task(part, tuple(nets_of([self.top / 'task.toml'], [], None)), Limits())
+        with mock.patch('motesim.grading.marking.MOST_SHOWN', 20):
+            self.assertEqual(task.of((1, Entry('ben.c', self.folder / 'ben.c'))).held, 3)
 
     def test_the_row_of_a_solution_has_the_process_that_prints_the_wanted_values(self) -> None:
         need_program(self)

@@ -13,9 +13,15 @@ from motesim.grading.compiled import (
     first_meeting,
 )
 from motesim.grading.in_c import in_words_of_c, on_node
-from motesim.grading.marking import InNet, Mark, Marks, by_gcc_in, compiled_holds, difference_in, remarks_in
-from motesim.judge.expectations import known_of, read_all
+from motesim.grading.marking import (
+    BY_GCC, OF_HIDDEN_RUN, InNet, Mark, Marks, Task, by_gcc_in, compiled_holds, difference_in, differences_in, remarks_in,
+)
+from motesim.grading.nets import Net
+from motesim.grading.tables import why
+from motesim.judge.expectations import known_of, parts_of, read_all
+from motesim.runner import Limits
 from motesim.runner.run import answer
+from motesim.scenario import Scenario
 from skips import need_command, need_program
 from student_programs import PROGRAMS, REFUSED, SCENARIO as IN_A_ROW
 from translated_c import in_process
@@ -187,6 +193,50 @@ class Comparison(unittest.TestCase):
         self.assertEqual(on_node([Remark(0, found.words, True)], '4 of 6'),
                          'compiled by gcc, it does something else (4 of 6)')
         self.assertEqual(on_node([Remark(0, DIVIDES, True)], ''), 'compiled by gcc, it crashes')
+
+    def test_only_why_names_a_difference_in_a_hidden_net(self) -> None:
+        found = [in_net(Difference('a'))._replace(is_hidden=True)]
+        marks = Marks('', of_c=tuple(difference_in(found)), hidden=differences_in(found)[0][2])
+        self.assertEqual([it.text for it in marks.of_c], [OF_HIDDEN_RUN])
+        self.assertEqual(why(marks), ['a (in n)'])
+
+    def test_a_program_that_is_not_translated_has_the_mark_of_the_compiled_one(self) -> None:
+        source = '''#include "contiki.h"
+#include <stdio.h>
+#include "lib/list.h"
+#include "lib/memb.h"
+struct item { struct item *next; int value; };
+LIST(items);
+MEMB(blocks, struct item, 2);
+PROCESS(p, "p");
+PROCESS(q, "q");
+AUTOSTART_PROCESSES(&q, &p);
+PROCESS_THREAD(p, ev, data) {
+  struct item *one;
+  PROCESS_BEGIN();
+  list_init(items);
+  memb_init(&blocks);
+  one = memb_alloc(&blocks);
+  one->value = 3;
+  list_add(items, one);
+  process_poll(&q);
+  PROCESS_END();
+}
+PROCESS_THREAD(q, ev, data) {
+  PROCESS_BEGIN();
+  PROCESS_WAIT_EVENT_UNTIL(ev == PROCESS_EVENT_POLL);
+  printf("%d", ((struct item *)list_head(items))->value);
+  %s
+  PROCESS_END();
+}
+'''
+        part = parts_of('expect = ["mote 0 prints q 3", "mote 1 prints q 4"]', 'task')[0]
+        net = Net('n', Scenario.parse(SCENARIO % 'process p; autostart p; code p { body { pause; } }'), 'p')
+        task = Task(part, (net,), Limits(), compiled=self.compiled)
+        for more, mark in (('', BY_GCC % (1, 2)), ('printf("%d", list_length(items) + 3);', BY_GCC % (2, 2)),
+                           ('system("true");', ''), ('__asm__("nop");', ''), ('list_add(items, NULL);', '; ' + CRASHES)):
+            self.assertEqual(task.compiled_mark(source.replace('%s', more)), mark, more)
+        self.assertEqual(task.compiled_mark('PROCESS_THREAD('), '')
 
     def test_from_a_packet_at_the_moment_of_a_timer_on_runs_may_differ(self) -> None:
         report = (b'mote 0 p\n3 recv 1 0 3\n5 recv 1 1 3\n5 post 2 p timer 0\n'

@@ -28,7 +28,7 @@ FILES = {
     'rime.h': ('net/rime.h', 'net/rime/rime.h', 'net/rime/broadcast.h', 'net/rime/unicast.h', 'net/rime/abc.h',
                'net/rime/rimeaddr.h', 'net/linkaddr.h', 'net/rime/linkaddr.h', 'net/packetbuf.h',
                'net/rime/packetbuf.h', 'net/mac/mac.h', 'net/netstack.h'),
-    'leds.h': ('dev/leds.h',), 'random.h': ('lib/random.h',),
+    'lists.h': ('lib/list.h', 'lib/memb.h'), 'leds.h': ('dev/leds.h',), 'random.h': ('lib/random.h',),
     'node-id.h': ('node-id.h', 'sys/node-id.h', 'dev/watchdog.h'),
 }
 OF_LIBRARY = ('ctype.h', 'inttypes.h', 'limits.h', 'stdbool.h', 'stddef.h', 'stdint.h', 'stdio.h', 'stdlib.h',
@@ -49,7 +49,10 @@ LIMITED = 'ulimit -v 2000000; ulimit -t 20; ulimit -f 200000; exec "$0" "$@"'
 SECONDS = 30
 NO_SUCH_FILE = 'No such file or directory'
 COMPLAINT = re.compile(r'^<stdin>:(\d+):\d+: (?:fatal )?(error|warning): (.*?)(?: \[-W[^\]]*\])?$', re.M)
-OF_SYNTAX = ('expected ', 'stray ', 'missing terminating', 'unterminated', 'unmatched')
+# The beginnings of errors that no further declaration corrects.
+CERTAIN = ('expected ', 'stray ', 'missing terminating', 'unterminated', 'unmatched', 'incompatible type for argument',
+           'too few arguments', 'too many arguments', 'invalid type argument', 'request for member', 'lvalue required',
+           'invalid operands', 'void value', 'assignment of read-only', 'redefinition of', 'conflicting types')
 REFUSED, WARNED = 'gcc refuses it: %s.', 'gcc warns: %s.'
 LACKS = 'gcc refuses this line: '
 LACKS_ONE = LACKS + '%s. The program needs `#include "%s"`.'
@@ -94,11 +97,11 @@ def check(text: str) -> list[tuple[int, str, bool]]:
     return [(errors[0].line, lacks(source, errors[0]), True), *warnings_in(complete)]
 
 
-def has_syntax_error(text: str) -> bool:
-    """Returns whether gcc, if it is installed, finds an error in the syntax of a program. Other errors may be due to
-    parts of Contiki that aren't here."""
+def has_certain_error(text: str) -> bool:
+    """Returns whether gcc, if it is installed, finds an error in a program that isn't due to parts of Contiki that aren't
+    here, such as one in the syntax."""
     return is_installed() and knows_files_of(text) and any(
-        it.words.startswith(OF_SYNTAX) for it in errors_in(complaints_of(with_headers(text))))
+        it.words.startswith(CERTAIN) for it in errors_in(complaints_of(with_headers(text))))
 
 
 def errors_in(complaints: Sequence[Complaint]) -> list[Complaint]:

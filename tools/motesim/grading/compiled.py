@@ -23,6 +23,7 @@ from motesim.c_program.program import Translation
 from motesim.contiki.folder import HOST, host_tables, program_files, text_of
 from motesim.contiki.names import file_names
 from motesim.grading.in_c import CRASHED
+from motesim.grading.untranslated import may_call
 from motesim.scenario import Scenario
 
 FLAGS = ('-w', '-O0', '-fno-pic', '-std=gnu99', '-fsanitize=bounds', '-fsanitize-undefined-trap-on-error',
@@ -88,7 +89,7 @@ class Compiled:
     def __init__(self, folder: Path):
         self.folder = folder
         self.can_fill = is_possible(['gcc', GARBAGE, '-E', '-x', 'c', '/dev/null'], folder)
-        for path in (*HOST.glob('*.c'), LIBRARY / 'library.c'):
+        for path in (*HOST.glob('*.c'), *LIBRARY.glob('*.c')):
             # (the radio calls the callback of a program in C, instead of posting the packet)
             more = ['-Dprocess_post=library_post'] if path.name == 'radio.c' else []
             called(['gcc', *FLAGS, *more, '-c', str(path)], folder)
@@ -110,6 +111,8 @@ class Compiled:
                 (place / its).write_text(text, 'utf-8')
             (place / 'solution.c').write_text(whole(it, program, [*files].index(program)), 'utf-8')
             called(['gcc', *FLAGS, *[fill] * self.can_fill, '-c', 'solution.c'], place)
+            if not may_call(called(['nm', '-u', '-j', 'solution.o'], place).decode().split()):
+                raise NoComparison('it calls functions that no mote has')
             called(['objcopy', *SECTIONS, 'solution.o'], place)
             sources = ['solution.o', *(name for name, _ in tables), *self.objects]
             called(['gcc', *FLAGS, '-no-pie', '-o', 'run', *sources], place)

@@ -32,7 +32,7 @@ class NotTranslated(Fault):
     may be right on a node."""
 
     def __init__(self, refusal: Refusal, source: str):
-        self.may_be_right = not isinstance(refusal, Mistake) and not compiler.has_syntax_error(source)
+        self.may_be_right = not isinstance(refusal, Mistake) and not compiler.has_certain_error(source)
         super().__init__((NO_TRANSLATION if self.may_be_right else MISTAKEN) % refusal.line)
         row = one_line(line_at(source, refusal.line))
         self.lines = ('line %d:%s' % (refusal.line, ' ' + row if row else ''), refusal.reason)

@@ -18,10 +18,11 @@ from motesim.explain.within import busiest
 from motesim.faults import Fault, tried
 from motesim.files import replace_whole
 from motesim.grading.callbacks import OF_CALLBACK, compiled_readings, readings
-from motesim.grading.compiled import SAME, Compiled, Difference, InC
+from motesim.grading.compiled import SAME, Compiled, Crash, Difference, InC, NoComparison
 from motesim.grading.entries import Entry, data_of, without_program
 from motesim.grading.in_c import NotTranslated, in_words_of_c, made_of, remarks_of
 from motesim.grading.nets import NOT_UTF8, Net, NoProgram, program_of, unused_of
+from motesim.grading.untranslated import outline_of
 from motesim.judge.expectations import (
     REFUSED, REQUIRED, Part, UnknownSentence, known_of, more_of, read_all, refused, same_report,
 )
@@ -54,6 +55,7 @@ LONGEST_NAME = 80
 OF_HIDDEN = 'in a hidden net'
 OF_HIDDEN_RUN = 'compiled by gcc, the program does something else in a hidden net'
 BINARY = 'the file is binary: it has bytes that no text has'
+BY_GCC = '; compiled by gcc, it gets %d of %d'
 OF_C = 'its program is in C'
 NOT_NOTATION = ', not in the notation of mote programs (tools/explain FILE.c --apply NEW.toml translates it)'
 OF_LINE = re.compile(r'\(line (\d+) of the program\)')
@@ -128,7 +130,8 @@ class Marks:
              if a sentence is broken, about losses, ranges and seeds
     unused   its programs that no mote of the nets runs, in words
     of_c     for a program in C, the remarks about differences between it and its translation
-    by_gcc   for a program in C that does something else than its translation: which sentences hold for it, compiled
+    by_gcc   for a program in C that does something else than its translation: which sentences hold for it, compiled;
+             and `hidden`, the first difference in a hidden net, which no page may show
     """
     name: str
     marks: tuple[Mark, ...] = ()
@@ -146,6 +149,7 @@ class Marks:
     unused: str = ''
     of_c: tuple[Remark, ...] = ()
     by_gcc: tuple[bool, ...] = ()
+    hidden: str = ''
 
     @property
     def has_mark(self) -> bool:
@@ -264,7 +268,8 @@ class Task:
         except NoProgram as fault:
             return Marks(entry.name, why=str(fault), fix=(fault.hint,))
         except NotTranslated as fault:
-            return Marks(entry.name, why=str(fault), fix=fault.lines, is_open=fault.may_be_right)
+            mark = self.compiled_mark(encodings.text_of_c(data).removeprefix(MARK)) if fault.may_be_right else ''
+            return Marks(entry.name, why=str(fault) + mark, fix=fault.lines, is_open=fault.may_be_right)
         except UnknownSentence as fault:
             return Marks(entry.name, why=fault.which, fix=self.fix(entry, data))
         except Fault as fault:
@@ -273,7 +278,8 @@ class Task:
         marks = replace(self.together(entry.name, found), unused=unused)
         if entry.path.suffix == '.c':
             marks = replace(marks, warned=tuple(in_translation(it, its[1]) for it in marks.warned),
-                            of_c=(*difference_in(found), *remarks_in(found, in_c)), by_gcc=by_gcc_in(found))
+                            of_c=(*difference_in(found), *remarks_in(found, in_c)), by_gcc=by_gcc_in(found),
+                            hidden=next(iter(differences_in(found)), (False, False, ''))[2])
         if any(its.is_refused for its in found):
             # (a file whose programs are expected to be refused keeps its marks)
             if any(its.why for its in found) and self.has_c(data, entry.path.name):
@@ -334,7 +340,7 @@ class Task:
         judge = Judge(report, scenario)
         broken = without_own([judge.broken(it) for it in sentences], part.sentences)
         by_callback = dict[int, str]()
-        if file[0].endswith('.c') and any(broken) and len(got.report) <= MOST_SHOWN:
+        if file[0].endswith('.c') and any(broken):
             by_callback = of_callbacks(got.report, scenario, program, sentences, broken)
             broken = [None if at in by_callback else it for at, it in enumerate(broken)]
         held = iter([Mark(words, it is None, (), tuple(more_of(it, judge.rows)) if it else (),
@@ -358,6 +364,28 @@ class Task:
     def difference(self, it: InC, program: str, report: bytes) -> Difference | None:
         """The difference between a program in C and its translation, if gcc is installed."""
         return self.compiled.difference(it, program, report) if self.compiled else None
+
+    def compiled_mark(self, source: str) -> str:
+        """The words about the mark of a compiled program that can't be translated; an empty text if it has none."""
+        outline = outline_of(source) if self.compiled else None
+        if self.compiled is None or outline is None:
+            return ''
+        found = list[tuple[bool, ...]]()
+        for net in self.nets:
+            text = net.with_program(outline.text)
+            scenario, names = Scenario.parse(text), known_of(text)[1]
+            lacks = [lacking(it, names) for it in self.part.sentences]
+            sentences = read_all([it for it, lack in zip(self.part.sentences, lacks) if not lack], names)
+            try:
+                report = self.compiled.report(InC(source, outline, text), net.program)
+            except NoComparison:
+                return ''
+            except Crash as crash:
+                return '; %s' % crash
+            found.append(spread_over(compiled_holds(report, scenario, net.program, sentences), lacks))
+        holds = [all(each) for each in zip(*found)]
+        count = sum(holds) if all(holds[:self.part.required]) else 0
+        return BY_GCC % (count, len(holds)) if holds else ''
 
     def answer(self, scenario: bytes) -> Answer:
         """The answer of `motesim`, within the limits. The error at a limit says what the run does most often."""
@@ -422,12 +450,16 @@ def first_shown(marks: Marks, found: Sequence[InNet]) -> tuple[int, InNet | None
 
 def difference_in(found: Sequence[InNet]) -> list[Remark]:
     """The first difference between a program in C and its translation, without the values of a hidden net."""
-    its = [(it.differs.may_differ, it.is_hidden, it.differs.words, it.net) for it in found
+    return [Remark(0, OF_HIDDEN_RUN if is_hidden else words, not may_differ)
+            for may_differ, is_hidden, words in differences_in(found)[:1]]
+
+
+def differences_in(found: Sequence[InNet]) -> list[tuple[bool, bool, str]]:
+    """The differences between a program in C and its translation, the most certain ones first, and those in hidden nets
+    last: whether the runs may differ, whether the net is hidden, and the words."""
+    its = [(it.differs.may_differ, it.is_hidden, '%s (in %s)' % (it.differs.words, it.net)) for it in found
            if it.differs and it.differs.words]
-    if not its:
-        return []
-    may_differ, is_hidden, words, net = min(its, key=lambda it: it[:2])
-    return [Remark(0, OF_HIDDEN_RUN if is_hidden else '%s (in %s)' % (words, net), not may_differ)]
+    return sorted(its, key=lambda it: it[:2])
 
 
 def remarks_in(found: Sequence[InNet], source: str) -> list[Remark]:

@@ -9,7 +9,7 @@ import unicodedata
 from collections.abc import Sequence
 
 from motesim.grading.in_c import on_node, shown
-from motesim.grading.marking import OTHER_PROCESS, Marks
+from motesim.grading.marking import OF_HIDDEN_RUN, OTHER_PROCESS, Marks
 from motesim.grading.own import COLUMNS, OF_TOML
 from motesim.judge.expectations import REQUIRED
 from motesim.toml import MARK
@@ -176,4 +176,5 @@ def why(marks: Marks) -> list[str]:
     lines += [USED_UP % marks.halts + OF_C * marks.name.endswith('.c')] if marks.halts else []
     if marks.first_failed is not None:
         lines += [*marks.warned, *([marks.unused, UNUSED] if marks.unused else [])]
-    return [*lines, *([RENAMED] * any(marks.lacks)), *map(shown, marks.of_c)]
+    of_c = [it._replace(text=marks.hidden) if it.text == OF_HIDDEN_RUN else it for it in marks.of_c]
+    return [*lines, *([RENAMED] * any(marks.lacks)), *map(shown, of_c)]

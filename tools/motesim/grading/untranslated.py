@@ -1,0 +1,49 @@
+"""A program in C that can't be translated: the processes that it has, and whether it may be compiled and run.
+
+The compiled program runs on the host with what tools/contiki_library declares, and with nothing else.
+"""
+from __future__ import annotations
+
+import re
+from collections.abc import Iterable, Sequence
+
+from motesim.c_program.parse_file import tokens_in
+from motesim.c_program.program import Translation
+from motesim.c_program.refusal import Refusal
+from motesim.notation.faults import find_fault
+
+# The functions and variables of Contiki and of C that a compiled program may use.
+CALLS = re.compile(
+    r'(?:process|etimer|ctimer|timer|stimer|packetbuf|abc|broadcast|unicast|rimeaddr|linkaddr|leds|random|clock|library|'
+    r'list|memb|watchdog|work)_\w+|autostart_processes|mem(?:cpy|move|set|cmp)|str(?:len|n?cmp|n?cpy|chr)|abs|labs|tolower|'
+    r'toupper|__ctype_b_loc|abort')
+# Words with two underscores in front that don't leave C.
+PLAIN = ('__func__', '__FUNCTION__', '__attribute__', '__packed__', '__unused__')
+ATTRIBUTES = ('packed', 'unused', '__packed__', '__unused__')
+DRAWING = ('random_rand', 'rand')
+
+
+def outline_of(source: str) -> Translation | None:
+    """A program in the notation that has the processes of a program in C, but does nothing; None if there is none."""
+    try:
+        words = [it.text for it in tokens_in(source)]
+    except Refusal:
+        return None
+    names = [words[at + 2] for at in range(len(words) - 2) if words[at:at + 2] == ['PROCESS_THREAD', '(']]
+    text = 'process %s;\nautostart %s;\n' % (', '.join(names), ', '.join(names)) + ''.join(
+        'code %s { body { pause; } }\n' % it for it in names)
+    if not names or find_fault(text) is not None or not is_plain(words):
+        return None
+    return Translation(text, (), tuple(names) if any(it in words for it in DRAWING) else (), names[0])
+
+
+def is_plain(words: Sequence[str]) -> bool:
+    """Returns whether a program is in C alone, without assembly and without attributes that change other programs."""
+    attributes = [words[at + 3] for at in range(len(words) - 3) if words[at] == '__attribute__']
+    return 'asm' not in words and all(it in ATTRIBUTES for it in attributes) and all(
+        it in PLAIN for it in words if it.startswith('__'))
+
+
+def may_call(names: Iterable[str]) -> bool:
+    """Returns whether a program may use all of these functions and variables."""
+    return all(CALLS.fullmatch(it) for it in names)
