@@ -14,7 +14,8 @@ from motesim.grading.compiled import (
 )
 from motesim.grading.in_c import in_words_of_c, on_node
 from motesim.grading.marking import (
-    BY_GCC, OF_HIDDEN_RUN, InNet, Mark, Marks, Task, by_gcc_in, compiled_holds, difference_in, differences_in, remarks_in,
+    BY_GCC, OF_HIDDEN_RUN, InNet, Mark, Marks, Task, by_gcc_in, compiled_holds, difference_in, differences_in,
+    remarks_in,
 )
 from motesim.grading.nets import Net
 from motesim.grading.tables import why
@@ -233,8 +234,9 @@ PROCESS_THREAD(q, ev, data) {
         part = parts_of('expect = ["mote 0 prints q 3", "mote 1 prints q 4"]', 'task')[0]
         net = Net('n', Scenario.parse(SCENARIO % 'process p; autostart p; code p { body { pause; } }'), 'p')
         task = Task(part, (net,), Limits(), compiled=self.compiled)
-        for more, mark in (('', BY_GCC % (1, 2)), ('printf("%d", list_length(items) + 3);', BY_GCC % (2, 2)),
-                           ('system("true");', ''), ('__asm__("nop");', ''), ('list_add(items, NULL);', '; ' + CRASHES)):
+        for more, mark in (
+                ('', BY_GCC % (1, 2)), ('printf("%d", list_length(items) + 3);', BY_GCC % (2, 2)),
+                ('system("true");', ''), ('__asm__("nop");', ''), ('list_add(items, NULL);', '; ' + CRASHES)):
             self.assertEqual(task.compiled_mark(source.replace('%s', more)), mark, more)
         self.assertEqual(task.compiled_mark('PROCESS_THREAD('), '')
 

@@ -14,9 +14,9 @@ from motesim.notation.faults import find_fault
 
 # The functions and variables of Contiki and of C that a compiled program may use.
 CALLS = re.compile(
-    r'(?:process|etimer|ctimer|timer|stimer|packetbuf|abc|broadcast|unicast|rimeaddr|linkaddr|leds|random|clock|library|'
-    r'list|memb|watchdog|work)_\w+|autostart_processes|mem(?:cpy|move|set|cmp)|str(?:len|n?cmp|n?cpy|chr)|abs|labs|tolower|'
-    r'toupper|__ctype_b_loc|abort')
+    r'(?:process|etimer|ctimer|timer|stimer|packetbuf|abc|broadcast|unicast|rimeaddr|linkaddr|leds|random|clock|list|'
+    r'memb|library|watchdog|work)_\w+|autostart_processes|mem(?:cpy|move|set|cmp)|str(?:len|n?cmp|n?cpy|chr)|abs|labs|'
+    r'tolower|toupper|__ctype_b_loc|abort')
 # Words with two underscores in front that don't leave C.
 PLAIN = ('__func__', '__FUNCTION__', '__attribute__', '__packed__', '__unused__')
 ATTRIBUTES = ('packed', 'unused', '__packed__', '__unused__')
@@ -38,7 +38,7 @@ def outline_of(source: str) -> Translation | None:
 
 
 def is_plain(words: Sequence[str]) -> bool:
-    """Returns whether a program is in C alone, without assembly and without attributes that change other programs."""
+    """Returns whether a program has no assembly, and no attributes that change other programs."""
     attributes = [words[at + 3] for at in range(len(words) - 3) if words[at] == '__attribute__']
     return 'asm' not in words and all(it in ATTRIBUTES for it in attributes) and all(
         it in PLAIN for it in words if it.startswith('__'))
