@@ -337,10 +337,12 @@ class Pages(unittest.TestCase):
         self.assertIn('mote 1: lost on the way', self.shown())
 
     def test_an_event_is_followed_from_its_post(self) -> None:
-        self.open(Run('silent', Report.parse(SILENT), None))
-        self.browser.click(*self.place(9))
-        self.assertIn('Event 2 of mote 0: msg 1', self.shown())
-        self.assertIn('still waiting when the run ends', self.shown())
+        # (events of the kernel, and of a program)
+        for event in 'msg', 'full':
+            self.open(Run('silent', Report.parse(SILENT.replace('msg', event)), None))
+            self.browser.click(*self.place(9))
+            self.assertIn('Event 2 of mote 0: %s 1' % event, self.shown())
+            self.assertIn('still waiting when the run ends', self.shown())
 
     def test_silences_are_found(self) -> None:
         self.open(Run('silent', Report.parse(SILENT), None))

@@ -108,7 +108,11 @@ class Trace:
 
     def processes(self) -> set[str]:
         """The names of all processes that have lines."""
-        return {self.names[it] for fields in self.of.values() for it in set(fields.get('process', ()))}
+        return self.words_of('process')
+
+    def words_of(self, field: str) -> set[str]:
+        """The words that lines have in a field, which is `process` or `event`."""
+        return {self.names[it] for fields in self.of.values() for it in set(fields.get(field, ()))}
 
     def all_rows(self, kind: str) -> array[int]:
         """All lines of a kind, by their indices."""

@@ -13,7 +13,6 @@ from operator import sub
 from typing import Any
 
 from motesim.faults import Fault
-from motesim.notation.keywords import EVENTS
 from motesim.report import KINDS, LOST, Log, Report
 from motesim.runner.batch import each_part
 from motesim.runner.run import Run
@@ -55,9 +54,9 @@ class Columns:
     def __init__(self, report: Report):
         self.columns = {name: array(ARRAYS[kind]) for name, kind in self.names.items()}
         self.trace = trace = report.trace
-        known = trace.processes()
-        self.processes = [name for name in trace.names if name in known and name != 'all']
-        self.events = [name for name in trace.names if name in EVENTS]
+        processes, events = trace.processes(), trace.words_of('event')
+        self.processes = [name for name in trace.names if name in processes and name != 'all']
+        self.events = [name for name in trace.names if name in events]
         self.programs = list(dict.fromkeys(mote.program for mote in report.motes))
         self._add_traces(report)
         try:
