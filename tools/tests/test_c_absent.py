@@ -193,6 +193,19 @@ static const struct broadcast_callbacks calls = {recv};'''
             self.assertIsNotNone(text)
             self.assertEqual('A `%s` of a `printf` needs a text' in notes, is_number, (value, notes))
 
+    def test_a_misspelt_name_and_a_wrong_sign_for_a_field_are_mistakes(self) -> None:
+        above = 'static struct pair { int a, b; } s; static int number;'
+        for body, wanted in (('struct pair *at = &s; at.a = 1;', '`at` is a pointer: write `->a` instead of `.a`.'),
+                             ('s->a = 1;', '`s` isn\'t a pointer: write `.a` instead of `->a`.'),
+                             ('s.c = 1;', 'There is no field `c` here.'), ('numbr = 1;', 'Do you mean `number`?'),
+                             ('no_such_name = 1;', '')):
+            with self.assertRaises(Refusal) as caught:
+                translated(in_process('  ' + body, above))
+            self.assertEqual(isinstance(caught.exception, Mistake), bool(wanted), caught.exception.reason)
+            self.assertIn(wanted, caught.exception.reason)
+        right = '  struct pair *at = &s; at->a = 1; s.b = at->a; (*at).b = 2;'
+        self.assertIsNotNone(translation(in_process(right, above))[0])
+
     def test_only_one_event_has_no_number(self) -> None:
         above = 'static process_event_t one, other, third; static const process_event_t fixed = 9;'
         body = '  one = process_alloc_event();\n  process_post(&p, %s, NULL); PROCESS_YIELD(); if(ev == %s) n = 1;'

@@ -8,7 +8,7 @@ from dataclasses import dataclass, field
 from motesim.c_program.absent import absent, advice_for
 from motesim.c_program.knowledge import Knowledge, LoopLimits
 from motesim.c_program.names import fresh, is_changed
-from motesim.c_program.refusal import Refusal
+from motesim.c_program.refusal import Mistake, Refusal
 from motesim.c_program.tree import File, Function, Variable
 from motesim.c_program.types import INT, Type
 from motesim.c_program.usage import Usage
@@ -134,7 +134,10 @@ class Base:
     def absent_variable(self, name: str, line: int) -> Refusal:
         """A name that isn't declared, with what to write instead, or with a similar name."""
         names = [it.name for it in (*self.file.variables, *self.use.variables)]
-        return Refusal(line, absent(name) if advice_for(name) else NOT_DECLARED % name + similar(name, names))
+        if advice_for(name):
+            return Refusal(line, absent(name))
+        meant = similar(name, names)
+        return (Mistake if meant else Refusal)(line, NOT_DECLARED % name + meant)
 
     def remark(self, line: int, text: str) -> None:
         self.program.remark(line, text)

@@ -28,6 +28,8 @@ NEXT_INDEX = ('The array `%s` has the members 0 to %d, but `%s` may be %d here: 
 OF_TIMER = ('A timer has no fields here: use the timer itself, as in `etimer_expired(&et)`, or note the time in a '
             'variable when it is set, `start = clock_time();`.')
 NO_FIELD = 'There is no field `%s` here.'
+OF_ARROW = '`%s` is a pointer: write `->%s` instead of `.%s`.'
+OF_DOT = '`%s` isn\'t a pointer: write `.%s` instead of `->%s`.'
 NO_ROOM = ('`unicast_send` needs 8 of the 16 bits of a packet for the number of the receiver. So 8 bits are left for '
            'the value, but %s has two fields. Send one field, put both into 8 bits, such as `type * 64 + seq %% 64`, '
            'or use `broadcast_send`.')
@@ -120,8 +122,11 @@ class Places(Base):
         if it.kind == 'index':
             return self.member(it)
         if it.kind in ('member', 'arrow'):
+            check_sign(it, self.type_of(it.parts[0]))
             base = self.place(it.parts[0]) if it.kind == 'member' else self.pointed(it.parts[0])
             field = dict(base.type.fields).get(it.text)
+            if field is None and base.type.kind == 'struct':
+                raise Mistake(it.line, NO_FIELD % it.text)
             if field is None:
                 raise self.refuse(it.line, OF_TIMER if base.type.kind in ('etimer', 'ctimer') else NO_FIELD % it.text)
             return base._replace(type=field, paths=tuple((*path, it.text) for path in base.paths))
@@ -532,6 +537,14 @@ class Places(Base):
             return pointer_to(self.type_of(it.parts[0]))
         moved = self.type_of(it.parts[0]).of if it.kind == 'binary' and it.text in '+-' else None
         return pointer_to(moved) if moved else it.type or INT
+
+
+def check_sign(it: Expression, its: Type) -> None:
+    """Refuses a field of a pointer with `.`, and one of a structure with `->`, as a compiler does. `its` is the type in
+    front of the sign."""
+    if its.kind == {'member': 'pointer', 'arrow': 'struct'}[it.kind]:
+        words = OF_ARROW if it.kind == 'member' else OF_DOT
+        raise Mistake(it.line, words % (it.parts[0].text, it.text, it.text))
 
 
 def owner_of(it: Expression) -> Expression:
