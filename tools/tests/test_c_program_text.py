@@ -6,7 +6,7 @@ import unittest
 
 import here  # noqa: F401
 from motesim.c_program.program import translated
-from motesim.c_program.refusal import Refusal
+from motesim.c_program.refusal import Mistake, Refusal
 from motesim.notation.faults import find_fault
 from translated_c import body_of, in_process, translation
 
@@ -730,6 +730,14 @@ PROCESS_THREAD(p, ev, data)
         self.assertIsNone(text)
         self.assertIn('line 6: In Contiki, the function that is called for packets', notes)
         self.assertIn('write `PROCESS_CONTEXT_BEGIN(&p);` above this line', notes)
+        for wait, is_mistake in (
+                ('PROCESS_YIELD();', True), ('PROCESS_WAIT_EVENT_UNTIL(ev == PROCESS_EVENT_TIMER);', True),
+                ('PROCESS_WAIT_EVENT_UNTIL(data == &et);', True), ('etimer_stop(&et); PROCESS_YIELD();', True),
+                ('PROCESS_WAIT_EVENT_UNTIL(etimer_expired(&et));', False),
+                ('etimer_set(&et, 9); PROCESS_WAIT_EVENT_UNTIL(data == &et);', False)):
+            with self.subTest(wait), self.assertRaises(Refusal) as caught:
+                translated((source % 'etimer_set(&et, 3);').replace('PROCESS_YIELD();', wait))
+            self.assertEqual(type(caught.exception) is Mistake, is_mistake, wait)
         text, notes = translation(source % 'process_post(PROCESS_CURRENT(), PROCESS_EVENT_MSG, NULL);')
         self.assertIsNone(text)
         self.assertIn('the current process is one of the radio', notes)

@@ -10,12 +10,12 @@ from motesim.c_program.constants import EVENT_NUMBERS, constant_of
 from motesim.c_program.expressions import COMPARES
 from motesim.c_program.parse_expressions import OF_FUNCTION_POINTER
 from motesim.c_program.places import OF_DATA, TEXTS, Place, Pointer, has_effects
-from motesim.c_program.refusal import Mistake
+from motesim.c_program.refusal import Mistake, Refusal
 from motesim.c_program.tree import Expression, Function, Variable
 from motesim.c_program.types import BYTE, INT, UNSIGNED, fields_of, leaves_of
 from motesim.c_program.usage import members_of
 from motesim.c_program.values import MOST, NOTHING, Limits, Value, added, as_type, compared, number
-from motesim.c_program.walk import all_parts, base_of, parts_of, shown, without_casts
+from motesim.c_program.walk import all_parts, base_of, parts_of, shown, with_called, without_casts
 from motesim.c_program.written import Block, If, Line
 
 # The kinds of expressions of which the type is known.
@@ -395,19 +395,27 @@ class Calls(Chance):
     def call_etimer_set(self, it: Expression) -> None:
         timer, interval = self.arguments(it, 2)
         name = self.timer(timer, 'etimer')
-        self.check_owner(name, it.line)
+        self.check_owner(name, it)
         self.emit('set %s %s;' % (name, self.interval(interval)))
         self.note_running(name)
 
-    def check_owner(self, name: str, line: int) -> None:
+    def check_owner(self, name: str, it: Expression) -> None:
         """Refuses an etimer whose event another process gets: the one that sets it."""
         if self.unit.of_radio:
-            raise self.refuse(line, OF_RADIO_TIMER % (name, *(self.process,) * 3))
+            refusal = Mistake if self.is_set_for_others(base_of(it.parts[0])) else Refusal
+            raise refusal(it.line, OF_RADIO_TIMER % (name, *(self.process,) * 3))
+
+    def is_set_for_others(self, timer: Variable | None) -> bool:
+        """Returns whether the process neither sets a timer nor asks whether it has expired."""
+        own = all_parts(with_called(self.file.bodies[self.process].body, self.file.functions))
+        return timer is not None and not timer.is_parameter and not any(
+            it.kind == 'call' and it.text != 'etimer_stop' and any(base_of(one) is timer for one in it.parts)
+            for it in own)
 
     def changed_timer(self, it: Expression, word: str, *kinds: str) -> None:
         name = self.timer(self.arguments(it, 1)[0], *kinds)
         if kinds[0] == 'etimer' and word != 'stop':
-            self.check_owner(name, it.line)
+            self.check_owner(name, it)
         if word == 'reset' and ELAPSED + name not in self.known:
             self.remark_mistake(it.line, OF_RESET % (name, kinds[0]))
         self.emit('%s %s;' % (word, name))
