@@ -245,6 +245,8 @@ REFUSALS = (
     ('x = (1000UL * u) / 65536UL;', 'so `/` with 65536 isn\'t translated'), ('u /= 70000;', '`/` with 70000'),
     ('uint32_t l = 1; n = l >> 16;', '`>>` with 16'), ('if(clock_time() > 100000UL) n = 1;', '`>` with 100000'),
     ('int *q = &n; packetbuf_copyfrom(&q, 2);', '`&q` is the address of the pointer `q` itself: write `q`'),
+    ('process_poll(n ? &p : &p);', 'this expression isn\'t the address of a variable'),
+    ('return 0;', 'A `return` in a process isn\'t translated'),
     ('x = &n;', '`&n` is an address, but a number is expected'), ('x = a;', '`a` is an address, but a number'),
     ('*(uint16_t *)packetbuf_dataptr() = 3;', 'A packet is filled by a copy of a variable'),
     ('int *q; for(q = a; q < &n; q++) x = *q;', 'compared only with members of its array'),

@@ -123,7 +123,8 @@ class Base:
         return self.program.file
 
     def refuse(self, line: int, reason: str) -> Refusal:
-        return Refusal(line, reason)
+        # (an expression has no name)
+        return Refusal(line, reason.replace('`this`', 'this expression'))
 
     def absent_call(self, name: str, line: int, calls: Iterable[str]) -> Refusal:
         """A function that the program doesn't have, with what to write instead, or with a similar name. `calls`: names

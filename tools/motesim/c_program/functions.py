@@ -44,7 +44,9 @@ SCHEDULE = ('`PT_SCHEDULE` is translated only if a process waits for the end of 
 OF_EARLIER = 'Here, the semaphore `%s` has this count from the start, also in the processes that start before this one.'
 OF_INIT = 'The count of a semaphore is set once, at the beginning of a process, by a constant.'
 OF_END = 'In C, `%s` also runs after the end of the process: here, the process waits for packets.'
-RETURNS = 'A `return` in a process ends it: use `PROCESS_EXIT();`.'
+RETURNS = ('A `return` in a process isn\'t translated. To end the process, as `return PT_ENDED;` does, write '
+           '`PROCESS_EXIT();`. After a `return` with another value, such as 0, the next event runs the process again '
+           'from its last wait, or from its beginning: write a loop with a wait, such as `PROCESS_WAIT_EVENT();`.')
 NO_PARAMETER = 'A parameter of a protothread is a constant here: use a variable of its process instead.'
 NO_TARGET = ('A parameter of a protothread that is an address is here that of a static variable, the same one at each '
              '`PT_SPAWN`: let the protothread use a variable of its process instead.')
