@@ -20,6 +20,7 @@ from motesim.grading.marking import (
 from motesim.grading.nets import Net
 from motesim.grading.tables import why
 from motesim.judge.expectations import known_of, parts_of, read_all
+from motesim.judge.sentences import names_of, read_sentence
 from motesim.runner import Limits
 from motesim.runner.run import answer
 from motesim.scenario import Scenario
@@ -313,6 +314,18 @@ PROCESS_THREAD(q, ev, data) { PROCESS_BEGIN(); printf("%d", random_rand() & 15);
                 its = InC(path.read_text(), found, IN_A_ROW % (ENDS.get(path.stem, 1_000), found.text))
                 self.compiled.report(its, 'p')
                 self.assertEqual(self.compiled.difference(its, 'p', answer(its.scenario.encode()).report), SAME)
+
+
+class Callbacks(unittest.TestCase):
+    def test_what_a_callback_prints_counts_for_one_process_only(self) -> None:
+        need_program(self)
+        code = 'process a, b; autostart a, b; code a { etimer t; body { set t 5; yield_until fired(t); print 1; } }'
+        text = SCENARIO % (code.replace(' autostart', '\nautostart', 1) + '\ncode b { body { print 3; } }\n')
+        scenario = Scenario.parse(text)
+        report = answer(text.encode()).report.replace(b' print a ', b' print radio ')
+        wanted = 'mote 0 finally prints b 3', 'mote 0 prints just a 1', 'mote 0 prints a 3'
+        sentences = [read_sentence(it, names_of(scenario)) for it in wanted]
+        self.assertEqual(compiled_holds(report, scenario, 'p', sentences), [True, True, False])
 
 
 if __name__ == '__main__':

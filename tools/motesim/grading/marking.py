@@ -487,23 +487,16 @@ def spread_over(holds: Sequence[bool] | None, lacks: Sequence[str]) -> tuple[boo
 def compiled_holds(report: bytes, scenario: Scenario, program: str, sentences: Sequence[Sentence]
                    ) -> list[bool] | None:
     """Which sentences hold for a compiled program; None if it has other names. What its callback prints counts for the
-    process that a sentence names."""
+    process for which a sentence holds."""
     def found() -> list[bool] | None:
-        judges = {name: Judge(Report.parse(text), scenario)
-                  for name, text in compiled_readings(report.decode(), scenario.programs[program]).items()}
-        return [any(judge.broken(it) is None for name, judge in judges.items() if name in names_in(it, judges))
-                for it in sentences] if judges else None
+        judges = [Judge(Report.parse(text), scenario)
+                  for text in compiled_readings(report.decode(), scenario.programs[program]).values()]
+        return [any(judge.broken(it) is None for judge in judges) for it in sentences] if judges else None
 
     try:
         return tried(found, lambda words: None)
     except Fault:
         return None
-
-
-def names_in(sentence: Sentence, names: Iterable[str]) -> list[str]:
-    """The processes that a sentence names; the first one if it names none."""
-    known = [*names]
-    return [it for it in known if repr(it) in repr(sentence)] or known[:1]
 
 
 def of_callbacks(report: bytes, scenario: Scenario, program: str, sentences: Sequence[Sentence],
