@@ -136,8 +136,9 @@ class Comparison(unittest.TestCase):
         for written in 'root.u8[0] = 0; root.u8[1] = 0;', 'root.u8[0] = 1;', '':
             self.assertEqual(self.difference(in_process(body % written, above, '  ' + TIMER)), '', written)
         for word in 'const ', '':
-            first = above.replace('static rimeaddr_t root', 'static %srimeaddr_t root = {{0, 0}}' % word)
-            self.assertEqual(self.difference(in_process(body % '', first, '  ' + TIMER)), '', word)
+            for zeros in '{{0, 0}}', '{{0}}', '{.u8 = {0, 0}}':
+                first = above.replace('static rimeaddr_t root', 'static %srimeaddr_t root = %s' % (word, zeros))
+                self.assertEqual(self.difference(in_process(body % '', first, '  ' + TIMER)), '', first)
         asks = 'if(rimeaddr_cmp(&root, &rimeaddr_null)) root.u8[0] = 1;'
         self.assertEqual(self.difference(in_process(body % asks, first, '  ' + TIMER)), '')
         asks = 'printf("%d", rimeaddr_cmp(&root, &rimeaddr_null) + 2 * rimeaddr_cmp(&root, &rimeaddr_node_addr));'

@@ -35,7 +35,7 @@ SECTIONS = ('--set-section-flags', '.bss=alloc,load,contents,data', '--rename-se
             '--rename-section', '.data=library_data')
 KINDS = 'print', 'send'
 # The tokens that write an address of zeros: an assignment, or an initial value.
-ZERO = re.compile(r'u8 \[ 0 \] = 0 ;|\{ \{ 0 ,')
+ZERO = re.compile(r'u8 \[ 0 \] = 0 ;|\{ (?:\. u8 = )?\{ 0 [,}]')
 CRASHES = CRASHED + ': it uses memory that it doesn\'t have'
 DIVIDES = CRASHED + ': it divides by 0, which is 0 in the translation'
 # The signals that end a program because of a mistake.
