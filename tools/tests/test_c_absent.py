@@ -194,10 +194,11 @@ static const struct broadcast_callbacks calls = {recv};'''
             self.assertEqual('A `%s` of a `printf` needs a text' in notes, is_number, (value, notes))
 
     def test_a_misspelt_name_and_a_wrong_sign_for_a_field_are_mistakes(self) -> None:
-        above = 'static struct pair { int a, b; } s; static int number;'
+        above = 'static struct pair { int a, b; } s; static int number; static void adds(int n) { number += n; }'
         for body, wanted in (('struct pair *at = &s; at.a = 1;', '`at` is a pointer: write `->a` instead of `.a`.'),
                              ('s->a = 1;', '`s` isn\'t a pointer: write `.a` instead of `->a`.'),
                              ('s.c = 1;', 'There is no field `c` here.'), ('numbr = 1;', 'Do you mean `number`?'),
+                             ('addd(3);', 'Do you mean `adds`?'), ('no_such_call();', ''),
                              ('no_such_name = 1;', '')):
             with self.assertRaises(Refusal) as caught:
                 translated(in_process('  ' + body, above))

@@ -130,7 +130,8 @@ class Base:
         """A function that the program doesn't have, with what to write instead, or with a similar name. `calls`: names
         of Contiki, of which this name may be one with a mistake."""
         names = [it for it in calls if is_misspelt(name, it)] or self.file.functions
-        return Refusal(line, absent(name) + ('' if advice_for(name) else similar(name, names)))
+        meant = '' if advice_for(name) else similar(name, names)
+        return (Mistake if meant else Refusal)(line, absent(name) + meant)
 
     def absent_variable(self, name: str, line: int) -> Refusal:
         """A name that isn't declared, with what to write instead, or with a similar name."""

@@ -143,6 +143,7 @@ class Locals:
 
     def of_if(self, it: Statement) -> None:
         self.read(it.expressions[0])
+        self.note_test(it.expressions[0])
         before = self.state
         self.run(it.body)
         then, self.state = self.state, before
@@ -180,8 +181,14 @@ class Locals:
             head = again
         self.state = joined(ends)
 
+    def note_test(self, it: Expression | None) -> None:
+        """Notes a test of the event: below it, the program knows which event has ended its wait."""
+        if it is not None and self.state is not None and asks_for_event(it):
+            self.state = self.state._replace(ended=0)
+
     def of_switch(self, it: Statement) -> None:
         self.read(it.expressions[0])
+        self.note_test(it.expressions[0])
         before, self.state = self.state, None
         self.breaks.append([])
         for one in it.body:
@@ -364,10 +371,15 @@ def is_value_of_data(it: Expression) -> bool:
         and inner.variable.is_parameter
 
 
+def asks_for_event(it: Expression) -> bool:
+    """Returns whether an expression reads the event."""
+    return any(one.kind == 'name' and one.variable is not None and one.variable.type.kind == 'event'
+               for one in parts_of(it))
+
+
 def has_own_event(it: Expression) -> bool:
     """Returns whether a wait ends with the event of a timer or of a pause."""
-    parts = [*parts_of(it)]
-    asks = any(one.kind == 'name' and one.variable and one.variable.type.kind == 'event' for one in parts)
+    parts, asks = [*parts_of(it)], asks_for_event(it)
     is_timer = any(one.text == 'PROCESS_EVENT_TIMER' or one.text == 'etimer_expired' and not asks for one in parts)
     return it.text == 'PROCESS_PAUSE' or is_timer and not any(one.text == '||' for one in parts)
 
