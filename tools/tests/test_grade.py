@@ -23,6 +23,7 @@ from unittest import mock
 from here import TOOLS
 from motesim.grading.command import remarks, status_of
 from motesim.grading.entries import Entry, anonymous, data_of, entries_of
+from motesim.grading.in_c import notation_of
 from motesim.grading.marking import BINARY, Mark, Marks, Task, page_name, warned_of
 from motesim.grading.nets import cut_off, nets_of, program_of
 from motesim.grading.page import page_of
@@ -32,7 +33,7 @@ from motesim.grading import tables
 from motesim.grading.tables import cell, csv_of
 from motesim.grading.tables import table as table_of
 from motesim.faults import Fault
-from motesim.judge.expectations import parts_of
+from motesim.judge.expectations import judged, parts_of
 from motesim.runner import Limits, program_path
 from motesim.runner.run import Answer
 from motesim.scenario import Scenario
@@ -818,6 +819,10 @@ PROCESS_THREAD(a, ev, data) {
         task = Task(part, tuple(nets_of([self.top / 'task.toml'], [], None)), Limits())
         with mock.patch('motesim.grading.marking.MOST_SHOWN', 20):
             self.assertEqual(task.of((1, Entry('ben.c', self.folder / 'ben.c'))).held, 3)
+        text = task.nets[0].with_program(notation_of(in_c))
+        self.assertEqual([it.holds for it in judged(text, part)], [True, True, True, False])
+        self.assertIn('counts for `b`', judged(text, part)[0].remark)
+        self.assertFalse(judged(text.replace('// Translated from C', ''), part)[0].holds)
 
     def test_the_row_of_a_solution_has_the_process_that_prints_the_wanted_values(self) -> None:
         need_program(self)

@@ -5,6 +5,9 @@ import unittest
 from pathlib import Path
 
 from motesim.c_program.base import OF_LONG
+from motesim.c_program.calls import OF_RESET
+from motesim.c_program.compiler import LACKS
+from motesim.c_program.expressions import OF_OVERFLOW
 from motesim.c_program.program import Remark, translated
 from motesim.c_program.refusal import Refusal
 from motesim.explain.moments import Burst
@@ -12,7 +15,7 @@ from motesim.grading.compiled import (
     CRASHES, DIVIDES, MEETING, OF_INT, OF_REMARK, OF_UNSET, SAME, Compiled, Difference, InC, NoComparison,
     first_meeting,
 )
-from motesim.grading.in_c import in_words_of_c, on_node
+from motesim.grading.in_c import in_words_of_c, is_seen_by_gcc, on_node
 from motesim.grading.marking import (
     BY_GCC, OF_HIDDEN_RUN, InNet, Mark, Marks, Task, by_gcc_in, compiled_holds, difference_in, differences_in,
     remarks_in,
@@ -263,6 +266,8 @@ PROCESS_THREAD(q, ev, data) {
             self.assertIn(OF_LONG, [it.text for it in remarks])
             self.assertEqual(found.words.partition(';')[0], words)
             self.assertEqual(any(it.is_mistake for it in remarks), bool(words))
+        for text, is_seen in (OF_LONG, True), (OF_RESET % ('et', 'etimer'), True), (OF_OVERFLOW, False), (LACKS, False):
+            self.assertEqual(is_seen_by_gcc(Remark(3, text, True)), is_seen)
         uncompared = [in_net(SAME)._replace(differs=None)]
         self.assertTrue(any(it.is_mistake for it in remarks_in(uncompared, its.source)))
 

@@ -4,7 +4,9 @@ from __future__ import annotations
 from collections.abc import Sequence
 
 from motesim.c_program import compiler
+from motesim.c_program.calls import OF_ATTRIBUTE, OF_LEDS, OF_TEXT_NEEDED
 from motesim.c_program.constants import SECOND
+from motesim.c_program.expressions import OF_OVERFLOW
 from motesim.c_program.program import Remark, Translation
 from motesim.c_program.refusal import Mistake, Refusal
 from motesim.c_program.values import MOST
@@ -21,6 +23,9 @@ WORDS_OF_C = {'wait by `yield_until`': 'wait by `PROCESS_WAIT_EVENT_UNTIL(etimer
               '`yield_until`': '`PROCESS_WAIT_EVENT_UNTIL`', '`wait_until`': '`PROCESS_WAIT_UNTIL`',
               '`wait_while`': '`PROCESS_WAIT_WHILE`', '`yield`': '`PROCESS_YIELD`', '`pause`': '`PROCESS_PAUSE`'}
 NO_TRANSLATION = 'not marked: its line %d may be right in C, but the tool can\'t translate it'
+# The beginnings of remarks on lines of which the compiled program shows nothing here: it has an `int` of 32 bits.
+ONLY_ON_NODE = (compiler.LACKS, OF_OVERFLOW, OF_TEXT_NEEDED, 'On the Tmote Sky', OF_LEDS,
+                OF_ATTRIBUTE)
 CRASHED, DIFFERS = 'compiled by gcc, it crashes', 'compiled by gcc, it does something else'
 MISTAKEN = 'its line %d is a mistake in C'
 # (a time has 16 bits here)
@@ -81,6 +86,11 @@ def in_words_of_c(message: str) -> str:
 def shown(remark: Remark) -> str:
     """A remark with its line; one about the whole program has none."""
     return one_line('line %d in C: %s' % (remark.line, remark.text) if remark.line else remark.text)
+
+
+def is_seen_by_gcc(remark: Remark) -> bool:
+    """Returns whether a compiled program would do something else here, too, if it does on a node."""
+    return not any(map(remark.text.startswith, ONLY_ON_NODE))
 
 
 def on_node(remarks: Sequence[Remark], mark: str = '') -> str:

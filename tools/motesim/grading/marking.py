@@ -7,7 +7,6 @@ from dataclasses import dataclass, replace
 from pathlib import Path
 from typing import NamedTuple
 
-from motesim.c_program.base import OF_LONG
 from motesim.c_program.program import Remark
 from motesim.explain.explanation import explanation, of_program as fault_of_program, of_program_file, tables_or_none
 from motesim.explain.lint import (
@@ -17,12 +16,12 @@ from motesim.explain.whole import line_at
 from motesim.explain.within import busiest
 from motesim.faults import Fault, tried
 from motesim.files import replace_whole
-from motesim.grading.callbacks import OF_CALLBACK, compiled_readings, readings
 from motesim.grading.compiled import SAME, Compiled, Crash, Difference, InC, NoComparison
 from motesim.grading.entries import Entry, data_of, without_program
-from motesim.grading.in_c import NotTranslated, in_words_of_c, made_of, remarks_of
+from motesim.grading.in_c import NotTranslated, in_words_of_c, is_seen_by_gcc, made_of, remarks_of
 from motesim.grading.nets import NOT_UTF8, Net, NoProgram, program_of, unused_of
 from motesim.grading.untranslated import outline_of
+from motesim.judge.callbacks import compiled_readings, of_callbacks
 from motesim.judge.expectations import (
     REFUSED, REQUIRED, Part, UnknownSentence, known_of, more_of, read_all, refused, same_report,
 )
@@ -341,7 +340,7 @@ class Task:
         broken = without_own([judge.broken(it) for it in sentences], part.sentences)
         by_callback = dict[int, str]()
         if file[0].endswith('.c') and any(broken):
-            by_callback = of_callbacks(got.report, scenario, program, sentences, broken)
+            by_callback = of_callbacks(got.report.decode(), scenario, sentences, broken)
             broken = [None if at in by_callback else it for at, it in enumerate(broken)]
         held = iter([Mark(words, it is None, (), tuple(more_of(it, judge.rows)) if it else (),
                           remark=by_callback.get(at) or remark_or_none(words, sentence, judge, it is None))
@@ -463,10 +462,10 @@ def differences_in(found: Sequence[InNet]) -> list[tuple[bool, bool, str]]:
 
 
 def remarks_in(found: Sequence[InNet], source: str) -> list[Remark]:
-    """The remarks about a program in C. If the compiled program does the same in each net, no value wraps there that
-    has more bits in C: so a remark about such values names no mistake."""
+    """The remarks about a program in C. If the compiled program does the same in each net, only those remarks name
+    mistakes of which it shows nothing."""
     is_same = all(it.differs == SAME for it in found)
-    return [it._replace(is_mistake=False) if is_same and it.text == OF_LONG else it for it in remarks_of(source)]
+    return [it._replace(is_mistake=it.is_mistake and not (is_same and is_seen_by_gcc(it))) for it in remarks_of(source)]
 
 
 def by_gcc_in(found: Sequence[InNet]) -> tuple[bool, ...]:
@@ -497,18 +496,6 @@ def compiled_holds(report: bytes, scenario: Scenario, program: str, sentences: S
         return tried(found, lambda words: None)
     except Fault:
         return None
-
-
-def of_callbacks(report: bytes, scenario: Scenario, program: str, sentences: Sequence[Sentence],
-                 broken: Sequence[Broken | None]) -> dict[int, str]:
-    """The places of the broken sentences that hold if another process prints what the callback for packets prints, each
-    with a remark that says so."""
-    found = dict[int, str]()
-    for process, text in readings(report.decode(), program, scenario.programs[program]):
-        judge = Judge(Report.parse(text), scenario)
-        found.update((at, OF_CALLBACK % process) for at, it in enumerate(broken)
-                     if it and at not in found and judge.broken(sentences[at]) is None)
-    return found
 
 
 def remark_or_none(text: str, sentence: Sentence, judge: Judge, holds: bool) -> str:

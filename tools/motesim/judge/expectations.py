@@ -12,6 +12,7 @@ from typing import Any, NamedTuple
 
 from motesim.faults import Fault
 from motesim.explain.synonyms import nearest
+from motesim.judge.callbacks import of_callbacks
 from motesim.judge.judge import Broken, Judge
 from motesim.judge.remarks import remark_of
 from motesim.report import Report
@@ -185,9 +186,13 @@ def refused(part: Part, sentences: list[Sentence], got: Answer) -> list[Verdict]
 
 def of_report(part: Part, sentences: list[Sentence], judge: Judge) -> list[Verdict]:
     """The verdicts on a report."""
-    found = []
-    for text, sentence in zip(part.sentences, sentences):
-        broken = judge.broken(sentence)
+    found, every = [], [judge.broken(it) for it in sentences]
+    report = ''.join(row + '\n' for row in judge.rows) if any(every) else ''
+    by_callback = of_callbacks(report, judge.scenario, sentences, every)
+    for at, (text, sentence, broken) in enumerate(zip(part.sentences, sentences, every)):
+        if at in by_callback:
+            found.append(Verdict(text, True, [], remark=by_callback[at]))
+            continue
         remark = remark_of(text, sentence, judge, broken is None)
         found.append(Verdict(text, broken is None, more_of(broken, judge.rows) if broken else [], remark=remark))
     return found + ([same_report(judge.rows, part.report)] if part.report is not None else [])

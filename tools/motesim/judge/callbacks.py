@@ -7,13 +7,33 @@ callback polls it. So the callback prints all values of a call with a packet in 
 from __future__ import annotations
 
 import re
-from collections.abc import Iterator
+from collections.abc import Iterator, Sequence
+
+from motesim.explain.lint import TRANSLATED
+from motesim.judge.judge import Broken, Judge
+from motesim.judge.sentences import Sentence
+from motesim.report import Report
+from motesim.scenario import Scenario
 
 EVENTS = 'post', 'take'
 # The process of Contiki in which the callback runs.
 OF_RADIO = 'radio'
 OF_CALLBACK = 'the callback for packets prints this, and counts for `%s`: in C, a callback belongs to no process'
 PROCESSES, RECEIVER = re.compile(r'^process (.*);$', re.M), re.compile(r'^receiver (.*);$', re.M)
+
+
+def of_callbacks(report: str, scenario: Scenario, sentences: Sequence[Sentence], broken: Sequence[Broken | None]
+                 ) -> dict[int, str]:
+    """The places of the broken sentences that hold if, in a translated program, another process prints what the callback
+    for packets prints, each with a remark that says so."""
+    found = dict[int, str]()
+    translated = {name: text for name, text in scenario.programs.items() if text.lstrip().startswith(TRANSLATED)}
+    for name, text in translated.items() if any(broken) else ():
+        for process, its in readings(report, name, text):
+            judge = Judge(Report.parse(its), scenario)
+            found.update((at, OF_CALLBACK % process) for at, it in enumerate(broken)
+                         if it and at not in found and judge.broken(sentences[at]) is None)
+    return found
 
 
 def readings(report: str, program: str, text: str) -> Iterator[tuple[str, str]]:
