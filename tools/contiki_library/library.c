@@ -355,12 +355,29 @@ sent_by(int mote, uint16_t value)
   return NULL;
 }
 
+/*
+ * A mote sends two bytes, so the report of a program that sends more of them is useless, unless
+ * they are those of an `int`.
+ */
+static void
+check_length(void)
+{
+  int i, sign = length == sizeof(int) && buffer[1] > 127 ? 0xff : 0;
+
+  for(i = BYTES; i < length && library_is_alone; i++) {
+    if(buffer[i] != sign) {
+      exit(EXIT_FAILURE);
+    }
+  }
+}
+
 static const void *
 send(const void *connection, uint16_t value)
 {
   const struct opened *from = opened_as(connection);
   struct sent_packet *it = &sent_packets[sent_count++ % SENT_PACKETS];
 
+  check_length();
   it->mote = mote_number();
   it->value = value;
   it->length = length;

@@ -17,6 +17,7 @@ import time
 import tomllib
 import unittest
 from collections.abc import Callable
+from dataclasses import replace
 from pathlib import Path
 from unittest import mock
 
@@ -823,6 +824,9 @@ PROCESS_THREAD(a, ev, data) {
         self.assertEqual([it.holds for it in judged(text, part)], [True, True, True, False])
         self.assertIn('counts for `b`', judged(text, part)[0].remark)
         self.assertFalse(judged(text.replace('// Translated from C', ''), part)[0].holds)
+        both = replace(part, sentences=['mote 1 prints b 7 exactly 1 times as often as mote 1 prints a 7',
+                                        'mote 1 prints b 7 exactly 2 times as often as mote 1 prints a 7'])
+        self.assertEqual([it.holds for it in judged(text, both)], [True, False])
 
     def test_the_row_of_a_solution_has_the_process_that_prints_the_wanted_values(self) -> None:
         need_program(self)

@@ -244,6 +244,13 @@ PROCESS_THREAD(q, ev, data) {
                 ('system("true");', ''), ('__asm__("nop");', ''), ('list_add(items, NULL);', '; ' + CRASHES)):
             self.assertEqual(task.compiled_mark(source.replace('%s', more)), mark, more)
         self.assertEqual(task.compiled_mark('PROCESS_THREAD('), '')
+        above = ('#include "net/rime.h"\nstatic struct broadcast_conn bc; static struct { uint8_t a, b, c; } m;'
+                 ' static int n = -2;')
+        for filled, mark in ('&m, sizeof(m)', BY_GCC % (1, 2)), ('&n, sizeof(n)', BY_GCC % (1, 2)):
+            sends = 'broadcast_open(&bc, 9, NULL); packetbuf_copyfrom(%s); broadcast_send(&bc);' % filled
+            whole = source.replace('LIST(items);', above + '\nLIST(items);')
+            self.assertEqual(task.compiled_mark(whole.replace('%s', sends)), mark, filled)
+            self.assertEqual(task.compiled_mark(whole.replace('%s', 'm.c = 1; ' + sends)), mark * ('m' not in filled))
 
     def test_from_a_packet_at_the_moment_of_a_timer_on_runs_may_differ(self) -> None:
         report = (b'mote 0 p\n3 recv 1 0 3\n5 recv 1 1 3\n5 post 2 p timer 0\n'

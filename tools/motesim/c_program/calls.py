@@ -150,7 +150,7 @@ class Calls(Chance):
         if self.prints_numbers:
             self.remark(line, OF_DARK)
         else:
-            self.remark_mistake(min(filter(None, map(self.first_call, LEDS)), default=line), OF_LEDS)
+            self.remark(min(filter(None, map(self.first_call, LEDS)), default=line), OF_LEDS)
         return Expression('name', LIT.name, line=line, variable=LIT)
 
     @property

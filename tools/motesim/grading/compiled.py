@@ -59,10 +59,12 @@ class Crash(Exception):
 
 
 class InC(NamedTuple):
-    """A program in C in a net: its text, its translation, and the scenario with this translation."""
+    """A program in C in a net: its text, its translation, and the scenario with this translation. `is_alone`: whether the
+    translation has only its processes."""
     source: str
     translation: Translation
     scenario: str
+    is_alone: bool = False
 
 
 class Difference(NamedTuple):
@@ -221,6 +223,7 @@ def whole(it: InC, program: str, number: int) -> str:
     return '\n'.join(['#include "library.h"', *rows,
                       'const int library_has_text = %d;' % any(map(PRINTS.fullmatch, rows)),
                       'const int library_writes_zero = %d;' % bool(ZERO.search(' '.join(rows))),
+                      'const int library_is_alone = %d;' % it.is_alone,
                       'const struct process *const library_drawing[] = { %s };' % drawing,
                       'const struct process *const library_receiver_of_packets = %s;' % receiver,
                       'LIBRARY_PROGRAM(host_program_%d, "%s");' % (number, program), ''])

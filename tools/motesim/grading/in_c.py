@@ -4,7 +4,7 @@ from __future__ import annotations
 from collections.abc import Sequence
 
 from motesim.c_program import compiler
-from motesim.c_program.calls import OF_ATTRIBUTE, OF_LEDS, OF_TEXT_NEEDED
+from motesim.c_program.calls import OF_ATTRIBUTE, OF_TEXT_NEEDED
 from motesim.c_program.constants import SECOND
 from motesim.c_program.expressions import OF_OVERFLOW
 from motesim.c_program.program import Remark, Translation
@@ -24,8 +24,7 @@ WORDS_OF_C = {'wait by `yield_until`': 'wait by `PROCESS_WAIT_EVENT_UNTIL(etimer
               '`wait_while`': '`PROCESS_WAIT_WHILE`', '`yield`': '`PROCESS_YIELD`', '`pause`': '`PROCESS_PAUSE`'}
 NO_TRANSLATION = 'not marked: its line %d may be right in C, but the tool can\'t translate it'
 # The beginnings of remarks on lines of which the compiled program shows nothing here: it has an `int` of 32 bits.
-ONLY_ON_NODE = (compiler.LACKS, OF_OVERFLOW, OF_TEXT_NEEDED, 'On the Tmote Sky', OF_LEDS,
-                OF_ATTRIBUTE)
+ONLY_ON_NODE = (compiler.LACKS, OF_OVERFLOW, OF_TEXT_NEEDED, 'On the Tmote Sky', OF_ATTRIBUTE)
 CRASHED, DIFFERS = 'compiled by gcc, it crashes', 'compiled by gcc, it does something else'
 MISTAKEN = 'its line %d is a mistake in C'
 # (a time has 16 bits here)

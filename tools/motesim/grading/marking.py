@@ -376,7 +376,7 @@ class Task:
             lacks = [lacking(it, names) for it in self.part.sentences]
             sentences = read_all([it for it, lack in zip(self.part.sentences, lacks) if not lack], names)
             try:
-                report = self.compiled.report(InC(source, outline, text), net.program)
+                report = self.compiled.report(InC(source, outline, text, True), net.program)
             except NoComparison:
                 return ''
             except Crash as crash:
@@ -489,7 +489,7 @@ def compiled_holds(report: bytes, scenario: Scenario, program: str, sentences: S
     process for which a sentence holds."""
     def found() -> list[bool] | None:
         judges = [Judge(Report.parse(text), scenario)
-                  for text in compiled_readings(report.decode(), scenario.programs[program]).values()]
+                  for text in compiled_readings(report.decode(), scenario.programs[program])]
         return [any(judge.broken(it) is None for judge in judges) for it in sentences] if judges else None
 
     try:
