@@ -866,6 +866,8 @@ PROCESS_THREAD(app, ev, data) { PROCESS_BEGIN(); while(1) { PROCESS_YIELD(); pri
     def test_a_file_without_a_process_is_refused(self) -> None:
         for source in ('int main(void) { return 0; }', 'static int n;', ''):
             self.assertIn('No process is here', translation(source)[1])
+        with self.assertRaisesRegex(Mistake, '^Contiki has the function `main`'):
+            translated(in_process('  ;', 'int main(void) { return 0; }'))
 
     def test_macros_that_grow_too_long_are_refused_soon(self) -> None:
         started = time.process_time()

@@ -17,7 +17,9 @@ from collections.abc import Iterable, Sequence
 from pathlib import Path
 from typing import NamedTuple
 
+from motesim.c_program.absent import advice_for
 from motesim.c_program.refusal import Mistake
+from motesim.explain.synonyms import nearest
 
 HEADERS = Path(__file__).resolve().parents[2] / 'contiki_library'
 # The files that programs include, by the header that declares the same.
@@ -52,7 +54,11 @@ COMPLAINT = re.compile(r'^<stdin>:(\d+):\d+: (?:fatal )?(error|warning): (.*?)(?
 # The beginnings of errors that no further declaration corrects.
 CERTAIN = ('expected ', 'stray ', 'missing terminating', 'unterminated', 'unmatched', 'incompatible type for argument',
            'too few arguments', 'too many arguments', 'invalid type argument', 'request for member', 'lvalue required',
-           'invalid operands', 'void value', 'assignment of read-only', 'redefinition of', 'conflicting types')
+           'invalid operands', 'void value', 'assignment of read-only', 'redefinition of', 'conflicting types',
+           'initializer element is not constant', 'multiple storage classes')
+UNDECLARED, NO_TYPE = re.compile(r"'(\w+)' undeclared"), re.compile(r"unknown type name '(\w+)'")
+TYPES = ('uint8_t', 'int8_t', 'uint16_t', 'int16_t', 'uint32_t', 'int32_t', 'clock_time_t', 'rimeaddr_t', 'linkaddr_t',
+         'process_event_t', 'process_data_t', 'static', 'struct', 'unsigned', 'signed', 'const', 'void')
 REFUSED, WARNED = 'gcc refuses it: %s.', 'gcc warns: %s.'
 LACKS = 'gcc refuses this line: '
 LACKS_ONE = LACKS + '%s. The program needs `#include "%s"`.'
@@ -98,10 +104,18 @@ def check(text: str) -> list[tuple[int, str, bool]]:
 
 
 def has_certain_error(text: str) -> bool:
-    """Returns whether gcc, if it is installed, finds an error in a program that isn't due to parts of Contiki that aren't
-    here, such as one in the syntax."""
+    """Returns whether gcc, if it is installed, finds an error in a program that isn't due to missing parts of Contiki, such
+    as one in the syntax."""
     return is_installed() and knows_files_of(text) and any(
-        it.words.startswith(CERTAIN) for it in errors_in(complaints_of(with_headers(text))))
+        is_certain(it.words) for it in errors_in(complaints_of(with_headers(text))))
+
+
+def is_certain(words: str) -> bool:
+    """Returns whether no part of Contiki that isn't here corrects an error. An undeclared name may be a constant of
+    Contiki only if it is in capitals, or if motesim has advice for it."""
+    name, its_type = UNDECLARED.match(words), NO_TYPE.match(words)
+    is_own = name is not None and not name[1].isupper() and not advice_for(name[1])
+    return is_own or its_type is not None and nearest(its_type[1], TYPES) is not None or words.startswith(CERTAIN)
 
 
 def errors_in(complaints: Sequence[Complaint]) -> list[Complaint]:

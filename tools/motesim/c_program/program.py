@@ -34,6 +34,8 @@ MOST_ROUNDS = 40
 MOST_NAMES = 8
 OF_NAMES = 'A name has at most 16 small letters, digits and `_` here, and isn\'t a keyword: %s.'
 NO_PROCESS = 'No process is here: a program for Contiki has at least one `PROCESS` with its `PROCESS_THREAD`.'
+OF_MAIN = ('Contiki has the function `main`, which starts the processes: leave this one out, and write its statements '
+           'in a process.')
 NO_BODY = 'The process `%s` has no `PROCESS_THREAD(%s, ev, data)` in this file.'
 NO_END = ('`%s` ends in C, but its function `%s` still runs for packets. Here, a process that has ended gets no '
           'packets. So `%s` waits for packets instead of ending, and this line depends on its end. Let a process that '
@@ -132,6 +134,8 @@ def exceeded(text: str) -> str:
 def check_processes(file: File) -> None:
     if not file.processes:
         raise Mistake(1, NO_PROCESS)
+    if 'main' in file.functions:
+        raise Mistake(file.functions['main'].line, OF_MAIN)
     for name in [*file.processes]:
         if name not in file.bodies:
             raise Mistake(file.processes[name], NO_BODY % (name, name))
