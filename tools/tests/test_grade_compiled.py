@@ -12,10 +12,10 @@ from motesim.c_program.program import Remark, translated
 from motesim.c_program.refusal import Refusal
 from motesim.explain.moments import Burst
 from motesim.grading.compiled import (
-    CRASHES, DIVIDES, MEETING, OF_INT, OF_REMARK, OF_UNSET, SAME, Compiled, Difference, InC, NoComparison,
+    CRASHES, DEFINES, DIVIDES, MEETING, OF_INT, OF_REMARK, OF_UNSET, SAME, Compiled, Difference, InC, NoComparison,
     first_meeting,
 )
-from motesim.grading.in_c import in_words_of_c, is_seen_by_gcc, on_node
+from motesim.grading.in_c import UNLINKED, in_words_of_c, is_seen_by_gcc, on_node
 from motesim.grading.marking import (
     BY_GCC, OF_HIDDEN_RUN, InNet, Mark, Marks, Task, by_gcc_in, compiled_holds, difference_in, differences_in,
     remarks_in,
@@ -310,6 +310,12 @@ PROCESS_THREAD(q, ev, data) { PROCESS_BEGIN(); printf("%d", random_rand() & 15);
         source = in_process(body, above, '  ' + TIMER)
         self.assertEqual(self.difference(source), '')
         self.assertNotEqual(self.difference(source, source.replace('+ 3', '+ 4')), '')
+
+    def test_a_function_of_contiki_is_not_defined_again(self) -> None:
+        above = '#include "lib/random.h"\nunsigned short random_rand(void) { return 3; }'
+        words = self.difference(in_process('  printf("%d", random_rand());', above))
+        self.assertEqual(words, DEFINES % 'random_rand')
+        self.assertEqual(on_node([Remark(0, words, True)]), UNLINKED)
 
     def test_a_program_that_gcc_refuses_is_not_compared(self) -> None:
         with self.assertRaises(NoComparison):

@@ -22,7 +22,7 @@ from motesim.c_program.places import OF_ZEROS
 from motesim.c_program.program import Translation
 from motesim.contiki.folder import HOST, host_tables, program_files, text_of
 from motesim.contiki.names import file_names
-from motesim.grading.in_c import CRASHED
+from motesim.grading.in_c import CRASHED, UNLINKED
 from motesim.grading.untranslated import may_call
 from motesim.scenario import Scenario
 
@@ -38,6 +38,8 @@ KINDS = 'print', 'send'
 ZERO = re.compile(r'u8 \[ 0 \] = 0 ;|\{ (?:\. u8 = )?\{ 0 [,}]')
 CRASHES = CRASHED + ': it uses memory that it doesn\'t have'
 DIVIDES = CRASHED + ': it divides by 0, which is 0 in the translation'
+DEFINES = UNLINKED + ': it defines `%s`, and so does Contiki'
+TWICE = re.compile('multiple definition of `(\\w+)\'')
 # The signals that end a program because of a mistake.
 ENDS = {-it: CRASHES for it in (signal.SIGSEGV, signal.SIGBUS, signal.SIGILL, signal.SIGABRT)} | {
     -signal.SIGFPE: DIVIDES}
@@ -131,8 +133,9 @@ class Compiled:
             at, words = found
             if self.can_fill and first(it, program, self.report(it, program, ZEROS), report) != found:
                 return Difference(words + OF_UNSET, False, theirs)
-        except NoComparison:
-            return None
+        except NoComparison as fault:
+            twice = TWICE.search(str(fault))
+            return Difference(DEFINES % twice[1]) if twice else None
         except Crash as crash:
             return Difference(str(crash))
         meeting = first_meeting(report, program)

@@ -25,6 +25,7 @@ WORDS_OF_C = {'wait by `yield_until`': 'wait by `PROCESS_WAIT_EVENT_UNTIL(etimer
 NO_TRANSLATION = 'not marked: its line %d may be right in C, but the tool can\'t translate it'
 # The beginnings of remarks on lines of which the compiled program shows nothing here: it has an `int` of 32 bits.
 ONLY_ON_NODE = (compiler.LACKS, OF_OVERFLOW, OF_TEXT_NEEDED, 'On the Tmote Sky', OF_ATTRIBUTE)
+UNLINKED = 'gcc can\'t link it'
 CRASHED, DIFFERS = 'compiled by gcc, it crashes', 'compiled by gcc, it does something else'
 MISTAKEN = 'its line %d is a mistake in C'
 # (a time has 16 bits here)
@@ -100,8 +101,8 @@ def on_node(remarks: Sequence[Remark], mark: str = '') -> str:
     others = sorted({it.line for it in mistakes if it.line} - {*lacking})
     lines = ['%d' % it for it in others]
     listed = ' and '.join(filter(None, [', '.join(lines[:-1]), *lines[-1:]]))
-    compiled = [CRASHED if it.text.startswith(CRASHED) else DIFFERS + ' (%s)' % mark * bool(mark)
-                for it in mistakes if not it.line]
+    compiled = [it.text.partition(':')[0] if it.text.startswith((CRASHED, UNLINKED)) else
+                DIFFERS + ' (%s)' % mark * bool(mark) for it in mistakes if not it.line]
     return '; '.join([*compiled,
                       *['gcc refuses line %d, because an #include is missing' % it for it in lacking],
                       *['on a node, line%s %s may do something else' % ('s' * (len(lines) > 1), listed)] * bool(lines)])
