@@ -12,8 +12,8 @@ from motesim.c_program.program import Remark, translated
 from motesim.c_program.refusal import Refusal
 from motesim.explain.moments import Burst
 from motesim.grading.compiled import (
-    CRASHES, DEFINES, DIVIDES, MEETING, OF_INT, OF_REMARK, OF_UNSET, SAME, Compiled, Difference, InC, NoComparison,
-    first_meeting,
+    CRASHES, DEFINES, DIVIDES, MEETING, OF_INDEX, OF_INT, OF_REMARK, OF_UNSET, SAME, Compiled, Difference, InC,
+    NoComparison, first_meeting,
 )
 from motesim.grading.in_c import UNLINKED, in_words_of_c, is_seen_by_gcc, on_node
 from motesim.grading.marking import (
@@ -289,7 +289,8 @@ PROCESS_THREAD(q, ev, data) {
 
     def test_a_program_that_leaves_an_array_crashes(self) -> None:
         source = in_process('  n = 9; printf("%d", a[n]);', inside='  static int a[3], n;')
-        self.assertEqual(self.difference(source, in_process('  ;')), CRASHES)
+        line = source[:source.index('a[n]')].count('\n') + 1
+        self.assertEqual(self.difference(source, in_process('  ;')), OF_INDEX % (line, 9, 3))
 
     def test_a_program_that_divides_by_0_is_named(self) -> None:
         source = in_process('  printf("%d", 7 / n);', inside='  static uint16_t n;')

@@ -26,10 +26,12 @@ from motesim.grading.in_c import CRASHED, UNLINKED
 from motesim.grading.untranslated import may_call
 from motesim.scenario import Scenario
 
-FLAGS = ('-w', '-O0', '-fno-pic', '-std=gnu99', '-fsanitize=bounds', '-fsanitize-undefined-trap-on-error',
+FLAGS = ('-w', '-O0', '-fno-pic', '-std=gnu99', '-fsanitize=bounds',
          '-I.', '-I%s' % LIBRARY, '-I%s' % HOST)
 # The memory of local variables that have no value has bytes that are rarely right by chance; or zeros.
 GARBAGE, ZEROS = '-ftrivial-auto-var-init=pattern', '-ftrivial-auto-var-init=zero'
+# An index beyond an array ends a program, which names it if the compiler has a library for this.
+NAMES_INDEX, ENDS_AT_INDEX = '-fno-sanitize-recover=bounds', '-fsanitize-undefined-trap-on-error'
 # (the linker defines symbols at the ends of a section whose name is one of C)
 SECTIONS = ('--set-section-flags', '.bss=alloc,load,contents,data', '--rename-section', '.bss=library_zeros',
             '--rename-section', '.data=library_data')
@@ -37,6 +39,9 @@ KINDS = 'print', 'send'
 # The tokens that write an address of zeros: an assignment, or an initial value.
 ZERO = re.compile(r'u8 \[ 0 \] = 0 ;|\{ (?:\. u8 = )?\{ 0 [,}]')
 CRASHES = CRASHED + ': it uses memory that it doesn\'t have'
+OF_INDEX = CRASHED + ': in line %d, it uses the index %s of an array with %s members'
+INDEX = re.compile(r"^solution\.c:(\d+):\d+: runtime error: index (-?\d+) out of bounds for type '.*\[(\d+)\]'",
+                   re.M)
 DIVIDES = CRASHED + ': it divides by 0, which is 0 in the translation'
 DEFINES = UNLINKED + ': it defines `%s`, and so does Contiki'
 TWICE = re.compile('multiple definition of `(\\w+)\'')
@@ -93,10 +98,13 @@ class Compiled:
     def __init__(self, folder: Path):
         self.folder = folder
         self.can_fill = is_possible(['gcc', GARBAGE, '-E', '-x', 'c', '/dev/null'], folder)
+        (folder / 'probe.c').write_text('int main(void) { return 0; }', 'utf-8')
+        names_index = is_possible(['gcc', *FLAGS, NAMES_INDEX, '-o', 'probe', 'probe.c'], folder)
+        self.flags = (*FLAGS, NAMES_INDEX if names_index else ENDS_AT_INDEX)
         for path in (*HOST.glob('*.c'), *LIBRARY.glob('*.c')):
             # (the radio calls the callback of a program in C, instead of posting the packet)
             more = ['-Dprocess_post=library_post'] if path.name == 'radio.c' else []
-            called(['gcc', *FLAGS, *more, '-c', str(path)], folder)
+            called(['gcc', *self.flags, *more, '-c', str(path)], folder)
         called(['objcopy', *SECTIONS, 'library.o'], folder)
         self.objects = [str(it) for it in sorted(folder.glob('*.o'))]
 
@@ -114,13 +122,21 @@ class Compiled:
             for its, text in tables:
                 (place / its).write_text(text, 'utf-8')
             (place / 'solution.c').write_text(whole(it, program, [*files].index(program)), 'utf-8')
-            called(['gcc', *FLAGS, *[fill] * self.can_fill, '-c', 'solution.c'], place)
+            called(['gcc', *self.flags, *[fill] * self.can_fill, '-c', 'solution.c'], place)
             if not may_call(called(['nm', '-u', '-j', 'solution.o'], place).decode().split()):
                 raise NoComparison('it calls functions that no mote has')
             called(['objcopy', *SECTIONS, 'solution.o'], place)
             sources = ['solution.o', *(name for name, _ in tables), *self.objects]
-            called(['gcc', *FLAGS, '-no-pie', '-o', 'run', *sources], place)
-            return called(['./run'], place)
+            called(['gcc', *self.flags, '-no-pie', '-o', 'run', *sources], place)
+            try:
+                return called(['./run'], place)
+            except NoComparison as fault:
+                index = INDEX.search(str(fault))
+                if index is None:
+                    raise
+                # (each token has a line of its own)
+                line = tokens_in(it.source)[int(index[1]) - 2].line
+                raise Crash(OF_INDEX % (line, index[2], index[3])) from None
 
     def difference(self, it: InC, program: str, report: bytes) -> Difference | None:
         """The first difference between the motes of a program in C and those of its translation, whose report is given;
