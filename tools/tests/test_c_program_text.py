@@ -219,7 +219,7 @@ REFUSALS = (
     ('n = n & & 3;', 'Behind the sign `&` for an address, there is a variable.'),
     ('if(ev == sensors_event) n = 1;', 'A mote has no sensors'), ('if(ev == tcpip) n = 1;', '`tcpip` isn\'t'),
     ('memcpy(&u, bytes, 2);', 'have other sizes'), ('u = *(uint16_t *)bytes;', '`bytes` is read with another type'),
-    ('memset(bytes, 0, n);', 'The number of the bytes is a constant'),
+    ('memset(bytes, 0, n);', 'The number of the bytes must be a constant'),
     ('memset(a, 0, 3);', '3 isn\'t the size of these'), ('int *q = &n; n = *q++;', 'or is NULL: use an index'),
     ('int *q, *r; q = a; r = &n; q++; q = r; r = a;', 'or is NULL: use an index'),
     ('static struct { int *next; } s; s.next = &n;', 'Only a variable is a pointer here, not `next`'),

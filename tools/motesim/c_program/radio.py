@@ -340,7 +340,7 @@ class Radio(Calls):
         """The variables and the members in some bytes from a place on."""
         count = self.evaluate(size).constant
         if count is None:
-            raise self.refuse(line, 'The number of the bytes is a constant here.')
+            raise self.refuse(line, 'The number of the bytes must be a constant: use a loop instead.')
         return self.bytes_from(place, count, line)
 
     def bytes_from(self, place: Place, count: int, line: int) -> list[Place]:
