@@ -254,6 +254,14 @@ static const struct broadcast_callbacks calls = {recv};'''
                 self.assertIn('    %s\n' % line, text or notes)
             self.assertIn('1 for green, 2 for yellow or blue, and 4 for red', notes)
 
+    def test_a_misspelt_header_is_a_mistake(self) -> None:
+        for path, meant in (('net/broadcast.h', 'net/rime/broadcast.h'), ('sys/etimers.h', 'sys/etimer.h'),
+                            ('lib/random.hh', 'lib/random.h'), ('net/rme.h', 'net/rime.h')):
+            with self.assertRaisesRegex(Mistake, 'Contiki has no file `%s`. Do you mean `%s`' % (path, meant)):
+                translated('#include "%s"\n' % path + in_process('  ;'))
+        for path in 'sys/mt.h', 'net/rime/runicast.h', 'dev/etimer.h', 'lib/list.h', 'net/other.h':
+            self.assertIsNotNone(translated('#include "%s"\n' % path + in_process('  ;')))
+
     def test_a_program_with_a_printf_prints_no_leds(self) -> None:
         above = 'static void show(void) { printf("%d", leds_get()); }'
         text, notes = translation(in_process('  leds_on(LEDS_RED);\n  show();', above))

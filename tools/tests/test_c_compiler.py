@@ -77,7 +77,8 @@ class Checks(unittest.TestCase):
         for line, wanted in (('done = 1', True), ('static struct runicast_conn c; runicast_open(&c, 1, NULL);', False),
                              ('done = 1;', False), ('if(done == 1 { }', True), ('done = "a;', True),
                              ('static unit8_t k;', True), ('static uint8_t k = done;', True), ('dune = 3;', True),
-                             ('done = RADIO_TXPOWER;', False), ('done = battery_sensor.value;', False),
+                             ('static uip_ipaddr_t k;', False), ('done = RADIO_TXPOWER;', False),
+                             ('done = battery_sensor.value;', False),
                              ('static struct etimer et; etimer_set(et, 3);', True), ('etimer_set(3);', True)):
             self.assertEqual(has_certain_error(HEAD + PROGRAM % line), wanted, line)
         found = NotTranslated(Refusal(3, ''), HEAD + PROGRAM % 'done = 1'), NotTranslated(Refusal(3, ''), HEAD)

@@ -57,6 +57,8 @@ CERTAIN = ('expected ', 'stray ', 'missing terminating', 'unterminated', 'unmatc
            'invalid operands', 'void value', 'assignment of read-only', 'redefinition of', 'conflicting types',
            'initializer element is not constant', 'multiple storage classes')
 UNDECLARED, NO_TYPE = re.compile(r"'(\w+)' undeclared"), re.compile(r"unknown type name '(\w+)'")
+# (such as that of `unit8_t` and `uint8_t`)
+ALIKE = 0.8
 TYPES = ('uint8_t', 'int8_t', 'uint16_t', 'int16_t', 'uint32_t', 'int32_t', 'clock_time_t', 'rimeaddr_t', 'linkaddr_t',
          'process_event_t', 'process_data_t', 'static', 'struct', 'unsigned', 'signed', 'const', 'void')
 REFUSED, WARNED = 'gcc refuses it: %s.', 'gcc warns: %s.'
@@ -115,7 +117,8 @@ def is_certain(words: str) -> bool:
     Contiki only if it is in capitals, or if motesim has advice for it."""
     name, its_type = UNDECLARED.match(words), NO_TYPE.match(words)
     is_own = name is not None and not name[1].isupper() and not advice_for(name[1])
-    return is_own or its_type is not None and nearest(its_type[1], TYPES) is not None or words.startswith(CERTAIN)
+    is_misspelt = its_type is not None and nearest(its_type[1], TYPES, ALIKE) is not None
+    return is_own or is_misspelt or words.startswith(CERTAIN)
 
 
 def errors_in(complaints: Sequence[Complaint]) -> list[Complaint]:

@@ -5,7 +5,8 @@ from collections.abc import Callable, Sequence
 from typing import NamedTuple
 
 from motesim.c_program.compiler import HEADER_OF, OF_LIBRARY
-from motesim.c_program.refusal import Refusal
+from motesim.c_program.headers import NO_FILE, meant_by
+from motesim.c_program.refusal import Mistake, Refusal
 from motesim.c_program.tokens import Token, tokens_of
 
 MOST_TOKENS = 200_000
@@ -209,10 +210,13 @@ class Preprocessor:
 
 
 def check_header(path: str, line: int) -> None:
-    """Raises a Refusal for a header of a project: it is unknown, and in no folder of Contiki."""
+    """Raises a Refusal for a header of a project, which is in no folder of Contiki, and a Mistake for a misspelt one."""
     folder = path.rpartition('/')[0].partition('/')[0]
     if folder not in FOLDERS and path not in (*HEADER_OF, *OF_LIBRARY, *OTHERS):
         raise Refusal(line, OF_PROJECT % path)
+    meant = meant_by(path)
+    if meant:
+        raise Mistake(line, NO_FILE % (path, meant))
 
 
 def arguments_of(tokens: Sequence[Token], at: int, use: Token) -> tuple[list[list[Token]], int]:
