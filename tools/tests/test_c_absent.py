@@ -254,6 +254,12 @@ static const struct broadcast_callbacks calls = {recv};'''
                 self.assertIn('    %s\n' % line, text or notes)
             self.assertIn('1 for green, 2 for yellow or blue, and 4 for red', notes)
 
+    def test_only_a_loop_that_asks_for_the_time_may_end_on_a_node(self) -> None:
+        for test, is_mistake in (('clock_time() < 9', False), ('!timer_expired(&t)', False), ('n < 9', True)):
+            with self.assertRaises(Refusal) as caught:
+                translated(in_process('  while(%s) { }' % test, 'static int n; static struct timer t;'))
+            self.assertEqual(type(caught.exception) is Mistake, is_mistake, caught.exception.reason)
+
     def test_a_misspelt_header_is_a_mistake(self) -> None:
         for path, meant in (('net/broadcast.h', 'net/rime/broadcast.h'), ('sys/etimers.h', 'sys/etimer.h'),
                             ('lib/random.hh', 'lib/random.h'), ('net/rme.h', 'net/rime.h')):

@@ -347,7 +347,10 @@ class Control(Radio):
         if self.waits_in((*parts, *all_parts(body))) or not self.is_steady(parts, body):
             return
         are_of_time = all(any(one.text in TIMES for one in parts_of(each)) for each in tests)
-        raise Mistake(it.line, NO_END if not tests else BUSY if are_of_time else NEVER_ENDS)
+        if tests and are_of_time:
+            # (on a node, an interrupt advances the clock)
+            raise self.refuse(it.line, BUSY)
+        raise Mistake(it.line, NEVER_ENDS if tests else NO_END)
 
     @staticmethod
     def waits_in(parts: Iterable[Expression]) -> bool:
