@@ -15,6 +15,7 @@ from motesim.grading.compiled import (
     CRASHES, DEFINES, DIVIDES, MEETING, OF_INDEX, OF_INT, OF_REMARK, OF_UNSET, SAME, Compiled, Difference, InC,
     NoComparison, first_meeting,
 )
+from motesim.grading.entries import Entry
 from motesim.grading.in_c import UNLINKED, in_words_of_c, is_seen_by_gcc, on_node
 from motesim.grading.marking import (
     BY_GCC, OF_HIDDEN_RUN, InNet, Mark, Marks, Task, by_gcc_in, compiled_holds, difference_in, differences_in,
@@ -244,6 +245,12 @@ PROCESS_THREAD(q, ev, data) {
                 ('system("true");', ''), ('__asm__("nop");', ''), ('list_add(items, NULL);', '; ' + CRASHES)):
             self.assertEqual(task.compiled_mark(source.replace('%s', more)), mark, more)
         self.assertEqual(task.compiled_mark('PROCESS_THREAD('), '')
+        with tempfile.TemporaryDirectory() as folder:
+            path = Path(folder) / 'a.c'
+            path.write_text(in_process('  { uint8_t k; k = 3; PROCESS_PAUSE(); printf("%d", k > 0); }'))
+            marks = task.of((1, Entry('a.c', path)))
+            self.assertRegex(marks.why, r'^its line \d+ is a mistake in C; compiled by gcc, it gets \d of 2$')
+            self.assertTrue(marks.has_mark)
         above = ('#include "net/rime.h"\nstatic struct broadcast_conn bc; static struct { uint8_t a, b, c; } m;'
                  ' static int n = -2;')
         for filled, mark in ('&m, sizeof(m)', BY_GCC % (1, 2)), ('&n, sizeof(n)', BY_GCC % (1, 2)):

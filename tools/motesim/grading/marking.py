@@ -267,7 +267,7 @@ class Task:
         except NoProgram as fault:
             return Marks(entry.name, why=str(fault), fix=(fault.hint,))
         except NotTranslated as fault:
-            mark = self.compiled_mark(encodings.text_of_c(data).removeprefix(MARK)) if fault.may_be_right else ''
+            mark = self.compiled_mark(encodings.text_of_c(data).removeprefix(MARK))
             return Marks(entry.name, why=str(fault) + mark, fix=fault.lines, is_open=fault.may_be_right)
         except UnknownSentence as fault:
             return Marks(entry.name, why=fault.which, fix=self.fix(entry, data))
