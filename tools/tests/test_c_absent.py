@@ -260,6 +260,13 @@ static const struct broadcast_callbacks calls = {recv};'''
                 translated(in_process('  while(%s) { }' % test, 'static int n; static struct timer t;'))
             self.assertEqual(type(caught.exception) is Mistake, is_mistake, caught.exception.reason)
 
+    def test_a_value_that_each_call_assigns_again_may_be_right(self) -> None:
+        source = in_process('  PROCESS_PAUSE(); MORE printf("%d", me);', inside='  uint8_t me; me = node_id;')
+        for more, is_mistake in ('', False), ('me = 3; PROCESS_PAUSE();', True):
+            with self.assertRaises(Refusal) as caught:
+                translated(source.replace('MORE', more))
+            self.assertEqual(type(caught.exception) is Mistake, is_mistake, caught.exception.reason)
+
     def test_a_misspelt_header_is_a_mistake(self) -> None:
         for path, meant in (('net/broadcast.h', 'net/rime/broadcast.h'), ('sys/etimers.h', 'sys/etimer.h'),
                             ('lib/random.hh', 'lib/random.h'), ('net/rme.h', 'net/rime.h')):

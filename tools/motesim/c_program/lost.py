@@ -92,6 +92,7 @@ class Locals:
         # The variables that get their first value in each call of the function; those that get another one below; and
         # so, those that a wait keeps.
         self.above, self.changed, self.kept = frozenset[Variable](), set[Variable](), frozenset[Variable]()
+        self.is_below = False
 
     def check(self) -> list[Reading]:
         """The readings of variables without a value, in the order of their lines."""
@@ -99,7 +100,7 @@ class Locals:
             if it.variable and not it.variable.is_static and it.variable.type.kind in LASTING:
                 raise Mistake(it.line, NOT_STATIC % it.variable.name)
         self.run(self.function.body)
-        self.kept, self.state = self.above - self.changed, State()
+        self.kept, self.state, self.is_below = self.above - self.changed, State(), False
         self.found.clear()
         self.run(self.function.body)
         return sorted(self.found.values())
@@ -128,7 +129,7 @@ class Locals:
         self.of_other(it)
         call = it.expressions[0]
         if call is not None and call.text in BEGINS and self.state is not None:
-            self.above = self.state.certain
+            self.above, self.is_below = self.state.certain, True
         elif call is not None and call.text in ENDS:
             self.state = None
 
@@ -266,7 +267,8 @@ class Locals:
 
     def note_change(self, it: Expression, variable: Variable) -> None:
         """Notes an expression that changes a variable."""
-        self.changed.add(variable)
+        if self.is_below:
+            self.changed.add(variable)
         if self.state is not None and variable in self.state.posted:
             self.found[id(it)] = Reading(it.line, CHANGED % ((variable.name,) * 3), False)
 
