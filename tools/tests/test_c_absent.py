@@ -255,9 +255,11 @@ static const struct broadcast_callbacks calls = {recv};'''
             self.assertIn('1 for green, 2 for yellow or blue, and 4 for red', notes)
 
     def test_only_a_loop_that_asks_for_the_time_may_end_on_a_node(self) -> None:
-        for test, is_mistake in (('clock_time() < 9', False), ('!timer_expired(&t)', False), ('n < 9', True)):
+        for loop, is_mistake in (('while(clock_time() < 9) { }', False), ('while(!timer_expired(&t)) { }', False),
+                                 ('while(n < 9) { }', True), ('if(n > 9) { while(n < 9) { } }', False),
+                                 ('while(n < 2) { while(1) { } }', True)):
             with self.assertRaises(Refusal) as caught:
-                translated(in_process('  while(%s) { }' % test, 'static int n; static struct timer t;'))
+                translated(in_process('  ' + loop, 'static int n; static struct timer t;'))
             self.assertEqual(type(caught.exception) is Mistake, is_mistake, caught.exception.reason)
 
     def test_a_value_that_each_call_assigns_again_may_be_right(self) -> None:

@@ -10,13 +10,13 @@ from motesim.c_program.calls import TIMER
 from motesim.c_program.constants import constant_of
 from motesim.c_program.places import NOWHERE, OVERWRITING
 from motesim.c_program.radio import FILLED, Radio
-from motesim.c_program.refusal import Mistake
+from motesim.c_program.refusal import Mistake, Refusal
 from motesim.c_program.tree import Expression, Statement, Variable
 from motesim.c_program.types import INT
 from motesim.c_program.knowledge import LoopLimits
 from motesim.c_program.usage import TIMERS
 from motesim.c_program.values import Limits, Value, both, compared, is_true, negated, number, united
-from motesim.c_program.walk import all_parts, assigned_in, has_jump, parts_of, statements_in, with_called
+from motesim.c_program.walk import all_parts, assigned_in, has_jump, is_in_branch, parts_of, statements_in, with_called
 from motesim.c_program.written import Block, Comment, Flag, If, Line, Target, While
 
 # A test whose statements are at most so many is written twice: above its loop, and at the end of its block.
@@ -350,7 +350,9 @@ class Control(Radio):
         if tests and are_of_time:
             # (on a node, an interrupt advances the clock)
             raise self.refuse(it.line, BUSY)
-        raise Mistake(it.line, NEVER_ENDS if tests else NO_END)
+        # (no mote may get into a branch)
+        kind = Refusal if is_in_branch(it, self.unit.function.body) else Mistake
+        raise kind(it.line, NEVER_ENDS if tests else NO_END)
 
     @staticmethod
     def waits_in(parts: Iterable[Expression]) -> bool:

@@ -65,6 +65,12 @@ def statements_in(statements: Iterable[Statement]) -> Iterator[Statement]:
         yield from statements_in(it.others)
 
 
+def is_in_branch(it: Statement, statements: Iterable[Statement]) -> bool:
+    """Returns whether a statement is in a branch of some statements: in an `if` or a `switch`."""
+    return any(any(inner is it for inner in statements_in((*one.body, *one.others)))
+               for one in statements_in(statements) if one.kind in ('if', 'switch'))
+
+
 def with_called(statements: Iterable[Statement], functions: Mapping[str, Function]) -> list[Statement]:
     """Some statements, and those of all functions of the program that they call or name."""
     found, names = [*statements], set[str]()
