@@ -22,6 +22,7 @@ from motesim.grading.marking import (
     remarks_in,
 )
 from motesim.grading.nets import Net
+from motesim.grading.page import page_of
 from motesim.grading.tables import why
 from motesim.judge.expectations import known_of, parts_of, read_all
 from motesim.judge.sentences import names_of, read_sentence
@@ -197,6 +198,8 @@ class Comparison(unittest.TestCase):
         self.assertEqual(by_gcc_in([differs, in_net(found)._replace(marks=marks, differs=SAME)]), tuple(holds or ()))
         self.assertEqual(by_gcc_in([differs, differs._replace(by_gcc=())]), ())
         self.assertEqual(Marks('', tuple(marks), by_gcc=tuple(holds or ())).held_by_gcc, 4)
+        page = page_of([Marks('a.c', tuple(marks), by_gcc=tuple(holds or ()))], ['', '', '', '', '', ''], '', '')
+        self.assertIn(BY_GCC % (4, 6), page)
         self.assertEqual(on_node([Remark(0, found.words, True)], '4 of 6'),
                          'compiled by gcc, it does something else (4 of 6)')
         self.assertEqual(on_node([Remark(0, DIVIDES, True)], ''), 'compiled by gcc, it crashes')
@@ -241,7 +244,7 @@ PROCESS_THREAD(q, ev, data) {
         net = Net('n', Scenario.parse(SCENARIO % 'process p; autostart p; code p { body { pause; } }'), 'p')
         task = Task(part, (net,), Limits(), compiled=self.compiled)
         for more, mark in (
-                ('', BY_GCC % (1, 2)), ('printf("%d", list_length(items) + 3);', BY_GCC % (2, 2)),
+                ('', '; ' + BY_GCC % (1, 2)), ('printf("%d", list_length(items) + 3);', '; ' + BY_GCC % (2, 2)),
                 ('system("true");', ''), ('__asm__("nop");', ''), ('list_add(items, NULL);', '; ' + CRASHES)):
             self.assertEqual(task.compiled_mark(source.replace('%s', more)), mark, more)
         self.assertEqual(task.compiled_mark('PROCESS_THREAD('), '')
@@ -253,7 +256,7 @@ PROCESS_THREAD(q, ev, data) {
             self.assertTrue(marks.has_mark)
         above = ('#include "net/rime.h"\nstatic struct broadcast_conn bc; static struct { uint8_t a, b, c; } m;'
                  ' static int n = -2;')
-        for filled, mark in ('&m, sizeof(m)', BY_GCC % (1, 2)), ('&n, sizeof(n)', BY_GCC % (1, 2)):
+        for filled, mark in ('&m, sizeof(m)', '; ' + BY_GCC % (1, 2)), ('&n, sizeof(n)', '; ' + BY_GCC % (1, 2)):
             sends = 'broadcast_open(&bc, 9, NULL); packetbuf_copyfrom(%s); broadcast_send(&bc);' % filled
             whole = source.replace('LIST(items);', above + '\nLIST(items);')
             self.assertEqual(task.compiled_mark(whole.replace('%s', sends)), mark, filled)

@@ -54,7 +54,7 @@ LONGEST_NAME = 80
 OF_HIDDEN = 'in a hidden net'
 OF_HIDDEN_RUN = 'compiled by gcc, the program does something else in a hidden net'
 BINARY = 'the file is binary: it has bytes that no text has'
-BY_GCC = '; compiled by gcc, it gets %d of %d'
+BY_GCC = 'compiled by gcc, it gets %d of %d'
 OF_C = 'its program is in C'
 NOT_NOTATION = ', not in the notation of mote programs (tools/explain FILE.c --apply NEW.toml translates it)'
 OF_LINE = re.compile(r'\(line (\d+) of the program\)')
@@ -384,7 +384,7 @@ class Task:
             found.append(spread_over(compiled_holds(report, scenario, net.program, sentences), lacks))
         holds = [all(each) for each in zip(*found)]
         count = sum(holds) if all(holds[:self.part.required]) else 0
-        return BY_GCC % (count, len(holds)) if holds else ''
+        return '; ' + BY_GCC % (count, len(holds)) if holds else ''
 
     def answer(self, scenario: bytes) -> Answer:
         """The answer of `motesim`, within the limits. The error at a limit says what the run does most often."""

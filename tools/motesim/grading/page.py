@@ -6,7 +6,7 @@ from html import escape
 from urllib.parse import quote
 
 from motesim.grading.in_c import shown
-from motesim.grading.marking import Marks
+from motesim.grading.marking import BY_GCC, Marks
 from motesim.grading.own import OF_PAGE
 from motesim.grading.tables import count_of, holds, required_of
 from motesim.judge.expectations import REQUIRED
@@ -43,6 +43,8 @@ def _first_failed(marks: Marks, folder: str) -> str:
     """The first sentence that fails, linked to the run that shows it, and why it fails. If this sentence fails only in
     hidden nets, the first sentence that fails in another net is below it, with the link."""
     mistakes, others = ([shown(it) for it in marks.of_c if it.is_mistake == wanted] for wanted in (True, False))
+    by_gcc = marks.held_by_gcc
+    mistakes += [BY_GCC % (by_gcc, len(marks.marks))] if by_gcc is not None else []
     place = marks.first_failed
     if marks.why or place is None:
         return escape(marks.why) + _lines(marks.fix) + _lines(mistakes)
