@@ -3,6 +3,7 @@ import shutil
 import tempfile
 import unittest
 from pathlib import Path
+from unittest import mock
 
 from motesim.c_program.base import OF_LONG
 from motesim.c_program.calls import OF_RESET
@@ -11,6 +12,7 @@ from motesim.c_program.expressions import OF_OVERFLOW
 from motesim.c_program.program import Remark, translated
 from motesim.c_program.refusal import Refusal
 from motesim.explain.moments import Burst
+from motesim.faults import Fault
 from motesim.grading.compiled import (
     CRASHES, DEFINES, DIVIDES, MEETING, OF_INDEX, OF_INT, OF_REMARK, OF_UNSET, SAME, Compiled, Difference, InC,
     NoComparison, first_meeting,
@@ -254,6 +256,9 @@ PROCESS_THREAD(q, ev, data) {
             marks = task.of((1, Entry('a.c', path)))
             self.assertRegex(marks.why, r'^its line \d+ is a mistake in C; compiled by gcc, it gets \d of 2$')
             self.assertTrue(marks.has_mark)
+            for error in Fault('a'), IndexError('a'):
+                with mock.patch('motesim.grading.marking.outline_of', side_effect=error):
+                    self.assertRegex(task.of((1, Entry('a.c', path))).why, r'^its line \d+ is a mistake in C$')
         above = ('#include "net/rime.h"\nstatic struct broadcast_conn bc; static struct { uint8_t a, b, c; } m;'
                  ' static int n = -2;')
         for filled, mark in ('&m, sizeof(m)', '; ' + BY_GCC % (1, 2)), ('&n, sizeof(n)', '; ' + BY_GCC % (1, 2)):

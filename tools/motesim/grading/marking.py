@@ -2,10 +2,10 @@
 from __future__ import annotations
 
 import re
-from collections.abc import Iterable, Iterator, Mapping, Sequence
+from collections.abc import Callable, Iterable, Iterator, Mapping, Sequence
 from dataclasses import dataclass, replace
 from pathlib import Path
-from typing import NamedTuple
+from typing import NamedTuple, TypeVar
 
 from motesim.c_program.program import Remark
 from motesim.explain.explanation import explanation, of_program as fault_of_program, of_program_file, tables_or_none
@@ -41,6 +41,7 @@ from motesim.timeline.html import write_page
 from motesim.timeline.note import note_of
 from motesim.toml import MARK
 
+Result = TypeVar('Result')
 # Reports longer than this have no timeline.
 MOST_SHOWN = 4_000_000
 TOO_LONG = ('no page of this run: its report has {:,} bytes, and a page shows at most {:,}; with a smaller `end` in '
@@ -267,7 +268,9 @@ class Task:
         except NoProgram as fault:
             return Marks(entry.name, why=str(fault), fix=(fault.hint,))
         except NotTranslated as fault:
-            mark = self.compiled_mark(encodings.text_of_c(data).removeprefix(MARK))
+            # (the row doesn't depend on it, so an error in it leaves it out)
+            plain = encodings.text_of_c(data).removeprefix(MARK)
+            mark = without_fault(lambda: self.compiled_mark(plain)) or ''
             return Marks(entry.name, why=str(fault) + mark, fix=fault.lines, is_open=fault.may_be_right)
         except UnknownSentence as fault:
             return Marks(entry.name, why=fault.which, fix=self.fix(entry, data))
@@ -492,8 +495,13 @@ def compiled_holds(report: bytes, scenario: Scenario, program: str, sentences: S
                   for text in compiled_readings(report.decode(), scenario.programs[program])]
         return [any(judge.broken(it) is None for judge in judges) for it in sentences] if judges else None
 
+    return without_fault(found)
+
+
+def without_fault(work: Callable[[], Result]) -> Result | None:
+    """The result of work that isn't essential; None if it fails."""
     try:
-        return tried(found, lambda words: None)
+        return tried(work, lambda words: None)
     except Fault:
         return None
 
