@@ -279,14 +279,13 @@ packetbuf_copyfrom(const void *from, uint16_t size)
   return length;
 }
 
-/* (an `int` has two bytes on a node, and more here) */
 size_t
 library_size(size_t size, size_t room)
 {
-  if(size > room && (size != sizeof(int) || room < BYTES)) {
+  if(size > room) {
     abort();
   }
-  return size < room ? size : room;
+  return size;
 }
 
 int
@@ -355,17 +354,14 @@ sent_by(int mote, uint16_t value)
   return NULL;
 }
 
-/*
- * A mote sends two bytes, so the report of a program that sends more of them is useless, unless
- * they are those of an `int`.
- */
+/* A mote sends two bytes, so the report of a program that sends more of them is useless. */
 static void
 check_length(void)
 {
-  int i, sign = length == sizeof(int) && buffer[1] > 127 ? 0xff : 0;
+  int i;
 
   for(i = BYTES; i < length && library_is_alone; i++) {
-    if(buffer[i] != sign) {
+    if(buffer[i] != 0) {
       exit(EXIT_FAILURE);
     }
   }

@@ -24,6 +24,7 @@ from motesim.grading.marking import (
     remarks_in,
 )
 from motesim.grading.nets import Net
+from motesim.grading.node_types import as_on_node
 from motesim.grading.page import page_of
 from motesim.grading.tables import why
 from motesim.judge.expectations import known_of, parts_of, read_all
@@ -123,6 +124,22 @@ class Comparison(unittest.TestCase):
                          'compiled by gcc, mote 0 prints 1 at 20, but its translation prints 2 at 20' + OF_INT)
         self.assertEqual(self.difference(in_process('  printf("%d", 3);'), in_process('  ;')),
                          'compiled by gcc, mote 0 prints 3 at 0, but its translation prints nothing more' + OF_INT)
+
+    def test_stored_values_have_the_size_of_a_node(self) -> None:
+        for body in ('  { static int n = 32767; n++; printf("%d", n); printf("%d", (int)sizeof(n)); }',
+                     '  { static unsigned n = 65535; static unsigned int m = 9; n += m; printf("%u", n); }',
+                     '  { static unsigned long n; n = 65535; n += 2; printf("%d", (int)sizeof(unsigned long)); }',
+                     '  { static long int n = 7; static signed m = -1; printf("%ld", n + m); }'):
+            self.assertEqual(self.difference(in_process(body)), '', body)
+        wraps = self.difference(in_process('  { static int n = 32767; n++; printf("%d", n < 0); }'))
+        self.assertIn('compiled by gcc, mote 0 prints 1 at 0, but its translation prints 0', wraps)
+        beyond = self.difference(in_process('  { static unsigned n = 600; printf("%u", n * 200 / 200); }'))
+        self.assertIn(OF_INT, beyond)
+        for words, wanted in (('unsigned long long n', 'unsigned long long n'), ('long x', 'int x'),
+                              ('const unsigned n', 'const unsigned short n'), ('unsigned char n', 'unsigned char n'),
+                              ('long double n', 'long double n'), ('int long unsigned n', ' int unsigned n'),
+                              ('( unsigned ) n', '( unsigned short ) n'), ('short int n', 'short int n')):
+            self.assertEqual(' '.join(as_on_node(words.split())), wanted)
 
     def test_a_packet_may_be_copied_from_the_buffer_itself(self) -> None:
         above = RADIO.replace('printf("%d", *(int *)packetbuf_dataptr());', '''

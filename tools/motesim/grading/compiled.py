@@ -23,6 +23,7 @@ from motesim.c_program.program import Translation
 from motesim.contiki.folder import HOST, host_tables, program_files, text_of
 from motesim.contiki.names import file_names
 from motesim.grading.in_c import CRASHED, UNLINKED
+from motesim.grading.node_types import as_on_node
 from motesim.grading.untranslated import may_call
 from motesim.scenario import Scenario
 
@@ -49,8 +50,8 @@ TWICE = re.compile('multiple definition of `(\\w+)\'')
 ENDS = {-it: CRASHES for it in (signal.SIGSEGV, signal.SIGBUS, signal.SIGILL, signal.SIGABRT)} | {
     -signal.SIGFPE: DIVIDES}
 MEETING = '; at %d, a packet and another event have the same moment, and their order may differ on a node'
-OF_INT = ('; gcc is right, unless the program calculates beyond 16 bits: an `int` has 32 bits for gcc here, and 16 '
-          'bits on a node')
+OF_INT = ('; gcc is right, unless an intermediate result is beyond 16 bits: gcc calculates with 32 bits here, and a '
+          'node calculates with 16')
 OF_UNSET = ('; a local variable, or a part of it, has no value there: the program assigns none before, or it isn\'t '
             '`static`, and its value is lost at a wait')
 OF_REMARK = '; see the remark on line %d'
@@ -236,7 +237,7 @@ def is_possible(command: Sequence[str], folder: Path) -> bool:
 
 def whole(it: InC, program: str, number: int) -> str:
     """The text that is compiled. Each token has a line of its own: a wait keeps its line as its place."""
-    rows = [token.text for token in tokens_in(it.source)]
+    rows = as_on_node([token.text for token in tokens_in(it.source)])
     drawing = ', '.join(['&' + name for name in it.translation.drawing] + ['NULL'])
     receiver = '&' + it.translation.receiver if it.translation.receiver else 'NULL'
     return '\n'.join(['#include "library.h"', *rows,

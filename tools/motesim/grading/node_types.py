@@ -1,0 +1,35 @@
+"""The whole numbers of a node, in C for a compiler whose `int` has 32 bits and whose `long` has 64.
+
+    from motesim.grading.node_types import as_on_node
+
+    as_on_node(['unsigned', 'long', 'n', ';'])      ['unsigned', 'int', 'n', ';']
+
+Values that are stored have the size of a node: an `int` has 16 bits, and a `long` has 32. The compiler still calculates
+with 32 bits.
+"""
+from __future__ import annotations
+
+from collections.abc import Sequence
+from itertools import groupby
+
+SPECIFIERS = ('int', 'long', 'short', 'unsigned', 'signed', 'char', 'double')
+
+
+def as_on_node(words: Sequence[str]) -> list[str]:
+    """The tokens of a program, with types of the same size as on a node. Each token keeps its place: one that has no
+    meaning there is an empty text."""
+    found = list[str]()
+    for is_type, its in groupby(words, lambda it: it in SPECIFIERS):
+        found += of_type(list(its)) if is_type else its
+    return found
+
+
+def of_type(words: list[str]) -> list[str]:
+    """The specifiers of a type, such as those of `unsigned long int`."""
+    if 'char' in words or 'double' in words or 'short' in words or words.count('long') == 2:
+        return words
+    if 'long' in words:
+        return ['int' if it == 'long' else '' if it == 'int' else it for it in words]
+    if 'int' in words:
+        return ['short' if it == 'int' else it for it in words]
+    return [*words[:-1], words[-1] + ' short']
