@@ -25,13 +25,15 @@ from here import TOOLS
 from motesim.grading.command import remarks, status_of
 from motesim.grading.entries import Entry, anonymous, data_of, entries_of
 from motesim.grading.in_c import notation_of
-from motesim.grading.marking import BINARY, Mark, Marks, Task, page_name, warned_of
+from motesim.grading.marking import BINARY, Task, page_name
+from motesim.grading.marks import Mark, Marks
 from motesim.grading.nets import cut_off, nets_of, program_of
 from motesim.grading.page import page_of
 from motesim.grading.pages import HEAD
 from motesim.grading.progress import Progress
 from motesim.grading import tables
 from motesim.grading.tables import cell, csv_of
+from motesim.grading.warned import warned_of
 from motesim.grading.tables import table as table_of
 from motesim.faults import Fault
 from motesim.judge.expectations import judged, parts_of
@@ -1124,7 +1126,7 @@ class Forms(Folder):
             with mock.patch('motesim.grading.marking.of_program_file', side_effect=IndexError('of a tuple')):
                 marks = task.of((1, entry))
             self.assertEqual((marks.has_mark, marks.held), (True, 0))
-        with mock.patch('motesim.grading.marking.of_start', side_effect=IndexError('of a tuple')):
+        with mock.patch('motesim.grading.warned.of_start', side_effect=IndexError('of a tuple')):
             self.assertEqual(warned_of({'task': PROGRAM % 3}), ())
 
     def test_why_warns_of_losses_and_seeds(self) -> None:

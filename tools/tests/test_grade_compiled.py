@@ -13,16 +13,17 @@ from motesim.c_program.program import Remark, translated
 from motesim.c_program.refusal import Refusal
 from motesim.explain.moments import Burst
 from motesim.faults import Fault
+from motesim.grading.by_gcc import (
+    BY_GCC, OF_HIDDEN_RUN, by_gcc_in, by_gcc_words, difference_in, differences_in, marks_of, remarks_in, untranslated,
+)
 from motesim.grading.compiled import (
     CRASHES, DEFINES, DIVIDES, MEETING, OF_INDEX, OF_INT, OF_REMARK, OF_UNSET, SAME, Compiled, Difference, InC,
     NoComparison, first_meeting,
 )
 from motesim.grading.entries import Entry
 from motesim.grading.in_c import UNLINKED, in_words_of_c, is_seen_by_gcc, on_node
-from motesim.grading.marking import (
-    BY_GCC, OF_HIDDEN_RUN, InNet, Mark, Marks, Task, by_gcc_in, compiled_holds, difference_in, differences_in,
-    remarks_in,
-)
+from motesim.grading.marking import Task
+from motesim.grading.marks import InNet, Mark, Marks, number_held
 from motesim.grading.nets import Net
 from motesim.grading.node_types import as_on_node
 from motesim.grading.page import page_of
@@ -208,16 +209,23 @@ class Comparison(unittest.TestCase):
         assert found is not None
         scenario, words = known_of(its.scenario)
         assert scenario is not None
-        sentences = read_all(['mote 0 prints p 7', 'mote 0 prints p 261', 'mote 1 prints p 97', 'mote 0 sends once',
-                              'mote 1 never prints p 97', 'no mote halts'], words)
-        holds = compiled_holds(found.report, scenario, 'p', sentences)
-        self.assertEqual(holds, [False, True, True, True, False, True])
-        marks = [Mark('', True, is_required=at == 3) for at in range(6)]
-        differs = in_net(found)._replace(marks=marks, by_gcc=tuple(holds or ()))
-        self.assertEqual(by_gcc_in([differs, in_net(found)._replace(marks=marks, differs=SAME)]), tuple(holds or ()))
-        self.assertEqual(by_gcc_in([differs, differs._replace(by_gcc=())]), ())
-        self.assertEqual(Marks('', tuple(marks), by_gcc=tuple(holds or ())).held_by_gcc, 4)
-        page = page_of([Marks('a.c', tuple(marks), by_gcc=tuple(holds or ()))], ['', '', '', '', '', ''], '', '')
+        wanted = ['no mote halts', 'mote 0 prints p 261', 'mote 1 prints p 97', 'mote 0 prints p 7',
+                  'mote 0 sends once', 'mote 1 never prints p 97']
+        by_gcc = marks_of(found.report, scenario, 'p', [*zip(wanted, read_all(wanted, words))])
+        self.assertEqual([it.holds for it in by_gcc], [True, True, True, False, True, False])
+        marks = [Mark('', True)] * 6
+        differs = in_net(found)._replace(marks=marks, by_gcc=by_gcc)
+        in_both = by_gcc_in([differs, in_net(found)._replace(marks=marks, differs=SAME)], 1)
+        self.assertEqual(in_both, tuple(it._replace(is_required=at == 0, nets=('n',) * (not it.holds),
+                                                    shown=() if it.holds else ('in n', *it.more))
+                                        for at, it in enumerate(by_gcc)))
+        self.assertEqual(by_gcc_in([differs, differs._replace(by_gcc=())], 0), ())
+        self.assertEqual([number_held(by_gcc_in([differs], it)) for it in (3, 4)], [4, 0])
+        self.assertIn('it prints p 261 at moment 0', in_both[3].more[0])
+        its = Marks('a.c', tuple(marks), by_gcc=in_both)
+        page = page_of([its], [''] * 6, '', '')
+        for rows in page, '\n'.join(why(its)):
+            self.assertRegex(rows, r'mote 0 prints p 7\n *in n\n *mote 0 has 0 such lines')
         self.assertIn(BY_GCC % (4, 6), page)
         self.assertEqual(on_node([Remark(0, found.words, True)], '4 of 6'),
                          'compiled by gcc, it does something else (4 of 6)')
@@ -262,27 +270,33 @@ PROCESS_THREAD(q, ev, data) {
         part = parts_of('expect = ["mote 0 prints q 3", "mote 1 prints q 4"]', 'task')[0]
         net = Net('n', Scenario.parse(SCENARIO % 'process p; autostart p; code p { body { pause; } }'), 'p')
         task = Task(part, (net,), Limits(), compiled=self.compiled)
+
+        def words_of(text: str) -> str:
+            marks, crash = untranslated(text, self.compiled, part, (net,))
+            return crash + by_gcc_words(marks)
+
         for more, mark in (
-                ('', '; ' + BY_GCC % (1, 2)), ('printf("%d", list_length(items) + 3);', '; ' + BY_GCC % (2, 2)),
-                ('system("true");', ''), ('__asm__("nop");', ''), ('list_add(items, NULL);', '; ' + CRASHES)):
-            self.assertEqual(task.compiled_mark(source.replace('%s', more)), mark, more)
-        self.assertEqual(task.compiled_mark('PROCESS_THREAD('), '')
+                ('', BY_GCC % (1, 2)), ('printf("%d", list_length(items) + 3);', BY_GCC % (2, 2)),
+                ('system("true");', ''), ('__asm__("nop");', ''), ('list_add(items, NULL);', CRASHES)):
+            self.assertEqual(words_of(source.replace('%s', more)), mark, more)
+        self.assertEqual(words_of('PROCESS_THREAD('), '')
         with tempfile.TemporaryDirectory() as folder:
             path = Path(folder) / 'a.c'
             path.write_text(in_process('  { uint8_t k; k = 3; PROCESS_PAUSE(); printf("%d", k > 0); }'))
             marks = task.of((1, Entry('a.c', path)))
             self.assertRegex(marks.why, r'^its line \d+ is a mistake in C; compiled by gcc, it gets \d of 2$')
             self.assertTrue(marks.has_mark)
+            self.assertIn('broken  mote 1 prints q 4', why(marks))
             for error in Fault('a'), IndexError('a'):
-                with mock.patch('motesim.grading.marking.outline_of', side_effect=error):
+                with mock.patch('motesim.grading.by_gcc.outline_of', side_effect=error):
                     self.assertRegex(task.of((1, Entry('a.c', path))).why, r'^its line \d+ is a mistake in C$')
         above = ('#include "net/rime.h"\nstatic struct broadcast_conn bc; static struct { uint8_t a, b, c; } m;'
                  ' static int n = -2;')
-        for filled, mark in ('&m, sizeof(m)', '; ' + BY_GCC % (1, 2)), ('&n, sizeof(n)', '; ' + BY_GCC % (1, 2)):
+        for filled, mark in ('&m, sizeof(m)', BY_GCC % (1, 2)), ('&n, sizeof(n)', BY_GCC % (1, 2)):
             sends = 'broadcast_open(&bc, 9, NULL); packetbuf_copyfrom(%s); broadcast_send(&bc);' % filled
             whole = source.replace('LIST(items);', above + '\nLIST(items);')
-            self.assertEqual(task.compiled_mark(whole.replace('%s', sends)), mark, filled)
-            self.assertEqual(task.compiled_mark(whole.replace('%s', 'm.c = 1; ' + sends)), mark * ('m' not in filled))
+            self.assertEqual(words_of(whole.replace('%s', sends)), mark, filled)
+            self.assertEqual(words_of(whole.replace('%s', 'm.c = 1; ' + sends)), mark * ('m' not in filled))
 
     def test_from_a_packet_at_the_moment_of_a_timer_on_runs_may_differ(self) -> None:
         report = (b'mote 0 p\n3 recv 1 0 3\n5 recv 1 1 3\n5 post 2 p timer 0\n'
@@ -377,7 +391,8 @@ class Callbacks(unittest.TestCase):
         report = answer(text.encode()).report.replace(b' print a ', b' print radio ')
         wanted = 'mote 0 finally prints b 3', 'mote 0 prints just a 1', 'mote 0 prints a 3'
         sentences = [read_sentence(it, names_of(scenario)) for it in wanted]
-        self.assertEqual(compiled_holds(report, scenario, 'p', sentences), [True, True, False])
+        marks = marks_of(report, scenario, 'p', [*zip(wanted, sentences)])
+        self.assertEqual([it.holds for it in marks], [True, True, False])
 
 
 if __name__ == '__main__':

@@ -6,7 +6,8 @@ from tempfile import TemporaryDirectory
 
 from here import TOP
 from motesim.grading.entries import Entry
-from motesim.grading.marking import Marks, Task
+from motesim.grading.marking import Task
+from motesim.grading.marks import Marks
 from motesim.grading.nets import Net, nets_of
 from motesim.judge.expectations import parts_of
 from motesim.runner import Limits

@@ -17,8 +17,9 @@ from motesim.files import refuse_inputs, replace_whole
 from motesim.grading import page, tables
 from motesim.grading.compiled import Compiled, NoComparison
 from motesim.grading.entries import Entry, anonymous, data_of, entries_of, skipped_of
-from motesim.grading.marking import Marks, Task, page_name, unmarked
 from motesim.grading.in_c import of_programs
+from motesim.grading.marking import Task, page_name
+from motesim.grading.marks import Marks, unmarked
 from motesim.grading.nets import (
     Net, files_of, hidden_and_shown, nets_of, nets_with_cut_off, nets_with_wide_sets, program_of, without_nets,
 )

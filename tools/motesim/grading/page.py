@@ -5,8 +5,9 @@ from collections.abc import Sequence
 from html import escape
 from urllib.parse import quote
 
+from motesim.grading.by_gcc import by_gcc_words
 from motesim.grading.in_c import shown
-from motesim.grading.marking import BY_GCC, Marks
+from motesim.grading.marks import Marks
 from motesim.grading.own import OF_PAGE
 from motesim.grading.tables import count_of, holds, required_of
 from motesim.judge.expectations import REQUIRED
@@ -32,6 +33,7 @@ pre { margin: 2px 0 0; font: 12.5px/1.4 ui-monospace, "DejaVu Sans Mono", monosp
 """
 
 
+BROKEN_BY_GCC = 'For the compiled program, this sentence doesn\'t hold: %s'
 OF_REQUIRED = ' If a required sentence doesn\'t hold, the mark is 0, whatever else holds.'
 
 
@@ -43,8 +45,9 @@ def _first_failed(marks: Marks, folder: str) -> str:
     """The first sentence that fails, linked to the run that shows it, and why it fails. If this sentence fails only in
     hidden nets, the first sentence that fails in another net is below it, with the link."""
     mistakes, others = ([shown(it) for it in marks.of_c if it.is_mistake == wanted] for wanted in (True, False))
-    by_gcc = marks.held_by_gcc
-    mistakes += [BY_GCC % (by_gcc, len(marks.marks))] if by_gcc is not None else []
+    broken = [it for it in marks.by_gcc if not it.holds]
+    mistakes += [by_gcc_words(marks.by_gcc)] * (not marks.why and bool(marks.by_gcc))
+    mistakes += [BROKEN_BY_GCC % broken[0].words, *broken[0].shown] if broken else []
     place = marks.first_failed
     if marks.why or place is None:
         return escape(marks.why) + _lines(marks.fix) + _lines(mistakes)

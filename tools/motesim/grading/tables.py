@@ -8,8 +8,9 @@ import shlex
 import unicodedata
 from collections.abc import Sequence
 
+from motesim.grading.by_gcc import OF_HIDDEN_RUN
 from motesim.grading.in_c import on_node, shown
-from motesim.grading.marking import OF_HIDDEN_RUN, OTHER_PROCESS, Marks
+from motesim.grading.marks import OTHER_PROCESS, Mark, Marks, number_held
 from motesim.grading.own import COLUMNS, OF_TOML
 from motesim.judge.expectations import REQUIRED
 from motesim.toml import MARK
@@ -24,6 +25,7 @@ UNUSED = ('Hint: in a net of --net or --hidden the motes run only one program of
 USED_UP = '%s: it used up its work there, maybe in a loop without a wait'
 ONLY_HERE = ' (on a node, maybe not)'
 OF_C = '. On a node, it may have enough: each index and each operation on bits needs more work in a translation'
+BROKEN_BY_GCC = 'For the compiled program, these sentences don\'t hold:'
 SHARED = 'in all solutions and nets, this or a similar remark: %s'
 ESCAPES = {'\\': '\\\\', '"': '\\"', '\n': '\\n', '\t': '\\t', '\r': '\\r'}
 
@@ -61,8 +63,7 @@ def table(marked: Sequence[Marks], sentences: Sequence[str]) -> list[str]:
 
 def of_node(marks: Marks) -> str:
     """The words about a program in C that may do something else on a node."""
-    by_gcc = marks.held_by_gcc
-    return on_node(marks.of_c, '' if by_gcc is None else '%d of %d' % (by_gcc, len(marks.marks)))
+    return on_node(marks.of_c, '%d of %d' % (number_held(marks.by_gcc), len(marks.by_gcc)) if marks.by_gcc else '')
 
 
 def printers(marks: Marks) -> list[str]:
@@ -169,12 +170,17 @@ def why(marks: Marks) -> list[str]:
     """The lines about the sentences of one solution, with a hint if they have names that the solution lacks."""
     lines = [*([marks.why] if marks.why else []), *marks.fix]
     # (without a report no sentence holds, all for the same reason)
-    for it in marks.marks if not marks.why else ():
-        lines.append(('holds   ' if it.holds else 'broken  ') + it.words)
-        nets = [in_nets(it.nets)] if it.nets else []
-        lines += ['          ' + row for row in [*nets, *it.more, *filter(None, [it.remark])]]
+    lines += [row for it in marks.marks if not marks.why for row in rows_of(it)]
     lines += [USED_UP % marks.halts + OF_C * marks.name.endswith('.c')] if marks.halts else []
     if marks.first_failed is not None:
         lines += [*marks.warned, *([marks.unused, UNUSED] if marks.unused else [])]
     of_c = [it._replace(text=marks.hidden) if it.text == OF_HIDDEN_RUN else it for it in marks.of_c]
-    return [*lines, *([RENAMED] * any(marks.lacks)), *map(shown, of_c)]
+    by_gcc = [row for it in marks.by_gcc if not it.holds for row in rows_of(it)]
+    return [*lines, *([RENAMED] * any(marks.lacks)), *map(shown, of_c), *([BROKEN_BY_GCC, *by_gcc] if by_gcc else [])]
+
+
+def rows_of(it: Mark) -> list[str]:
+    """The lines about a sentence."""
+    nets = [in_nets(it.nets)] if it.nets else []
+    return [('holds   ' if it.holds else 'broken  ') + it.words,
+            *('          ' + row for row in [*nets, *it.more, *filter(None, [it.remark])])]

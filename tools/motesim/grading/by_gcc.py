@@ -1,0 +1,113 @@
+"""The marks of compiled programs, and their differences from their translations."""
+from __future__ import annotations
+
+from collections.abc import Callable, Sequence
+from typing import TypeVar
+
+from motesim.c_program.program import Remark
+from motesim.faults import Fault, tried
+from motesim.grading.compiled import SAME, Compiled, Crash, InC, NoComparison
+from motesim.grading.in_c import is_seen_by_gcc, remarks_of
+from motesim.grading.marks import InNet, Mark, number_held, over_nets, spread
+from motesim.grading.nets import Net
+from motesim.grading.untranslated import outline_of
+from motesim.judge.callbacks import compiled_readings
+from motesim.judge.expectations import Part, known_of, more_of, read_all
+from motesim.judge.judge import Judge
+from motesim.judge.sentences import Sentence, lacking
+from motesim.report import Report
+from motesim.scenario import Scenario
+
+Result = TypeVar('Result')
+OF_HIDDEN_RUN = 'compiled by gcc, the program does something else in a hidden net'
+BY_GCC = 'compiled by gcc, it gets %d of %d'
+
+
+def by_gcc_words(marks: Sequence[Mark]) -> str:
+    """The words about the marks of a compiled program; an empty text if there are none."""
+    return BY_GCC % (number_held(marks), len(marks)) if marks else ''
+
+
+def difference_in(found: Sequence[InNet]) -> list[Remark]:
+    """The first difference between a program in C and its translation, without the values of a hidden net."""
+    return [Remark(0, OF_HIDDEN_RUN if is_hidden else words, not may_differ)
+            for may_differ, is_hidden, words in differences_in(found)[:1]]
+
+
+def differences_in(found: Sequence[InNet]) -> list[tuple[bool, bool, str]]:
+    """The differences between a program in C and its translation, the most certain ones first, and those in hidden nets
+    last: whether the runs may differ, whether the net is hidden, and the words."""
+    its = [(it.differs.may_differ, it.is_hidden, '%s (in %s)' % (it.differs.words, it.net)) for it in found
+           if it.differs and it.differs.words]
+    return sorted(its, key=lambda it: it[:2])
+
+
+def remarks_in(found: Sequence[InNet], source: str) -> list[Remark]:
+    """The remarks about a program in C. If the compiled program does the same in each net, only those remarks name
+    mistakes of which it shows nothing."""
+    is_same = all(it.differs == SAME for it in found)
+    return [it._replace(is_mistake=it.is_mistake and not (is_same and is_seen_by_gcc(it))) for it in remarks_of(source)]
+
+
+def by_gcc_in(found: Sequence[InNet], required: int) -> tuple[Mark, ...]:
+    """The marks of a compiled program over all nets; nothing if it does the same as its translation, or can't be
+    judged."""
+    differ = [it for it in found if it.differs and it.differs != SAME and not it.differs.may_differ]
+    if not differ or not all(it.by_gcc for it in differ):
+        return ()
+    return over_nets([it._replace(marks=it.by_gcc) if it in differ else it for it in found], required)
+
+
+def marks_of(report: bytes, scenario: Scenario, program: str, sentences: Sequence[tuple[str, Sentence]]
+             ) -> list[Mark]:
+    """The marks of a compiled program in one net, for sentences with their words; nothing if it has other names. What
+    its callback prints counts for the process for which a sentence holds."""
+    def found() -> list[Mark]:
+        judges = [Judge(Report.parse(text), scenario)
+                  for text in compiled_readings(report.decode(), scenario.programs[program])]
+        return [mark_of(words, it, judges) for words, it in sentences] if judges else []
+
+    return without_fault(found) or []
+
+
+def mark_of(words: str, sentence: Sentence, judges: Sequence[Judge]) -> Mark:
+    """The mark of a sentence that holds if it does for one of several readings of a report. The reason is that of the
+    last one."""
+    broken = [judge.broken(sentence) for judge in judges]
+    why = broken[-1] if all(broken) else None
+    return Mark(words, why is None, more=tuple(more_of(why, judges[-1].rows)) if why else ())
+
+
+def untranslated(source: str, compiled: Compiled | None, part: Part, nets: Sequence[Net]
+                 ) -> tuple[tuple[Mark, ...], str]:
+    """The marks of a compiled program that can't be translated, if it has some, and the words about a mistake that ends
+    it."""
+    outline = outline_of(source)
+    if compiled is None or outline is None:
+        return (), ''
+    try:
+        found = [in_net(InC(source, outline, net.with_program(outline.text), True), compiled, part, net)
+                 for net in nets]
+    except NoComparison:
+        return (), ''
+    except Crash as crash:
+        return (), str(crash)
+    return over_nets(found, part.required) if all(it.marks for it in found) else (), ''
+
+
+def in_net(its: InC, compiled: Compiled, part: Part, net: Net) -> InNet:
+    """The marks of a compiled program in a net. Raises NoComparison and Crash."""
+    scenario, names = Scenario.parse(its.scenario), known_of(its.scenario)[1]
+    lacks = [lacking(it, names) for it in part.sentences]
+    known = [it for it, lack in zip(part.sentences, lacks) if not lack]
+    marks = marks_of(compiled.report(its, net.program), scenario, net.program, [*zip(known, read_all(known, names))])
+    return InNet(spread(marks, part.sentences, lacks) if marks or not known else (), lacks, '', None, [],
+                 net=net.name, is_hidden=net.is_hidden)
+
+
+def without_fault(work: Callable[[], Result]) -> Result | None:
+    """The result of work that isn't essential; None if it fails."""
+    try:
+        return tried(work, lambda words: None)
+    except Fault:
+        return None
