@@ -38,6 +38,10 @@ VALUES = (
      '65408 65472 65504 65533'),
     ('int v[3] = {4, 9, 2}, i, best = -1; for(i = 0; i < 3; i++) if(best == -1 || v[i] > v[best]) best = i;'
      ' printf("%d %d", best, v[best]);', '1 9'),
+    ('int i, x = -7; for(i = -3; i < 4; i += 2) printf("%d %d %d", x / i, x % i, 7 / i);',
+     '2 65535 65534 7 0 65529 65529 0 7 65534 65535 2'),
+    ('int i, m = -32767 - 1; uint8_t b = 9; for(i = -2; i < 3; i += 4) printf("%d %d %d", m / i, b / i, b % i);',
+     '16384 65532 1 49152 4 1'),
     ('const char *names[] = {"off", "on"}; int i = 1; printf("%s %d %s", names[i], i, i ? "yes" : "no");', '1'),
     ('int x = -7; printf("%d %d %d", x / -2, 7 / -2, 7 % -4);', '3 65533 3'),
     ("char c = '\\x41'; printf(\"%d %d %d %d\", c, '\\012', '\\0', '\\'');", '65 10 0 39'),

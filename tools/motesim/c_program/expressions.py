@@ -21,8 +21,8 @@ from motesim.c_program.walk import base_of, parts_of
 from motesim.c_program.written import Block, If, Line, While
 
 COMPARES = ('==', '!=', '<', '<=', '>', '>=')
-NO_SIGNED_DIVISION = ('`%s` of a value that may be below 0 isn\'t translated here: divide a value without a sign, or '
-                      'use an `if`.')
+NO_SIGNED_DIVISION = ('`%s` of a value that may be below 0 needs statements of its own: write it above the wait, into '
+                      'a variable.')
 NO_LONG = ('Values have 16 bits here, so `%s` with %d isn\'t translated: use smaller units, or a value without the '
            'lower bits.')
 NO_SHIFT = 'An `int` of a node has 16 bits, so C doesn\'t define a shift by 16 or more bits: shift by at most 15.'
@@ -365,18 +365,30 @@ class Expressions(Events):
         return self.with_bits(sign, left, right, line)
 
     def signed_division(self, left: Value, right: Value, sign: str, line: int) -> Value:
-        """A quotient or a remainder of a value below 0 by a positive number, as C rounds it."""
-        if self.is_wait_test or right.is_negative:
+        """A quotient or a remainder of values that may be below 0, as C rounds it."""
+        if self.is_wait_test:
             raise self.refuse(line, NO_SIGNED_DIVISION % sign)
         kept = self.temporary(left)
-        if not right.is_simple:
-            right = self.temporary(right)
-        block = [Line('%s = (0 - ((0 - %s) %s %s));' % (kept.text, kept.text, sign, right.text))]
-        other = [Line('%s = (%s %s %s);' % (kept.text, kept.text, sign, right.text))]
-        self.out.append(If(compared('<', kept, number(0)), [*block], [*other]))
-        low = left.low if sign == '/' else max(left.low, -(right.high - 1))
-        high = max(left.high, 0) if sign == '/' else max(min(left.high, right.high - 1), 0)
-        return kept._replace(type=INT, low=low, high=high, zeros=0)
+        by = right if right.is_simple else self.temporary(right)
+        size = self.without_sign(by) if by.is_negative else by
+        found: Block = [Line('%s = (%s %s %s);' % (kept.text, kept.text, sign, size.text))]
+        opposite: Block = [Line('%s = (0 - ((0 - %s) %s %s));' % (kept.text, kept.text, sign, size.text))]
+        self.out += [If(compared('<', kept, number(0)), opposite, found)] if kept.is_negative else found
+        # (a remainder has the sign of the dividend)
+        if sign == '/' and by.is_negative:
+            self.out.append(If(compared('<', by, number(0)), [Line('%s = (0 - %s);' % (kept.text, kept.text))], []))
+        most, below = max(-left.low, left.high), max(-right.low, right.high) - 1
+        if sign == '/':
+            low, high = (-most, most) if by.is_negative else (left.low, max(left.high, 0))
+        else:
+            low, high = max(min(left.low, 0), -below), max(min(left.high, below), 0)
+        return kept._replace(type=INT, low=max(low, INT.lowest), high=min(high, INT.highest), zeros=0)
+
+    def without_sign(self, it: Value) -> Value:
+        """The absolute value of a variable."""
+        found = self.temporary(it)
+        self.out.append(If(compared('<', found, number(0)), [Line('%s = (0 - %s);' % (found.text, found.text))], []))
+        return found
 
     def shift(self, sign: str, left: Value, right: Value, line: int) -> Value:
         if right.constant is not None:
