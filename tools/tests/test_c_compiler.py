@@ -66,9 +66,11 @@ class Checks(unittest.TestCase):
 
     def test_a_missing_file_is_named(self) -> None:
         last = HEAD.splitlines(True)[-1]
-        for head, body, wanted in (HEAD, 'leds_on(LEDS_RED);', 'dev/leds.h'), (last, '', 'net/rime.h'):
+        for head, body, wanted in ((HEAD, 'leds_on(LEDS_RED);', '"dev/leds.h"'), (last, '', '"net/rime.h"'),
+                                   (HEAD, 'static bool is_on;', '<stdbool.h>'), (HEAD, 'x = true;', '<stdbool.h>'),
+                                   (HEAD, 'x = INT_MAX;', '<limits.h>')):
             (line, words, is_mistake), (_, warned, _) = check(head + PROGRAM % (body + ' done == 1;'))
-            self.assertIn('needs `#include "%s"`' % wanted, words)
+            self.assertIn('needs `#include %s`' % wanted, words)
             self.assertIn('no effect', warned)
             self.assertEqual(on_node([Remark(line, words, is_mistake)]),
                              'gcc refuses line %d, because an #include is missing' % line)

@@ -111,6 +111,17 @@ class Comparison(unittest.TestCase):
             self.assertEqual(self.difference(source), '', text)
             self.assertIn('send %d;' % value, translated(source).text)
 
+    def test_an_array_of_characters_is_no_text(self) -> None:
+        above = RADIO.replace('printf("%d", *(int *)packetbuf_dataptr());', 'static char m[2];'
+                              ' packetbuf_copyto(m); printf("%d %d", m[0], m[1]);')
+        for declared, filled in (('char m[2] = {1, 5};', ''), ('static char m[2];', 'm[0] = 1; m[1] = 5;'),
+                                 ('static char m[] = "ab";', 'm[0] = 1; m[1] = 5;')):
+            body = '  broadcast_open(&bc, 129, &calls); %s %s packetbuf_copyfrom(m, 2); broadcast_send(&bc);'
+            source = in_process(body % (declared, filled) + ' PROCESS_WAIT_EVENT();', above, '  ' + TIMER)
+            self.assertEqual(self.difference(source), '', source)
+            self.assertIn('send', translated(source).text)
+            self.assertNotIn('send 1;', translated(source).text)
+
     def test_a_packet_may_be_empty(self) -> None:
         source = self.counting('1').replace('packetbuf_copyfrom(&n, sizeof(n));', 'packetbuf_clear();')
         source = source.replace('printf("%d", *(int *)packetbuf_dataptr());', 'printf("%d", 5);')

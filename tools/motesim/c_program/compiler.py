@@ -35,6 +35,8 @@ FILES = {
 }
 OF_LIBRARY = ('ctype.h', 'inttypes.h', 'limits.h', 'stdbool.h', 'stddef.h', 'stdint.h', 'stdio.h', 'stdlib.h',
               'string.h', 'strings.h')
+# The headers that declare what a program may lack; without those of C's functions, a program only gets a warning.
+DECLARING = (*FILES, 'stdbool.h', 'limits.h')
 HEADER_OF = {it: header for header, names in FILES.items() for name in names for it in (name, name.split('/')[-1])}
 INCLUDE = re.compile(r'^([ \t]*#[ \t]*include[ \t]*)(?:[<"]([^<>"\n]*)[>"]|[^\n]*)', re.M)
 # The warnings that name a mistake in most programs of beginners.
@@ -63,7 +65,7 @@ TYPES = ('uint8_t', 'int8_t', 'uint16_t', 'int16_t', 'uint32_t', 'int32_t', 'clo
          'process_event_t', 'process_data_t', 'static', 'struct', 'unsigned', 'signed', 'const', 'void')
 REFUSED, WARNED = 'gcc refuses it: %s.', 'gcc warns: %s.'
 LACKS = 'gcc refuses this line: '
-LACKS_ONE = LACKS + '%s. The program needs `#include "%s"`.'
+LACKS_ONE = LACKS + '%s. The program needs `#include %s`.'
 LACKS_SEVERAL = LACKS + '%s. The program doesn\'t include all files that it needs.'
 # (the translator has its own words about it)
 OF_TRANSLATOR = 'assignment used as truth value'
@@ -97,7 +99,7 @@ def check(text: str) -> list[tuple[int, str, bool]]:
     errors = errors_in(own)
     if not errors or not knows_files_of(text):
         return [] if errors else warnings_in(own)
-    complete = complaints_of(with_more(source, FILES))
+    complete = complaints_of(with_more(source, DECLARING))
     lasting = errors_in(complete)
     if lasting:
         error = next((it for it in lasting if it in errors), errors[0])
@@ -131,9 +133,10 @@ def warnings_in(complaints: Sequence[Complaint]) -> list[tuple[int, str, bool]]:
 
 def lacks(source: str, error: Complaint) -> str:
     """The words about an error that ends if all files are included."""
-    one = next((names[0] for it, names in FILES.items()
-                if not errors_in(complaints_of(with_more(source, [it])))), None)
-    return LACKS_ONE % (error.words, one) if one else LACKS_SEVERAL % error.words
+    one = next((it for it in DECLARING if not errors_in(complaints_of(with_more(source, [it])))), None)
+    if one is None:
+        return LACKS_SEVERAL % error.words
+    return LACKS_ONE % (error.words, '"%s"' % FILES[one][0] if one in FILES else '<%s>' % one)
 
 
 def is_known(name: str | None) -> bool:

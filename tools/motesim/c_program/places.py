@@ -286,7 +286,7 @@ class Places(Base):
         if variable.type.kind == 'data':
             return Pointer('data')
         if variable.type.kind == 'array':
-            if variable.type.of and variable.type.of.name == 'char':
+            if variable.initial and variable.initial.kind == 'text' and variable not in self.program.usage.assigned:
                 return Pointer('text')
             return Pointer('place', Place('variable', variable.type, variable))
         raise self.refuse(it.line, (OF_PAST if variable in self.past else NO_POINTER) % it.text)
