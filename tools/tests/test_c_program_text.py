@@ -1300,6 +1300,22 @@ static const struct broadcast_callbacks calls = { recv };'''
             text, notes = translation(in_process(body, 'static struct etimer et;', VARIABLES))
             self.assertIn('set et %s;' % its, body_of(text), notes)
 
+    def test_a_real_constant_that_c_converts_is_exact(self) -> None:
+        for time, its in (
+                ('0.5 * CLOCK_SECOND', '64'), ('1.5*CLOCK_SECOND - 1', '191'), ('CLOCK_SECOND * 0.33f', '42'),
+                ('CLOCK_SECOND / 2.0', '64'), ('1 / 2 * 1.0 * CLOCK_SECOND', '0'), ('(int)(2.5 * 4)', '10'),
+                ('node_id + 0.25 * CLOCK_SECOND', '(self + 32)'), ('u * (.5 * CLOCK_SECOND)', '(u * 64)'),
+                ('u * 0.5', ''), ('1.5', ''), ('0.1 * CLOCK_SECOND + u', ''), ('(u + 2.0) / 4', ''),
+                ('u > 0.5 * CLOCK_SECOND', ''), ('1e9999999', '')):
+            body = '  u = node_id * 250; PROCESS_YIELD(); etimer_set(&et, %s);' % time
+            text, notes = translation(in_process(body, 'static struct etimer et;', VARIABLES))
+            with self.subTest(time):
+                self.assertIn('set et %s;' % its if its else '', body_of(text) if text else '', notes)
+                self.assertEqual('Numbers are whole' in notes, not its, notes)
+        text, notes = translation(in_process('  etimer_set(&et, 0.5 * CLOCK_SECOND); printf("%d", 2.0);',
+                                             'static struct etimer et;'))
+        self.assertIn('Numbers are whole', notes)
+
     def test_a_time_that_16_bits_do_not_hold_has_a_remark(self) -> None:
         wait = 'while(1) { u++; etimer_set(&et, %s); PROCESS_WAIT_EVENT_UNTIL(etimer_expired(&et)); }'
         for ticks, is_seen in (

@@ -6,6 +6,7 @@ import re
 from collections.abc import Sequence
 
 from motesim.c_program import bits
+from motesim.c_program.absent import WHOLE
 from motesim.c_program.base import OF_LONG, joined_limits
 from motesim.c_program.constants import EVENT_NUMBERS, NUMBERS, OPERATIONS, SECOND, constant_of
 from motesim.c_program.events import Events
@@ -98,6 +99,9 @@ class Expressions(Events):
             self.remark_mistake(it.line, OF_LONG)
         its = it.type if it.type and it.type.bits <= 16 else UNSIGNED if it.number > 32_767 else INT
         return number(it.number % 65_536 if it.number > MOST else it.number, its)
+
+    def _real(self, it: Expression) -> Value:
+        raise self.refuse(it.line, WHOLE)
 
     def _text(self, it: Expression) -> Value:
         raise self.refuse(it.line, TEXTS)

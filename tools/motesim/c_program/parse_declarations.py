@@ -6,6 +6,7 @@ from typing import NamedTuple
 
 from motesim.c_program.absent import WHOLE, absent
 from motesim.c_program.parse_expressions import Expressions
+from motesim.c_program.reals import whole
 from motesim.c_program.refusal import Refusal
 from motesim.c_program.tree import Expression, File, Variable
 from motesim.c_program.types import (
@@ -193,7 +194,7 @@ class Declarations(Expressions):
 
     def initial(self, its: Type) -> tuple[Expression, Type]:
         """The initial value of a variable, and its type: an array gets its size from this value."""
-        found = self.values() if self.is_sign('{') else self.assignment()
+        found = self.values() if self.is_sign('{') else whole(self.assignment())
         if found.kind == 'list':
             found = with_braces(found, its)
         if its.kind == 'array' and not its.size:
@@ -210,7 +211,7 @@ class Declarations(Expressions):
                 name = self.step().text
                 self.need(':' if self.is_sign(':') else '=')
             at = self.index_of_value(len(parts))
-            value = self.values() if self.is_sign('{') else self.assignment()
+            value = self.values() if self.is_sign('{') else whole(self.assignment())
             # (members that are left out are 0)
             none = Expression('list', '{', (), line) if value.kind == 'list' else ZERO
             parts += [none] * (at - len(parts) + 1)

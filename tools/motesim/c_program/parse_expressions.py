@@ -6,6 +6,7 @@ from collections.abc import Sequence
 
 from motesim.c_program.absent import WHOLE, absent
 from motesim.c_program.constants import NotConstant, value_of
+from motesim.c_program.reals import LONG, whole
 from motesim.c_program.refusal import Refusal
 from motesim.c_program.tokens import Token
 from motesim.c_program.tree import Expression, Variable
@@ -15,8 +16,10 @@ ASSIGNS = ('=', '+=', '-=', '*=', '/=', '%=', '&=', '|=', '^=', '<<=', '>>=')
 LEVELS = (('||',), ('&&',), ('|',), ('^',), ('&',), ('==', '!='), ('<', '<=', '>', '>='), ('<<', '>>'), ('+', '-'),
           ('*', '/', '%'))
 ESCAPE = r'\\(?:x([0-9A-Fa-f]{1,2})|([0-7]{1,3})|(.))'
+REAL = re.compile(r'(\d+\.\d*|\.\d+)[fFlL]?')
 ESCAPES = {'n': 10, 't': 9, 'r': 13, 'a': 7, 'b': 8, 'f': 12, 'v': 11}
-LONG = Type('int', 32)
+# (these functions convert no value)
+FORMATTED = ('printf', 'sprintf', 'snprintf')
 NO_SEMICOLON = 'A `;` is missing at the end of this line.'
 OF_FUNCTION_POINTER = 'A pointer to a function is called here: call each function by its name, in an `if`.'
 OF_CHARACTER = 'This isn\'t one character: %s.'
@@ -101,7 +104,8 @@ class Expressions:
         left = self.choice()
         if self.is_sign(*ASSIGNS):
             sign = self.step()
-            return Expression('assign', sign.text, (left, self.assignment()), sign.line)
+            value = self.assignment()
+            return Expression('assign', sign.text, (left, whole(value) if sign.text == '=' else value), sign.line)
         return left
 
     def choice(self) -> Expression:
@@ -135,7 +139,7 @@ class Expressions:
             self.need(')')
             if self.is_sign('{'):
                 raise Refusal(it.line, 'A structure without a name is used here: declare a variable for it.')
-            return Expression('cast', '', (self.unary(),), it.line, type=its)
+            return Expression('cast', '', (whole(self.unary()),), it.line, type=its)
         return self.postfix()
 
     def is_type_ahead(self) -> bool:
@@ -189,7 +193,8 @@ class Expressions:
             raise Refusal(line, absent('%s.%s' % (function.parts[0].text, function.text)))
         if function.kind != 'name':
             raise Refusal(line, OF_FUNCTION_POINTER)
-        return Expression('call', function.text, tuple(parts), function.line, function.variable)
+        values = parts if function.text in FORMATTED else map(whole, parts)
+        return Expression('call', function.text, tuple(values), function.line, function.variable)
 
     def primary(self) -> Expression:
         it = self.token
@@ -229,12 +234,19 @@ class Expressions:
             is_octal = len(plain) > 1 and plain[0] == '0' and plain.isdigit()
             value = int(plain, 8) if is_octal else int(plain, 0)
         except ValueError:
-            raise Refusal(it.line, WHOLE) from None
+            return self.real(it)
         is_plain = plain.isdigit() and not is_octal
         its = UNSIGNED if 'u' in suffix or 32767 < value <= 65535 and not is_plain else INT
         if value > (65535 if its == UNSIGNED else 32767) or 'l' in suffix:
             its = LONG
         return Expression('number', it.text, line=it.line, number=value, type=its, origin=it.origin)
+
+    @staticmethod
+    def real(it: Token) -> Expression:
+        """A real number: one that stays in an expression is refused when the expression is translated."""
+        if not REAL.fullmatch(it.text):
+            raise Refusal(it.line, WHOLE)
+        return Expression('real', it.text, line=it.line, origin=it.origin)
 
     def constant(self, what: str) -> int:
         """The value of a constant expression."""

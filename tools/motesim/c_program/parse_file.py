@@ -8,6 +8,7 @@ from motesim.c_program.constants import constant_of
 from motesim.c_program.parse_declarations import NO_END, Declarations, Declared
 from motesim.c_program.parse_expressions import Expressions
 from motesim.c_program.preprocess import Preprocessor
+from motesim.c_program.reals import whole
 from motesim.c_program.refusal import Refusal
 from motesim.c_program.tokens import Token
 from motesim.c_program.tree import Expression, File, Function, Statement, Variable
@@ -284,7 +285,7 @@ class FileReader(Declarations):
         return Statement('continue', 0)
 
     def _return(self) -> Statement:
-        value = None if self.is_sign(';') else self.expression()
+        value = None if self.is_sign(';') else whole(self.expression())
         self.need(';')
         return Statement('return', 0, (), (value,))
 

@@ -23,8 +23,8 @@ class Variable:
 class Expression(NamedTuple):
     """An expression.
 
-    kind      number, text, name, unary, postfix, binary, assign, call, index, member, arrow, cast, sizeof, choice,
-              comma, list or field (a member of a list that names its field)
+    kind      number, real, text, name, unary, postfix, binary, assign, call, index, member, arrow, cast, sizeof,
+              choice, comma, list or field (a member of a list that names its field)
     text      the operator, the name, or the text of a number
     parts     the expressions in it
     number    the value of a number
