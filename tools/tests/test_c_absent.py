@@ -33,7 +33,7 @@ ADVICE = (
     ('dint();', 'no interrupts'), ('P5DIR |= 16;', 'no registers'), ('serial_line_init();', 'no serial line'),
     ('PRINTF("%d", x);', '`#define PRINTF(...) printf(__VA_ARGS__)`'), ('srand(3);', 'Use `random_init`.'),
     ('x = packetbuf_attr(PACKETBUF_ATTR_HOPS);', 'Send a number of hops in the packet'),
-    ('etimer_set(&et, 0.5 * CLOCK_SECOND);', 'write `CLOCK_SECOND / 2` for half a second'),
+    ('etimer_set(&et, x * 0.3);', 'write `CLOCK_SECOND / 2` for half a second'),
     ('x = sqrt(2);', 'count in a smaller unit'), ('x = (float)x / 2;', 'count in a smaller unit'),
     ('exit(1);', '`PROCESS_EXIT();`'), ('etimer_rest(&et);', 'Do you mean `etimer_reset`?'),
     ('proces_poll(&p);', 'Do you mean `process_poll`?'), ('process_start(&p, &x);', 'process_post(&p, '),
