@@ -887,6 +887,35 @@ class Remarks(unittest.TestCase):
         self.assertIsNotNone(text, notes)
         return notes
 
+    def mistakes(self, body: str, above: str) -> list[str]:
+        found = translated(in_process('  ' + body, above, VARIABLES))
+        return [it.text for it in found.remarks if it.is_mistake]
+
+    def test_the_data_of_an_event_is_an_address_or_a_number(self) -> None:
+        number, address, nothing = '(process_data_t)5', '&low', 'NULL'
+        for posted, read, wanted in (
+                ((address,), '*(uint8_t *)data', ''), ((number,), '(int)data', ''),
+                ((number,), '(uint8_t)(int)data', ''),
+                ((address,), '(int)data', 'it is the value of the variable'),
+                ((address, nothing), '(uint8_t)(int)data', 'it is the value of the variable'),
+                ((number,), '*(uint8_t *)data', 'it is the number itself'), ((number, address), '(int)data', ''),
+                ((number, address), '*(uint8_t *)data', ''), ((), '*(uint8_t *)data', '')):
+            posts = ' '.join('process_post(&p, 9, %s);' % it for it in posted)
+            found = self.mistakes(posts + ' PROCESS_YIELD(); printf("%d", ' + read + ');', 'static uint8_t low = 3;')
+            with self.subTest(posted=posted, read=read):
+                self.assertEqual(len(found), bool(wanted), found)
+                self.assertIn(wanted, ''.join(found))
+
+    def test_the_second_byte_of_an_address_is_that_of_no_mote(self) -> None:
+        for value, count in ('0', 0), ('1', 1), ('x', 0), ('rimeaddr_node_addr.u8[1]', 0):
+            self.assertEqual(len(self.mistakes('to.u8[1] = %s;' % value, 'static rimeaddr_t to;')), count, value)
+
+    def test_the_size_of_a_pointer_is_not_that_of_its_target(self) -> None:
+        above = 'struct m { uint8_t a; uint8_t b; };\nstatic struct m one;\nstatic uint16_t n;\n' \
+                'static void f(struct m *it) { n = sizeof(%s); }'
+        for size, has_remark in ('it', True), ('*it', False), ('one', False), ('struct m *', False):
+            self.assertEqual('size of the pointer' in self.remarks('f(&one);', above % size), has_remark, size)
+
     def test_a_remark_says_what_differs_from_c(self) -> None:
         for body, wanted in (
                 ('printf("hello");', 'There are no texts'), ('leds_on(1);', 'A mote has no LEDs'),
@@ -983,11 +1012,6 @@ static struct item *unused(void) {
         for sent, is_seen in ('', True), ('packetbuf_copyfrom(&b, 1); broadcast_send(&bc);', False):
             notes = translation(in_process('  broadcast_open(&bc, 129, &calls); ' + sent, above))[1]
             self.assertEqual('line 6: This program sends no packets' in notes, is_seen, notes)
-
-    def test_a_second_byte_of_an_address_is_named(self) -> None:
-        for byte, is_named in (('0', False), ('5', True)):
-            notes = self.remarks('to.u8[0] = 1; to.u8[1] = %s;' % byte, 'static rimeaddr_t to;')
-            self.assertEqual('the other bytes are 0' in notes, is_named)
 
     def test_numbers_of_32_bits_wrap(self) -> None:
         self.assertIn('above 65,535 wrap', self.remarks('l = 70000;', '', '  static uint32_t l;'))

@@ -275,11 +275,14 @@ class Calls(Chance):
                 return self.whole('data')
             if pointer.kind == 'packet':
                 self.need_packet(line)
+                self.program.knowledge.new_forms.add('data packet')
                 return self.whole('packet')
             if pointer.kind == 'place' and pointer.place is not None:
                 self.remark(line, OF_DATA)
                 return self.data_of(pointer.place, line)
             raise self.refuse(line, 'The data of an event is a number here, or the address of a variable.')
+        if constant_of(it) != 0:
+            self.program.knowledge.new_forms.add('numbers data')
         return self.operand(it)
 
     def data_of(self, place: Place, line: int) -> Value:

@@ -57,7 +57,11 @@ COMPLAINT = re.compile(r'^<stdin>:(\d+):\d+: (?:fatal )?(error|warning): (.*?)(?
 CERTAIN = ('expected ', 'stray ', 'missing terminating', 'unterminated', 'unmatched', 'incompatible type for argument',
            'too few arguments', 'too many arguments', 'invalid type argument', 'request for member', 'lvalue required',
            'invalid operands', 'void value', 'assignment of read-only', 'redefinition of', 'conflicting types',
-           'initializer element is not constant', 'multiple storage classes')
+           'initializer element is not constant', 'multiple storage classes', 'incompatible types when',
+           'invalid initializer', 'duplicate case value', 'case label not within', 'break statement not within',
+           'continue statement not within', 'called object', 'subscripted value is neither', 'wrong type argument',
+           'assignment to expression with array type', 'variable-sized object', 'label ', 'used struct type',
+           'redeclaration of', 'static declaration of', 'cannot convert to a pointer')
 UNDECLARED, NO_TYPE = re.compile(r"'(\w+)' undeclared"), re.compile(r"unknown type name '(\w+)'")
 # (such as that of `unit8_t` and `uint8_t`)
 ALIKE = 0.8

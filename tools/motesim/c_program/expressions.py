@@ -48,6 +48,11 @@ OF_OVERFLOW = ('An `int` of a node has 16 bits, so a result above 32,767 is belo
                'with `uint16_t`, or with smaller values.')
 OF_SECOND = ('A second has %d moments here, so `CLOCK_SECOND` is %d%s. `end` of the scenario is in moments, too, and '
              'so are the delays of packets.')
+ADDRESS_AS_NUMBER = ('The program posts addresses of variables as the data of its events, and no number. So on a '
+                     'node, this is such an address; in the translation, it is the value of the variable: write '
+                     '`*(uint8_t *)data`, with the type of the variable.')
+OF_POINTER_SIZE = ('`sizeof(%s)` is the size of the pointer itself, which is 2 bytes on the Tmote Sky and 8 for gcc '
+                   'here: write `sizeof(*%s)` for the size of what it points to.')
 
 
 class Expressions(Events):
@@ -180,7 +185,10 @@ class Expressions(Events):
         return self.read(self.place(it), it.line)
 
     def _sizeof(self, it: Expression) -> Value:
-        return number(size_of(self.type_of(it.parts[0])), UNSIGNED)
+        its = self.type_of(it.parts[0])
+        if its.kind == 'pointer' and it.parts[0].variable:
+            self.remark(it.line, OF_POINTER_SIZE % ((it.parts[0].text,) * 2))
+        return number(size_of(its), UNSIGNED)
 
     def _list(self, it: Expression) -> Value:
         raise self.refuse(it.line, 'Values in braces are only possible in a declaration.')
@@ -192,6 +200,8 @@ class Expressions(Events):
             return self.evaluate(it.parts[0])
         if its.kind == 'int' and its.bits > 16:
             self.remark(it.line, OF_LONG)
+        if its.kind == 'int' and self.is_data(it.parts[0]) and self.forms('data') and not self.forms('numbers'):
+            self.remark_mistake(it.line, ADDRESS_AS_NUMBER)
         return converted(self.evaluate(it.parts[0]), its)
 
     # Operations.

@@ -10,8 +10,8 @@ from motesim.c_program.calls import ELAPSED
 from motesim.c_program.constants import constant_of
 from motesim.c_program.control import ENDS, FALLS, Control, Flow
 from motesim.c_program.places import (
-    EVERYWHERE, NO_MOTE, NOWHERE, OF_ADDRESS, OF_CHANGE, OF_EVENTS, OF_RESULT, OF_ZEROS, ONE_BYTE, OVERWRITING,
-    SELF, Path, Place, Pointer, owner_of,
+    EVERYWHERE, NO_MOTE, NO_SUCH_MOTE, NOWHERE, OF_ADDRESS, OF_CHANGE, OF_EVENTS, OF_RESULT, OF_ZEROS, ONE_BYTE,
+    OVERWRITING, SELF, Path, Place, Pointer, owner_of,
 )
 from motesim.c_program.radio import FILLED, SENDS
 from motesim.c_program.refusal import Refusal
@@ -201,8 +201,10 @@ class Functions(Control):
             at, changes = len(self.out), len(self.log)
             place = self.place(owner)
             self.write(place, self.kept_before(value, at, changes), it.line)
-        elif value.constant != 0:
+        elif value.constant is None:
             self.remark(it.line, ONE_BYTE)
+        elif value.constant:
+            self.remark_mistake(it.line, NO_SUCH_MOTE)
         return True
 
     # Functions.

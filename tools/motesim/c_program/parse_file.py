@@ -9,7 +9,7 @@ from motesim.c_program.parse_declarations import NO_END, Declarations, Declared
 from motesim.c_program.parse_expressions import Expressions
 from motesim.c_program.preprocess import Preprocessor
 from motesim.c_program.reals import whole
-from motesim.c_program.refusal import Refusal
+from motesim.c_program.refusal import Mistake, Refusal
 from motesim.c_program.tokens import Token
 from motesim.c_program.tree import Expression, File, Function, Statement, Variable
 from motesim.c_program.types import DATA, EVENT, VOID, Type, pointer_to
@@ -81,7 +81,7 @@ class FileReader(Declarations):
             it = self.step()
             if it.kind == 'name' and it.text != 'NULL':
                 if word.text == 'AUTOSTART_PROCESSES' and not has_sign:
-                    raise Refusal(it.line, NO_SIGN % it.text)
+                    raise Mistake(it.line, NO_SIGN % it.text)
                 names.append(it.text)
             elif it.kind == 'end':
                 self.need(')')

@@ -57,6 +57,8 @@ NO_MOTE = 255
 # An index that has more values chooses a half of them first.
 MOST_IN_ROW = 8
 ONE_BYTE = 'Only the first byte of an address, `u8[0]`, has a value here: the other bytes are 0, and aren\'t assigned.'
+NO_SUCH_MOTE = ('The addresses of all motes of the net have 0 as their second byte, so on a node, this is the address '
+                'of no mote. In the translation, only the first byte, `u8[0]`, has a value: write `u8[1] = 0`.')
 OF_NULL = 'The address that no mote has is %d here.' % NO_MOTE
 OF_ZEROS = ('The program names `linkaddr_null` or `rimeaddr_null`, so these zeros are the address of no mote, %d, and '
             'not that of mote 0. For mote 0, declare the variable as `const`.' % NO_MOTE)
@@ -71,6 +73,9 @@ OF_CHANGE = ('A pointer that changes always points to a member of the same array
 TEXTS = 'There are no texts here: a program prints numbers.'
 OF_DATA = ('The event has the value of the variable at the time of the `process_post`, also if the variable changes '
            'before the event arrives.')
+
+NUMBER_READ = ('The program posts numbers as the data of its events, and no address. So a node reads its memory at '
+               'this number here; in the translation, it is the number itself: write `(int)data` for the number.')
 
 
 class Place(NamedTuple):
@@ -393,6 +398,8 @@ class Places(Base):
             self.need_packet(line)
         if place.source == 'packet' and not self.is_intact:
             self.remark_mistake(line, OVERWRITTEN)
+        if place.source == 'data' and ('', 'data') in self.program.knowledge.limits and not self.forms('data'):
+            self.remark_mistake(line, NUMBER_READ)
         its = place.root
         parts = leaves_of(its)
         path = place.paths[0]
