@@ -251,6 +251,12 @@ void linkaddr_copy(rimeaddr_t *to, const rimeaddr_t *from) { *to = *from; }
  */
 #define BYTES   2
 #define NO_MOTE 255
+/* (a pointer has two bytes on a node) */
+static size_t
+size_on_node(size_t size)
+{
+  return size == sizeof(void *) && !library_is_alone ? BYTES : size;
+}
 /* The byte behind a packet that has one byte: a value that is rarely right by chance. */
 #define UNSET   0xfe
 static unsigned char buffer[PACKETBUF_SIZE];
@@ -259,7 +265,7 @@ static rimeaddr_t sender;
 
 void *packetbuf_dataptr(void) { return buffer; }
 uint16_t packetbuf_datalen(void) { return length; }
-void packetbuf_set_datalen(uint16_t size) { length = size; }
+void packetbuf_set_datalen(uint16_t size) { length = (uint16_t)size_on_node(size); }
 int packetbuf_set_attr(uint8_t type, packetbuf_attr_t value) { (void)type; (void)value; return 1; }
 packetbuf_attr_t packetbuf_attr(uint8_t type) { (void)type; return 0; }
 
@@ -274,7 +280,7 @@ void packetbuf_clear(void) { length = 0; }
 int
 packetbuf_copyfrom(const void *from, uint16_t size)
 {
-  length = size < PACKETBUF_SIZE ? size : PACKETBUF_SIZE;
+  length = size < PACKETBUF_SIZE ? (uint16_t)size_on_node(size) : PACKETBUF_SIZE;
   memmove(buffer, from, length);
   return length;
 }
@@ -282,10 +288,12 @@ packetbuf_copyfrom(const void *from, uint16_t size)
 size_t
 library_size(size_t size, size_t room)
 {
-  if(size > room) {
+  size_t copied = size > room ? size_on_node(size) : size;
+
+  if(copied > room) {
     abort();
   }
-  return size;
+  return copied;
 }
 
 int

@@ -64,6 +64,11 @@ int library_copyto(void *to, size_t room);
 #define memset(to, value, size) memset(to, value, LIBRARY_SIZE(to, size))
 #define packetbuf_copyto(to)    library_copyto(to, __builtin_object_size(to, 0))
 
+/* A time has 32 bits on a node, so one below 0 is beyond the end of a run. */
+#define timer_set(t, interval)            timer_set(t, (uint32_t)(interval))
+#define etimer_set(t, interval)           etimer_set(t, (uint32_t)(interval))
+#define ctimer_set(t, interval, f, value) ctimer_set(t, (uint32_t)(interval), f, value)
+
 #define printf(...)        library_print(__VA_ARGS__)
 #define puts(text)         library_text(text)
 #define rand()             library_rand()

@@ -4,12 +4,14 @@ from pathlib import Path
 from unittest import mock
 
 from motesim.c_program import compiler
-from motesim.c_program.compiler import FILES, HEADERS, check, has_certain_error
+from motesim.c_program.compiler import FILES, HEADERS, certain_error, check
 from motesim.c_program.process import ProcessWriter
 from motesim.c_program.program import Remark, translated
 from motesim.c_program.refusal import Refusal
 from motesim.explain.whole import translation_of
-from motesim.grading.in_c import NotTranslated, of_programs, on_node
+from motesim.grading.in_c import NotTranslated, lacks_of, of_programs, on_node
+from motesim.grading.marks import Marks
+from motesim.grading.tables import table
 from skips import need_command
 from student_programs import PROGRAMS
 
@@ -77,16 +79,27 @@ class Checks(unittest.TestCase):
 
     def test_certain_errors_differ_from_missing_parts_of_contiki(self) -> None:
         for line, wanted in (('done = 1', True), ('static struct runicast_conn c; runicast_open(&c, 1, NULL);', False),
-                             ('done = 1;', False), ('if(done == 1 { }', True), ('done = "a;', True),
+                             ('done = 1;', False), ('done = node_id;', False), ('if(done == 1 { }', True),
+                             ('done = "a;', True),
                              ('static unit8_t k;', True), ('static uint8_t k = done;', True), ('dune = 3;', True),
                              ('static uip_ipaddr_t k;', False), ('done = RADIO_TXPOWER;', False),
                              ('done = battery_sensor.value;', False),
                              ('static struct etimer et; etimer_set(et, 3);', True), ('etimer_set(3);', True),
                              ('switch(x) { case 1: x = 2; break; case 1: break; }', True), ('to = 3;', True),
                              ('static int a[2]; a = 3;', True), ('x();', True), ('x[1] = 2;', True)):
-            self.assertEqual(has_certain_error(HEAD + PROGRAM % line), wanted, line)
-        found = NotTranslated(Refusal(3, ''), HEAD + PROGRAM % 'done = 1'), NotTranslated(Refusal(3, ''), HEAD)
+            self.assertEqual(certain_error(HEAD + PROGRAM % line) is not None, wanted, line)
+        found = NotTranslated(Refusal(3, ''), HEAD + PROGRAM % 'done = 1 +;'), NotTranslated(Refusal(3, ''), HEAD)
         self.assertEqual([it.may_be_right for it in found], [False, True])
+        self.assertEqual(str(found[0]), 'its line %d is a mistake in C' % LINE)
+        self.assertEqual(found[0].lines[0], 'line %d: done = 1 +;' % LINE)
+        self.assertIn('gcc refuses it: expected expression', found[0].lines[1])
+
+    def test_a_program_that_is_not_translated_may_lack_a_file(self) -> None:
+        source = HEAD + PROGRAM % 'done = node_id;'
+        self.assertEqual(certain_error(source), None)
+        its = Marks('a.c', why=str(NotTranslated(Refusal(3, ''), source)), is_open=True, of_c=lacks_of(source))
+        self.assertRegex(table([its], ['a'])[0], r'line 3 may be right in C, .*; gcc refuses line %d, because' % LINE)
+        self.assertEqual(lacks_of(HEAD + PROGRAM % 'done = 1 +;'), ())
 
     def test_a_program_that_includes_nothing_is_checked_as_if_it_included_all(self) -> None:
         self.assertEqual(check(PROGRAM % 'leds_on(LEDS_RED); x = random_rand();'), [])

@@ -17,8 +17,8 @@ from motesim.grading.by_gcc import (
     BY_GCC, OF_HIDDEN_RUN, by_gcc_in, by_gcc_words, difference_in, differences_in, marks_of, remarks_in, untranslated,
 )
 from motesim.grading.compiled import (
-    CRASHES, DEFINES, DIVIDES, MEETING, OF_INDEX, OF_INT, OF_REMARK, OF_UNSET, SAME, Compiled, Difference, InC,
-    NoComparison, first_meeting,
+    CRASHES, DEFINES, DIVIDES, MEETING, NEVER_ENDS, OF_INDEX, OF_INT, OF_REMARK, OF_UNSET, SAME, Compiled, Difference,
+    InC, NoComparison, first_meeting,
 )
 from motesim.grading.entries import Entry
 from motesim.grading.in_c import UNLINKED, in_words_of_c, is_seen_by_gcc, on_node
@@ -204,6 +204,23 @@ class Comparison(unittest.TestCase):
                     ' broadcast_send(&bc); } PROCESS_WAIT_EVENT();' % sent)
             found = self.difference(in_process(body, above))
             self.assertTrue(wanted in found and bool(wanted) == bool(found), (sent, kept, copied, found))
+
+    def test_a_pointer_has_two_bytes(self) -> None:
+        for kept, wanted in ('uint16_t', ''), ('uint8_t', CRASHES):
+            above = '#include <string.h>\nstatic uint16_t n = 7; static %s v; static uint16_t *m;' % kept
+            source = in_process('  m = &n; memcpy(&v, m, sizeof(m)); printf("%u", v);', above)
+            self.assertEqual(self.difference(source, in_process('  printf("%u", 7);')), wanted)
+
+    def test_a_time_below_0_never_comes(self) -> None:
+        body = ('  { static struct etimer et; static clock_time_t next; next = clock_time() + 10; etimer_set(&et, 20);'
+                ' PROCESS_WAIT_EVENT_UNTIL(etimer_expired(&et)); etimer_set(&et, %s);'
+                ' PROCESS_WAIT_EVENT_UNTIL(etimer_expired(&et)); printf("%%d", 3); }')
+        for wait in 'next - clock_time()', '-32', '8 * ((int)node_id - 5)':
+            self.assertEqual(self.difference(in_process(body % wait)), '', wait)
+
+    def test_a_loop_that_never_ends_on_a_node_is_named(self) -> None:
+        body = '  { static int i; for(i = 0; i < 40000; i += 10000) { n++; } printf("%d", n); }'
+        self.assertEqual(self.difference(in_process(body, 'static uint8_t n;')), NEVER_ENDS)
 
     def test_the_second_byte_of_an_address_is_0(self) -> None:
         above = '#include "net/rime.h"\nstatic struct unicast_conn uc; static rimeaddr_t to; static uint8_t v;'

@@ -49,7 +49,7 @@ GCC = ('gcc', '-x', 'c', '-std=gnu99', '-S', '-o', '/dev/null', '-I%s' % HEADERS
        '-fdiagnostics-color=never',
        *('-W' + it for it in WARNINGS), *('-Wno-error=' + it for it in PERMITTED))
 # (a program may be made to keep a compiler busy, and a compiled one runs for as long as it likes)
-LIMITED = 'ulimit -v 2000000; ulimit -t 20; ulimit -f 200000; exec "$0" "$@"'
+LIMITED = 'ulimit -v 2000000; ulimit -S -t 10; ulimit -f 200000; exec "$0" "$@"'
 SECONDS = 30
 NO_SUCH_FILE = 'No such file or directory'
 COMPLAINT = re.compile(r'^<stdin>:(\d+):\d+: (?:fatal )?(error|warning): (.*?)(?: \[-W[^\]]*\])?$', re.M)
@@ -111,11 +111,14 @@ def check(text: str) -> list[tuple[int, str, bool]]:
     return [(errors[0].line, lacks(source, errors[0]), True), *warnings_in(complete)]
 
 
-def has_certain_error(text: str) -> bool:
-    """Returns whether gcc, if it is installed, finds an error in a program that isn't due to missing parts of Contiki, such
-    as one in the syntax."""
-    return is_installed() and knows_files_of(text) and any(
-        is_certain(it.words) for it in errors_in(complaints_of(with_headers(text))))
+def certain_error(text: str) -> tuple[int, str] | None:
+    """The first error that gcc, if it is installed, finds in a program, and that isn't due to missing parts of Contiki,
+    such as one in the syntax: its line, and the words about it."""
+    if not is_installed() or not knows_files_of(text):
+        return None
+    source = with_headers(text)
+    own, complete = (errors_in(complaints_of(it)) for it in (source, with_more(source, FILES)))
+    return next(((it.line, REFUSED % it.words) for it in own if it in complete and is_certain(it.words)), None)
 
 
 def is_certain(words: str) -> bool:

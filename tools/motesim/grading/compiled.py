@@ -22,7 +22,7 @@ from motesim.c_program.places import OF_ZEROS
 from motesim.c_program.program import Translation
 from motesim.contiki.folder import HOST, host_tables, program_files, text_of
 from motesim.contiki.names import file_names
-from motesim.grading.in_c import CRASHED, UNLINKED
+from motesim.grading.in_c import CRASHED, HANGS, UNLINKED
 from motesim.grading.node_types import as_on_node
 from motesim.grading.untranslated import may_call
 from motesim.scenario import Scenario
@@ -44,11 +44,12 @@ OF_INDEX = CRASHED + ': in line %d, it uses the index %s of an array with %s mem
 INDEX = re.compile(r"^solution\.c:(\d+):\d+: runtime error: index (-?\d+) out of bounds for type '.*\[(\d+)\]'",
                    re.M)
 DIVIDES = CRASHED + ': it divides by 0, which is 0 in the translation'
+NEVER_ENDS = HANGS + ': it has a loop without a wait'
 DEFINES = UNLINKED + ': it defines `%s`, and so does Contiki'
 TWICE = re.compile('multiple definition of `(\\w+)\'')
 # The signals that end a program because of a mistake.
 ENDS = {-it: CRASHES for it in (signal.SIGSEGV, signal.SIGBUS, signal.SIGILL, signal.SIGABRT)} | {
-    -signal.SIGFPE: DIVIDES}
+    -signal.SIGFPE: DIVIDES, -signal.SIGXCPU: NEVER_ENDS}
 MEETING = '; at %d, a packet and another event have the same moment, and their order may differ on a node'
 OF_INT = ('; gcc is right, unless an intermediate result is beyond 16 bits: gcc calculates with 32 bits here, and a '
           'node calculates with 16')

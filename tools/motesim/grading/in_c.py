@@ -26,7 +26,8 @@ NO_TRANSLATION = 'not marked: its line %d may be right in C, but the tool can\'t
 # The beginnings of remarks on lines of which the compiled program shows nothing here: it calculates with 32 bits.
 ONLY_ON_NODE = (compiler.LACKS, OF_OVERFLOW, OF_TEXT_NEEDED, 'On the Tmote Sky', OF_ATTRIBUTE)
 UNLINKED = 'gcc can\'t link it'
-CRASHED, DIFFERS = 'compiled by gcc, it crashes', 'compiled by gcc, it does something else'
+CRASHED, HANGS = 'compiled by gcc, it crashes', 'compiled by gcc, it never ends'
+DIFFERS = 'compiled by gcc, it does something else'
 MISTAKEN = 'its line %d is a mistake in C'
 # (a time has 16 bits here)
 WRAPS = '; clock_time() and clock_seconds() begin again at 0 after %d seconds, which they don\'t do on a node'
@@ -37,10 +38,12 @@ class NotTranslated(Fault):
     may be right on a node."""
 
     def __init__(self, refusal: Refusal, source: str):
-        self.may_be_right = not isinstance(refusal, Mistake) and not compiler.has_certain_error(source)
-        super().__init__((NO_TRANSLATION if self.may_be_right else MISTAKEN) % refusal.line)
-        row = one_line(line_at(source, refusal.line))
-        self.lines = ('line %d:%s' % (refusal.line, ' ' + row if row else ''), refusal.reason)
+        error = None if isinstance(refusal, Mistake) else compiler.certain_error(source)
+        line, reason = error or (refusal.line, refusal.reason)
+        self.may_be_right = not isinstance(refusal, Mistake) and error is None
+        super().__init__((NO_TRANSLATION if self.may_be_right else MISTAKEN) % line)
+        row = one_line(line_at(source, line))
+        self.lines = ('line %d:%s' % (line, ' ' + row if row else ''), reason)
 
 
 def of_programs(names: Sequence[str], ends: Sequence[int]) -> list[str]:
@@ -64,6 +67,14 @@ def made_of(source: str) -> Translation:
     if isinstance(found, Refusal):
         raise NotTranslated(found, source)
     return found
+
+
+def lacks_of(source: str) -> tuple[Remark, ...]:
+    """The remark about an `#include` that a program lacks, even if it can't be translated."""
+    try:
+        return tuple(Remark(*it) for it in compiler.check(source) if it[2])
+    except Mistake:
+        return ()
 
 
 def notation_of(source: str) -> str:
@@ -101,7 +112,7 @@ def on_node(remarks: Sequence[Remark], mark: str = '') -> str:
     others = sorted({it.line for it in mistakes if it.line} - {*lacking})
     lines = ['%d' % it for it in others]
     listed = ' and '.join(filter(None, [', '.join(lines[:-1]), *lines[-1:]]))
-    compiled = [it.text.partition(':')[0] if it.text.startswith((CRASHED, UNLINKED)) else
+    compiled = [it.text.partition(':')[0] if it.text.startswith((CRASHED, HANGS, UNLINKED)) else
                 DIFFERS + ' (%s)' % mark * bool(mark) for it in mistakes if not it.line]
     return '; '.join([*compiled,
                       *['gcc refuses line %d, because an #include is missing' % it for it in lacking],

@@ -16,7 +16,7 @@ from motesim.grading.by_gcc import (
 )
 from motesim.grading.compiled import Compiled, Difference, InC
 from motesim.grading.entries import Entry, data_of, without_program
-from motesim.grading.in_c import NotTranslated, in_words_of_c, made_of
+from motesim.grading.in_c import NotTranslated, in_words_of_c, lacks_of, made_of
 from motesim.grading.marks import LONGEST_WHY, OTHER_PROCESS, InNet, Mark, Marks, over_nets, spread, unmarked
 from motesim.grading.nets import NOT_UTF8, Net, NoProgram, program_of, unused_of
 from motesim.grading.warned import in_translation, net_warned, seen_of, warned_of
@@ -227,7 +227,7 @@ class Task:
         found = without_fault(lambda: untranslated(source, self.compiled, self.part, self.nets))
         marks, crash = found or ((), '')
         why = '; '.join(filter(None, (str(fault), crash, by_gcc_words(marks))))
-        return Marks(name, why=why, fix=fault.lines, is_open=fault.may_be_right, by_gcc=marks)
+        return Marks(name, why=why, fix=fault.lines, is_open=fault.may_be_right, by_gcc=marks, of_c=lacks_of(source))
 
     def answer(self, scenario: bytes) -> Answer:
         """The answer of `motesim`, within the limits. The error at a limit says what the run does most often."""

@@ -56,7 +56,7 @@ def table(marked: Sequence[Marks], sentences: Sequence[str]) -> list[str]:
         halts = it.halts and it.halts + ONLY_HERE * it.name.endswith('.c')
         parts = (broken and 'broken: %s' % broken, *printers(it), it.fault, halts, broken and it.unused,
                  of_node(it))
-        words = it.why or '; '.join(one for one in parts if one)
+        words = fault_of(it) if it.why else '; '.join(one for one in parts if one)
         rows.append(('%s  %s  %s' % (it.short_name.ljust(width), count, words)).rstrip())
     return rows
 
