@@ -1324,6 +1324,17 @@ static const struct broadcast_callbacks calls = { recv };'''
             text, notes = translation(in_process(body, 'static struct etimer et;', VARIABLES))
             self.assertIn('set et %s;' % its, body_of(text), notes)
 
+    def test_the_address_of_a_packet_is_evaluated_once(self) -> None:
+        above = ('static struct broadcast_conn bc; static int v[3], n;\nstatic void recv(struct broadcast_conn *c, '
+                 'const rimeaddr_t *from) { %s }\nstatic const struct broadcast_callbacks cb = {recv};')
+        for statement in ('packetbuf_copyto(&v[n++]);', 'memcpy(&v[n++], packetbuf_dataptr(), sizeof(int));',
+                          'packetbuf_copyfrom(&v[n++], 2); broadcast_send(&bc);',
+                          'packetbuf_clear(); memcpy(packetbuf_dataptr(), &v[n++], 2); packetbuf_set_datalen(2); '
+                          'broadcast_send(&bc);'):
+            text, notes = translation(in_process('  broadcast_open(&bc, 129, &cb);', above % statement))
+            with self.subTest(statement):
+                self.assertEqual((text or '').count('n = (n + 1);'), 1, text or notes)
+
     def test_a_real_constant_that_c_converts_is_exact(self) -> None:
         for time, its in (
                 ('0.5 * CLOCK_SECOND', '64'), ('1.5*CLOCK_SECOND - 1', '191'), ('CLOCK_SECOND * 0.33f', '42'),

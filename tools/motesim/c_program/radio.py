@@ -114,10 +114,13 @@ class Radio(Calls):
         first, size = self.arguments(it, 2)
         source = without_casts(first)
         check_target(source)
-        if source.kind == 'text' or self.pointer(source).kind == 'text':
+        self.fill_from(source, self.pointer(source), size, it)
+
+    def fill_from(self, source: Expression, pointer: Pointer, size: Expression, it: Expression) -> None:
+        """Fills the buffer with the bytes at a pointer, which is the value of an expression."""
+        if pointer.kind == 'text':
             self.fill(self.sent_text(source, self.evaluate(size).constant, it.line), it)
             return
-        pointer = self.pointer(source)
         if pointer.kind in ('packet', 'data'):
             if pointer.kind == 'packet':
                 self.need_packet(it.line)
@@ -290,9 +293,9 @@ class Radio(Calls):
         raise self.refuse(it.line, OF_POINTER)
 
     def call_packetbuf_copyto(self, it: Expression) -> None:
-        self.copy(self.first(it), Place('packet', UNSIGNED), it.line)
-        place = self.pointer(self.first(it)).place
-        if place and place.variable and size_of(place.type) == 1 and self.forms('packet') - {'byte'}:
+        target = self.first(it)
+        place = self.copy(target, self.pointer(target), Place('packet', UNSIGNED), it.line)
+        if place.variable and size_of(place.type) == 1 and self.forms('packet') - {'byte'}:
             self.remark_mistake(it.line, NO_ROOM_FOR_ALL % place.variable.name)
 
     def call_memcpy(self, it: Expression) -> None:
@@ -302,12 +305,13 @@ class Radio(Calls):
             if to.place is not None and self.evaluate(size).constant not in (size_of(to.place.type), None):
                 self.copy_bytes(self.span(to.place, size, it.line), Place(pointer.kind, UNSIGNED), it.line)
             else:
-                self.copy(target, Place(pointer.kind, UNSIGNED), it.line)
+                self.copy(target, to, Place(pointer.kind, UNSIGNED), it.line)
             return
         if to.kind == 'packet':
             if not self.first_call('packetbuf_set_datalen'):
                 self.remark_mistake(it.line, NO_LENGTH)
-            self.call_packetbuf_copyfrom(it._replace(parts=(source, size)))
+            check_target(without_casts(source))
+            self.fill_from(without_casts(source), pointer, size, it)
             return
         if pointer.place is None or to.place is None:
             raise self.refuse(it.line, 'The addresses of two variables are expected here.')
@@ -363,14 +367,14 @@ class Radio(Calls):
             raise self.refuse(line, OF_BYTES % count)
         return found
 
-    def copy(self, target: Expression, source: Place, line: int) -> None:
-        """Copies a packet or the data of an event into a variable."""
+    def copy(self, target: Expression, to: Pointer, source: Place, line: int) -> Place:
+        """Copies a packet or the data of an event into a variable, which it returns. `to`: the value of the target."""
         check_target(without_casts(target))
-        pointer = self.pointer(target)
-        if pointer.place is None or pointer.place.source != 'variable':
+        if to.place is None or to.place.source != 'variable':
             raise self.refuse(line, 'The address of a variable is expected here.')
-        its = pointer.place.type
-        self.copy_parts(pointer.place, source._replace(type=its, root=its), line)
+        its = to.place.type
+        self.copy_parts(to.place, source._replace(type=its, root=its), line)
+        return to.place
 
     def copy_bytes(self, parts: Sequence[Place], source: Place, line: int) -> None:
         """Copies the first bytes of a packet or of the data of an event."""
