@@ -1335,6 +1335,29 @@ static const struct broadcast_callbacks calls = { recv };'''
             with self.subTest(statement):
                 self.assertEqual((text or '').count('n = (n + 1);'), 1, text or notes)
 
+    def test_a_constant_argument_has_32_bits_in_a_quotient(self) -> None:
+        for time, call, its, words in (
+                ('n * CLOCK_SECOND / 1000', 'time(3000)', 384, ''),
+                ('(uint32_t)n * 128 / 1000', 'time(3000)', 384, ''),
+                ('n * CLOCK_SECOND', 'time(60)', 7680, ''), ('n * CLOCK_SECOND', 'time(600)', 11264, '65,535 wrap'),
+                ('n * 128 / 1000', 'time(3000)', 56, 'isn\'t 384000, but 56320')):
+            above = 'static struct etimer et; static clock_time_t time(uint16_t n) { return %s; }' % time
+            text, notes = translation(in_process('  etimer_set(&et, %s);' % call, above, VARIABLES))
+            with self.subTest(time):
+                self.assertIn('set et %d;' % its, body_of(text), notes)
+                self.assertIn(words, notes)
+                self.assertEqual('isn\'t 384000' in notes, '384000' in words)
+
+    def test_a_constant_that_an_int_of_a_node_does_not_hold_wraps(self) -> None:
+        for line, its, words in (
+                ('x = 3000 * 128 / 1000;', 'x = (0 - 9);', 'isn\'t 384000, but -9216'),
+                ('x = 3000U * 128 / 1000;', 'x = 56;', 'isn\'t 384000, but 56320'),
+                ('x = 3000L * 128 / 1000;', 'x = 384;', ''), ('x = 40000 * 2 / 1000;', 'x = 80;', '')):
+            text, notes = translation(in_process('  ' + line, '', VARIABLES))
+            self.assertIn(its, body_of(text), notes)
+            self.assertIn(words, notes)
+            self.assertEqual('On the Tmote Sky, an `int` has 16 bits' in notes, bool(words), line)
+
     def test_a_real_constant_that_c_converts_is_exact(self) -> None:
         for time, its in (
                 ('0.5 * CLOCK_SECOND', '64'), ('1.5*CLOCK_SECOND - 1', '191'), ('CLOCK_SECOND * 0.33f', '42'),

@@ -26,6 +26,8 @@ NO_SIGNED_DIVISION = ('`%s` of a value that may be below 0 needs statements of i
                       'a variable.')
 NO_LONG = ('Values have 16 bits here, so `%s` with %d isn\'t translated: use smaller units, or a value without the '
            'lower bits.')
+OF_WRAPPED = ('On the Tmote Sky, an `int` has 16 bits, so this result isn\'t %d, but %d, as in the translation: write '
+              'one of the numbers with the ending `L`, such as `1000L`.')
 NO_SHIFT = 'An `int` of a node has 16 bits, so C doesn\'t define a shift by 16 or more bits: shift by at most 15.'
 OF_SIGN = ('One side of this `%s` may be below 0, and the other side, %d, is above 32,767, which 16 bits with a sign '
            'can\'t hold: compare with a smaller number, or calculate with `uint16_t`.')
@@ -297,6 +299,10 @@ class Expressions(Events):
         above, below = factor // math.gcd(factor, divisor), divisor // math.gcd(factor, divisor)
         with self.into([]):
             value = self.operand(others[0])
+        product = (value.constant or 0) * factor
+        if MOST < product < 1 << 32 and product // divisor <= MOST:
+            self.note_second(it)
+            return number(product // divisor, UNSIGNED)
         if value.is_negative or not exceeds('*', value, number(factor)) or not 0 < above * max(below - 1, 1) <= MOST:
             return None
         self.note_second(it)
@@ -314,19 +320,24 @@ class Expressions(Events):
         """Notes that a result may have more bits than a value has here, or than an `int` has on a node."""
         # (times are added in both sizes, because only their differences count)
         is_long = any(self.is_long(it, sign != '+') for it in parts)
-        if is_long and exceeds(sign, left, right):
+        is_folded = all(constant_of(it, self.program.second) is not None for it in parts)
+        if is_long and not is_folded and exceeds(sign, left, right):
             self.remark_mistake(line, OF_LONG)
         is_compared = sign in ('/', '%', '>>', *COMPARES) and (left.wraps or right.wraps)
         is_certain = sign in '*+' and common(left, right).signed and min(left.low, right.low) > 0 and \
             OPERATIONS[sign](left.low, right.low) >= HALF
-        if not is_long and (is_compared or is_certain):
+        if not is_long and sign in '*+' and (left.constant or 0) > 0 and (right.constant or 0) > 0 \
+                and OPERATIONS[sign](left.low, right.low) > MOST:
+            found = self.operation(sign, left, right, line).constant or 0
+            self.remark_mistake(line, OF_WRAPPED % (OPERATIONS[sign](left.low, right.low), found))
+        elif not is_long and (is_compared or is_certain):
             self.remark_mistake(line, OF_OVERFLOW)
 
     def check_size(self, sign: str, parts: Sequence[Expression], line: int) -> None:
         """Refuses an operation whose result depends on more than the lower 16 bits of its operands."""
         if sign in ('/', '%', *COMPARES):
             sizes = [constant_of(it, self.program.second) or 0 for it in parts]
-            if max(sizes) > MOST:
+            if max(sizes) > MOST and not self.wraps_on_node(parts[sizes.index(max(sizes))]):
                 raise self.refuse(line, NO_LONG % (sign, max(sizes)))
         shift = constant_of(parts[1], self.program.second) or 0
         if sign == '>>' and shift > 15 and self.is_long(parts[0]):
@@ -335,6 +346,12 @@ class Expressions(Events):
             raise self.refuse(line, NO_SHIFT)
         if sign == '<<' and shift > 15:
             self.remark_mistake(line, OF_LONG)
+
+    def wraps_on_node(self, it: Expression) -> bool:
+        """Returns whether a large constant is the result of an operation on values of type `int`. (A number above
+        32,767 has 32 bits.)"""
+        return it.kind == 'binary' and not self.is_long(it) and all(
+            one.number < HALF for one in parts_of(it) if one.kind == 'number')
 
     def is_long(self, it: Expression, is_time_long: bool = True) -> bool:
         """Returns whether C calculates a value with 32 bits. `is_time_long`: whether a time counts, too."""
@@ -786,7 +803,7 @@ def exceeds(sign: str, left: Value, right: Value) -> bool:
     """Returns whether a result may have more than 16 bits: a product, a sum of two variables, or a value that is
     shifted."""
     if left.constant is not None and right.constant is not None:
-        return False
+        return sign in ('*', '+', '<<') and OPERATIONS[sign](left.constant, right.constant) > MOST
     if sign == '*' and any(re.search(r'\bself\b', it.text) for it in (left, right)):
         factors = re.findall(r'(?<=\* )\d+|\d+(?= \*)', '%s * %s' % (left.text, right.text))
         return math.prod(map(int, factors)) * FEW_MOTES > MOST
