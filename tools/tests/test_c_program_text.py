@@ -246,7 +246,7 @@ REFUSALS = (
     ('uint32_t l = 1; n = l >> 16;', '`>>` with 16'), ('if(clock_time() > 100000UL) n = 1;', '`>` with 100000'),
     ('int *q = &n; packetbuf_copyfrom(&q, 2);', '`&q` is the address of the pointer `q` itself: write `q`'),
     ('process_poll(n ? &p : &p);', 'this expression isn\'t the address of a variable'),
-    ('return 0;', 'A `return` in a process isn\'t translated'),
+    ('return 0;', 'This `return` in a process isn\'t translated'),
     ('x = &n;', '`&n` is an address, but a number is expected'), ('x = a;', '`a` is an address, but a number'),
     ('*(uint16_t *)packetbuf_dataptr() = 3;', 'A packet is filled by a copy of a variable'),
     ('int *q; for(q = a; q < &n; q++) x = *q;', 'compared only with members of its array'),
@@ -1357,6 +1357,29 @@ static const struct broadcast_callbacks calls = { recv };'''
             self.assertIn(its, body_of(text), notes)
             self.assertIn(words, notes)
             self.assertEqual('On the Tmote Sky, an `int` has 16 bits' in notes, bool(words), line)
+
+    def test_a_packet_may_be_shorter_than_the_variable_that_gets_it(self) -> None:
+        above = ('static struct %s_conn c1; static uint8_t buf[8], n; static uint16_t w[2]; static rimeaddr_t to;\n'
+                 'static void recv(struct %s_conn *c, const rimeaddr_t *from) { %s }\n'
+                 'static const struct %s_callbacks cb = {recv};')
+        for kind, statement, sent, wanted in (
+                ('unicast', 'packetbuf_copyto(buf); n = buf[0];', 'n', 'buf = (data % 256);'),
+                ('unicast', 'memcpy(buf, packetbuf_dataptr(), packetbuf_datalen());', 'n', 'buf = (data % 256);'),
+                ('broadcast', 'packetbuf_copyto(buf);', 'w', 'buf1 = (data / 256);'),
+                ('broadcast', 'packetbuf_copyto(w);', 'w', 'w = data;'),
+                ('broadcast', 'packetbuf_copyto(&buf[2]);', 'n', 'buf2 = (data % 256);')):
+            head = above % (kind, kind, statement, kind)
+            body = ('  %s_open(&c1, 129, &cb); packetbuf_copyfrom(&%s, %d); %s_send(&c1%s);' % (
+                kind, 'w[1]' if sent == 'w' else sent, 1 + (sent == 'w'), kind, ', &to' * (kind == 'unicast')))
+            text, notes = translation(in_process(body, head))
+            with self.subTest(statement):
+                self.assertIn(wanted, text or '', notes)
+                self.assertEqual((text or '').count('buf3 ='), 0)
+
+    def test_a_process_may_end_by_return(self) -> None:
+        for value in 'PT_ENDED', 'PT_EXITED':
+            text, notes = translation(in_process('  if(u > 2) return %s;\n  printf("%%d", 1);' % value, '', VARIABLES))
+            self.assertIn('exit;', text or '', notes)
 
     def test_a_real_constant_that_c_converts_is_exact(self) -> None:
         for time, its in (

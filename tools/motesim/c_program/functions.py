@@ -44,9 +44,11 @@ SCHEDULE = ('`PT_SCHEDULE` is translated only if a process waits for the end of 
 OF_EARLIER = 'Here, the semaphore `%s` has this count from the start, also in the processes that start before this one.'
 OF_INIT = 'The count of a semaphore is set once, at the beginning of a process, by a constant.'
 OF_END = 'In C, `%s` also runs after the end of the process: here, the process waits for packets.'
-RETURNS = ('A `return` in a process isn\'t translated. To end the process, as `return PT_ENDED;` does, write '
-           '`PROCESS_EXIT();`. After a `return` with another value, such as 0, the next event runs the process again '
-           'from its last wait, or from its beginning: write a loop with a wait, such as `PROCESS_WAIT_EVENT();`.')
+RETURNS = ('This `return` in a process isn\'t translated. To end the process, write `PROCESS_EXIT();`. After a '
+           '`return` with a value such as 0, the next event runs the process again from its last wait, or from its '
+           'beginning: write a loop with a wait, such as `PROCESS_WAIT_EVENT();`.')
+# The values with which a process ends.
+ENDINGS = ('PT_ENDED', 'PT_EXITED')
 NO_PARAMETER = 'A parameter of a protothread is a constant here: use a variable of its process instead.'
 NO_TARGET = ('A parameter of a protothread that is an address is here that of a static variable, the same one at each '
              '`PT_SPAWN`: let the protothread use a variable of its process instead.')
@@ -380,6 +382,8 @@ class Functions(Control):
         function, value = self.unit.function, it.expressions[0]
         if function.kind != 'function':
             if self.unit.name == 'body':
+                if value is not None and value.kind == 'name' and value.text in ENDINGS:
+                    return self.exits(it.line)
                 raise self.refuse(it.line, RETURNS)
         elif value is not None and function.result.kind != 'void':
             self.give_result(function, value, it.line)

@@ -174,7 +174,7 @@ class Radio(Calls):
         elif it.text == 'packetbuf_clear':
             self.note_effects([FILLED])
         elif it.text == 'packetbuf_set_datalen':
-            sizes = {{'byte': 1}.get(form, 2) for form in self.forms('packet')}
+            sizes = self.sizes_of_packets()
             if {self.evaluate(self.first(it)).constant} != sizes:
                 self.remark(it.line, OF_LENGTH)
 
@@ -282,21 +282,34 @@ class Radio(Calls):
         self.send(it, whole)
 
     def value_packetbuf_datalen(self, it: Expression) -> Value:
-        sizes = {{'byte': 1}.get(form, 2) for form in self.forms('packet')}
+        sizes = self.sizes_of_packets()
         if len(sizes) > 1:
             raise self.refuse(it.line, SIZES)
         if not sizes:
             self.remark_mistake(it.line, OF_DATALEN)
-        return number(min(sizes, default=2), UNSIGNED)
+        return number(min(sizes, default=1 if self.is_to_one else 2), UNSIGNED)
 
     def value_packetbuf_dataptr(self, it: Expression) -> Value:
         raise self.refuse(it.line, OF_POINTER)
 
     def call_packetbuf_copyto(self, it: Expression) -> None:
         target = self.first(it)
-        place = self.copy(target, self.pointer(target), Place('packet', UNSIGNED), it.line)
+        to, sizes = self.pointer(target), self.sizes_of_packets() or {1 if self.is_to_one else 2}
+        if to.place is not None and to.place.source == 'variable' and len(sizes) == 1 \
+                and max(sizes) < size_of(to.place.type):
+            # (the bytes behind those of the packet stay)
+            check_target(without_casts(target))
+            if not self.forms('packet'):
+                self.program.refusals.append(self.refuse(it.line, OF_PACKET % shown_type(to.place.type)))
+            self.copy_bytes(self.bytes_from(to.place, max(sizes), it.line), Place('packet', UNSIGNED), it.line)
+            return
+        place = self.copy(target, to, Place('packet', UNSIGNED), it.line)
         if place.variable and size_of(place.type) == 1 and self.forms('packet') - {'byte'}:
             self.remark_mistake(it.line, NO_ROOM_FOR_ALL % place.variable.name)
+
+    def sizes_of_packets(self) -> set[int]:
+        """The numbers of the bytes of the packets that are known."""
+        return {{'byte': 1}.get(form, 2) for form in self.forms('packet')}
 
     def call_memcpy(self, it: Expression) -> None:
         target, source, size = self.arguments(it, 3)
