@@ -71,6 +71,17 @@ MACROS = (
     ('#define CAT(a, b) a##b\n#define XCAT(a, b) CAT(a, b)\n#define N 4', 'int n4 = 6; printf("%d %d %d", XCAT(n, N), '
      'CAT(, n4), CAT(1, 2));', '6 6 12'),
 )
+# Functions that return structures, and what a program prints with them.
+RETURNING = ('''struct m { uint8_t kind, id; };
+static struct m keep;
+static uint8_t n;
+static struct m make(uint8_t kind) { struct m it; it.kind = kind; it.id = n++; return it; }
+static struct m twice(struct m a) { a.kind *= 2; return a; }
+static struct m same(void) { return keep; }
+static struct m either(uint8_t kind) { if(kind > 3) return make(kind); return same(); }''',
+             'struct m a = make(3), b; b = make(4); printf("%d %d %d %d", a.kind, a.id, b.kind, b.id);'
+             ' keep = twice(make(5)); printf("%d %d", keep.kind, keep.id); keep = either(2); printf("%d", keep.kind);'
+             ' keep = either(7); printf("%d %d", keep.kind, keep.id);', '3 0 4 1 10 2 10 7 3')
 
 
 class Values(unittest.TestCase):
@@ -107,7 +118,7 @@ static void tick(void *p) {
 
     def test_values_have_the_types_of_c(self) -> None:
         need_program(self)
-        for above, body, wanted in (*(('', *it) for it in VALUES), *MACROS):
+        for above, body, wanted in (*(('', *it) for it in VALUES), *MACROS, RETURNING):
             with self.subTest(body):
                 text, notes = translation(in_process('  ' + body, above))
                 self.assertIsNotNone(text, notes)

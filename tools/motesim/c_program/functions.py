@@ -62,6 +62,7 @@ class Functions(Control):
         self.aliases = {}
         self.known = {SELF: EVERYWHERE}
         self.past = set()
+        self.results = {}
         self.either = {}
         self.uses_packet = set()
         self.values = {}
@@ -184,10 +185,9 @@ class Functions(Control):
                 source = value if value.kind != 'unary' else value.parts[0]
                 self.write(self.place(target), self.address(source), it.line)
                 return True
-        if its.kind == 'struct' and value.kind == 'call':
-            raise self.refuse(it.line, OF_RESULT % value.text)
         if its.kind == 'struct':
-            self.copy_parts(self.place(target), self.place(value), it.line)
+            found = self.structure(value)
+            self.copy_parts(self.place(target), found, it.line)
             return True
         return False
 
@@ -257,12 +257,31 @@ class Functions(Control):
         name = self.result_name(function)
         return Value(name, function.result, *self.limits(name, function.result), frozenset([name]))
 
+    def structure(self, it: Expression) -> Place:
+        """The place of a structure: a variable, or the result of a function that is called for it."""
+        function = self.file.functions.get(it.text) if it.kind == 'call' and it.variable is None else None
+        if function is None:
+            return self.place(it)
+        if function.result.kind != 'struct':
+            raise self.refuse(it.line, OF_RESULT % it.text)
+        self.own_call(it, True)
+        return self.place_of_result(function)
+
+    # The variables that hold the structures that functions return.
+    results: dict[str, Variable]
+
+    def place_of_result(self, function: Function) -> Place:
+        made = Variable('result', function.result, function.line, function.name)
+        return Place('variable', function.result, self.results.setdefault(function.name, made))
+
     def result_name(self, function: Function) -> str:
         return self.own('result of ' + function.name, 'result')
 
     def as_expression(self, function: Function, call: Expression) -> Value | None:
         """The value of a function that is only an expression of its parameters; None for other functions."""
         if len(function.body) != 1 or function.body[0].kind != 'return' or not function.body[0].expressions[0]:
+            return None
+        if function.result.kind == 'struct':
             return None
         inner = [*all_parts(function.body)]
         if any(it.kind in ('assign', 'postfix', 'call', 'choice') or it.text in ('++', '--') for it in inner):
@@ -301,7 +320,7 @@ class Functions(Control):
                 if not self.is_event(part):
                     raise self.refuse(call.line, OF_EVENT)
             elif kind == 'struct':
-                self.copy_parts(Place('variable', variable.type, variable), self.place(part), call.line)
+                self.copy_parts(Place('variable', variable.type, variable), self.structure(part), call.line)
             elif kind == 'address':
                 values.append((variable, self.address(part)))
             else:
@@ -397,6 +416,9 @@ class Functions(Control):
         return ENDS
 
     def give_result(self, function: Function, value: Expression, line: int) -> None:
+        if function.result.kind == 'struct':
+            self.copy_parts(self.place_of_result(function), self.structure(value), line)
+            return
         name = self.result_name(function)
         if value.kind == 'choice':
             test = self.settled_test(value.parts[0])

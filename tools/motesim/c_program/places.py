@@ -66,7 +66,7 @@ OF_CAST = ('`%s` is read with another type than it has: calculate the value inst
            '`low | (high << 8)`.')
 OF_CHARACTER = ('Whether a `char` may be below 0 depends on the compiler of C: it is one of -128 to 127 here. `int8_t` '
                 'and `uint8_t` are the same with all compilers.')
-OF_RESULT = ('A function has a number as its result here, not a pointer or a structure: let `%s` return the index of '
+OF_RESULT = ('A function has a number or a structure as its result here, not a pointer: let `%s` return the index of '
              'a member, and -1 for none.')
 OF_CHANGE = ('A pointer that changes always points to a member of the same array here, or is NULL: use an index, such '
              'as `%s[i]`.')
