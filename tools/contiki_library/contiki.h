@@ -13,6 +13,7 @@ typedef uint32_t u32_t;
 
 #define CLOCK_SECOND      128UL
 #define CLOCK_CONF_SECOND CLOCK_SECOND
+#define CLOCK_LT(a, b)    ((int32_t)((a) - (b)) < 0)
 #define CC_CONST_FUNCTION
 
 unsigned long clock_seconds(void);

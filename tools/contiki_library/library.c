@@ -193,6 +193,8 @@ random_rand(void)
 int library_rand(void) { return random_rand(); }
 /*---------------------------------------------------------------------------*/
 unsigned long clock_seconds(void) { return (unsigned long)(clock_time() / CLOCK_SECOND); }
+/* As in Contiki, with numbers that wrap: a timer whose start is after now has expired. */
+int timer_expired(const struct timer *t) { return t->interval < clock_time() - t->start + 1; }
 clock_time_t timer_remaining(struct timer *t) { return timer_expiration_time(t) - clock_time(); }
 
 void

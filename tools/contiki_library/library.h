@@ -55,6 +55,8 @@ int library_rand(void);
 unsigned short *library_node_id(void);
 const rimeaddr_t *library_address(void);
 
+#define LIBRARY_IS_ADDRESS(x) __builtin_types_compatible_p(__typeof__(x), rimeaddr_t)
+
 /* The number of bytes that are copied into a variable; bytes that have no room there end the program. */
 size_t library_size(size_t size, size_t room);
 int library_copyto(void *to, size_t room);
@@ -62,7 +64,47 @@ int library_copyto(void *to, size_t room);
 #define memcpy(to, from, size)  memcpy(to, from, LIBRARY_SIZE(to, size))
 #define memmove(to, from, size) memmove(to, from, LIBRARY_SIZE(to, size))
 #define memset(to, value, size) memset(to, value, LIBRARY_SIZE(to, size))
+#define memcmp(one, other, size)                                                                    \
+  __builtin_choose_expr(LIBRARY_IS_ADDRESS(*(one)), !rimeaddr_cmp((const void *)(one), (const void *)(other)), \
+                        memcmp(one, other, size))
 #define packetbuf_copyto(to)    library_copyto(to, __builtin_object_size(to, 0))
+
+/*
+ * Operations with the results of a node. The kind of an operand is 0 if it has more than 16 bits,
+ * 1 if it has 16 bits or less, and 2 if it is also an unsigned `int` on a node.
+ */
+#define LIBRARY_TYPE(x)                                                                             \
+  _Generic((x), unsigned short: 2, short: 1, char: 1, signed char: 1, unsigned char: 1, _Bool: 1, default: 0)
+#define LIBRARY_INT(x)      1
+#define LIBRARY_UNSIGNED(x) 2
+#define LIBRARY_KIND(kind, other) (!(kind) || !(other) ? 0 : (kind) == 2 || (other) == 2 ? 2 : 1)
+#define LIBRARY_BY_KIND(kind, plain, with_short, with_unsigned)                                     \
+  __builtin_choose_expr((kind) == 0, plain, __builtin_choose_expr((kind) == 1, with_short, with_unsigned))
+
+#define LIBRARY_BINARY(sign, kind, other, left, right)                                              \
+  ({ __auto_type library_left = (left); __auto_type library_right = (right);                        \
+     LIBRARY_BY_KIND(LIBRARY_KIND(kind(library_left), other(library_right)),                        \
+                     library_left sign library_right,                                               \
+                     (short)((short)library_left sign (short)library_right),                        \
+                     (unsigned short)((unsigned short)library_left sign (unsigned short)library_right)); })
+#define LIBRARY_COMPARE(sign, kind, other, left, right)                                             \
+  ({ __auto_type library_left = (left); __auto_type library_right = (right);                        \
+     LIBRARY_BY_KIND(LIBRARY_KIND(kind(library_left), other(library_right)),                        \
+                     library_left sign library_right,                                               \
+                     (short)library_left sign (short)library_right,                                 \
+                     (unsigned short)library_left sign (unsigned short)library_right); })
+#define LIBRARY_SHIFT(sign, kind, other, left, right)                                               \
+  ({ __auto_type library_left = (left); __auto_type library_right = (right);                        \
+     LIBRARY_BY_KIND(kind(library_left), library_left sign library_right,                           \
+                     (short)((short)library_left sign library_right),                               \
+                     (unsigned short)((unsigned short)library_left sign library_right)); })
+#define LIBRARY_UNARY(sign, kind, value)                                                            \
+  ({ __auto_type library_value = (value);                                                           \
+     LIBRARY_BY_KIND(kind(library_value), sign library_value, (short)(sign (short)library_value),   \
+                     (unsigned short)(sign (unsigned short)library_value)); })
+#define LIBRARY_CHOICE(kind, other, test, one, another)                                             \
+  LIBRARY_BY_KIND(LIBRARY_KIND(kind(one), other(another)), ((test) ? (one) : (another)),            \
+                  (short)((test) ? (one) : (another)), (unsigned short)((test) ? (one) : (another)))
 
 /* A time has 32 bits on a node, so one below 0 is beyond the end of a run. */
 #define timer_set(t, interval)            timer_set(t, (uint32_t)(interval))

@@ -17,8 +17,8 @@ from motesim.grading.by_gcc import (
     BY_GCC, OF_HIDDEN_RUN, by_gcc_in, by_gcc_words, difference_in, differences_in, marks_of, remarks_in, untranslated,
 )
 from motesim.grading.compiled import (
-    CRASHES, DEFINES, DIVIDES, MEETING, NEVER_ENDS, OF_INDEX, OF_INT, OF_REMARK, OF_UNSET, SAME, Compiled, Difference,
-    InC, NoComparison, first_meeting,
+    CRASHES, DEFINES, DIVIDES, MEETING, NEVER_ENDS, OF_INDEX, OF_REMARK, OF_UNSET, ON_NODE, SAME, Compiled, Difference,
+    InC, NoComparison, deeds_in, first_meeting,
 )
 from motesim.grading.entries import Entry
 from motesim.grading.in_c import UNLINKED, in_words_of_c, is_seen_by_gcc, on_node
@@ -133,9 +133,9 @@ class Comparison(unittest.TestCase):
 
     def test_the_first_value_that_differs_is_named(self) -> None:
         self.assertEqual(self.difference(self.counting('1'), self.counting('2')),
-                         'compiled by gcc, mote 0 prints 1 at 20, but its translation prints 2 at 20' + OF_INT)
+                         'compiled by gcc, mote 0 prints 1 at 20, but its translation prints 2 at 20' + ON_NODE)
         self.assertEqual(self.difference(in_process('  printf("%d", 3);'), in_process('  ;')),
-                         'compiled by gcc, mote 0 prints 3 at 0, but its translation prints nothing more' + OF_INT)
+                         'compiled by gcc, mote 0 prints 3 at 0, but its translation prints nothing more' + ON_NODE)
 
     def test_stored_values_have_the_size_of_a_node(self) -> None:
         for body in ('  { static int n = 32767; n++; printf("%d", n); printf("%d", (int)sizeof(n)); }',
@@ -143,10 +143,6 @@ class Comparison(unittest.TestCase):
                      '  { static unsigned long n; n = 65535; n += 2; printf("%d", (int)sizeof(unsigned long)); }',
                      '  { static long int n = 7; static signed m = -1; printf("%ld", n + m); }'):
             self.assertEqual(self.difference(in_process(body)), '', body)
-        wraps = self.difference(in_process('  { static int n = 32767; n++; printf("%d", n < 0); }'))
-        self.assertIn('compiled by gcc, mote 0 prints 1 at 0, but its translation prints 0', wraps)
-        beyond = self.difference(in_process('  { static unsigned n = 600; printf("%u", n * 200 / 200); }'))
-        self.assertIn(OF_INT, beyond)
         for words, wanted in (('unsigned long long n', 'unsigned long long n'), ('long x', 'int x'),
                               ('const unsigned n', 'const unsigned short n'), ('unsigned char n', 'unsigned char n'),
                               ('long double n', 'long double n'), ('int long unsigned n', ' int unsigned n'),
@@ -204,6 +200,37 @@ class Comparison(unittest.TestCase):
                     ' broadcast_send(&bc); } PROCESS_WAIT_EVENT();' % sent)
             found = self.difference(in_process(body, above))
             self.assertTrue(wanted in found and bool(wanted) == bool(found), (sent, kept, copied, found))
+
+    def test_operations_have_the_results_of_a_node(self) -> None:
+        values = ('static int n = 6000, m = -1; static uint16_t u = 40000; static uint8_t b[3] = {1, 2, 3};'
+                  ' static char c = 9;')
+        tests = ('(n * 7 + n) / 8 == -2192', 'n * 7 < 0', 'u + u == 14464', '(u + 3) / 2 == 20001', 'u - 1 > 0',
+                     'm > u', 'm < n', 'm > 5U', '-u == 25536', '~u == 25535', '~c == -10', '1 << (n - 5985) < 0',
+                     'u >> 1 == 20000', 'm >> 1 == -1', '(n > 5 ? u : n) + u == 14464', '(n > 5 ? n : m) * 7 < 0',
+                     '(uint32_t)n * 7 == 42000UL', 'n * 7L == 42000L', '*(b + 2) == 3', '&b[2] - b == 2',
+                     'sizeof(b) / sizeof(b[0]) == 3', '(n > 5) + 32767 < 0', '!m + 32767 == 32767',
+                     '(b[0] | u) == 40001', '(n - 6084) / (unsigned)15 == 4363',
+                     '(c << 8) * 20 < 0', "c * 'a' == 873", 'n % 7 * u == 40000', '(int8_t)(c * 20) == -76')
+        source = in_process('\n'.join('  printf("%%d", %s);' % it for it in tests), values)
+        its = self.in_c(source, in_process('  ;'))
+        found = [it.value for it in deeds_in(self.compiled.report(its, 'p'))[0]]
+        self.assertEqual([test for test, value in zip(tests, found) if value != 1], [])
+        self.assertEqual(len(found), len(tests))
+
+    def test_operations_that_no_macro_may_replace_are_those_of_the_host(self) -> None:
+        body = '  { static uint8_t b[sizeof(int) + 1]; static uint8_t *p = b + 1; printf("%d", p - b); }'
+        self.assertEqual(self.difference(in_process(body), in_process('  printf("%d", 1);')), '')
+
+    def test_a_timer_that_is_reset_early_expires_at_once(self) -> None:
+        body = ('  { static struct etimer et; etimer_set(&et, 20); etimer_reset(&et);'
+                ' PROCESS_WAIT_EVENT_UNTIL(etimer_expired(&et)); printf("%d", 3); }')
+        self.assertIn('mote 0 prints 3 at 0, but its translation prints 3 at 40', self.difference(in_process(body)))
+
+    def test_addresses_may_be_compared_as_memory(self) -> None:
+        above = '#include "net/rime.h"\n#include <string.h>\nstatic const rimeaddr_t first = {{1, 0}};'
+        same = 'memcmp(&rimeaddr_node_addr, &first, sizeof(rimeaddr_t)) == 0'
+        source = in_process('  printf("%%d", %s);' % same, above)
+        self.assertEqual(self.difference(source, in_process('  printf("%d", node_id == 1);')), '')
 
     def test_a_pointer_has_two_bytes(self) -> None:
         for kept, wanted in ('uint16_t', ''), ('uint8_t', CRASHES):
@@ -347,7 +374,7 @@ PROCESS_THREAD(q, ev, data) {
             self.assertIn(OF_LONG, [it.text for it in remarks])
             self.assertEqual(found.words.partition(';')[0], words)
             self.assertEqual(any(it.is_mistake for it in remarks), bool(words))
-        for text, is_seen in (OF_LONG, True), (OF_RESET % ('et', 'etimer'), True), (OF_OVERFLOW, False), (LACKS, False):
+        for text, is_seen in (OF_LONG, True), (OF_RESET % ('et', 'etimer'), True), (OF_OVERFLOW, True), (LACKS, False):
             self.assertEqual(is_seen_by_gcc(Remark(3, text, True)), is_seen)
         uncompared = [in_net(SAME)._replace(differs=None)]
         self.assertTrue(any(it.is_mistake for it in remarks_in(uncompared, its.source)))

@@ -23,6 +23,7 @@ from motesim.c_program.program import Translation
 from motesim.contiki.folder import HOST, host_tables, program_files, text_of
 from motesim.contiki.names import file_names
 from motesim.grading.in_c import CRASHED, HANGS, UNLINKED
+from motesim.grading.node_operations import with_operations
 from motesim.grading.node_types import as_on_node
 from motesim.grading.untranslated import may_call
 from motesim.scenario import Scenario
@@ -36,6 +37,9 @@ NAMES_INDEX, ENDS_AT_INDEX = '-fno-sanitize-recover=bounds', '-fsanitize-undefin
 # (the linker defines symbols at the ends of a section whose name is one of C)
 SECTIONS = ('--set-section-flags', '.bss=alloc,load,contents,data', '--rename-section', '.bss=library_zeros',
             '--rename-section', '.data=library_data')
+# (the radio calls the callback of a program in C, instead of posting the packet; and in Contiki, a timer that is reset
+# before it has expired expires at once)
+REPLACED = {'radio.c': ('-Dprocess_post=library_post',), 'timer.c': ('-Dtimer_expired=host_timer_expired',)}
 KINDS = 'print', 'send'
 # The tokens that write an address of zeros: an assignment, or an initial value.
 ZERO = re.compile(r'u8 \[ 0 \] = 0 ;|\{ (?:\. u8 = )?\{ 0 [,}]')
@@ -51,8 +55,7 @@ TWICE = re.compile('multiple definition of `(\\w+)\'')
 ENDS = {-it: CRASHES for it in (signal.SIGSEGV, signal.SIGBUS, signal.SIGILL, signal.SIGABRT)} | {
     -signal.SIGFPE: DIVIDES, -signal.SIGXCPU: NEVER_ENDS}
 MEETING = '; at %d, a packet and another event have the same moment, and their order may differ on a node'
-OF_INT = ('; gcc is right, unless an intermediate result is beyond 16 bits: gcc calculates with 32 bits here, and a '
-          'node calculates with 16')
+ON_NODE = '; a node probably does the same as the compiled program'
 OF_UNSET = ('; a local variable, or a part of it, has no value there: the program assigns none before, or it isn\'t '
             '`static`, and its value is lost at a wait')
 OF_REMARK = '; see the remark on line %d'
@@ -104,9 +107,7 @@ class Compiled:
         names_index = is_possible(['gcc', *FLAGS, NAMES_INDEX, '-o', 'probe', 'probe.c'], folder)
         self.flags = (*FLAGS, NAMES_INDEX if names_index else ENDS_AT_INDEX)
         for path in (*HOST.glob('*.c'), *LIBRARY.glob('*.c')):
-            # (the radio calls the callback of a program in C, instead of posting the packet)
-            more = ['-Dprocess_post=library_post'] if path.name == 'radio.c' else []
-            called(['gcc', *self.flags, *more, '-c', str(path)], folder)
+            called(['gcc', *self.flags, *REPLACED.get(path.name, ()), '-c', str(path)], folder)
         called(['objcopy', *SECTIONS, 'library.o'], folder)
         self.objects = [str(it) for it in sorted(folder.glob('*.o'))]
 
@@ -123,8 +124,7 @@ class Compiled:
             tables = [its for its in host_tables(scenario, files) if its[0] != file_of[program] + '_host.c']
             for its, text in tables:
                 (place / its).write_text(text, 'utf-8')
-            (place / 'solution.c').write_text(whole(it, program, [*files].index(program)), 'utf-8')
-            called(['gcc', *self.flags, *[fill] * self.can_fill, '-c', 'solution.c'], place)
+            self.compile(it, program, [*files].index(program), fill, place)
             if not may_call(called(['nm', '-u', '-j', 'solution.o'], place).decode().split()):
                 raise NoComparison('it calls functions that no mote has')
             called(['objcopy', *SECTIONS, 'solution.o'], place)
@@ -139,6 +139,19 @@ class Compiled:
                 # (each token has a line of its own)
                 line = tokens_in(it.source)[int(index[1]) - 2].line
                 raise Crash(OF_INDEX % (line, index[2], index[3])) from None
+
+    def compile(self, it: InC, program: str, number: int, fill: str, place: Path) -> None:
+        """Compiles a program. If the macros for operations can't be compiled, such as those in the size of an array, it is
+        compiled without them."""
+        tokens = tokens_in(it.source)
+        for texts in with_operations(tokens), [token.text for token in tokens]:
+            (place / 'solution.c').write_text(whole(it, texts, program, number), 'utf-8')
+            try:
+                called(['gcc', *self.flags, *[fill] * self.can_fill, '-c', 'solution.c'], place)
+                return
+            except NoComparison as fault:
+                refused = fault
+        raise refused
 
     def difference(self, it: InC, program: str, report: bytes) -> Difference | None:
         """The first difference between the motes of a program in C and those of its translation, whose report is given;
@@ -160,7 +173,7 @@ class Compiled:
         may_differ = meeting is not None and meeting <= at
         mistaken = next((one.line for one in it.translation.remarks if one.is_mistake or one.text == OF_ZEROS), 0)
         causes = (OF_REMARK % mistaken if mistaken else '') + (MEETING % meeting if may_differ else '')
-        return Difference(words + (causes or OF_INT), may_differ, theirs)
+        return Difference(words + (causes or ON_NODE), may_differ, theirs)
 
 
 def first(it: InC, program: str, compiled: bytes, report: bytes) -> tuple[int, str] | None:
@@ -236,12 +249,13 @@ def is_possible(command: Sequence[str], folder: Path) -> bool:
     return True
 
 
-def whole(it: InC, program: str, number: int) -> str:
-    """The text that is compiled. Each token has a line of its own: a wait keeps its line as its place."""
-    rows = as_on_node([token.text for token in tokens_in(it.source)])
+def whole(it: InC, texts: Sequence[str], program: str, number: int) -> str:
+    """The text that is compiled, made of the texts of the tokens. Each has a line of its own: a wait keeps its line as
+    its place."""
+    rows = [token.text for token in tokens_in(it.source)]
     drawing = ', '.join(['&' + name for name in it.translation.drawing] + ['NULL'])
     receiver = '&' + it.translation.receiver if it.translation.receiver else 'NULL'
-    return '\n'.join(['#include "library.h"', *rows,
+    return '\n'.join(['#include "library.h"', *as_on_node(texts),
                       'const int library_has_text = %d;' % any(map(PRINTS.fullmatch, rows)),
                       'const int library_writes_zero = %d;' % bool(ZERO.search(' '.join(rows))),
                       'const int library_is_alone = %d;' % it.is_alone,

@@ -6,7 +6,6 @@ from collections.abc import Sequence
 from motesim.c_program import compiler
 from motesim.c_program.calls import OF_ATTRIBUTE, OF_TEXT_NEEDED
 from motesim.c_program.constants import SECOND
-from motesim.c_program.expressions import OF_OVERFLOW
 from motesim.c_program.program import Remark, Translation
 from motesim.c_program.refusal import Mistake, Refusal
 from motesim.c_program.values import MOST
@@ -23,8 +22,8 @@ WORDS_OF_C = {'wait by `yield_until`': 'wait by `PROCESS_WAIT_EVENT_UNTIL(etimer
               '`yield_until`': '`PROCESS_WAIT_EVENT_UNTIL`', '`wait_until`': '`PROCESS_WAIT_UNTIL`',
               '`wait_while`': '`PROCESS_WAIT_WHILE`', '`yield`': '`PROCESS_YIELD`', '`pause`': '`PROCESS_PAUSE`'}
 NO_TRANSLATION = 'not marked: its line %d may be right in C, but the tool can\'t translate it'
-# The beginnings of remarks on lines of which the compiled program shows nothing here: it calculates with 32 bits.
-ONLY_ON_NODE = (compiler.LACKS, OF_OVERFLOW, OF_TEXT_NEEDED, 'On the Tmote Sky', OF_ATTRIBUTE)
+# The beginnings of remarks on lines of which the compiled program shows nothing here.
+ONLY_ON_NODE = (compiler.LACKS, OF_TEXT_NEEDED, 'On the Tmote Sky', OF_ATTRIBUTE)
 UNLINKED = 'gcc can\'t link it'
 CRASHED, HANGS = 'compiled by gcc, it crashes', 'compiled by gcc, it never ends'
 DIFFERS = 'compiled by gcc, it does something else'

@@ -1,0 +1,103 @@
+"""The operations of a program in C with the results of a node, whose `int` has 16 bits.
+
+    from motesim.grading.node_operations import with_operations
+
+    with_operations(tokens)      the texts of the tokens, with macros of tools/contiki_library around operations
+
+The macros find out by the types of the operands whether a node calculates with 16 bits.
+"""
+from __future__ import annotations
+
+from collections.abc import Sequence
+
+from motesim.c_program.constants import constant_of
+from motesim.c_program.parse_expressions import LEVELS
+from motesim.c_program.parse_file import FileReader
+from motesim.c_program.refusal import Refusal
+from motesim.c_program.tokens import Token
+from motesim.c_program.tree import Expression
+from motesim.c_program.types import INT, UNSIGNED
+from motesim.c_program.walk import parts_of
+
+TESTS, LOGICAL, SHIFTS = ('==', '!=', '<', '<=', '>', '>='), ('&&', '||', '!'), ('<<', '>>')
+# The macros that say of which kind an operand is: by its type; an `int`; an `unsigned int`.
+BY_TYPE, AS_INT, AS_UNSIGNED = 'LIBRARY_TYPE', 'LIBRARY_INT', 'LIBRARY_UNSIGNED'
+
+
+class Operations(FileReader):
+    """Reads a file, and writes macros around the operations that aren't constant. Those of the operands are inside."""
+
+    def __init__(self, tokens: Sequence[Token]):
+        super().__init__(tokens)
+        self.texts = [it.text for it in tokens]
+        self.seen = set[int]()
+
+    def choice(self) -> Expression:
+        start = self.at
+        test = self.binary(0)
+        if not self.is_sign('?'):
+            return test
+        first_sign, line = self.at, self.step().line
+        one = self.expression()
+        second_sign = self.at
+        self.need(':')
+        another = self.choice()
+        found = Expression('choice', '?', (test, one, another), line)
+        if self.is_new(found, first_sign) and one.kind != 'comma':
+            self.write(start, 'LIBRARY_CHOICE', kind_of(one), kind_of(another))
+            self.texts[first_sign] = self.texts[second_sign] = ','
+        return found
+
+    def binary(self, level: int) -> Expression:
+        if level == len(LEVELS):
+            return self.unary()
+        start = self.at
+        left = self.binary(level + 1)
+        while self.token.kind == 'sign' and self.token.text in LEVELS[level]:
+            place, sign = self.at, self.step()
+            right = self.binary(level + 1)
+            found = Expression('binary', sign.text, (left, right), sign.line)
+            if sign.text not in LOGICAL and self.is_new(found, place):
+                name = {**dict.fromkeys(SHIFTS, 'SHIFT'), **dict.fromkeys(TESTS, 'COMPARE')}.get(sign.text, 'BINARY')
+                self.write(start, 'LIBRARY_' + name, sign.text, kind_of(left), kind_of(right))
+                self.texts[place] = ','
+            left = found
+        return left
+
+    def unary(self) -> Expression:
+        start = self.at
+        found = super().unary()
+        if found.kind == 'unary' and found.text in '-~' and self.is_new(found, start):
+            self.texts[start] = ''
+            self.write(start, 'LIBRARY_UNARY', found.text, kind_of(found.parts[0]))
+        return found
+
+    def is_new(self, it: Expression, place: int) -> bool:
+        """Returns whether an operation isn't constant, and has no macro."""
+        is_new = constant_of(it) is None and place not in self.seen
+        self.seen.add(place)
+        return is_new
+
+    def write(self, start: int, *words: str) -> None:
+        """Writes a macro with its first arguments around the tokens behind a start."""
+        self.texts[start] = '%s(%s, %s' % (words[0], ', '.join(words[1:]), self.texts[start])
+        self.texts[self.at - 1] += ')'
+
+
+def kind_of(it: Expression) -> str:
+    """The kind of an operand: numbers and tests are an `int` on a node, too."""
+    parts = [*parts_of(it)]
+    if constant_of(it) is not None and all(one.parts and one.kind != 'cast' or one.type in (INT, UNSIGNED)
+                                           for one in parts):
+        return AS_UNSIGNED if any(one.type == UNSIGNED for one in parts) else AS_INT
+    return AS_INT if it.kind in ('binary', 'unary') and it.text in (*TESTS, *LOGICAL) else BY_TYPE
+
+
+def with_operations(tokens: Sequence[Token]) -> list[str]:
+    """The texts of tokens, with macros around the operations. There are none if the program can't be read."""
+    reader = Operations(tokens)
+    try:
+        reader.read()
+    except (Refusal, RecursionError):
+        return [it.text for it in tokens]
+    return reader.texts
