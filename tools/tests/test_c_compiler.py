@@ -126,7 +126,7 @@ class Checks(unittest.TestCase):
                            for it in folder.glob('*.h'))
         methods = [it for it in dir(ProcessWriter) if it.startswith(('call_', 'value_')) and it not in OWN]
         names = {it.partition('_')[2] for it in methods}
-        library = {'abs', 'memcpy', 'memmove', 'memset', 'printf', 'putchar', 'puts', 'rand'}
+        library = {'abs', 'memcmp', 'memcpy', 'memmove', 'memset', 'printf', 'putchar', 'puts', 'rand'}
         self.assertEqual({it for it in names - library if it + '(' not in declared}, set())
         self.assertEqual({*FILES, 'library.c', 'library.h', 'lists.c'}, {it.name for it in HEADERS.iterdir()})
 

@@ -38,6 +38,10 @@ VALUES = (
      '65408 65472 65504 65533'),
     ('int v[3] = {4, 9, 2}, i, best = -1; for(i = 0; i < 3; i++) if(best == -1 || v[i] > v[best]) best = i;'
      ' printf("%d %d", best, v[best]);', '1 9'),
+    ('static struct { uint8_t a, b; } p = {1, 2}, q = {1, 3}; int n = 0; if(memcmp(&p, &q, sizeof(p)) != 0) n = 1; '
+     'q.b = 2; if(!memcmp(&p, &q, 2)) n += 2; printf("%d %d", n, memcmp(&p, &q, 2) ? 4 : 5);', '3 5'),
+    ('static rimeaddr_t x = {{3, 0}}, y, z; y = x; printf("%d %d", memcmp(&x, &y, sizeof(x)) == 0, '
+     'memcmp(&x, &z, sizeof(rimeaddr_t)) == 0);', '1 0'),
     ('int i, x = -7; for(i = -3; i < 4; i += 2) printf("%d %d %d", x / i, x % i, 7 / i);',
      '2 65535 65534 7 0 65529 65529 0 7 65534 65535 2'),
     ('int i, m = -32767 - 1; uint8_t b = 9; for(i = -2; i < 3; i += 4) printf("%d %d %d", m / i, b / i, b % i);',

@@ -67,7 +67,6 @@ ADVICE = (
     (r'(dint|eint|DINT|EINT|_BI[SC]_SR|__?BI[SC]_\w+|asm|__asm__|spl\w+)$|lpm_|LPM|P\d(DIR|OUT|IN|SEL|IE|IFG)$',
      NO_INTERRUPTS),
     (r'PRINTF$|LOG_|PRINT', 'Define it at the beginning of the file: `#define PRINTF(...) printf(__VA_ARGS__)`.'),
-    (r'memcmp$', 'Compare the values one by one.'),
     (r'srand$', 'Use `random_init`.'),
     (r'(exit|abort|assert)$', 'Write an `if` with a `printf`, and `PROCESS_EXIT();` in the process.'),
     (r'(sqrt|pow|sin|cos|log|exp|floor|ceil|fabs|round)f?$', WHOLE),

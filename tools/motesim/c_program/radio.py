@@ -6,13 +6,16 @@ from collections.abc import Sequence
 from motesim.c_program.calls import Calls
 from motesim.c_program.parse_expressions import bytes_of
 from motesim.c_program.places import (
-    EVERYWHERE, NO_MOTE, OF_PACKET, OVERWRITING, SELF, Place, Pointer, shown_type,
+    EVERYWHERE, NO_MOTE, OF_PACKET, OVERWRITING, SELF, Place, Pointer, has_effects, shown_type,
 )
 from motesim.c_program.refusal import Mistake
+from motesim.c_program.tested import is_only_tested
 from motesim.c_program.tree import Expression, Statement
-from motesim.c_program.types import BYTE, UNSIGNED, Type, leaves_of, size_of
-from motesim.c_program.values import MOST, Value, added, converted, multiplied, number, united
-from motesim.c_program.walk import all_parts, base_of, without_casts
+from motesim.c_program.types import ADDRESS, BYTE, UNSIGNED, Type, leaves_of, size_of
+from motesim.c_program.values import (
+    MOST, Value, added, both, compared, converted, multiplied, negated, number, united,
+)
+from motesim.c_program.walk import all_parts, base_of, parts_of, without_casts
 from motesim.c_program.written import Line, While
 
 SENDS = ('broadcast_send', 'abc_send', 'unicast_send')
@@ -56,10 +59,17 @@ SIZES = 'The packets of this program have several sizes, and none of them is kno
 OF_ITSELF = ('`&%s` is the address of the pointer `%s` itself: write `%s`, without `&`, for the address of what it '
              'points to.')
 
+NO_ORDER = ('`memcmp` is translated only in a test of whether two variables are the same, such as '
+            '`if(memcmp(&a, &b, sizeof(a)) == 0)`: compare the values one by one.')
 CLEARS = ('`memset` doesn\'t change a timer here. In Contiki, it destroys the list of timers if the timer is running: '
           'use it only before the timer is set for the first time.')
 # The timers of the kernel, which have no values here.
 TIMERS = ('etimer', 'ctimer', 'rtimer')
+
+
+def is_address(it: Pointer) -> bool:
+    """Returns whether a pointer is that of the address of a mote."""
+    return it.kind in ('sender', 'address') or it.place is not None and it.place.type == ADDRESS
 
 
 def check_target(it: Expression) -> None:
@@ -352,6 +362,27 @@ class Radio(Calls):
             # (an address whose bytes are 0 is the one that no mote has)
             whole = byte % 256 * (257 if size_of(one.type) == 2 else 1)
             self.write(one, number(NO_MOTE if one.type.kind == 'address' and not whole else whole), it.line)
+
+    def value_memcmp(self, it: Expression) -> Value:
+        """Returns 1 if two variables differ, otherwise 0."""
+        one, other, size = self.arguments(it, 3)
+        if not is_only_tested(it, self.file) or any(map(has_effects, parts_of(it._replace(kind='list')))):
+            raise self.refuse(it.line, NO_ORDER)
+        found = [self.pointer(one), self.pointer(other)]
+        if any(is_address(pointer) for pointer in found):
+            if self.evaluate(size).constant != size_of(ADDRESS):
+                raise self.refuse(it.line, NO_ORDER)
+            return negated(self.address_compared(one, other, it.line))
+        sides = [self.span(pointer.place, size, it.line) for pointer in found if pointer.place is not None]
+        # (the bytes between the fields of a structure may differ)
+        if len(sides) < 2 or [part.type for part in sides[0]] != [part.type for part in sides[1]] \
+                or sum(size_of(part.type) for part in sides[0]) != self.evaluate(size).constant:
+            raise self.refuse(it.line, NO_ORDER)
+        tests = [compared('!=', self.read(part, it.line), self.read(its, it.line)) for part, its in zip(*sides)]
+        result = tests[0]
+        for test in tests[1:]:
+            result = both(result, test, '||')
+        return result
 
     def span(self, place: Place, size: Expression, line: int) -> list[Place]:
         """The variables and the members in some bytes from a place on."""
