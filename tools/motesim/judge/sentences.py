@@ -26,6 +26,10 @@ WIDTH = 110
 OF_PROCESSES, LIKELY = 'a process (', 0.75
 LONGEST_NUMBER, MOST, MOST_MOTES = 9, 999_999_999, 1_000
 NAME_IN_C = re.compile(r'[A-Za-z_]\w*', re.A)
+NAME = re.compile('[a-z][a-z0-9_]*')
+# The words behind a deed, which are no names if the names aren't known.
+BEHIND_DEED = ('at', 'by', 'before', 'after', 'between', 'in', 'from', 'exactly', 'more', 'fewer', 'once', 'twice',
+               'within')
 TOKEN = re.compile(r"\s*('[^']*'|`[^`]*`|\d+|[A-Za-z_]\w*|[^\s])")
 COMPARES = {
     'at least': operator.ge, 'at most': operator.le, 'exactly': operator.eq, 'more than': operator.gt,
@@ -537,7 +541,7 @@ class _Reader:
         if NAME_IN_C.fullmatch(word) and word not in (known or ()):
             # (a translation from C has names that the notation can have)
             word = similar(word)
-        if word in known if known is not None else re.fullmatch('[a-z][a-z0-9_]*', word):
+        if word in known if known is not None else NAME.fullmatch(word) and word not in BEHIND_DEED:
             self.at += 1
             return word
         self.want(self.at, 'a process' if known is None else OF_PROCESSES + ', '.join(known) + ')')
