@@ -259,7 +259,8 @@ class Sentences(unittest.TestCase):
         for words in 'exactly 2 times', 'exactly 2 times from 1 to 4', 'once', 'at most 2 times', 'by 4':
             sentence = 'every mote but 0 prints ' + words
             self.assertEqual(read_sentence(sentence, Names()), read_sentence(sentence, Names(('p',), 3)))
-        self.assertNotEqual(read_sentence('mote 0 prints p once', Names()), read_sentence('mote 0 prints once', Names()))
+        named, plain = (read_sentence('mote 0 prints %sonce' % it, Names()) for it in ('p ', ''))
+        self.assertNotEqual(named, plain)
 
     def test_an_unknown_process_has_a_hint_with_the_processes_of_the_programs(self) -> None:
         names = Names(('etimer', 'ctimer', 'radio', 'node', 'clock'), 3)
