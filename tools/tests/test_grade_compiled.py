@@ -277,9 +277,9 @@ class Comparison(unittest.TestCase):
         self.assertEqual(by_gcc_in([differs, differs._replace(by_gcc=())], 0), ())
         self.assertEqual([number_held(by_gcc_in([differs], it)) for it in (3, 4)], [4, 0])
         self.assertIn('it prints p 261 at moment 0', in_both[3].more[0])
-        its = Marks('a.c', tuple(marks), by_gcc=in_both)
-        page = page_of([its], [''] * 6, '', '')
-        for rows in page, '\n'.join(why(its)):
+        row = Marks('a.c', tuple(marks), by_gcc=in_both)
+        page = page_of([row], [''] * 6, '', '')
+        for rows in page, '\n'.join(why(row)):
             self.assertRegex(rows, r'mote 0 prints p 7\n *in n\n *mote 0 has 0 such lines')
         self.assertIn(BY_GCC % (4, 6), page)
         self.assertEqual(on_node([Remark(0, found.words, True)], '4 of 6'),
