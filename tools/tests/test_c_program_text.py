@@ -1384,6 +1384,17 @@ static const struct broadcast_callbacks calls = { recv };'''
             text, notes = translation(in_process('  if(u > 2) return %s;\n  printf("%%d", 1);' % value, '', VARIABLES))
             self.assertIn('exit;', text or '', notes)
 
+    def test_the_size_of_a_pointer_is_named(self) -> None:
+        above = ('static struct broadcast_conn bc; static %s k;\nstatic void out(%s *v) { packetbuf_copyfrom(v, '
+                 'sizeof(%s)); broadcast_send(&bc); }')
+        for its, size, is_refused, is_seen in (('uint8_t', 'v', True, True), ('uint16_t', 'v', False, True),
+                                               ('uint8_t', '*v', False, False)):
+            head = above % (its, its, size)
+            text, notes = translation(in_process('  broadcast_open(&bc, 129, NULL); out(&k);', head))
+            with self.subTest(its + size):
+                self.assertEqual(text is None, is_refused, notes)
+                self.assertEqual('`sizeof(v)` is the size of the pointer itself' in notes, is_seen, notes)
+
     def test_a_real_constant_that_c_converts_is_exact(self) -> None:
         for time, its in (
                 ('0.5 * CLOCK_SECOND', '64'), ('1.5*CLOCK_SECOND - 1', '191'), ('CLOCK_SECOND * 0.33f', '42'),

@@ -4,6 +4,7 @@ from __future__ import annotations
 from collections.abc import Sequence
 
 from motesim.c_program.calls import Calls
+from motesim.c_program.expressions import OF_POINTER_SIZE
 from motesim.c_program.parse_expressions import bytes_of
 from motesim.c_program.places import (
     EVERYWHERE, NO_MOTE, OF_PACKET, OVERWRITING, SELF, Place, Pointer, has_effects, shown_type,
@@ -98,7 +99,7 @@ class Radio(Calls):
 
     def parts_of_packet(self, place: Place, size: Expression | None, line: int) -> list[Place]:
         """The variables whose values a packet has, or the data of an event."""
-        count = self.evaluate(size).constant if size else None
+        count = self.number_of_bytes(size, place, line) if size else None
         if count is None or place.variable is None or place.chosen is not None:
             count = size_of(place.type)
         places = self.bytes_from(place, count, line)
@@ -386,10 +387,19 @@ class Radio(Calls):
 
     def span(self, place: Place, size: Expression, line: int) -> list[Place]:
         """The variables and the members in some bytes from a place on."""
-        count = self.evaluate(size).constant
+        count = self.number_of_bytes(size, place, line)
         if count is None:
             raise self.refuse(line, 'The number of the bytes must be a constant: use a loop instead.')
         return self.bytes_from(place, count, line)
+
+    def number_of_bytes(self, size: Expression, place: Place, line: int) -> int | None:
+        """The constant number of bytes that a program copies from or to a place; None if it isn't constant."""
+        count = self.evaluate(size).constant
+        inner = size.parts[0] if size.kind == 'sizeof' else None
+        if inner is not None and inner.variable and self.type_of(inner).kind == 'pointer' \
+                and count != size_of(place.type):
+            raise self.refuse(line, OF_POINTER_SIZE % ((inner.text,) * 2))
+        return count
 
     def bytes_from(self, place: Place, count: int, line: int) -> list[Place]:
         """The variables and the members in a number of bytes."""
