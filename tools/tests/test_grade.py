@@ -25,6 +25,7 @@ from here import TOOLS
 from motesim.grading.command import remarks, status_of
 from motesim.grading.entries import Entry, anonymous, data_of, entries_of
 from motesim.grading.in_c import notation_of
+from motesim.grading.in_c import with_names
 from motesim.grading.marking import BINARY, Task, page_name
 from motesim.grading.marks import Mark, Marks
 from motesim.grading.nets import cut_off, nets_of, program_of
@@ -239,10 +240,23 @@ PROCESS_THREAD(a, ev, data) {
         self.assertIn('// Translated from C', written)
         self.assertEqual(self.rows()['lea.c'], '0 of 3  a program needs a net: name one with --net')
 
+    def test_a_process_in_c_has_the_name_or_the_text_that_sentences_use(self) -> None:
+        program = IN_C % 'printf("%d", 3);'
+        for name, process, text in (('ada.c', 'a', 'Task'), ('ben.c', 'a_process', 'a'), ('cem.c', 'b', 'a'),
+                                    ('dan.c', 'b', 'b'), ('eva.c', 'ev', 'a')):
+            named = program.replace('(a,', '(%s,' % process).replace('&a)', '&%s)' % process)
+            self.hand_in(name, named.replace('"a"', '"%s"' % text))
+        rows = self.rows('--net', 'task.toml')
+        self.assertEqual(rows['ben.c'], rows['ada.c'])
+        self.assertEqual(rows['cem.c'], rows['ada.c'])
+        self.assertNotEqual(rows['dan.c'], rows['ada.c'])
+        self.assertEqual(with_names('PROCESS(b, "a"); int a;', ['a']), 'PROCESS(b, "a"); int a;')
+
     def test_a_line_in_c_that_is_a_mistake_has_the_mark_0(self) -> None:
         for name, line in (('lost.c', 'int i; PROCESS_BEGIN(); i = 3; PROCESS_PAUSE(); printf("%d", i);'),
                            ('index.c', 'static int a[3]; PROCESS_BEGIN(); printf("%d", a[3]);'),
-                           ('busy.c', 'PROCESS_BEGIN(); while(1) { } printf("3");')):
+                           ('busy.c', 'PROCESS_BEGIN(); while(1) { } printf("3");'),
+                           ('switch.c', 'PROCESS_BEGIN(); switch(ev) { default: PROCESS_PAUSE(); } printf("3");')):
             self.hand_in(name, '''#include "contiki.h"
 PROCESS(a, "a");
 AUTOSTART_PROCESSES(&a);

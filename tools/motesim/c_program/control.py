@@ -121,7 +121,7 @@ class Control(Radio):
             self.emit('restart;')
             return ENDS
         if expression.kind == 'call' and expression.text in WAITS and self.in_switch:
-            raise self.refuse(it.line, WAIT_IN_SWITCH)
+            raise Mistake(it.line, WAIT_IN_SWITCH)
         self.effect(expression)
         return FALLS
 

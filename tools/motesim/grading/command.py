@@ -16,7 +16,7 @@ from motesim.faults import Fault
 from motesim.files import refuse_inputs, replace_whole
 from motesim.grading import page, tables
 from motesim.grading.compiled import Compiled, NoComparison
-from motesim.grading.entries import Entry, anonymous, data_of, entries_of, skipped_of
+from motesim.grading.entries import Entry, anonymous, entries_of, skipped_of
 from motesim.grading.in_c import of_programs
 from motesim.grading.marking import Task, page_name
 from motesim.grading.marks import Marks, unmarked
@@ -132,7 +132,7 @@ def write_scenarios(folder: Path, entries: Sequence[Entry], task: Task) -> None:
             try:
                 if entry.why:
                     raise Fault(entry.why)
-                text = net.with_program(program_of(data_of(entry), entry.path.name, net.program))
+                text = net.with_program(program_of(task.data_of(entry), entry.path.name, net.program))
             except Fault as fault:
                 print('grade: %s isn\'t written: %s' % (one_line(entry.name), fault), file=sys.stderr)
                 break

@@ -1,7 +1,8 @@
 """Solutions that are programs in C for Contiki: they are translated, and marked as programs in the notation."""
 from __future__ import annotations
 
-from collections.abc import Sequence
+import re
+from collections.abc import Iterable, Sequence
 
 from motesim.c_program import compiler
 from motesim.c_program.calls import OF_ATTRIBUTE, OF_TEXT_NEEDED
@@ -24,6 +25,8 @@ WORDS_OF_C = {'wait by `yield_until`': 'wait by `PROCESS_WAIT_EVENT_UNTIL(etimer
 NO_TRANSLATION = 'not marked: its line %d may be right in C, but the tool can\'t translate it'
 # The beginnings of remarks on lines of which the compiled program shows nothing here.
 ONLY_ON_NODE = (compiler.LACKS, OF_TEXT_NEEDED, 'On the Tmote Sky', OF_ATTRIBUTE)
+# A process with its two names; and a text in a program.
+PROCESS, TEXT = re.compile(r'\bPROCESS\s*\(\s*(\w+)\s*,\s*"(\w+)"'), re.compile(r'"[^"\n]*"')
 UNLINKED = 'gcc can\'t link it'
 CRASHED, HANGS = 'compiled by gcc, it crashes', 'compiled by gcc, it never ends'
 DIFFERS = 'compiled by gcc, it does something else'
@@ -74,6 +77,16 @@ def lacks_of(source: str) -> tuple[Remark, ...]:
         return tuple(Remark(*it) for it in compiler.check(source) if it[2])
     except Mistake:
         return ()
+
+
+def with_names(source: str, wanted: Iterable[str]) -> str:
+    """A program in which a process has its second name in C, such as `hb` of `PROCESS(hb_process, "hb")`, if sentences
+    use this name, and not the first one."""
+    for first, second in PROCESS.findall(source):
+        is_free = not re.search(r'\b%s\b' % re.escape(second), TEXT.sub('', source))
+        if second in wanted and first not in wanted and is_free:
+            source = re.sub(r'\b%s\b' % first, second, source)
+    return source
 
 
 def notation_of(source: str) -> str:

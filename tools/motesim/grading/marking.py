@@ -16,7 +16,7 @@ from motesim.grading.by_gcc import (
 )
 from motesim.grading.compiled import Compiled, Difference, InC
 from motesim.grading.entries import Entry, data_of, without_program
-from motesim.grading.in_c import NotTranslated, in_words_of_c, lacks_of, made_of
+from motesim.grading.in_c import NotTranslated, in_words_of_c, lacks_of, made_of, with_names
 from motesim.grading.marks import LONGEST_WHY, OTHER_PROCESS, InNet, Mark, Marks, over_nets, spread, unmarked
 from motesim.grading.nets import NOT_UTF8, Net, NoProgram, program_of, unused_of
 from motesim.grading.warned import in_translation, net_warned, seen_of, warned_of
@@ -77,6 +77,14 @@ class Task:
     pictures: Path | None = None
     compiled: Compiled | None = None
 
+    def data_of(self, entry: Entry) -> bytes:
+        """The bytes of a solution. The processes of a program in C have the names that sentences use."""
+        data = data_of(entry)
+        if entry.path.suffix != '.c' or not encodings.is_text(data) or encodings.encoding_of(data):
+            return data
+        wanted = [name for it in self.part.sentences for name in PRINTS.findall(it)]
+        return with_names(encodings.text_of_c(data), wanted).encode()
+
     def of(self, numbered: tuple[int, Entry]) -> Marks:
         """The marks of an entry."""
         number, entry = numbered
@@ -86,7 +94,7 @@ class Task:
             return Marks(entry.name, why='a program needs a net: name one with --net')
         data = b''
         try:
-            data = data_of(entry)
+            data = self.data_of(entry)
             lacks = without_program(entry, data)
             if lacks:
                 return Marks(entry.name, why=lacks)
