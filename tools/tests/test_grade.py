@@ -229,11 +229,11 @@ PROCESS_THREAD(a, ev, data) {
         self.assertIn('\nline 6 in C: ', self.grade('--net', 'task.toml', '--why', 'kai.c'))
         self.assertIn('motesim has no `strlen`', said)
         (self.folder / 'nina.c').unlink()
-        pauses = 'etimer_set(&et, 5); while(!etimer_expired(&et)) { PROCESS_PAUSE(); } printf("%d", 4);'
+        pauses = 'etimer_set(&et, 5);\n  while(!etimer_expired(&et)) {\n    PROCESS_PAUSE();\n  }\n  printf("%d", 4);'
         timer = '  static struct etimer et;\n  PROCESS_BEGIN();'
         self.hand_in('pia.c', (in_c % 4).replace('  PROCESS_BEGIN();', timer).replace('printf("%d", 4);', pauses))
-        self.assertIn('`PROCESS_WAIT_WHILE` and the same test, without a block, lets the mote wait (at `while '
-                      '!expired(et) {` of the translated program)', self.grade('--net', 'task.toml', '--why', 'pia.c'))
+        self.assertIn('`PROCESS_WAIT_WHILE` and the same test, without a block, lets the mote wait (line 8 of pia.c: '
+                      '`while(!etimer_expired(&et)) {`)', self.grade('--net', 'task.toml', '--why', 'pia.c'))
         (self.folder / 'pia.c').unlink()
         self.grade('--net', 'task.toml', '--write', 'scenarios')
         written = (self.folder.parent / 'scenarios' / 'lea.c_in_task.toml').read_text()
@@ -801,7 +801,7 @@ PROCESS_THREAD(a, ev, data) { static int i; PROCESS_BEGIN(); for(i = 0; i < 3000
         for name, place in ('ben.mote', 'ben.mote:3'), ('carla.toml', 'carla.toml:12'):
             self.assertIn('a, line 3 (%s): `print 4`' % place, self.page('marks_runs/%s_in_task.toml.html' % name))
 
-    def test_a_run_page_of_a_program_in_c_names_the_lines_of_the_translation(self) -> None:
+    def test_a_run_page_of_a_program_in_c_names_the_lines_in_c(self) -> None:
         need_program(self)
         self.stub = program_path()
         self.hand_in('ben.c', '''#include "contiki.h"
@@ -815,8 +815,8 @@ PROCESS_THREAD(a, ev, data) {
 ''')
         self.grade('--net', 'task.toml', '-o', 'marks.html')
         page = self.page('marks_runs/ben.c_in_task.toml.html')
-        self.assertRegex(page, 'a, line [0-9]+ of the translation of ben[.]c: `print 4`')
-        self.assertNotIn('(ben.c:', page)
+        self.assertIn(json.dumps('a, line 6 of ben.c: `printf("%d", 4);`')[1:-1], page)
+        self.assertNotIn('of the translation', page)
 
 
     def test_a_callback_of_a_program_in_c_prints_for_the_process_that_a_sentence_names(self) -> None:

@@ -13,7 +13,7 @@ from motesim.c_program.tree import File, Function, Variable
 from motesim.c_program.types import INT, Type
 from motesim.c_program.usage import Usage
 from motesim.c_program.values import Limits, Value, converted, united
-from motesim.c_program.written import Block, Line, Target
+from motesim.c_program.written import Block, Line, Target, at_line
 from motesim.from_c.scope import is_misspelt, nearest
 
 NOT_DECLARED = '`%s` isn\'t declared above this line.'
@@ -181,6 +181,13 @@ class Base:
         outer, self.out = self.out, block
         yield block
         self.out = outer
+
+    @contextmanager
+    def from_line(self, line: int) -> Iterator[None]:
+        """Notes for the statements that are written here that they come from this line in C."""
+        out, begin = self.out, len(self.out)
+        yield
+        out[begin:] = at_line(out[begin:], line)
 
     def flush(self) -> None:
         """Writes the effects that come after the value of an expression, such as the step of `n++`."""

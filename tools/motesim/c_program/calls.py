@@ -319,7 +319,7 @@ class Calls(Chance):
             with self.into([]) as block:
                 self.post(it._replace(parts=(it.parts[0], part, it.parts[2])), result)
             blocks.append(block)
-        self.out.append(If(test, *blocks))
+        self.out.append(If(test, blocks[0], blocks[1]))
 
     def call_process_post_synch(self, it: Expression) -> None:
         target, _, _ = self.arguments(it, 3)

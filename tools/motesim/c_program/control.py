@@ -69,7 +69,8 @@ class Control(Radio):
         for at, piece in enumerate(pieces):
             rest = pieces[at + 1:]
             if not callable(piece) and piece.kind == 'if':
-                flow = self.branch(piece, rest)
+                with self.from_line(piece.line):
+                    flow = self.branch(piece, rest)
                 return flow._replace(targets=flow.targets | targets)
             self.next_sends = bool(rest) and self.sends_next(rest)
             flow = self.one(piece)
@@ -98,8 +99,8 @@ class Control(Radio):
         """Translates a statement."""
         if callable(piece):
             return piece()
-        self.comments(piece)
-        with self.statement_of():
+        with self.statement_of(), self.from_line(piece.line):
+            self.comments(piece)
             found: Flow = getattr(self, 'of_' + piece.kind)(piece)
         return found
 
@@ -420,8 +421,9 @@ class Control(Radio):
 
     def last_test(self, last: Expression, target: Target, is_again: bool) -> None:
         """The test at the end of a `do`."""
-        value = self.settled_test(last)
-        self.emit('%s = %s;' % (target.test(), is_true(value).text if is_again else negated(value).text))
+        with self.from_line(last.line):
+            value = self.settled_test(last)
+            self.emit('%s = %s;' % (target.test(), is_true(value).text if is_again else negated(value).text))
 
     def after_loop(self, posts: list[Block], targets: frozenset[Target]) -> None:
         """The effects of the last test of a loop, such as the last step of `while(n--)`."""
@@ -485,7 +487,7 @@ class Control(Radio):
                 flows.append(self.run(body_from(it, begin)))
             ends.append(self.known)
             other: Block = []
-            self.out.append(If(test, then, other))
+            self.out.append(If(test, then, other, labels[0].line))
             self.out = other
         self.known, self.buffer = dict(known), buffer
         with self.in_branch():

@@ -524,7 +524,7 @@ class Expressions(Events):
         for value, block in zip(values, blocks):
             with self.into(block):
                 self.assign(kept, value, its)
-        self.out.append(If(test, *blocks))
+        self.out.append(If(test, blocks[0], blocks[1]))
         return Value(kept, its, *(0, MOST) if not its.signed and low < 0 else (low, high), frozenset([kept]))
 
     def settled_test(self, it: Expression) -> Value:
@@ -592,7 +592,7 @@ class Expressions(Events):
             blocks.append(block)
             ends.append(self.known)
         self.known = joined_limits(*ends)
-        self.out.append(If(test, *blocks))
+        self.out.append(If(test, blocks[0], blocks[1]))
 
     def compound(self, it: Expression, target: Expression) -> None:
         """`x += 2;` and the like."""

@@ -432,7 +432,7 @@ class Functions(Control):
                 blocks.append(block)
             self.known = {key: its for key, its in known.items() if self.known.get(key) == its}
             self.known.pop(name, None)
-            self.out.append(If(test, *blocks))
+            self.out.append(If(test, blocks[0], blocks[1]))
             return
         self.assign(name, self.operand(value), function.result)
 
@@ -689,10 +689,10 @@ def is_frame(it: Statement) -> bool:
 
 def without_last_exit(block: Block) -> Block:
     """A block of a thread without an `exit` at its end."""
-    if block and block[-1] == Line('exit;'):
+    last = block[-1] if block else None
+    if isinstance(last, Line) and last.text == 'exit;':
         return block[:-1]
-    if block and isinstance(block[-1], If):
-        last = block[-1]
-        return [*block[:-1], If(last.test, without_last_exit(last.then), without_last_exit(last.other))]
+    if isinstance(last, If):
+        return [*block[:-1], last._replace(then=without_last_exit(last.then), other=without_last_exit(last.other))]
     return block
 

@@ -15,7 +15,7 @@ from motesim.c_program.types import INT, Type, leaves_of
 from motesim.c_program.usage import GLOBAL
 from motesim.c_program.values import Limits, Value, compared, converted, number, united
 from motesim.c_program.walk import all_parts, shown, without_casts
-from motesim.c_program.written import Block, Flag, If, Line, lines_of
+from motesim.c_program.written import Block, Flag, If, Line, Row, lines_of, rows_of
 
 IF_OTHER = 'if ((data / 256) != self) { exit; }'
 OF_ORDER = ('`%s` polls `%s` and also posts to it. In Contiki, the posted event arrives before the poll if the queue '
@@ -102,10 +102,12 @@ class ProcessWriter(Functions):
         before, rest = self.parts(function)
         with self.into(self.code.body):
             for it in before:
-                self.before_begin(it)
+                with self.from_line(it.line):
+                    self.before_begin(it)
             flow = self.run(rest)
             if flow.falls and self.receives:
-                self.ends_with_packets()
+                with self.from_line(rest[-1].line):
+                    self.ends_with_packets()
             self.code.body = self.out
         self.finish_ctimers()
         if self.code.is_random and not any(it.text == 'random_init' for it in at_start_of(self.file, rest)):
@@ -116,7 +118,8 @@ class ProcessWriter(Functions):
         first = [it.expressions[0] if it.kind == 'expression' else None for it in function.body]
         names = [it.text if it else '' for it in first]
         begin, end = names.index('PROCESS_BEGIN'), names.index('PROCESS_END')
-        heading, ending = (Statement('empty', function.line, function.body[it].comments) for it in (begin, end))
+        frame = function.body[begin], function.body[end]
+        heading, ending = (Statement('empty', it.line, it.comments) for it in frame)
         return [*function.body[:begin], heading], [*function.body[begin + 1:end], ending]
 
     def before_begin(self, it: Statement) -> None:
@@ -177,7 +180,7 @@ class ProcessWriter(Functions):
         self.threads[function.name] = self.receiving
         self.bind_callback(function)
         unit = Unit('receive', function, may_wait=False, is_callback=True, of_radio=True)
-        with self.unit_of(unit), self.into([]) as block:
+        with self.unit_of(unit), self.into([]) as block, self.from_line(function.line):
             if self.is_closed_somewhere:
                 self.emit('if !%s { exit; }' % self.own('open', 'open'))
             if self.is_to_one:
@@ -307,19 +310,20 @@ class ProcessWriter(Functions):
             found.append(following)
         return found
 
-    def text(self) -> list[str]:
+    def text(self) -> list[Row]:
         """The lines of the code."""
-        code, found = self.code, list[str]()
+        code, found = self.code, list[Row]()
         order = {name: at for at, name in enumerate(self.own_names.values())}
+        declared = {name: variable.line for (variable, _), name in self.own_names.items()}
         names = sorted(code.variables, key=lambda it: order.get(it, len(order)))
         parts = [('ctimer %s' % name, code.ctimers[name]) for name in self.ordered_ctimers()]
         parts += [('thread %s' % name, block) for name, block in code.threads.items()]
         parts += [(name, code.handlers[name]) for name in ('onpoll', 'onexit') if name in code.handlers]
         for head, block in (*parts, ('body', code.body)):
-            found += ['  %s {' % head, *lines_of(block, '    '), '  }']
-        heading = ['  var %s = %d;' % (name, code.variables[name]) for name in names]
-        heading += ['  etimer %s;' % it for it in code.etimers]
-        return ['code %s {' % code.name, *heading, *found, '}']
+            found += [Row('  %s {' % head), *rows_of(block, '    '), Row('  }')]
+        heading = [Row('  var %s = %d;' % (name, code.variables[name]), declared.get(name, 0)) for name in names]
+        heading += [Row('  etimer %s;' % it, declared.get(it, 0)) for it in code.etimers]
+        return [Row('code %s {' % code.name), *heading, *found, Row('}')]
 
 
 

@@ -4,6 +4,7 @@
 
     found = translated('blink.c', text)
     found.text       the program in the notation
+    found.lines      for each line of this text, the line in C from which it comes; 0 if it comes from none
     found.remarks    what differs from C: the line, and the reason
 """
 from __future__ import annotations
@@ -28,6 +29,7 @@ from motesim.c_program.refusal import Mistake, Refusal
 from motesim.c_program.tree import Expression, File, Statement
 from motesim.c_program.usage import usage_of
 from motesim.c_program.walk import all_parts, declared_in, without_casts
+from motesim.c_program.written import Row
 from motesim.notation.faults import ProgramError, find_fault
 
 MOST_ROUNDS = 40
@@ -61,11 +63,13 @@ class Remark(NamedTuple):
 
 class Translation(NamedTuple):
     """A program in the notation, and what differs from C. `drawing`: the processes in C that draw random numbers;
-    `receiver`: the one in which the callback for packets runs."""
+    `receiver`: the one in which the callback for packets runs; `lines`: for each line of the text, the line in C from
+    which it comes, or 0."""
     text: str
     remarks: tuple[Remark, ...]
     drawing: tuple[str, ...] = ()
     receiver: str = ''
+    lines: tuple[int, ...] = ()
 
     def with_remarks(self, more: Sequence[Remark]) -> Translation:
         """This translation with further remarks, in the order of their lines."""
@@ -81,7 +85,7 @@ def translated(text: str, second: int = SECOND) -> Translation:
         check_order(file)
         without_value = check_locals((*file.bodies.values(), *file.functions.values()))
         remarks = indexes_for_pointers(file)
-        program, lines = settled(file, second)
+        program, rows = settled(file, second)
         check_ends(program)
         for line, remark in check_allocated(file, program.events):
             program.remark(line, remark)
@@ -96,12 +100,12 @@ def translated(text: str, second: int = SECOND) -> Translation:
         raise (with_others(refusal, file) if file else refusal) from None
     except RecursionError:
         raise Refusal(1, TOO_LARGE % LIMITS[7]) from None
-    found = '\n'.join(lines) + '\n'
+    found = ''.join(it.text + '\n' for it in rows)
     fault = find_fault(found)
     if fault is not None:
         raise Refusal(*of_fault(fault, file, found))
     return Translation(found, tuple(Remark(*it) for it in program.all_remarks()), tuple(drawing_in(program)),
-                       program.usage.receiver)
+                       program.usage.receiver, tuple(it.line for it in rows))
 
 
 def remark_names(program: Program) -> None:
@@ -155,20 +159,20 @@ def check_ends(program: Program) -> None:
             raise Refusal(line, NO_END % (name, program.endless[name], name))
 
 
-def settled(file: File, second: int) -> tuple[Program, list[str]]:
+def settled(file: File, second: int) -> tuple[Program, list[Row]]:
     """Translates a file until the translation is what it relies on."""
     knowledge, usage = Knowledge(), usage_of(file)
     for _ in range(MOST_ROUNDS):
         program = Program(file, usage, knowledge, second)
-        lines = written(program)
+        rows = written(program)
         if knowledge.settle():
             if program.refusals:
                 raise program.refusals[0]
-            return program, lines
+            return program, rows
     raise Refusal(1, 'The values of this program can\'t be followed.')
 
 
-def written(program: Program) -> list[str]:
+def written(program: Program) -> list[Row]:
     """The lines of a program."""
     file = program.file
     name_all(program)
@@ -185,9 +189,7 @@ def written(program: Program) -> list[str]:
         lines.append('autostart %s;' % ', '.join(program.names[it] for it in dict.fromkeys(file.autostart)))
     if program.usage.receiver:
         lines.append('receiver %s;' % program.names[program.usage.receiver])
-    for writer in writers:
-        lines += writer.text()
-    return lines
+    return [*map(Row, lines), *(row for writer in writers for row in writer.text())]
 
 
 def name_all(program: Program) -> None:

@@ -26,58 +26,83 @@ class Target:
         return self.tested
 
 
+# Each part of a block has the line of the statement in C from which it comes; 0 if that is the one around it.
+
+
 class Line(NamedTuple):
     text: str
+    line: int = 0
 
 
 class Comment(NamedTuple):
     text: str
+    line: int = 0
 
 
 class Flag(NamedTuple):
     """The flag of a target gets a value: nothing is written if no test reads it."""
     target: Target
     value: int
+    line: int = 0
 
 
 class If(NamedTuple):
     test: Value
     then: 'Block'
     other: 'Block'
+    line: int = 0
 
 
 class While(NamedTuple):
     test: Value
     body: 'Block'
+    line: int = 0
 
 
 Code = Union[Line, Comment, Flag, If, While]
 Block = list[Code]
 
 
+class Row(NamedTuple):
+    """A line of a translation, and the line in C from which it comes; 0 if it comes from none."""
+    text: str
+    line: int = 0
+
+
+def at_line(block: Block, line: int) -> Block:
+    """The parts of a block that have no line in C yet get this one. When they are written, so do the parts in them."""
+    return [it if it.line else it._replace(line=line) for it in block]
+
+
 def lines_of(block: Block, edge: str) -> list[str]:
     """The lines of a block, with these spaces in front."""
-    found = list[str]()
+    return [it.text for it in rows_of(block, edge)]
+
+
+def rows_of(block: Block, edge: str, around: int = 0) -> list[Row]:
+    """The lines of a block with their lines in C; `around` is that of the statement around the block."""
+    found = list[Row]()
     for it in simplified(block):
+        line = it.line or around
         if isinstance(it, Line):
-            found.append(edge + it.text)
+            found.append(Row(edge + it.text, line))
         elif isinstance(it, Comment):
-            found.append('%s// %s' % (edge, it.text))
+            found.append(Row('%s// %s' % (edge, it.text), line))
         elif isinstance(it, Flag):
-            found.append('%s%s = %d;' % (edge, it.target.tested, it.value))
+            found.append(Row('%s%s = %d;' % (edge, it.target.tested, it.value), line))
         elif isinstance(it, While):
-            found += braced('while %s' % it.test.condition, it.body, edge)
-            found.append(edge + '}')
+            found += braced('while %s' % it.test.condition, it.body, edge, line)
+            found.append(Row(edge + '}', line))
         else:
-            found += braced('if %s' % it.test.condition, it.then, edge)
+            found += braced('if %s' % it.test.condition, it.then, edge, line)
             if it.other:
-                found += braced('} else', it.other, edge)
-            found.append(edge + '}')
+                found += braced('} else', it.other, edge, line)
+            found.append(Row(edge + '}', line))
     return found
 
 
-def braced(head: str, block: Block, edge: str) -> list[str]:
-    return ['%s%s {' % (edge, head), *lines_of(block, edge + '  ')]
+def braced(head: str, block: Block, edge: str, line: int) -> list[Row]:
+    return [Row('%s%s {' % (edge, head), line), *rows_of(block, edge + '  ', line)]
 
 
 def assigned_by(block: Block) -> set[str]:
@@ -99,7 +124,7 @@ def simplified(block: Block) -> Block:
         if isinstance(it, If):
             found += of_if(it)
         elif isinstance(it, While):
-            found.append(While(it.test, simplified(it.body)))
+            found.append(it._replace(body=simplified(it.body)))
         else:
             found.append(it)
     return found
@@ -108,9 +133,9 @@ def simplified(block: Block) -> Block:
 def of_if(it: If) -> Block:
     then, other = simplified(it.then), simplified(it.other)
     if it.test.constant is not None:
-        return then if it.test.low else other
+        return at_line(then if it.test.low else other, it.line)
     if is_empty(then) and is_empty(other):
-        return [*then, *other]
+        return at_line([*then, *other], it.line)
     if is_empty(then):
-        return [If(negated(it.test), [*then, *other], [])]
-    return [If(it.test, then, [] if is_empty(other) and not other else other)]
+        return [If(negated(it.test), [*then, *other], [], it.line)]
+    return [If(it.test, then, [] if is_empty(other) and not other else other, it.line)]

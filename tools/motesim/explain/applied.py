@@ -89,7 +89,7 @@ def corrected(text: str, fault: ScenarioError | None, message: Sequence[str], se
         return with_translation(text, str(fault.path[1]), second) or followed(text, message)
     made = translation_of(text, second) if is_file_in_c(text) else None
     if isinstance(made, Translation):
-        return in_net(first_process(made.text), with_comment(made.text, 'C').replace("'''", "'"), SECONDS * second)
+        return in_net(first_process(made.text), with_comment(made, 'C').text.replace("'''", "'"), SECONDS * second)
     return followed(text, message)
 
 
@@ -154,7 +154,7 @@ def translate(name: str, text: str, output: str, run: Callable[[bytes], Answer],
     if isinstance(found, Refusal):
         print('\n'.join(refused(name, text, found)))
         return 1
-    data = in_net(first_process(found.text), with_comment(found.text, 'C'), SECONDS * second).encode()
+    data = in_net(first_process(found.text), with_comment(found, 'C').text, SECONDS * second).encode()
     write_and_keep(output, data)
     print(IN_NET % (one_line(name), one_line(output)))
     for it in found.remarks:

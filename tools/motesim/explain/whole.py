@@ -75,7 +75,7 @@ def with_capital(what: str) -> str:
 def shown(what: str, name: str, found: Translation) -> list[str]:
     """The lines of a message that show a translation: `what` is the program, and `name` its file. Long lines aren't
     wrapped."""
-    lines = with_comment(found.text, 'C').rstrip('\n').split('\n')
+    lines = with_comment(found, 'C').text.rstrip('\n').split('\n')
     how_many = ALL_LINES if len(lines) <= MOST_SHOWN else FIRST_LINES % (MOST_SHOWN, len(lines))
     writes = BUTTON if name == TEXT else WRITES % name
     return [IN_C % (with_capital(what), how_many), *('  ' + it for it in lines[:MOST_SHOWN]), writes]
@@ -86,9 +86,9 @@ def remarks_of(program: str, found: Translation) -> list[str]:
     return ['Line %d of %s: %s' % (it.line, program, it.text) for it in found.remarks]
 
 
-def with_comment(translation: str, origin: str) -> str:
-    """A translated program with a comment that says so: then its values below 0 are no surprise."""
-    return '%s%s\n%s' % (TRANSLATED, origin, translation)
+def with_comment(found: Translation, language: str) -> Translation:
+    """A translation with a comment that says so: then its values below 0 are no surprise."""
+    return found._replace(text='%s%s\n%s' % (TRANSLATED, language, found.text), lines=(0, *found.lines))
 
 
 def placed(text: str, program: str) -> Placed | None:
@@ -116,7 +116,7 @@ def with_translation(text: str, program: str, second: int = SECOND) -> str | Non
     if found is None or not isinstance(made, Translation):
         return None
     # (in a translation, only comments have quotes)
-    source = with_comment(made.text, 'C').replace("'''", "'")
+    source = with_comment(made, 'C').text.replace("'''", "'")
     changed = "%s'''\n%s'''%s" % (text[:found.begin], source, text[found.end:])
     tables = read_toml(text)
     tables['programs'][program] = source

@@ -7,6 +7,7 @@ from collections.abc import Iterable, Sequence
 from motesim.c_program import compiler
 from motesim.c_program.calls import OF_ATTRIBUTE, OF_TEXT_NEEDED
 from motesim.c_program.constants import SECOND
+from motesim.c_program.origin import Origin
 from motesim.c_program.program import Remark, Translation
 from motesim.c_program.refusal import Mistake, Refusal
 from motesim.c_program.values import MOST
@@ -91,7 +92,12 @@ def with_names(source: str, wanted: Iterable[str]) -> str:
 
 def notation_of(source: str) -> str:
     """The text of a program in C in the notation."""
-    return with_comment(made_of(source).text, 'C')
+    return with_comment(made_of(source), 'C').text
+
+
+def origin_of(source: str) -> Origin:
+    """A program in C with the lines from which those of `notation_of` come."""
+    return Origin(source, with_comment(made_of(source), 'C').lines)
 
 
 def remarks_of(source: str) -> tuple[Remark, ...]:

@@ -16,10 +16,10 @@ from motesim.grading.by_gcc import (
 )
 from motesim.grading.compiled import Compiled, Difference, InC
 from motesim.grading.entries import Entry, data_of, without_program
-from motesim.grading.in_c import NotTranslated, in_words_of_c, lacks_of, made_of, with_names
+from motesim.grading.in_c import NotTranslated, in_words_of_c, lacks_of, made_of, origin_of, with_names
 from motesim.grading.marks import LONGEST_WHY, OTHER_PROCESS, InNet, Mark, Marks, over_nets, spread, unmarked
 from motesim.grading.nets import NOT_UTF8, Net, NoProgram, program_of, unused_of
-from motesim.grading.warned import in_translation, net_warned, seen_of, warned_of
+from motesim.grading.warned import in_lines_of_c, net_warned, seen_of, warned_of
 from motesim.judge.callbacks import of_callbacks
 from motesim.judge.expectations import (
     REFUSED, Part, UnknownSentence, known_of, more_of, read_all, refused, same_report,
@@ -139,7 +139,7 @@ class Task:
         unused = unused_of(data, entry.path.name, self.nets[0]) if self.nets else ''
         marks = replace(self.together(entry.name, found), unused=unused)
         if entry.path.suffix == '.c':
-            marks = replace(marks, warned=tuple(in_translation(it, its[1]) for it in marks.warned),
+            marks = replace(marks, warned=tuple(in_lines_of_c(it, *its, origin_of(in_c)) for it in marks.warned),
                             of_c=(*difference_in(found), *remarks_in(found, in_c)),
                             by_gcc=by_gcc_in(found, self.part.required),
                             hidden=next(iter(differences_in(found)), (False, False, ''))[2])
@@ -214,7 +214,8 @@ class Task:
         if self.part.report is not None:
             whole = same_report(judge.rows, self.part.report)
             marks.append(Mark(whole.sentence, whole.holds, (), tuple(whole.more)))
-        run = Run('', report, scenario, file) if len(got.report) <= MOST_SHOWN else None
+        origin = origin_of(in_c) if in_c else None
+        run = Run('', report, scenario, file, origin) if len(got.report) <= MOST_SHOWN else None
         differs = self.difference(InC(in_c, made_of(in_c), text), program, got.report) if in_c else None
         programs = {program: scenario.programs[program]} if program else scenario.programs
         compiled = differs.report if differs else b''
@@ -271,6 +272,7 @@ class Task:
             return '', TOO_LONG.format(its.bytes, MOST_SHOWN) if its.bytes > MOST_SHOWN else ''
         mark = its.marks[place]
         note = note_of(its.run, mark.sentence, its.broken[place] if place < len(its.broken) else None, mark.more)
+        note = note.in_words(in_words_of_c) if its.run.origin else note
         name = page_name(number, marks.name, its.net)
         run = its.run._replace(name=marks.name + (' in %s' % its.net if its.net else ''))
         write_page(self.pictures / name, '%s: %s' % (marks.name, mark.sentence), [run], note=note, write=replace_whole)

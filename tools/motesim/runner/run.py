@@ -24,6 +24,7 @@ import sys
 from pathlib import Path
 from typing import NamedTuple
 
+from motesim.c_program.origin import Origin
 from motesim.report.belongs import check_scenario as check_scenario
 from motesim.scenario.encodings import refuse_encoding
 from motesim.faults import Fault
@@ -46,12 +47,14 @@ IN_C = '%s is a file in C, not a scenario: tools/explain %s --apply NEW.toml wri
 class Run(NamedTuple):
     """The input of a tool: a report, the scenario if it is known, and a name to show.
 
-    file  the file that has the programs, if it is known: its name, without folders, and its text
+    file    the file that has the programs, if it is known: its name, without folders, and its text
+    origin  the text in C of its program, if the file has a translation
     """
     name: str
     report: Report
     scenario: Scenario | None
     file: tuple[str, str] | None = None
+    origin: Origin | None = None
 
 
 def answer(scenario: bytes, *arguments: str, limits: Limits = Limits()) -> Answer:

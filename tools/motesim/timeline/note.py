@@ -5,6 +5,7 @@ wanted one.
 """
 from __future__ import annotations
 
+from collections.abc import Callable
 from typing import Any, NamedTuple
 
 from motesim.faults import Fault
@@ -33,6 +34,11 @@ class Note(NamedTuple):
     lines: tuple[Line, ...] = ()
     at: int = 0
     mote: int | None = None
+
+    def in_words(self, changed: Callable[[str], str]) -> Note:
+        """This note with its reason and its lines in other words."""
+        lines = (it._replace(text=changed(it.text)) for it in self.lines)
+        return self._replace(why=changed(self.why), lines=tuple(lines))
 
     def as_json(self) -> dict[str, Any]:
         return {**self._asdict(), 'lines': [it._asdict() for it in self.lines]}
@@ -73,7 +79,8 @@ def _near(asker: Asker, missing: Missing) -> tuple[Line, ...]:
                  for it in sorted(its, key=lambda it: (not it.is_wanted, has_value and it.is_rest))]
     except Fault:
         return ()
-    return tuple(lines[:MOST_LINES])
+    # (several statements may come from one line in C)
+    return tuple([*dict.fromkeys(lines)][:MOST_LINES])
 
 
 def _text(source: Source, row: int) -> str:

@@ -82,10 +82,15 @@ def others(source: Source, where: At) -> str:
 
 
 def in_words(program: Program, number: int) -> str:
-    """A statement of a program, with its line."""
-    it = program.statement(number)
-    text = it.text if len(it.text) <= WIDEST else it.text[:WIDEST - 3] + '...'
-    return '%s: `%s`' % (program.line(it.line), text)
+    """A statement of a program, with its line. One that is translated from C has the text in C, and also its own text if
+    the line in C does something else, too."""
+    it, in_c = program.statement(number), program.rows_in_c[number - 1]
+    more = ' (translated: `%s`)' % shortened(it.text) if in_c and not program.is_main(number) else ''
+    return '%s: `%s`%s' % (program.line(it.line), shortened(in_c or it.text), more)
+
+
+def shortened(text: str) -> str:
+    return text if len(text) <= WIDEST else text[:WIDEST - 3] + '...'
 
 
 def used_up(source: Source, mote: int) -> list[str]:
@@ -108,12 +113,15 @@ def in_rounds(program: Program, found: Endless) -> str:
 
 
 def led_by(program: Program, number: int) -> str:
-    """The `if` that led to a statement: the innermost one around it, with its line."""
+    """The `if` that led to a statement: the innermost one around it, with its line. If both come from one line in C,
+    such as that of a macro, this line is known already, and the `if` has the text of the translation."""
     for around in reversed(program.statement(number).around):
         it = program.statement(around.number)
         if it.kind == 'if':
-            text = it.text if len(it.text) <= WIDEST else it.text[:WIDEST - 3] + '...'
-            return ', in %s%s: `%s`' % ('the `else` of ' if around.is_else else '', program.line(it.line), text)
+            in_c = program.line_in_c(number)
+            is_same = in_c and in_c == program.line_in_c(around.number)
+            words = '`%s` there' % shortened(it.text) if is_same else in_words(program, around.number)
+            return ', in %s%s' % ('the `else` of ' if around.is_else else '', words)
     return ''
 
 

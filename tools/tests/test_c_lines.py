@@ -1,0 +1,163 @@
+"""The lines in C from which the lines of a translation come."""
+import unittest
+
+import here  # noqa: F401
+from motesim.c_program.origin import Origin
+from motesim.c_program.program import translated
+from motesim.explain.whole import with_comment
+from motesim.grading.in_c import notation_of, origin_of
+from motesim.grading.warned import in_lines_of_c
+from motesim.report import Report
+from motesim.runner.run import Run, run_program
+from motesim.scenario import Scenario
+from motesim.why.chain import Explainer
+from motesim.why.pages import source_of
+from skips import need_program
+
+PROGRAM = '''/* Counts. */
+#include "contiki.h"
+#include "net/rime.h"
+#define REPORT(count, limit) do { \\
+    if((count) > (limit)) { \\
+      printf("%d\\n", (count)); \\
+    } \\
+    (count)++; \\
+  } while(0)
+PROCESS(a, "a");
+AUTOSTART_PROCESSES(&a);
+static int sum;
+
+static void
+add(int value)
+{
+  sum += value;
+  printf("%d\\n", sum + 10);
+}
+
+static void
+received(struct broadcast_conn *c, const rimeaddr_t *from)
+{
+  switch(sum) {
+  case 1:
+    printf("100\\n");
+    break;
+  default:
+    printf("200\\n");
+  }
+}
+static const struct broadcast_callbacks callbacks = { received };
+static struct broadcast_conn conn;
+
+PROCESS_THREAD(a, ev, data)
+{
+  static struct etimer et;
+  static int turns;
+  PROCESS_BEGIN();
+  broadcast_open(&conn, 129, &callbacks);
+  etimer_set(&et,
+             CLOCK_SECOND * (2));  // (twice
+  PROCESS_WAIT_EVENT_UNTIL(etimer_expired(&et));
+  REPORT(turns, 3);
+  REPORT(turns, 0);
+  add(1);
+  if(turns) {
+    add(2);
+  } else if(sum == 2) {
+    printf("%d\\n", turns + 20);
+  }
+  do {
+    turns++;
+  } while(turns < 5);
+  packetbuf_copyfrom("a", 1);
+  broadcast_send(&conn);
+  PROCESS_END();
+}
+'''
+# Lines of the translation, and those in C from which they come.
+LINES = (
+    ('print (sum + 10);', ['printf("%d\\n", sum + 10);']), ('sum = (sum + value);', ['sum += value;']),
+    ('spawn add;', ['add(1);', 'add(2);']), ('value = 2;', ['add(2);']),
+    ('print turns;', ['REPORT(turns, 0);', 'REPORT(turns, 3);']), ('if (turns > 3) {', ['REPORT(turns, 3);']),
+    ('if (sum == 2) {', ['} else if(sum == 2) {']), ('print (turns + 20);', ['printf("%d\\n", turns + 20);']),
+    ('print 100; // 100', ['printf("100\\n");']), ('print 200; // 200', ['printf("200\\n");']),
+    ('if (sum == 1) {', ['case 1:']), ('set et 256;', ['etimer_set(&et,']),
+    ('again = (turns < 5);', ['} while(turns < 5);']), ('send 97;', ['broadcast_send(&conn);']),
+    ('var sum = 0;', ['static int sum;']),
+    ('spawn received;', ['PROCESS_END();', 'PROCESS_WAIT_EVENT_UNTIL(etimer_expired(&et));']),
+    ('thread add {', ['']), ('// Counts.', ['']))
+NET = '''version = 1
+end = 400
+[medium]
+range = 10
+base = 2
+per = 100
+[programs]
+p = """
+%s"""
+[[mote]]
+program = "p"
+x = 0
+y = 0
+[[mote]]
+program = "p"
+x = 5
+y = 0
+'''
+
+
+def line_of(words: str) -> int:
+    """The first line in C that has these words."""
+    return PROGRAM[:PROGRAM.index(words)].count('\n') + 1
+
+
+class Lines(unittest.TestCase):
+    def test_each_line_of_a_translation_has_its_line_in_c(self) -> None:
+        found, in_c = translated(PROGRAM), ['', *PROGRAM.split('\n')]
+        rows = [it.strip() for it in found.text.rstrip('\n').split('\n')]
+        self.assertEqual(len(rows), len(found.lines))
+        for text, lines in LINES:
+            with self.subTest(text):
+                its = {in_c[line].strip() for row, line in zip(rows, found.lines) if row == text}
+                self.assertEqual(sorted(its), lines)
+
+    def test_a_comment_above_a_translation_moves_its_lines(self) -> None:
+        found = translated(PROGRAM)
+        above = with_comment(found, 'C')
+        self.assertEqual((above.text.split('\n')[0], above.lines), ('// Translated from C', (0, *found.lines)))
+
+    def test_the_text_of_a_statement_of_several_lines(self) -> None:
+        origin = Origin(PROGRAM, (line_of('etimer_set'), line_of('REPORT(turns, 3)'), 0, line_of('REPORT(turns, 0)')))
+        self.assertEqual([origin.row(it) for it in range(6)], [
+            '', 'etimer_set(&et, CLOCK_SECOND * (2));  // (twice', 'REPORT(turns, 3);', '', 'REPORT(turns, 0);', ''])
+        self.assertEqual(Origin('f("(");\ng(1,\n  2); /* ) */\nh();', (1, 2)).row(1), 'f("(");')
+
+    def test_reasons_of_a_run_name_the_lines_in_c(self) -> None:
+        need_program(self)
+        text, net = notation_of(PROGRAM), NET % notation_of(PROGRAM)
+        report = run_program(net.encode())
+        run = Run('a', Report.parse(report), Scenario.parse(net), ('a.c', text), origin_of(PROGRAM))
+        source = source_of(run)
+        explain = Explainer(source, 0)
+        said = {line.partition(' ')[2]: explain.because(at) for at, line in enumerate(source.traces.lines(0))}
+        self.assertEqual(said['print a 1'], 'a, line %d of a.c: `REPORT(turns, 0);` (translated: `print turns`), '
+                         'in `if (turns > 0)` there' % line_of('REPORT(turns, 0)'))
+        self.assertEqual(said['print a 13'], 'a, line %d of a.c: `printf("%%d\\n", sum + 10);`' % line_of('sum + 10'))
+        self.assertEqual(said['print a 200'], 
+                         'a, line %d of a.c: `printf("200\\n");`, in the `else` of line %d of a.c: `case 1:`' % (
+                             line_of('"200'), line_of('case 1')))
+        self.assertIn('after a set it in line %d of a.c: `etimer_set(&et, CLOCK_SECOND * (2));' % line_of('etimer_set'),
+                      said['post 0 a timer 0'])
+
+    def test_a_warning_names_the_lines_in_c(self) -> None:
+        text, origin = 'b;\nwhile 1 {\nc;\n', Origin('b();\n\nwhile(1) {\n  c();\n', (1, 3, 0))
+        for warning, said in (
+                ('this loop (line 2 of the program)', 'this loop (line 3 of a.c: `while(1) {`)'),
+                ('on line 1 of the program ..', 'on line 1 of a.c ..'),
+                ('on lines 1, 2, .. of the program', 'on lines 1, 3, .. of a.c'),
+                ('on lines 2, 3 of the program', 'on lines 2, 3 of the translated program'),
+                ('this loop (line 3 of the program)', 'this loop (at `c;` of the translated program)')):
+            self.assertEqual(in_lines_of_c(warning, 'a.c', text, origin), said)
+
+
+if __name__ == '__main__':
+    unittest.main()
