@@ -5,11 +5,14 @@ import here  # noqa: F401
 from motesim.c_program.origin import Origin
 from motesim.c_program.program import translated
 from motesim.explain.whole import with_comment
-from motesim.grading.in_c import notation_of, origin_of
+from motesim.grading.in_c import in_words_of_c, notation_of, origin_of
 from motesim.grading.warned import in_lines_of_c
+from motesim.judge.judge import Judge
+from motesim.judge.sentences import read_sentence
 from motesim.report import Report
 from motesim.runner.run import Run, run_program
 from motesim.scenario import Scenario
+from motesim.timeline.note import Line, Note, note_of
 from motesim.why.chain import Explainer
 from motesim.why.pages import source_of
 from skips import need_program
@@ -41,6 +44,8 @@ received(struct broadcast_conn *c, const rimeaddr_t *from)
   case 1:
     printf("100\\n");
     break;
+  case 2:
+    printf("150\\n");
   default:
     printf("200\\n");
   }
@@ -78,7 +83,8 @@ LINES = (
     ('print (sum + 10);', ['printf("%d\\n", sum + 10);']), ('sum = (sum + value);', ['sum += value;']),
     ('spawn add;', ['add(1);', 'add(2);']), ('value = 2;', ['add(2);']),
     ('print turns;', ['REPORT(turns, 0);', 'REPORT(turns, 3);']), ('if (turns > 3) {', ['REPORT(turns, 3);']),
-    ('if (sum == 2) {', ['} else if(sum == 2) {']), ('print (turns + 20);', ['printf("%d\\n", turns + 20);']),
+    ('if (sum == 2) {', ['case 2:', '} else if(sum == 2) {']),
+    ('print (turns + 20);', ['printf("%d\\n", turns + 20);']),
     ('print 100; // 100', ['printf("100\\n");']), ('print 200; // 200', ['printf("200\\n");']),
     ('if (sum == 1) {', ['case 1:']), ('set et 256;', ['etimer_set(&et,']),
     ('again = (turns < 5);', ['} while(turns < 5);']), ('send 97;', ['broadcast_send(&conn);']),
@@ -132,21 +138,39 @@ class Lines(unittest.TestCase):
         self.assertEqual(Origin('f("(");\ng(1,\n  2); /* ) */\nh();', (1, 2)).row(1), 'f("(");')
 
     def test_reasons_of_a_run_name_the_lines_in_c(self) -> None:
-        need_program(self)
-        text, net = notation_of(PROGRAM), NET % notation_of(PROGRAM)
-        report = run_program(net.encode())
-        run = Run('a', Report.parse(report), Scenario.parse(net), ('a.c', text), origin_of(PROGRAM))
-        source = source_of(run)
+        source = source_of(self.ran())
         explain = Explainer(source, 0)
         said = {line.partition(' ')[2]: explain.because(at) for at, line in enumerate(source.traces.lines(0))}
         self.assertEqual(said['print a 1'], 'a, line %d of a.c: `REPORT(turns, 0);` (translated: `print turns`), '
                          'in `if (turns > 0)` there' % line_of('REPORT(turns, 0)'))
         self.assertEqual(said['print a 13'], 'a, line %d of a.c: `printf("%%d\\n", sum + 10);`' % line_of('sum + 10'))
         self.assertEqual(said['print a 200'], 
-                         'a, line %d of a.c: `printf("200\\n");`, in the `else` of line %d of a.c: `case 1:`' % (
-                             line_of('"200'), line_of('case 1')))
-        self.assertIn('after a set it in line %d of a.c: `etimer_set(&et, CLOCK_SECOND * (2));' % line_of('etimer_set'),
+                         'a, line %d of a.c: `printf("200\\n");`, in the `else` of line %d of a.c: `case 2:`' % (
+                             line_of('"200'), line_of('case 2')))
+        self.assertIn('set it in line %d of a.c: `etimer_set(&et, CLOCK_SECOND * (2));' % line_of('etimer_set'),
                       said['post 0 a timer 0'])
+
+    def ran(self) -> Run:
+        """A run of the program."""
+        need_program(self)
+        text = notation_of(PROGRAM)
+        net = NET % text
+        return Run('a', Report.parse(run_program(net.encode())), Scenario.parse(net), ('a.c', text), origin_of(PROGRAM))
+
+    def test_a_note_names_a_line_in_c_once(self) -> None:
+        run = self.ran()
+        assert run.scenario is not None
+        sentence = read_sentence('mote 0 prints a 999')
+        note = note_of(run, 'mote 0 prints a 999', Judge(run.report, run.scenario).broken(sentence))
+        lines = [it.text for it in note.lines]
+        self.assertEqual(len(lines), len({*lines}))
+        self.assertEqual(sum('`printf("200\\n");`' in it for it in lines), 1, lines)
+        self.assertIn('(translated: `print turns`) was reached', str(lines))
+
+    def test_a_note_has_the_words_of_c(self) -> None:
+        note = Note('title', 'write a `pause`', (Line('write a `yield_until`', 3),)).in_words(in_words_of_c)
+        lines = (Line('write a `PROCESS_WAIT_EVENT_UNTIL`', 3),)
+        self.assertEqual(note, Note('title', 'write a `PROCESS_PAUSE`', lines))
 
     def test_a_warning_names_the_lines_in_c(self) -> None:
         text, origin = 'b;\nwhile 1 {\nc;\n', Origin('b();\n\nwhile(1) {\n  c();\n', (1, 3, 0))

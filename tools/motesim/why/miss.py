@@ -449,8 +449,13 @@ class _Misses:
             return
         program, replay = self.program(), self.replayed()
         processes = self.processes(program)
-        for number, it in enumerate(program.statements, 1):
-            if it.kind == self.kind and it.process in processes:
+        numbers = [number for number, it in enumerate(program.statements, 1)
+                   if it.kind == self.kind and it.process in processes]
+        here = {it.statement for it in self.inside(replay.reached) if it.holds is None}.intersection(numbers)
+        # (several of them may come from one line in C: if one was reached, so was the line)
+        lines = {program.line_in_c(number) for number in here} - {0}
+        for number in numbers:
+            if number in here or program.line_in_c(number) not in lines:
                 yield self.statement(program, replay, number)
         for process in processes:
             yield from self.waits(program, replay, process)
