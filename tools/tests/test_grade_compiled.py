@@ -111,6 +111,19 @@ class Comparison(unittest.TestCase):
             self.assertEqual(self.difference(source), '', text)
             self.assertIn('send %d;' % value, translated(source).text)
 
+    def test_a_process_may_close_the_connection_of_another_one(self) -> None:
+        body = ('  broadcast_open(&bc, 129, &calls); while(n++ < %d) { etimer_set(&et, 20); '
+                'PROCESS_WAIT_EVENT_UNTIL(etimer_expired(&et)); packetbuf_copyfrom(&n, 2); broadcast_send(&bc); }')
+        closer = ('PROCESS_THREAD(closer, ev, data) { static struct etimer t; PROCESS_BEGIN(); etimer_set(&t, 70); '
+                  'PROCESS_WAIT_EVENT_UNTIL(etimer_expired(&t)); broadcast_close(&bc); PROCESS_END(); }')
+        for count in (2, 9):
+            source = in_process(body % count, RADIO + '\nPROCESS(closer, "c");', '  ' + TIMER) + closer
+            source = source.replace('AUTOSTART_PROCESSES(&p);', '', 1).replace(
+                'PROCESS_THREAD(p,', 'AUTOSTART_PROCESSES(&p, &closer);\nPROCESS_THREAD(p,', 1)
+            self.assertEqual(self.difference(source), '', source)
+            self.assertEqual([it.text for it in translated(source).remarks if it.is_mistake], [])
+            self.assertIn('synch p closing 0;', translated(source).text)
+
     def test_an_array_of_characters_is_no_text(self) -> None:
         above = RADIO.replace('printf("%d", *(int *)packetbuf_dataptr());', 'static char m[2];'
                               ' packetbuf_copyto(m); printf("%d %d", m[0], m[1]);')

@@ -33,6 +33,8 @@ class Program:
     events: dict[int, str] = field(default_factory=dict)
     event_variables: dict[Variable, str] = field(default_factory=dict)
     semaphores: dict[Variable, str] = field(default_factory=dict)
+    # The event by which a process closes the connection of another one; or nothing.
+    closing: str = ''
     counts: dict[Variable, int] = field(default_factory=dict)
     # (the remarks about mistakes by their lines, too)
     remarks: dict[tuple[str, int], tuple[int, str, bool]] = field(default_factory=dict)

@@ -179,12 +179,24 @@ class Calls(Chance):
         if usage.callback is None or is_other or is_from_start and not self.is_closed_somewhere \
                 or self.unit.name == 'onexit':
             return
+        if self.process != usage.receiver and not is_open and self.may_close_for_other:
+            self.program.knowledge.new_forms |= {'closed %s' % usage.receiver, 'closing event'}
+            self.emit('synch %s %s 0;' % (self.program.names[usage.receiver], self.program.closing))
+            return
         if self.process != usage.receiver:
             self.remark_mistake(it.line, (NOT_OPEN if is_open else NO_CLOSE) % usage.callback.name)
             return
         if not is_from_start:
             self.program.knowledge.new_forms.add('closed %s' % self.process)
         self.assign(self.own('open', 'open'), number(int(gets_packets)), BYTE)
+
+    @property
+    def may_close_for_other(self) -> bool:
+        """Returns whether this statement can close the connection of another process by an event: that process opens
+        the connection itself, and isn't running."""
+        usage, in_ctimer = self.program.usage, self.unit.name.startswith('ctimer ')
+        return usage.opener == usage.receiver and not self.first_call('process_post_synch') and (
+            in_ctimer or self.unit.name == 'body' and not self.is_first)
 
     def channels(self, it: Expression) -> set[int | None]:
         """The channels on which the connection of a call is opened; None if one isn't a constant."""

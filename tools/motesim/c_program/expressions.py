@@ -53,8 +53,8 @@ OF_SECOND = ('A second has %d moments here, so `CLOCK_SECOND` is %d%s. `end` of 
 ADDRESS_AS_NUMBER = ('The program posts addresses of variables as the data of its events, and no number. So on a '
                      'node, this is such an address; in the translation, it is the value of the variable: write '
                      '`*(uint8_t *)data`, with the type of the variable.')
-OF_POINTER_SIZE = ('`sizeof(%s)` is the size of the pointer itself, which is 2 bytes on the Tmote Sky and 8 for gcc '
-                   'here: write `sizeof(*%s)` for the size of what it points to.')
+OF_POINTER_SIZE = ('`sizeof(%s)` is the size of the pointer itself, which is 2 bytes on the Tmote Sky: write '
+                   '`sizeof(*%s)` for the size of what it points to.')
 
 
 class Expressions(Events):

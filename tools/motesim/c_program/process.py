@@ -181,6 +181,8 @@ class ProcessWriter(Functions):
         self.bind_callback(function)
         unit = Unit('receive', function, may_wait=False, is_callback=True, of_radio=True)
         with self.unit_of(unit), self.into([]) as block, self.from_line(function.line):
+            if self.program.closing:
+                self.emit('if is(%s) { %s = 0; exit; }' % (self.program.closing, self.own('open', 'open')))
             if self.is_closed_somewhere:
                 self.emit('if !%s { exit; }' % self.own('open', 'open'))
             if self.is_to_one:

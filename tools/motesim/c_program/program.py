@@ -182,7 +182,8 @@ def written(program: Program) -> list[Row]:
         writer.translate()
         writers.append(writer)
     lines = ['// ' + it for it in file.comments if it]
-    lines += ['event %s;' % it for it in (*program.event_variables.values(), *program.events.values())]
+    events = (*program.event_variables.values(), *program.events.values(), program.closing)
+    lines += ['event %s;' % it for it in events if it]
     lines += ['semaphore %s = %d;' % (name, program.counts.get(it, 0)) for it, name in program.semaphores.items()]
     lines += ['process %s;' % ', '.join(program.names[it] for it in file.processes)]
     if file.autostart:
@@ -212,6 +213,8 @@ def name_all(program: Program) -> None:
             program.semaphores[variable] = new(variable.name, variable.line)
     for value, name in event_numbers(file).items():
         program.events[value] = new(name)
+    if 'closing event' in program.knowledge.forms:
+        program.closing = new('closing')
 
 
 def event_numbers(file: File) -> dict[int, str]:

@@ -460,14 +460,19 @@ class Radio(Calls):
         if not self.receives:
             self.emit('yield;' if test is None else 'yield_until %s;' % test.condition)
             return
-        line = 'yield;' if test is None else 'yield_until (is(packet) || %s);' % test.condition
+        line = 'yield;' if test is None else 'yield_until (%s || %s);' % (self.arrival.text, test.condition)
         self.emit(line)
-        packet = Value('is(packet)', UNSIGNED, 0, 1)
-        self.out.append(While(packet, [Line('spawn %s;' % self.receiving), Line(line)]))
+        self.out.append(While(self.arrival, [Line('spawn %s;' % self.receiving), Line(line)]))
+
+    @property
+    def arrival(self) -> Value:
+        """The test of an event for the thread for packets: a packet, or the end of its connection."""
+        closing = self.program.closing
+        return Value('(is(packet) || is(%s))' % closing if closing else 'is(packet)', UNSIGNED, 0, 1)
 
     receiving = ''
 
     def forever(self) -> None:
         """The loop of a process that only waits for packets after its end in C."""
-        inner = [Line('yield_until is(packet);'), Line('spawn %s;' % self.receiving)]
+        inner = [Line('yield_until %s;' % self.arrival.text), Line('spawn %s;' % self.receiving)]
         self.out.append(While(number(1), [*inner]))
