@@ -366,6 +366,16 @@ PROCESS_THREAD(q, ev, data) {
             self.assertEqual(words_of(whole.replace('%s', sends)), mark, filled)
             self.assertEqual(words_of(whole.replace('%s', 'm.c = 1; ' + sends)), mark * ('m' not in filled))
 
+    def test_a_loop_that_only_pauses_has_the_mark_of_the_compiled_program(self) -> None:
+        part = parts_of('expect = ["mote 0 prints p 3"]', 'task')[0]
+        net = Net('n', Scenario.parse(SCENARIO % 'process p; autostart p; code p { body { pause; } }'), 'p')
+        with tempfile.TemporaryDirectory() as folder:
+            path = Path(folder) / 'a.c'
+            path.write_text(in_process('  while(clock_time() < 250) { PROCESS_PAUSE(); } printf("%d", 3);'))
+            marks = Task(part, (net,), Limits(report=200_000), compiled=self.compiled).of((1, Entry('a.c', path)))
+        self.assertRegex(marks.why, '^not marked: the run was ended: .* only pauses .*; ' + BY_GCC % (1, 1))
+        self.assertFalse(marks.has_mark)
+
     def test_from_a_packet_at_the_moment_of_a_timer_on_runs_may_differ(self) -> None:
         report = (b'mote 0 p\n3 recv 1 0 3\n5 recv 1 1 3\n5 post 2 p timer 0\n'
                   b'mote 1 q\n1 recv 0 0 3\n1 recv 0 1 3\nmedium\nleft 0\n')

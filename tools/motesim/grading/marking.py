@@ -46,6 +46,8 @@ TOO_LONG = ('no page of this run: its report has {:,} bytes, and a page shows at
 # Characters that the name of a page can't have: all but letters, digits and two others; and a dot at its beginning.
 UNSAFE = re.compile(r'[^A-Za-z0-9.-]|^\.')
 LONGEST_NAME = 80
+# (a loop that only pauses repeats many times in a moment here, but not on a node)
+ONLY_PAUSES, NO_MARK = 'a loop that only pauses', 'not marked: '
 BINARY = 'the file is binary: it has bytes that no text has'
 OF_C = 'its program is in C'
 NOT_NOTATION = ', not in the notation of mote programs (tools/explain FILE.c --apply NEW.toml translates it)'
@@ -127,11 +129,15 @@ class Task:
         except LimitMet as fault:
             return unmarked(entry.name, '%s, though the program had used less processor time than it may' % fault)
         except Ended as fault:
-            return Marks(entry.name, why=in_words_of_c(str(fault)) if entry.path.suffix == '.c' else str(fault))
+            row = Marks(entry.name, why=in_words_of_c(str(fault)) if entry.path.suffix == '.c' else str(fault))
+            if entry.path.suffix != '.c' or ONLY_PAUSES not in row.why:
+                return row
+            return self.with_gcc_alone(replace(row, why=NO_MARK + row.why, is_open=True), data)
         except NoProgram as fault:
             return Marks(entry.name, why=str(fault), fix=(fault.hint,))
         except NotTranslated as fault:
-            return self.untranslated(entry.name, data, fault)
+            row = Marks(entry.name, why=str(fault), fix=fault.lines, is_open=fault.may_be_right)
+            return self.with_gcc_alone(row, data)
         except UnknownSentence as fault:
             return Marks(entry.name, why=fault.which, fix=self.fix(entry, data))
         except Fault as fault:
@@ -229,14 +235,14 @@ class Task:
         """The difference between a program in C and its translation, if gcc is installed."""
         return self.compiled.difference(it, program, report) if self.compiled else None
 
-    def untranslated(self, name: str, data: bytes, fault: NotTranslated) -> Marks:
-        """The row of a program in C that can't be translated. It doesn't depend on the marks of the compiled program,
-        so an error in them leaves them out."""
+    def with_gcc_alone(self, row: Marks, data: bytes) -> Marks:
+        """The row of a program in C of which only the compiled program has marks. The row doesn't depend on them, so an
+        error in them leaves them out."""
         source = encodings.text_of_c(data).removeprefix(MARK)
         found = without_fault(lambda: untranslated(source, self.compiled, self.part, self.nets))
         marks, crash = found or ((), '')
-        why = '; '.join(filter(None, (str(fault), crash, by_gcc_words(marks))))
-        return Marks(name, why=why, fix=fault.lines, is_open=fault.may_be_right, by_gcc=marks, of_c=lacks_of(source))
+        why = '; '.join(filter(None, (row.why, crash, by_gcc_words(marks))))
+        return replace(row, why=why, by_gcc=marks, of_c=lacks_of(source))
 
     def answer(self, scenario: bytes) -> Answer:
         """The answer of `motesim`, within the limits. The error at a limit says what the run does most often."""
