@@ -502,15 +502,32 @@ deliver(int from, uint16_t value)
 /*---------------------------------------------------------------------------*/
 /*
  * The process of the radio posts packets to the receiver of a program in the notation. A program
- * in C has a receiver that isn't a process: its callback is called at once.
+ * in C has a receiver that isn't a process: its callback is called at once. If packets wait in the
+ * queue of events, as they do in the translation, a further process calls it.
  */
 struct process library_receiver;
+
+static
+PT_THREAD(call_back(struct pt *pt, process_event_t ev, process_data_t data))
+{
+  (void)pt;
+  if(ev == MOTESIM_PACKET) {
+    deliver(motesim_from(ev, data), motesim_word(ev, data));
+  }
+  return PT_YIELDED;
+}
+
+static struct process queued = { NULL, "radio", call_back, { 0 }, 0, 0, 0, 0 };
 
 int
 library_post(struct process *receiver, process_event_t ev, process_data_t data)
 {
   if(receiver != &library_receiver) {
     return process_post(receiver, ev, data);
+  }
+  if(library_has_queue) {
+    process_start(&queued, NULL);
+    return process_post(&queued, ev, data);
   }
   deliver(motesim_from(ev, data), motesim_word(ev, data));
   return PROCESS_ERR_OK;

@@ -32,11 +32,12 @@
 
 /*
  * The tables of a program: whether it calls printf, so that its LEDs aren't printed; whether it writes addresses of
- * zeros; whether nothing but its report is known; its processes that draw random numbers; and the one in which the callback for packets draws them.
+ * zeros; whether nothing but its report is known; whether packets wait in the queue of events; its processes that draw random numbers; and the one in which the callback for packets draws them.
  */
 extern const int library_has_text;
 extern const int library_writes_zero;
 extern const int library_is_alone;
+extern const int library_has_queue;
 extern const struct process *const library_drawing[];
 extern const struct process *const library_receiver_of_packets;
 extern struct process library_receiver;

@@ -402,14 +402,28 @@ PROCESS_THREAD(q, ev, data) {
         uncompared = [in_net(SAME)._replace(differs=None)]
         self.assertTrue(any(it.is_mistake for it in remarks_in(uncompared, its.source)))
 
-    def test_a_difference_names_a_remark_and_a_meeting_of_events(self) -> None:
+    def test_a_difference_names_a_remark(self) -> None:
         body = '  broadcast_open(&bc, 129 + node_id, &calls); while(1) { PROCESS_WAIT_EVENT(); }'
         its = self.in_c(in_process(body, RADIO, '  ' + TIMER))
         report = b'mote 0 p\n3 recv 1 0 3\n3 recv 1 1 3\n3 print p 3\nmote 1 p\nmote 2 other\nmedium\nleft 0\n'
         found = self.compiled.difference(its, 'p', report)
         line = next(it.line for it in its.translation.remarks if it.is_mistake)
         assert found
-        self.assertTrue(found.words.endswith(OF_REMARK % line + MEETING % 3), found.words)
+        self.assertTrue(found.words.endswith(OF_REMARK % line), found.words)
+
+    def test_the_order_of_packets_and_events_is_no_mistake(self) -> None:
+        above = RADIO.replace('printf("%d", *(int *)packetbuf_dataptr());', 'last = from->u8[0]; process_poll(&p);')
+        above = above.replace('static void recv', 'static int last, sum = 30000;\nstatic void recv')
+        body = """  broadcast_open(&bc, 129, &calls); packetbuf_copyfrom(&n, 2); broadcast_send(&bc); PROCESS_PAUSE();
+  while(1) { PROCESS_WAIT_EVENT_UNTIL(ev == PROCESS_EVENT_POLL); printf("%d", last); LARGE; }"""
+        for large, may_differ in (';', True), ('sum += 9000; printf("%d", sum / 10)', False):
+            source = in_process(body.replace('LARGE', large), above, '  ' + TIMER)
+            translation = translated(source)
+            its = InC(source, translation, IN_A_ROW % (300, translation.text))
+            found = self.compiled.difference(its, 'p', answer(its.scenario.encode()).report)
+            assert found
+            self.assertEqual(found.may_differ, may_differ, found.words)
+            self.assertEqual('have the same moment' in found.words, may_differ, found.words)
 
     def test_a_program_that_leaves_an_array_crashes(self) -> None:
         source = in_process('  n = 9; printf("%d", a[n]);', inside='  static int a[3], n;')

@@ -79,6 +79,13 @@ class InC(NamedTuple):
     is_alone: bool = False
 
 
+class Options(NamedTuple):
+    """The name of a program, its number among all programs, and whether packets wait in the queue of events."""
+    program: str
+    number: int
+    has_queue: bool
+
+
 class Difference(NamedTuple):
     """A difference between a program in C and its translation, in words; the words are empty if there is none.
     `may_differ`: their runs may also differ because of events of one moment. `report`: that of the program in C."""
@@ -111,9 +118,9 @@ class Compiled:
         called(['objcopy', *SECTIONS, 'library.o'], folder)
         self.objects = [str(it) for it in sorted(folder.glob('*.o'))]
 
-    def report(self, it: InC, program: str, fill: str = GARBAGE) -> bytes:
+    def report(self, it: InC, program: str, fill: str = GARBAGE, has_queue: bool = False) -> bytes:
         """The report of a scenario in which a program is the one in C. `fill`: the bytes of local variables without a
-        value. Raises NoComparison."""
+        value; `has_queue`: whether packets wait in the queue of events, as in the translation. Raises NoComparison."""
         scenario = Scenario.parse(it.scenario)
         files = program_files(scenario, counts_work=True)
         file_of = file_names(files)
@@ -124,7 +131,7 @@ class Compiled:
             tables = [its for its in host_tables(scenario, files) if its[0] != file_of[program] + '_host.c']
             for its, text in tables:
                 (place / its).write_text(text, 'utf-8')
-            self.compile(it, program, [*files].index(program), fill, place)
+            self.compile(it, Options(program, [*files].index(program), has_queue), fill, place)
             if not may_call(called(['nm', '-u', '-j', 'solution.o'], place).decode().split()):
                 raise NoComparison('it calls functions that no mote has')
             called(['objcopy', *SECTIONS, 'solution.o'], place)
@@ -140,12 +147,12 @@ class Compiled:
                 line = tokens_in(it.source)[int(index[1]) - 2].line
                 raise Crash(OF_INDEX % (line, index[2], index[3])) from None
 
-    def compile(self, it: InC, program: str, number: int, fill: str, place: Path) -> None:
+    def compile(self, it: InC, options: Options, fill: str, place: Path) -> None:
         """Compiles a program. If the macros for operations can't be compiled, such as those in the size of an array, it is
         compiled without them."""
         tokens = tokens_in(it.source)
         for texts in with_operations(tokens), [token.text for token in tokens]:
-            (place / 'solution.c').write_text(whole(it, texts, program, number), 'utf-8')
+            (place / 'solution.c').write_text(whole(it, texts, options), 'utf-8')
             try:
                 called(['gcc', *self.flags, *[fill] * self.can_fill, '-c', 'solution.c'], place)
                 return
@@ -164,16 +171,19 @@ class Compiled:
             at, words = found
             if self.can_fill and first(it, program, self.report(it, program, ZEROS), report) != found:
                 return Difference(words + OF_UNSET, False, theirs)
+            meeting = first_meeting(report, program)
+            if meeting is not None and meeting <= at:
+                in_order = first(it, program, self.report(it, program, has_queue=True), report)
+                if in_order is None:
+                    return Difference(words + MEETING % meeting, True, theirs)
+                words = in_order[1]
         except NoComparison as fault:
             twice = TWICE.search(str(fault))
             return Difference(DEFINES % twice[1]) if twice else None
         except Crash as crash:
             return Difference(str(crash))
-        meeting = first_meeting(report, program)
-        may_differ = meeting is not None and meeting <= at
         mistaken = next((one.line for one in it.translation.remarks if one.is_mistake or one.text == OF_ZEROS), 0)
-        causes = (OF_REMARK % mistaken if mistaken else '') + (MEETING % meeting if may_differ else '')
-        return Difference(words + (causes or ON_NODE), may_differ, theirs)
+        return Difference(words + (OF_REMARK % mistaken if mistaken else ON_NODE), False, theirs)
 
 
 def first(it: InC, program: str, compiled: bytes, report: bytes) -> tuple[int, str] | None:
@@ -249,7 +259,7 @@ def is_possible(command: Sequence[str], folder: Path) -> bool:
     return True
 
 
-def whole(it: InC, texts: Sequence[str], program: str, number: int) -> str:
+def whole(it: InC, texts: Sequence[str], options: Options) -> str:
     """The text that is compiled, made of the texts of the tokens. Each has a line of its own: a wait keeps its line as
     its place."""
     rows = [token.text for token in tokens_in(it.source)]
@@ -259,6 +269,7 @@ def whole(it: InC, texts: Sequence[str], program: str, number: int) -> str:
                       'const int library_has_text = %d;' % any(map(PRINTS.fullmatch, rows)),
                       'const int library_writes_zero = %d;' % bool(ZERO.search(' '.join(rows))),
                       'const int library_is_alone = %d;' % it.is_alone,
+                      'const int library_has_queue = %d;' % options.has_queue,
                       'const struct process *const library_drawing[] = { %s };' % drawing,
                       'const struct process *const library_receiver_of_packets = %s;' % receiver,
-                      'LIBRARY_PROGRAM(host_program_%d, "%s");' % (number, program), ''])
+                      'LIBRARY_PROGRAM(host_program_%d, "%s");' % (options.number, options.program), ''])
