@@ -252,6 +252,21 @@ PROCESS_THREAD(a, ev, data) {
         self.assertNotEqual(rows['dan.c'], rows['ada.c'])
         self.assertEqual(with_names('PROCESS(b, "a"); int a;', ['a']), 'PROCESS(b, "a"); int a;')
 
+    def test_an_option_names_the_connection_of_programs_in_c(self) -> None:
+        opens = 'broadcast_open(&bc, %d, NULL); printf("%%d", 3);'
+        above = '#include "net/rime.h"\nstatic struct broadcast_conn bc;\nPROCESS('
+        for name, channel in ('ada.c', 129), ('ben.c', 129), ('cem.c', 130):
+            self.hand_in(name, (IN_C % opens % channel).replace('PROCESS(', above, 1))
+        rows = self.rows('--net', 'task.toml')
+        self.assertEqual(rows['cem.c'], rows['ada.c'])
+        self.assertIn('most programs in C open broadcast:129, but cem.c opens broadcast:130', self.seen)
+        rows = self.rows('--net', 'task.toml', '--connection', 'broadcast:129')
+        self.assertTrue(rows['cem.c'].endswith('on a node, line 8 may do something else'), rows['cem.c'])
+        self.assertNotIn('on a node', rows['ada.c'])
+        self.assertNotIn('most programs', self.seen)
+        self.grade('--net', 'task.toml', '--connection', 'x', status=2)
+        self.assertIn('needs a kind and a channel', self.seen)
+
     def test_a_line_in_c_that_is_a_mistake_has_the_mark_0(self) -> None:
         for name, line in (('lost.c', 'int i; PROCESS_BEGIN(); i = 3; PROCESS_PAUSE(); printf("%d", i);'),
                            ('index.c', 'static int a[3]; PROCESS_BEGIN(); printf("%d", a[3]);'),
@@ -979,8 +994,8 @@ class LimitsOfRuns(Folder):
         self.stub = program_path()
         (self.top / 'task.toml').write_text(net(PROGRAM % 9).replace('60', '20000'))
         self.hand_in('pia.c', IN_C % 'while(1) { PROCESS_PAUSE(); }')
-        self.assertRegex(self.rows('--net', 'task.toml', '--report', '1')['pia.c'], (
-            r'process a of mote 0 pauses [\d,]+ times: a loop that only pauses repeats many times in each moment, so '
+        self.assertRegex(self.rows('--net', 'task.toml', '--report', '1', status=1)['pia.c'], (
+            r'^- of 3  not marked: the run was ended: .* process a of mote 0 pauses [\d,]+ times: a loop that only pauses repeats many times in each moment, so '
             r'let the process wait by `PROCESS_WAIT_EVENT_UNTIL\(etimer_expired\(&et\)\)`$'))
 
     def test_a_run_that_waits_for_a_busy_machine_has_no_mark(self) -> None:

@@ -51,6 +51,9 @@ def arguments() -> argparse.Namespace:
     words.add_argument('--vary-hidden', action='append', default=[], metavar='NAME=VALUES',
                        help='for the plans that --hidden names: the values of a parameter, such as seed=77..79')
     words.add_argument('--program', metavar='NAME', help='the program that the students write, if a net has several')
+    words.add_argument('--connection', action='append', default=[], metavar='KIND:CHANNEL',
+                       help='the connection that programs in C have to open, such as unicast:146; you can repeat the '
+                            'option')
     words.add_argument('--seconds', type=float, default=SECONDS, metavar='N',
                        help='the limit of a run, in seconds of processor time (20)')
     words.add_argument('--memory', type=int, default=MEGABYTES, metavar='MEGABYTES',

@@ -12,11 +12,12 @@ from pathlib import Path
 
 from motesim.c_program.compiler import is_installed
 from motesim.explain.synonyms import nearest
-from motesim.faults import Fault
+from motesim.faults import Fault, tried
 from motesim.files import refuse_inputs, replace_whole
 from motesim.grading import page, tables
 from motesim.grading.compiled import Compiled, NoComparison
-from motesim.grading.entries import Entry, anonymous, entries_of, skipped_of
+from motesim.grading.connections import Connection, connection_of, connections_in, unusual
+from motesim.grading.entries import Entry, anonymous, data_of, entries_of, skipped_of
 from motesim.grading.in_c import of_programs
 from motesim.grading.marking import Task, page_name
 from motesim.grading.marks import Marks, unmarked
@@ -29,6 +30,7 @@ from motesim.grading.progress import Progress
 from motesim.judge.expectations import parts_of, read_all, text_of
 from motesim.judge.sentences import Names, names_of
 from motesim.runner import Limits, program_path, run_each
+from motesim.scenario.encodings import text_of_c
 from motesim.terminal import one_line
 
 MEGABYTE = 1 << 20
@@ -68,7 +70,7 @@ def task_of(asked: argparse.Namespace, pictures: Path | None) -> Task:
     except Fault as fault:
         raise Fault('%s: %s' % (name, fault)) from None
     limits = Limits(asked.seconds * PATIENCE, asked.memory * MEGABYTE, asked.report * MEGABYTE, asked.seconds)
-    return Task(part, tuple(nets), limits, pictures)
+    return Task(part, tuple(nets), limits, pictures, connections=tuple(map(connection_of, asked.connection)))
 
 
 def compiled_for(entries: Sequence[Entry], folder: Path) -> Compiled | None:
@@ -79,6 +81,16 @@ def compiled_for(entries: Sequence[Entry], folder: Path) -> Compiled | None:
         return Compiled(folder)
     except NoComparison:
         return None
+
+
+def opened_in(entries: Sequence[Entry]) -> list[tuple[str, frozenset[Connection]]]:
+    """The connections that each program in C opens, with its name."""
+    found = []
+    for it in entries:
+        if it.path.suffix == '.c' and not it.why:
+            text = tried(lambda: text_of_c(data_of(it)), lambda words: '')
+            found.append((it.name, frozenset(connections_in(text))))
+    return found
 
 
 def spoken_of_by_none(marked: Sequence[Marks], sentences: Sequence[str]) -> list[str]:
@@ -235,6 +247,7 @@ def status_of(asked: argparse.Namespace) -> int:
         # (the list has all pages that the marking may write, because the user can end it at any time)
         keep_names(pictures, task.possible_pictures(entries))
     of_nets = of_programs([it.path.name for it in entries], [it.scenario.end for it in task.nets]) if task.nets else []
+    of_nets += unusual(opened_in(entries)) if task.nets and not asked.connection else []
     for line in [*remarks(asked, task.nets, task.part.sentences), *of_nets] if asked.why is None else ():
         print('grade: %s' % line, file=sys.stderr)
     with tempfile.TemporaryDirectory() as folder:

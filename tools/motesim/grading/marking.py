@@ -15,6 +15,7 @@ from motesim.grading.by_gcc import (
     by_gcc_in, by_gcc_words, difference_in, differences_in, marks_of, remarks_in, untranslated, without_fault,
 )
 from motesim.grading.compiled import Compiled, Difference, InC
+from motesim.grading.connections import Connection, remarks_on
 from motesim.grading.entries import Entry, data_of, without_program
 from motesim.grading.in_c import NotTranslated, in_words_of_c, lacks_of, made_of, origin_of, with_names
 from motesim.grading.marks import LONGEST_WHY, OTHER_PROCESS, InNet, Mark, Marks, over_nets, spread, unmarked
@@ -72,12 +73,13 @@ def without_own(broken: Sequence[Broken | None], sentences: Sequence[str]) -> li
 @dataclass(frozen=True)
 class Task:
     """The parts that all solutions have in common: the sentences, the nets (if there are none, each solution has its
-    own), and the limits."""
+    own), the limits, and the connections that programs in C have to open."""
     part: Part
     nets: tuple[Net, ...]
     limits: Limits
     pictures: Path | None = None
     compiled: Compiled | None = None
+    connections: tuple[Connection, ...] = ()
 
     def data_of(self, entry: Entry) -> bytes:
         """The bytes of a solution. The processes of a program in C have the names that sentences use."""
@@ -146,7 +148,8 @@ class Task:
         marks = replace(self.together(entry.name, found), unused=unused)
         if entry.path.suffix == '.c':
             marks = replace(marks, warned=tuple(in_lines_of_c(it, *its, origin_of(in_c)) for it in marks.warned),
-                            of_c=(*difference_in(found), *remarks_in(found, in_c)),
+                            of_c=(*difference_in(found), *remarks_on(in_c, self.connections),
+                                  *remarks_in(found, in_c)),
                             by_gcc=by_gcc_in(found, self.part.required),
                             hidden=next(iter(differences_in(found)), (False, False, ''))[2])
         if any(its.is_refused for its in found):
@@ -242,7 +245,8 @@ class Task:
         found = without_fault(lambda: untranslated(source, self.compiled, self.part, self.nets))
         marks, crash = found or ((), '')
         why = '; '.join(filter(None, (row.why, crash, by_gcc_words(marks))))
-        return replace(row, why=why, by_gcc=marks, of_c=lacks_of(source))
+        return replace(row, why=why, by_gcc=marks,
+                       of_c=(*lacks_of(source), *remarks_on(source, self.connections)))
 
     def answer(self, scenario: bytes) -> Answer:
         """The answer of `motesim`, within the limits. The error at a limit says what the run does most often."""
