@@ -996,7 +996,8 @@ class LimitsOfRuns(Folder):
         self.hand_in('pia.c', IN_C % 'while(1) { PROCESS_PAUSE(); }')
         self.assertRegex(self.rows('--net', 'task.toml', '--report', '1', status=1)['pia.c'], (
             r'^- of 3  not marked: the run was ended: .* process a of mote 0 pauses [\d,]+ times: a loop that only '
-            r'pauses repeats many times in each moment, so let the process wait by `PROCESS_WAIT_EVENT_UNTIL\(etimer_expired\(&et\)\)`$'))
+            r'pauses repeats many times in each moment, so let the process wait by '
+            r'`PROCESS_WAIT_EVENT_UNTIL\(etimer_expired\(&et\)\)`$'))
 
     def test_a_run_that_waits_for_a_busy_machine_has_no_mark(self) -> None:
         self.hand_in('wait.toml', net('// wait\n' + PROGRAM % 3))
