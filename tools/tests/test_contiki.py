@@ -366,6 +366,9 @@ class ProgramFileTest(unittest.TestCase):
                       text.replace('      ', '  '))
         self.assertIn('double_variable + ev_variable', text)
         self.assertIn('PROCESS(main_process, "main");', text)
+        program = read_program('process a, a_process; code a { body { pause; } } code a_process { body { pause; } }')
+        names = Names(program)
+        self.assertEqual([names.of(it) for it in ('a', 'a_process')], ['a_process', 'a_process_2'])
 
     def test_one_name_in_two_codes(self) -> None:
         text = without_header(file_of('process a, b; code a { var n = 0; body { n = 1; } } '

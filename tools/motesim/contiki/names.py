@@ -56,7 +56,7 @@ class Names:
         self._locals: dict[tuple[str, str], str] = {}
         self._derived: dict[tuple[str, str], str] = {}
         for process in program.processes:
-            self._globals[process] = self._claim(process + '_process')
+            self._globals[process] = self._claim(process.removesuffix('_process') + '_process')
         for declared in program.events:
             self._globals[declared.name] = self._claim(declared.name, declared.name + '_event')
         for declared in program.semaphores:
