@@ -6,7 +6,7 @@ from unittest import mock
 from motesim.c_program import compiler
 from motesim.c_program.compiler import FILES, HEADERS, certain_error, check
 from motesim.c_program.process import ProcessWriter
-from motesim.c_program.program import Remark, translated
+from motesim.c_program.program import translated
 from motesim.c_program.refusal import Refusal
 from motesim.explain.whole import translation_of
 from motesim.grading.in_c import NotTranslated, lacks_of, of_programs, on_node
@@ -71,11 +71,11 @@ class Checks(unittest.TestCase):
         for head, body, wanted in ((HEAD, 'leds_on(LEDS_RED);', '"dev/leds.h"'), (last, '', '"net/rime.h"'),
                                    (HEAD, 'static bool is_on;', '<stdbool.h>'), (HEAD, 'x = true;', '<stdbool.h>'),
                                    (HEAD, 'x = INT_MAX;', '<limits.h>')):
-            (line, words, is_mistake), (_, warned, _) = check(head + PROGRAM % (body + ' done == 1;'))
-            self.assertIn('needs `#include %s`' % wanted, words)
-            self.assertIn('no effect', warned)
-            self.assertEqual(on_node([Remark(line, words, is_mistake)]),
-                             'gcc refuses line %d, because an #include is missing' % line)
+            lacks, warned = check(head + PROGRAM % (body + ' done == 1;'))
+            self.assertFalse(lacks.is_seen)
+            self.assertIn('needs `#include %s`' % wanted, lacks.text)
+            self.assertIn('no effect', warned.text)
+            self.assertEqual(on_node([lacks]), 'gcc refuses line %d, because an #include is missing' % lacks.line)
 
     def test_certain_errors_differ_from_missing_parts_of_contiki(self) -> None:
         for line, wanted in (('done = 1', True), ('static struct runicast_conn c; runicast_open(&c, 1, NULL);', False),
@@ -101,8 +101,10 @@ class Checks(unittest.TestCase):
         self.assertRegex(table([its], ['a'])[0], r'line 3 may be right in C, .*; gcc refuses line %d, because' % LINE)
         self.assertEqual(lacks_of(HEAD + PROGRAM % 'done = 1 +;'), ())
 
-    def test_a_program_that_includes_nothing_is_checked_as_if_it_included_all(self) -> None:
-        self.assertEqual(check(PROGRAM % 'leds_on(LEDS_RED); x = random_rand();'), [])
+    def test_a_program_that_includes_nothing_has_a_remark(self) -> None:
+        found, = check(PROGRAM % 'leds_on(LEDS_RED); x = random_rand();')
+        self.assertTrue(found.is_mistake)
+        self.assertIn('The program doesn\'t include all files that it needs.', found.text)
         with self.assertRaises(Refusal) as caught:
             check(PROGRAM % 'n = 4;')
         self.assertEqual(caught.exception.line, 10)
@@ -111,12 +113,12 @@ class Checks(unittest.TestCase):
         for name in '"my.h"', '</dev/zero>', 'NAME':
             self.assertEqual(check('#include %s\n' % name + HEAD + PROGRAM % 'n = 4; done == 1;'), [])
             found = check('#include %s\n' % name + HEAD + PROGRAM % 'done == 1;')
-            self.assertEqual([(it[0], it[2]) for it in found], [(LINE + 1, False)])
+            self.assertEqual([(it.line, it.is_mistake) for it in found], [(LINE + 1, False)])
 
     def test_programs_of_students_are_accepted(self) -> None:
         for path in sorted((*PROGRAMS.glob('*.c'), *PROGRAMS.glob('more/*.c'))):
             with self.subTest(path.stem):
-                words = [words for _, words, _ in check(path.read_text())]
+                words = [it.text for it in check(path.read_text())]
                 self.assertEqual(any('#include' in it for it in words), path.stem in LACKING, words)
                 self.assertEqual(bool(words), path.stem in LACKING | CALLING, words)
 

@@ -1,6 +1,7 @@
 """Connections of programs in C: the tool names those that a task doesn't ask for."""
 import unittest
 
+from motesim.c_program.remark import Remark
 from motesim.faults import Fault
 from motesim.grading.connections import LACKS, Connection, connection_of, connections_in, remarks_on, unusual
 from motesim.grading.in_c import on_node
@@ -28,7 +29,7 @@ class Connections(unittest.TestCase):
         source = opening('broadcast_open(&bc, 129, NULL);')
         found = remarks_on(source, [UNICAST])
         line = source[:source.index('  broadcast_open')].count('\n') + 1
-        self.assertEqual([*found[0]], [line, LACKS % (UNICAST, BROADCAST), True])
+        self.assertEqual(found, [Remark(line, LACKS % (UNICAST, BROADCAST), True)])
         self.assertEqual(on_node(found), 'on a node, line %d may do something else' % line)
         for body, wanted in (('broadcast_open(&bc, 129, NULL);', [BROADCAST]), (';', [UNICAST]),
                              ('broadcast_open(&bc, 129, NULL); unicast_open(&uc, 146, NULL);', [UNICAST])):

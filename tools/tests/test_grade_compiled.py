@@ -6,11 +6,9 @@ from pathlib import Path
 from unittest import mock
 
 from motesim.c_program.base import OF_LONG
-from motesim.c_program.calls import OF_RESET
-from motesim.c_program.compiler import LACKS
-from motesim.c_program.expressions import OF_OVERFLOW
-from motesim.c_program.program import Remark, translated
+from motesim.c_program.program import translated
 from motesim.c_program.refusal import Refusal
+from motesim.c_program.remark import Remark
 from motesim.explain.moments import Burst
 from motesim.faults import Fault
 from motesim.grading.by_gcc import (
@@ -21,7 +19,7 @@ from motesim.grading.compiled import (
     InC, NoComparison, deeds_in, first_meeting,
 )
 from motesim.grading.entries import Entry
-from motesim.grading.in_c import UNLINKED, in_words_of_c, is_seen_by_gcc, on_node
+from motesim.grading.in_c import UNLINKED, in_words_of_c, on_node
 from motesim.grading.marking import Task
 from motesim.grading.marks import InNet, Mark, Marks, number_held
 from motesim.grading.nets import Net
@@ -397,10 +395,18 @@ PROCESS_THREAD(q, ev, data) {
             self.assertIn(OF_LONG, [it.text for it in remarks])
             self.assertEqual(found.words.partition(';')[0], words)
             self.assertEqual(any(it.is_mistake for it in remarks), bool(words))
-        for text, is_seen in (OF_LONG, True), (OF_RESET % ('et', 'etimer'), True), (OF_OVERFLOW, True), (LACKS, False):
-            self.assertEqual(is_seen_by_gcc(Remark(3, text, True)), is_seen)
         uncompared = [in_net(SAME)._replace(differs=None)]
         self.assertTrue(any(it.is_mistake for it in remarks_in(uncompared, its.source)))
+
+    def test_remarks_about_which_the_compiled_program_shows_nothing_stay(self) -> None:
+        reset = '{ static struct etimer et; etimer_set(&et, 9); etimer_reset(&et); }'
+        of_long = '{ static uint32_t v; printf("%d %d", v, 3); }'
+        for body, is_seen in (of_long, False), ('printf("%s", 5);', False), (reset, True):
+            source = in_process('  ' + body)
+            mistake = next(it for it in translated(source).remarks if it.is_mistake)
+            self.assertEqual(mistake.is_seen, is_seen, mistake.text)
+            its = [it for it in remarks_in([in_net(SAME)], source) if it.text == mistake.text]
+            self.assertEqual([it.is_mistake for it in its], [not is_seen])
 
     def test_a_difference_names_a_remark(self) -> None:
         body = '  broadcast_open(&bc, 129 + node_id, &calls); while(1) { PROCESS_WAIT_EVENT(); }'

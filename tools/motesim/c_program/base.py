@@ -9,6 +9,7 @@ from motesim.c_program.absent import absent, advice_for
 from motesim.c_program.knowledge import Knowledge, LoopLimits
 from motesim.c_program.names import fresh, is_changed
 from motesim.c_program.refusal import Mistake, Refusal
+from motesim.c_program.remark import Remark
 from motesim.c_program.tree import File, Function, Variable
 from motesim.c_program.types import INT, Type
 from motesim.c_program.usage import Usage
@@ -37,7 +38,7 @@ class Program:
     closing: str = ''
     counts: dict[Variable, int] = field(default_factory=dict)
     # (the remarks about mistakes by their lines, too)
-    remarks: dict[tuple[str, int], tuple[int, str, bool]] = field(default_factory=dict)
+    remarks: dict[tuple[str, int], Remark] = field(default_factory=dict)
     # The processes that wait for packets instead of ending, each with its function for packets; and for each process
     # the first line that depends on its end.
     endless: dict[str, str] = field(default_factory=dict)
@@ -52,15 +53,14 @@ class Program:
     # The names of C that the notation can't have, with their lines and the names here.
     renamed: dict[str, tuple[int, str]] = field(default_factory=dict)
 
-    def remark(self, line: int, text: str, is_mistake: bool = False) -> None:
-        """Notes what differs from C, once for each cause. `is_mistake`: on a node, the program is probably wrong; each
-        line with a mistake has a remark."""
-        self.remarks.setdefault((text, line if is_mistake else 0), (line, text, is_mistake))
+    def remark(self, line: int, text: str, is_mistake: bool = False, is_seen: bool = True) -> None:
+        """Notes what differs from C, once for each cause. Each line with a mistake has a remark."""
+        self.remarks.setdefault((text, line if is_mistake else 0), Remark(line, text, is_mistake, is_seen))
 
-    def all_remarks(self) -> list[tuple[int, str, bool]]:
+    def all_remarks(self) -> list[Remark]:
         """The remarks: a cause that has one about a mistake has no other one."""
-        mistakes = {text for _, text, is_mistake in self.remarks.values() if is_mistake}
-        return sorted(it for it in self.remarks.values() if it[2] or it[1] not in mistakes)
+        mistakes = {it.text for it in self.remarks.values() if it.is_mistake}
+        return sorted(it for it in self.remarks.values() if it.is_mistake or it.text not in mistakes)
 
     def note_name(self, name: str, found: str, line: int) -> None:
         """Notes that a name of C isn't one of the notation."""
@@ -146,9 +146,10 @@ class Base:
     def remark(self, line: int, text: str) -> None:
         self.program.remark(line, text)
 
-    def remark_mistake(self, line: int, text: str) -> None:
-        """Notes a line that works here, but probably not on a node."""
-        self.program.remark(line, text, True)
+    def remark_mistake(self, line: int, text: str, is_seen: bool = True) -> None:
+        """Notes a line that works here, but probably not on a node. `is_seen`: whether the compiled program shows this
+        here, too."""
+        self.program.remark(line, text, True, is_seen)
 
     # Names.
 

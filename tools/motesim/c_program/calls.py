@@ -628,7 +628,7 @@ class Calls(Chance):
 
     def call_packetbuf_set_attr(self, it: Expression) -> None:
         self.arguments(it, 2)
-        self.remark_mistake(it.line, OF_ATTRIBUTE)
+        self.remark_mistake(it.line, OF_ATTRIBUTE, is_seen=False)
 
     def call_printf(self, it: Expression) -> None:
         """Each value of a text is a line; a text without a value is a line, too."""
@@ -645,7 +645,7 @@ class Calls(Chance):
         for kind, part, label in zip(kinds, it.parts[1:], labels):
             if kind in 'sp':
                 if kind == 's' and part.kind in NUMBERS and self.type_of(part).is_number:
-                    self.remark_mistake(it.line, OF_TEXT_NEEDED)
+                    self.remark_mistake(it.line, OF_TEXT_NEEDED, is_seen=False)
                 self.skip_text(part)
                 continue
             if kind in 'feg':
@@ -664,7 +664,7 @@ class Calls(Chance):
         is_long = self.is_printed_long(it)
         if kind in 'diuxXo' and is_long != is_read_long and not (is_long and is_last):
             bits = (32, 16) if is_read_long else (16, 32)
-            self.remark_mistake(it.line, OF_BITS % (conversion[0], *bits, '%' + 'l' * is_long + kind))
+            self.remark_mistake(it.line, OF_BITS % (conversion[0], *bits, '%' + 'l' * is_long + kind), is_seen=False)
 
     def is_printed_long(self, it: Expression) -> bool:
         """Returns whether a value has 32 bits on a node."""

@@ -19,6 +19,7 @@ from typing import NamedTuple
 
 from motesim.c_program.absent import advice_for
 from motesim.c_program.refusal import Mistake
+from motesim.c_program.remark import Remark
 from motesim.explain.synonyms import nearest
 
 HEADERS = Path(__file__).resolve().parents[2] / 'contiki_library'
@@ -88,17 +89,15 @@ def is_installed() -> bool:
     return shutil.which('gcc') is not None
 
 
-def check(text: str) -> list[tuple[int, str, bool]]:
-    """The warnings about a program, each with its line, and whether the program can't be compiled for a node, because
-    it lacks an `#include`. A program that includes no file is checked as if it included all.
+def check(text: str) -> list[Remark]:
+    """The warnings about a program, and a mistake if the program can't be compiled for a node because it lacks an
+    `#include`.
 
     Nothing is checked if gcc isn't installed. Errors don't matter if the program includes a file that isn't known here.
     """
     if not is_installed():
         return []
     source = with_headers(text)
-    if not INCLUDE.search(text):
-        source = with_more(source, FILES)
     own = complaints_of(source)
     errors = errors_in(own)
     if not errors or not knows_files_of(text):
@@ -108,7 +107,7 @@ def check(text: str) -> list[tuple[int, str, bool]]:
     if lasting:
         error = next((it for it in lasting if it in errors), errors[0])
         raise Mistake(error.line, REFUSED % error.words)
-    return [(errors[0].line, lacks(source, errors[0]), True), *warnings_in(complete)]
+    return [Remark(errors[0].line, lacks(source, errors[0]), True, is_seen=False), *warnings_in(complete)]
 
 
 def certain_error(text: str) -> tuple[int, str] | None:
@@ -134,8 +133,8 @@ def errors_in(complaints: Sequence[Complaint]) -> list[Complaint]:
     return [it for it in complaints if it.is_error]
 
 
-def warnings_in(complaints: Sequence[Complaint]) -> list[tuple[int, str, bool]]:
-    return [(it.line, WARNED % it.words, False) for it in dict.fromkeys(complaints) if OF_TRANSLATOR not in it.words]
+def warnings_in(complaints: Sequence[Complaint]) -> list[Remark]:
+    return [Remark(it.line, WARNED % it.words) for it in dict.fromkeys(complaints) if OF_TRANSLATOR not in it.words]
 
 
 def lacks(source: str, error: Complaint) -> str:

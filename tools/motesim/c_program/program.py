@@ -26,6 +26,7 @@ from motesim.c_program.others import with_others
 from motesim.c_program.parse_file import read_file
 from motesim.c_program.process import ProcessWriter
 from motesim.c_program.refusal import Mistake, Refusal
+from motesim.c_program.remark import Remark
 from motesim.c_program.tree import Expression, File, Statement
 from motesim.c_program.usage import usage_of
 from motesim.c_program.walk import all_parts, declared_in, without_casts
@@ -52,13 +53,6 @@ OF_HELPERS = (' Each member of an array is a variable, and so is each intermedia
               'a member that an index chooses, or of the result of a function.')
 LIMITS = {7: 'blocks or brackets are nested more than 32 deep.',
           8: 'a process has at most 64 variables, 64 timers and 7 threads, and a program at most 4,096 statements.'}
-
-
-class Remark(NamedTuple):
-    """A difference from C, with the line in C. `is_mistake`: the line works here, but probably not on a node."""
-    line: int
-    text: str
-    is_mistake: bool = False
 
 
 class Translation(NamedTuple):
@@ -104,7 +98,7 @@ def translated(text: str, second: int = SECOND) -> Translation:
     fault = find_fault(found)
     if fault is not None:
         raise Refusal(*of_fault(fault, file, found))
-    return Translation(found, tuple(Remark(*it) for it in program.all_remarks()), tuple(drawing_in(program)),
+    return Translation(found, tuple(program.all_remarks()), tuple(drawing_in(program)),
                        program.usage.receiver, tuple(it.line for it in rows))
 
 

@@ -8,7 +8,7 @@ from typing import NamedTuple
 
 from motesim.c_program.compiler import check
 from motesim.c_program.constants import SECOND
-from motesim.c_program.program import Remark, Translation, translated
+from motesim.c_program.program import Translation, translated
 from motesim.c_program.refusal import Refusal
 from motesim.explain.lint import TRANSLATED
 from motesim.scenario.faults import Place, place_of
@@ -48,7 +48,7 @@ def translation_of(source: str, second: int = SECOND) -> Translation | Refusal:
     """A program in C in the notation, or the line that isn't translated. `second`: the moments of a second."""
     try:
         found = translated(source, second)
-        return found.with_remarks([Remark(*it) for it in check(source)])
+        return found.with_remarks(check(source))
     except Refusal as refusal:
         return refusal
 

@@ -4,10 +4,10 @@ from __future__ import annotations
 from collections.abc import Callable, Sequence
 from typing import TypeVar
 
-from motesim.c_program.program import Remark
+from motesim.c_program.remark import Remark
 from motesim.faults import Fault, tried
 from motesim.grading.compiled import SAME, Compiled, Crash, InC, NoComparison
-from motesim.grading.in_c import is_seen_by_gcc, remarks_of
+from motesim.grading.in_c import remarks_of
 from motesim.grading.marks import InNet, Mark, number_held, over_nets, spread
 from motesim.grading.nets import Net
 from motesim.grading.untranslated import outline_of
@@ -46,7 +46,7 @@ def remarks_in(found: Sequence[InNet], source: str) -> list[Remark]:
     """The remarks about a program in C. If the compiled program does the same in each net, only those remarks name
     mistakes of which it shows nothing."""
     is_same = all(it.differs == SAME for it in found)
-    return [it._replace(is_mistake=it.is_mistake and not (is_same and is_seen_by_gcc(it))) for it in remarks_of(source)]
+    return [it._replace(is_mistake=it.is_mistake and not (is_same and it.is_seen)) for it in remarks_of(source)]
 
 
 def by_gcc_in(found: Sequence[InNet], required: int) -> tuple[Mark, ...]:

@@ -7,8 +7,8 @@ from typing import NamedTuple
 
 from motesim.c_program.constants import constant_of
 from motesim.c_program.parse_file import read_file
-from motesim.c_program.program import Remark
 from motesim.c_program.refusal import Refusal
+from motesim.c_program.remark import Remark
 from motesim.c_program.walk import all_parts
 from motesim.faults import Fault
 

@@ -5,11 +5,11 @@ import re
 from collections.abc import Iterable, Sequence
 
 from motesim.c_program import compiler
-from motesim.c_program.calls import OF_ATTRIBUTE, OF_TEXT_NEEDED
 from motesim.c_program.constants import SECOND
 from motesim.c_program.origin import Origin
-from motesim.c_program.program import Remark, Translation
+from motesim.c_program.program import Translation
 from motesim.c_program.refusal import Mistake, Refusal
+from motesim.c_program.remark import Remark
 from motesim.c_program.values import MOST
 from motesim.explain.whole import line_at, translation_of, with_comment
 from motesim.faults import Fault
@@ -24,8 +24,6 @@ WORDS_OF_C = {'wait by `yield_until`': 'wait by `PROCESS_WAIT_EVENT_UNTIL(etimer
               '`yield_until`': '`PROCESS_WAIT_EVENT_UNTIL`', '`wait_until`': '`PROCESS_WAIT_UNTIL`',
               '`wait_while`': '`PROCESS_WAIT_WHILE`', '`yield`': '`PROCESS_YIELD`', '`pause`': '`PROCESS_PAUSE`'}
 NO_TRANSLATION = 'not marked: its line %d may be right in C, but the tool can\'t translate it'
-# The beginnings of remarks on lines of which the compiled program shows nothing here.
-ONLY_ON_NODE = (compiler.LACKS, OF_TEXT_NEEDED, 'On the Tmote Sky', OF_ATTRIBUTE)
 # A process with its two names; and a text in a program.
 PROCESS, TEXT = re.compile(r'\bPROCESS\s*\(\s*(\w+)\s*,\s*"(\w+)"'), re.compile(r'"[^"\n]*"')
 UNLINKED = 'gcc can\'t link it'
@@ -75,7 +73,7 @@ def made_of(source: str) -> Translation:
 def lacks_of(source: str) -> tuple[Remark, ...]:
     """The remark about an `#include` that a program lacks, even if it can't be translated."""
     try:
-        return tuple(Remark(*it) for it in compiler.check(source) if it[2])
+        return tuple(it for it in compiler.check(source) if it.is_mistake)
     except Mistake:
         return ()
 
@@ -115,11 +113,6 @@ def in_words_of_c(message: str) -> str:
 def shown(remark: Remark) -> str:
     """A remark with its line; one about the whole program has none."""
     return one_line('line %d in C: %s' % (remark.line, remark.text) if remark.line else remark.text)
-
-
-def is_seen_by_gcc(remark: Remark) -> bool:
-    """Returns whether a compiled program would do something else here, too, if it does on a node."""
-    return not any(map(remark.text.startswith, ONLY_ON_NODE))
 
 
 def on_node(remarks: Sequence[Remark], mark: str = '') -> str:

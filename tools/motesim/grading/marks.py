@@ -6,7 +6,7 @@ from collections.abc import Iterable, Sequence
 from dataclasses import dataclass, replace
 from typing import NamedTuple
 
-from motesim.c_program.program import Remark
+from motesim.c_program.remark import Remark
 from motesim.grading.compiled import Difference
 from motesim.judge.expectations import REQUIRED
 from motesim.judge.judge import Broken
