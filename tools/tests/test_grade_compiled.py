@@ -231,6 +231,9 @@ class Comparison(unittest.TestCase):
     def test_operations_that_no_macro_may_replace_are_those_of_the_host(self) -> None:
         body = '  { static uint8_t b[sizeof(int) + 1]; static uint8_t *p = b + 1; printf("%d", p - b); }'
         self.assertEqual(self.difference(in_process(body), in_process('  printf("%d", 1);')), '')
+        many = ''.join('n == %d ? %d : ' % (it, it + 1) for it in range(40))
+        body = '  { static int n = 30; printf("%%d", %s0); }' % many
+        self.assertEqual(self.difference(in_process(body), in_process('  printf("%d", 31);')), '')
 
     def test_a_timer_that_is_reset_early_expires_at_once(self) -> None:
         body = ('  { static struct etimer et; etimer_set(&et, 20); etimer_reset(&et);'

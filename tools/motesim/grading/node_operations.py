@@ -20,6 +20,8 @@ from motesim.c_program.types import INT, UNSIGNED
 from motesim.c_program.walk import parts_of
 
 TESTS, LOGICAL, SHIFTS = ('==', '!=', '<', '<=', '>', '>='), ('&&', '||', '!'), ('<<', '>>')
+# (the macro for a choice has each of its operands four times)
+MOST_NESTED = 4
 # The macros that say of which kind an operand is: by its type; an `int`; an `unsigned int`.
 BY_TYPE, AS_INT, AS_UNSIGNED = 'LIBRARY_TYPE', 'LIBRARY_INT', 'LIBRARY_UNSIGNED'
 
@@ -43,7 +45,8 @@ class Operations(FileReader):
         self.need(':')
         another = self.choice()
         found = Expression('choice', '?', (test, one, another), line)
-        if self.is_new(found, first_sign) and one.kind != 'comma':
+        nested = sum(it.kind == 'choice' for it in parts_of(found))
+        if self.is_new(found, first_sign) and one.kind != 'comma' and nested <= MOST_NESTED:
             self.write(start, 'LIBRARY_CHOICE', kind_of(one), kind_of(another))
             self.texts[first_sign] = self.texts[second_sign] = ','
         return found
