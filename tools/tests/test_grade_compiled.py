@@ -408,8 +408,9 @@ PROCESS_THREAD(q, ev, data) {
             source = in_process('  ' + body)
             mistake = next(it for it in translated(source).remarks if it.is_mistake)
             self.assertEqual(mistake.is_seen, is_seen, mistake.text)
-            its = [it for it in remarks_in([in_net(SAME)], source) if it.text == mistake.text]
-            self.assertEqual([it.is_mistake for it in its], [not is_seen])
+            for differs, wanted in (SAME, not is_seen), (Difference('a', True), not is_seen), (Difference('a'), True):
+                its = [it for it in remarks_in([in_net(differs)], source) if it.text == mistake.text]
+                self.assertEqual([it.is_mistake for it in its], [wanted])
 
     def test_a_difference_names_a_remark(self) -> None:
         body = '  broadcast_open(&bc, 129 + node_id, &calls); while(1) { PROCESS_WAIT_EVENT(); }'

@@ -6,7 +6,7 @@ from typing import TypeVar
 
 from motesim.c_program.remark import Remark
 from motesim.faults import Fault, tried
-from motesim.grading.compiled import SAME, Compiled, Crash, InC, NoComparison
+from motesim.grading.compiled import Compiled, Crash, InC, NoComparison
 from motesim.grading.in_c import remarks_of
 from motesim.grading.marks import InNet, Mark, number_held, over_nets, spread
 from motesim.grading.nets import Net
@@ -45,14 +45,14 @@ def differences_in(found: Sequence[InNet]) -> list[tuple[bool, bool, str]]:
 def remarks_in(found: Sequence[InNet], source: str) -> list[Remark]:
     """The remarks about a program in C. If the compiled program does the same in each net, only those remarks name
     mistakes of which it shows nothing."""
-    is_same = all(it.differs == SAME for it in found)
+    is_same = all(it.differs and not it.differs.is_certain for it in found)
     return [it._replace(is_mistake=it.is_mistake and not (is_same and it.is_seen)) for it in remarks_of(source)]
 
 
 def by_gcc_in(found: Sequence[InNet], required: int) -> tuple[Mark, ...]:
     """The marks of a compiled program over all nets; nothing if it does the same as its translation, or can't be
     judged."""
-    differ = [it for it in found if it.differs and it.differs != SAME and not it.differs.may_differ]
+    differ = [it for it in found if it.differs and it.differs.is_certain]
     if not differ or not all(it.by_gcc for it in differ):
         return ()
     return over_nets([it._replace(marks=it.by_gcc) if it in differ else it for it in found], required)

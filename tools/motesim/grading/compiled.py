@@ -88,10 +88,14 @@ class Options(NamedTuple):
 
 class Difference(NamedTuple):
     """A difference between a program in C and its translation, in words; the words are empty if there is none.
-    `may_differ`: their runs may also differ because of events of one moment. `report`: that of the program in C."""
+    `may_differ`: only the order of packets and events of one moment differs. `report`: that of the program in C."""
     words: str
     may_differ: bool = False
     report: bytes = b''
+
+    @property
+    def is_certain(self) -> bool:
+        return bool(self.words) and not self.may_differ
 
 
 SAME = Difference('')
