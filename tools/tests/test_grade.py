@@ -995,7 +995,8 @@ class LimitsOfRuns(Folder):
         (self.top / 'task.toml').write_text(net(PROGRAM % 9).replace('60', '20000'))
         self.hand_in('pia.c', IN_C % 'while(1) { PROCESS_PAUSE(); }')
         self.assertRegex(self.rows('--net', 'task.toml', '--report', '1', status=1)['pia.c'], (
-            r'^- of 3  not marked: the run was ended: .* process a of mote 0 pauses [\d,]+ times: a loop that only '
+            r'^- of 3  not marked .a larger --report may be enough.: the run was ended: .* process a of mote 0 pauses '
+            r'[\d,]+ times: a loop that only '
             r'pauses repeats many times in each moment, so let the process wait by '
             r'`PROCESS_WAIT_EVENT_UNTIL\(etimer_expired\(&et\)\)`$'))
 

@@ -48,7 +48,7 @@ TOO_LONG = ('no page of this run: its report has {:,} bytes, and a page shows at
 UNSAFE = re.compile(r'[^A-Za-z0-9.-]|^\.')
 LONGEST_NAME = 80
 # (a loop that only pauses repeats many times in a moment here, but not on a node)
-ONLY_PAUSES, NO_MARK = 'a loop that only pauses', 'not marked: '
+ONLY_PAUSES, NO_MARK = 'a loop that only pauses', 'not marked (a larger --report may be enough): '
 BINARY = 'the file is binary: it has bytes that no text has'
 OF_C = 'its program is in C'
 NOT_NOTATION = ', not in the notation of mote programs (tools/explain FILE.c --apply NEW.toml translates it)'
