@@ -94,6 +94,12 @@ class Checks(unittest.TestCase):
         self.assertEqual(found[0].lines[0], 'line %d: done = 1 +;' % LINE)
         self.assertIn('gcc refuses it: expected expression', found[0].lines[1])
 
+    def test_a_process_without_its_beginning_is_explained_in_words_of_contiki(self) -> None:
+        source = HEAD + PROGRAM.replace('  PROCESS_BEGIN();\n', '') % 'PROCESS_PAUSE();'
+        found = translation_of(source)
+        assert isinstance(found, Refusal)
+        self.assertIn('`p` has no `PROCESS_BEGIN();`', NotTranslated(found, source).lines[1])
+
     def test_a_program_that_is_not_translated_may_lack_a_file(self) -> None:
         source = HEAD + PROGRAM % 'done = node_id;'
         self.assertEqual(certain_error(source), None)

@@ -13,6 +13,7 @@ from motesim.c_program.refusal import Mistake, Refusal
 from motesim.c_program.tokens import Token
 from motesim.c_program.tree import Expression, File, Function, Statement, Variable
 from motesim.c_program.types import DATA, EVENT, VOID, Type, pointer_to
+from motesim.c_program.walk import all_parts
 
 # Macros of Contiki that are statements also without a `;`; and further ones.
 FRAMES = ('PROCESS_BEGIN', 'PROCESS_END', 'PT_BEGIN', 'PT_END')
@@ -347,6 +348,8 @@ def check_frame(it: Function) -> None:
     does."""
     first = [one.expressions[0] for one in it.body if one.kind == 'expression']
     found = [one.text for one in first if one]
+    inner = [one.text for one in all_parts(it.body) if one.kind == 'call']
     for word in FRAMES_OF.get(it.kind, ()):
-        if word.partition('(')[0] not in found:
-            raise Refusal(it.line, NO_FRAME % (it.name, word))
+        name = word.partition('(')[0]
+        if name not in found:
+            raise (Refusal if name in inner else Mistake)(it.line, NO_FRAME % (it.name, word))
