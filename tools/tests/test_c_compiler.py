@@ -93,6 +93,7 @@ class Checks(unittest.TestCase):
         self.assertEqual(str(found[0]), 'its line %d is a mistake in C' % LINE)
         self.assertEqual(found[0].lines[0], 'line %d: done = 1 +;' % LINE)
         self.assertIn('gcc refuses it: expected expression', found[0].lines[1])
+        self.assertEqual(NotTranslated(Refusal(LINE, 'No.'), HEAD + PROGRAM % 'done = 1 +;').lines[2:], ('No.',))
 
     def test_a_process_without_its_beginning_is_explained_in_words_of_contiki(self) -> None:
         source = HEAD + PROGRAM.replace('  PROCESS_BEGIN();\n', '') % 'PROCESS_PAUSE();'

@@ -44,7 +44,8 @@ class NotTranslated(Fault):
         self.may_be_right = not isinstance(refusal, Mistake) and error is None
         super().__init__((NO_TRANSLATION if self.may_be_right else MISTAKEN) % line)
         row = one_line(line_at(source, line))
-        self.lines = ('line %d:%s' % (line, ' ' + row if row else ''), reason)
+        own = [refusal.reason] if error and line == refusal.line else []
+        self.lines = ('line %d:%s' % (line, ' ' + row if row else ''), reason, *own)
 
 
 def of_programs(names: Sequence[str], ends: Sequence[int]) -> list[str]:
