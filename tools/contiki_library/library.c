@@ -192,6 +192,24 @@ random_rand(void)
 
 int library_rand(void) { return random_rand(); }
 /*---------------------------------------------------------------------------*/
+/* Sorts by insertion. */
+void
+library_qsort(void *base, size_t count, size_t size, short (*compare)(const void *, const void *))
+{
+  unsigned char *members = base, last;
+  size_t next, at, i;
+
+  for(next = 1; next < count; next++) {
+    for(at = next; at > 0 && compare(members + (at - 1) * size, members + at * size) > 0; at--) {
+      for(i = at * size; i < (at + 1) * size; i++) {
+        last = members[i];
+        members[i] = members[i - size];
+        members[i - size] = last;
+      }
+    }
+  }
+}
+/*---------------------------------------------------------------------------*/
 unsigned long clock_seconds(void) { return (unsigned long)(clock_time() / CLOCK_SECOND); }
 /* As in Contiki, with numbers that wrap: a timer whose start is after now has expired. */
 int timer_expired(const struct timer *t) { return t->interval < clock_time() - t->start + 1; }

@@ -55,6 +55,8 @@ int library_text(const char *text);
 int library_rand(void);
 unsigned short *library_node_id(void);
 const rimeaddr_t *library_address(void);
+/* (a function of the program has a result of 16 bits) */
+void library_qsort(void *base, size_t count, size_t size, short (*compare)(const void *, const void *));
 
 #define LIBRARY_IS_ADDRESS(x) __builtin_types_compatible_p(__typeof__(x), rimeaddr_t)
 
@@ -115,6 +117,7 @@ int library_copyto(void *to, size_t room);
 #define printf(...)        library_print(__VA_ARGS__)
 #define puts(text)         library_text(text)
 #define rand()             library_rand()
+#define qsort(base, count, size, compare) library_qsort(base, count, size, compare)
 #define putchar(character) library_text("1")
 
 #define node_id            (*library_node_id())

@@ -7,7 +7,7 @@ from unittest import mock
 
 from motesim.c_program.base import OF_LONG
 from motesim.c_program.program import translated
-from motesim.c_program.refusal import Refusal
+from motesim.c_program.refusal import Mistake, Refusal
 from motesim.c_program.remark import Remark
 from motesim.explain.moments import Burst
 from motesim.faults import Fault
@@ -154,6 +154,8 @@ class Comparison(unittest.TestCase):
                      '  { static unsigned long n; n = 65535; n += 2; printf("%d", (int)sizeof(unsigned long)); }',
                      '  { static long int n = 7; static signed m = -1; printf("%ld", n + m); }'):
             self.assertEqual(self.difference(in_process(body)), '', body)
+        body = '  { static size_t s; static int m = -2; s = m; printf("%u", s / 2); printf("%d", (int)sizeof(s)); }'
+        self.assertEqual(self.difference(in_process(body)), '')
         for words, wanted in (('unsigned long long n', 'unsigned long long n'), ('long x', 'int x'),
                               ('const unsigned n', 'const unsigned short n'), ('unsigned char n', 'unsigned char n'),
                               ('long double n', 'long double n'), ('int long unsigned n', ' int unsigned n'),
@@ -221,6 +223,7 @@ class Comparison(unittest.TestCase):
                      '(uint32_t)n * 7 == 42000UL', 'n * 7L == 42000L', '*(b + 2) == 3', '&b[2] - b == 2',
                      'sizeof(b) / sizeof(b[0]) == 3', '(n > 5) + 32767 < 0', '!m + 32767 == 32767',
                      '(b[0] | u) == 40001', '(n - 6084) / (unsigned)15 == 4363',
+                     'm * 12 / sizeof(b) * sizeof(b[0]) == 21841', 'm / sizeof(int) == 32767', 'm > sizeof(b)',
                      '(c << 8) * 20 < 0', "c * 'a' == 873", 'n % 7 * u == 40000', '(int8_t)(c * 20) == -76')
         source = in_process('\n'.join('  printf("%%d", %s);' % it for it in tests), values)
         its = self.in_c(source, in_process('  ;'))
@@ -245,6 +248,17 @@ class Comparison(unittest.TestCase):
         same = 'memcmp(&rimeaddr_node_addr, &first, sizeof(rimeaddr_t)) == 0'
         source = in_process('  printf("%%d", %s);' % same, above)
         self.assertEqual(self.difference(source, in_process('  printf("%d", node_id == 1);')), '')
+
+    def test_arrays_may_be_sorted_by_the_library(self) -> None:
+        above = ('#include <stdlib.h>\nstatic int k[5] = {5, -3, 300, 0, -7};'
+                 ' static int by_size(const void *a, const void *b) { return *(const int *)a - *(const int *)b; }')
+        prints = ''.join('printf("%%d", k[%d]);' % it for it in range(5))
+        source = in_process('  qsort(k, 5, sizeof(k[0]), by_size); ' + prints, above)
+        by_hand = ''.join('printf("%%d", %d);' % it for it in (-7, -3, 0, 5, 300))
+        self.assertEqual(self.difference(source, in_process('  ' + by_hand)), '')
+        with self.assertRaises(Refusal) as caught:
+            translated(source.replace('by_size', 'sort'))
+        self.assertNotIsInstance(caught.exception, Mistake)
 
     def test_a_pointer_has_two_bytes(self) -> None:
         for kept, wanted in ('uint16_t', ''), ('uint8_t', CRASHES):

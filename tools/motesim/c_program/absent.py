@@ -29,6 +29,7 @@ NO_INTERNET = ('There is no IP: a packet is one number for all motes in range. U
 OF_NG = ('This is of Contiki-NG. Processes follow Contiki 2.x here: use `broadcast_open`, `packetbuf_copyfrom` and '
          '`broadcast_send`.')
 NO_TEXTS = 'There are no texts here, and a packet is a number: use the number itself, such as `n`.'
+NO_LIBRARY = 'Of C\'s library, motesim has only what the kernel needs: write a loop for this.'
 NO_SERIAL = ('A mote has no serial line: use an etimer for what a command starts, and `printf` for what the node '
              'writes.')
 NO_INTERRUPTS = 'A mote has no interrupts, no registers and no low-power modes: leave this line out.'
@@ -46,6 +47,7 @@ ADVICE = (
     (r'trickle_|i?polite_|stbroadcast_|announcement', NO_REPEATS),
     (r'simple_udp|udp_|tcp_|tcpip_|uip_|UIP_|rpl_|psock|PSOCK', NO_INTERNET),
     (r'v?sn?printf$|str(len|n?cpy|n?cmp|n?cat|chr|str|tou?l)$|ato[il]$', NO_TEXTS),
+    (r'(qsort|bsearch|memchr|l?l?div|l?labs|strtok|str(n?case)?cmp|strc?spn|strpbrk|s?scanf)$', NO_LIBRARY),
     (r'packetbuf_(set_)?attr$',
      'A packet has no attributes. All packets arrive with the same strength: use a constant instead. Send a number of '
      'hops in the packet, such as `struct message { uint8_t value; uint8_t hops; };`.'),

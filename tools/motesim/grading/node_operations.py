@@ -93,6 +93,8 @@ def kind_of(it: Expression) -> str:
     if constant_of(it) is not None and all(one.parts and one.kind != 'cast' or one.type in (INT, UNSIGNED)
                                            for one in parts):
         return AS_UNSIGNED if any(one.type == UNSIGNED for one in parts) else AS_INT
+    if it.kind == 'sizeof':
+        return AS_UNSIGNED
     return AS_INT if it.kind in ('binary', 'unary') and it.text in (*TESTS, *LOGICAL) else BY_TYPE
 
 

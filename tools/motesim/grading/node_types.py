@@ -12,6 +12,8 @@ from __future__ import annotations
 from collections.abc import Sequence
 from itertools import groupby
 
+# Other types that have another size than on a node.
+OTHERS = {'size_t': 'uint16_t', 'ssize_t': 'int16_t', 'ptrdiff_t': 'int16_t'}
 SPECIFIERS = ('int', 'long', 'short', 'unsigned', 'signed', 'char', 'double')
 
 
@@ -19,6 +21,7 @@ def as_on_node(words: Sequence[str]) -> list[str]:
     """The tokens of a program, with types of the same size as on a node. Each token keeps its place: one that has no
     meaning there is an empty text."""
     found = list[str]()
+    words = [OTHERS.get(it, it) for it in words]
     for is_type, its in groupby(words, lambda it: it in SPECIFIERS):
         found += of_type(list(its)) if is_type else its
     return found

@@ -16,7 +16,8 @@ from motesim.notation.faults import find_fault
 CALLS = re.compile(
     r'(?:process|etimer|ctimer|timer|stimer|packetbuf|abc|broadcast|unicast|rimeaddr|linkaddr|leds|random|clock|list|'
     r'memb|library|watchdog|work)_\w+|autostart_processes|mem(?:cpy|move|set|cmp)|str(?:len|n?cmp|n?cpy|chr)|abs|labs|'
-    r'tolower|toupper|__ctype_b_loc|__ubsan_\w+|abort')
+    r'tolower|toupper|__ctype_b_loc|__ubsan_\w+|abort|l?labs|l?div|memchr|ato[il]|strtou?l|'
+    r'str(?:n?cat|rchr|str|tok|c?spn|pbrk)|sn?printf')
 # Words with two underscores in front that don't leave C.
 PLAIN = ('__func__', '__FUNCTION__', '__attribute__', '__packed__', '__unused__')
 ATTRIBUTES = ('packed', 'unused', '__packed__', '__unused__')
