@@ -216,12 +216,15 @@ PROCESS_THREAD(a, ev, data) {
             self.hand_in(name, in_c % value)
         self.hand_in('kai.c', '\ufeff' + (in_c % '3').replace('"%d"', '"three %d"'))
         (self.folder / 'rene.c').write_bytes(('// Ren\u00e9\n' + in_c % '3').encode('latin-1'))
+        (self.folder / 'uma.c').write_bytes((in_c % '3').encode('utf-16-le'))
+        (self.folder / 'vic.c').symlink_to('nowhere.c')
         rows = self.rows('--net', 'task.toml', status=1)
         self.assertIn('a second of a program in C has 128 moments, so the nets run for ', self.seen)
         self.assertEqual({name: rows[name] for name in ('kai.c', 'lea.c', 'max.c', 'nina.c')}, {
             'kai.c': rows['rene.c'], 'lea.c': self.rows('--net', 'task.toml', status=1)['lea.c'],
             'max.c': '1 of 3  broken: 1, 2',
             'nina.c': '- of 3  not marked: its line 6 may be right in C, but the tool can\'t translate it'})
+        self.assertEqual(rows['uma.c'], '0 of 3  the file is not UTF-8 text: save it as UTF-8')
         self.hand_in('omar.mote', PROGRAM % 3)
         self.assertEqual(rows['lea.c'], self.rows('--net', 'task.toml', status=1)['omar.mote'])
         said = self.grade('--net', 'task.toml', '--why', 'nina.c', status=1)

@@ -8,13 +8,15 @@ import tempfile
 import time
 from collections.abc import Sequence
 from dataclasses import replace
+from functools import partial
 from pathlib import Path
 
 from motesim.c_program.compiler import is_installed
 from motesim.explain.synonyms import nearest
-from motesim.faults import Fault, tried
+from motesim.faults import Fault
 from motesim.files import refuse_inputs, replace_whole
 from motesim.grading import page, tables
+from motesim.grading.by_gcc import without_fault
 from motesim.grading.compiled import Compiled, NoComparison
 from motesim.grading.connections import Connection, connection_of, connections_in, unusual
 from motesim.grading.entries import Entry, anonymous, data_of, entries_of, skipped_of
@@ -83,13 +85,18 @@ def compiled_for(entries: Sequence[Entry], folder: Path) -> Compiled | None:
         return None
 
 
+def opened_by(entry: Entry) -> dict[Connection, int]:
+    """The connections that a program in C opens."""
+    return connections_in(text_of_c(data_of(entry)))
+
+
 def opened_in(entries: Sequence[Entry]) -> list[tuple[str, frozenset[Connection]]]:
     """The connections that each program in C opens, with its name."""
     found = []
     for it in entries:
         if it.path.suffix == '.c' and not it.why:
-            text = tried(lambda: text_of_c(data_of(it)), lambda words: '')
-            found.append((it.name, frozenset(connections_in(text))))
+            opened = without_fault(partial(opened_by, it))
+            found.append((it.name, frozenset(opened or ())))
     return found
 
 

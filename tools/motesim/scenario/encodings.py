@@ -83,11 +83,12 @@ def decoded(file: str, data: bytes) -> str:
 def text_of_c(data: bytes) -> str:
     """The text of a program in C: UTF-8 or Latin-1 (Windows-1252), because only its comments and texts have such letters.
     Raises a UnicodeDecodeError for other encodings."""
+    other = encoding_of(data)
+    if other:
+        raise UnicodeDecodeError('utf-8', data, 0, 1, other.name)
     try:
         return data.decode('utf-8')
     except UnicodeDecodeError:
-        if encoding_of(data):
-            raise
         return data.decode('cp1252', 'replace')
 
 
