@@ -22,7 +22,8 @@ class Connections(unittest.TestCase):
     def test_the_connections_of_a_program_are_found(self) -> None:
         for body, wanted in (('unicast_open(&uc, CHANNEL, NULL);', [UNICAST]),
                              ('broadcast_open(&bc, 129, NULL); unicast_open(&uc, 146, NULL);', [BROADCAST, UNICAST]),
-                             ('unicast_open(&uc, 140 + node_id, NULL);', []), ('unicast_close(&uc);', []), (')', [])):
+                             ('unicast_open(&uc, 140 + node_id, NULL);', []), ('unicast_close(&uc);', []), (')', []),
+                             ('%s1%s;' % ('(' * 4000, ')' * 4000), [])):
             self.assertEqual([*connections_in(opening(body))], wanted, body)
 
     def test_a_program_with_another_connection_has_a_remark(self) -> None:

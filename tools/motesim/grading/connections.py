@@ -43,7 +43,7 @@ def connections_in(source: str) -> dict[Connection, int]:
     """The connections that a program opens, each with its line, if their channels are constants."""
     try:
         file = read_file(source)
-    except Refusal:
+    except (Refusal, RecursionError):
         return {}
     found = dict[Connection, int]()
     for function in (*file.functions.values(), *file.bodies.values()):
@@ -57,7 +57,7 @@ def connections_in(source: str) -> dict[Connection, int]:
 
 def remarks_on(source: str, wanted: Sequence[Connection]) -> list[Remark]:
     """The remarks on a program that opens other connections than the task asks for."""
-    opened = connections_in(source)
+    opened = connections_in(source) if wanted else {}
     names = ' and '.join(map(str, opened))
     return [Remark(min(opened.values()), LACKS % (it, names), True) for it in wanted if opened and it not in opened]
 
