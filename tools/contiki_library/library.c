@@ -58,6 +58,12 @@ library_text(const char *text)
   return 0;
 }
 
+int
+library_character(int character)
+{
+  return isalnum((unsigned char)character) ? library_text("1") : 0;
+}
+
 /* A long value is printed as it is on a node, where it has 32 bits. */
 static uint32_t
 long_number(int32_t value)
@@ -330,6 +336,16 @@ struct opened { enum kind kind; uint16_t channel; void *connection; const void *
 static struct opened opened[MOST_OPENED];
 static int opened_count;
 
+/* A connection that has an address. */
+static const void *
+needed(const void *connection)
+{
+  if(connection == NULL) {
+    abort();
+  }
+  return connection;
+}
+
 static struct opened *
 opened_as(const void *connection)
 {
@@ -352,7 +368,7 @@ close_connection(void *connection)
 static void
 open_connection(enum kind kind, uint16_t channel, void *connection, const void *calls)
 {
-  close_connection(connection);
+  close_connection((void *)needed(connection));
   if(opened_count < MOST_OPENED - 1) {
     opened[opened_count].kind = kind;
     opened[opened_count].channel = channel;
@@ -362,7 +378,7 @@ open_connection(enum kind kind, uint16_t channel, void *connection, const void *
 }
 /*---------------------------------------------------------------------------*/
 /* The latest packets, for all motes together: the copies of a packet have only a value. */
-struct sent_packet { int mote; uint16_t value; uint16_t length; enum kind kind; uint16_t channel; };
+struct sent_packet { int mote; uint16_t value; uint16_t length; enum kind kind; uint16_t channel; unsigned char second; };
 #define SENT_PACKETS 4096
 static struct sent_packet sent_packets[SENT_PACKETS] __attribute__((section("library_of_all")));
 static unsigned sent_count __attribute__((section("library_of_all")));
@@ -398,13 +414,14 @@ check_length(void)
 static const void *
 send(const void *connection, uint16_t value)
 {
-  const struct opened *from = opened_as(connection);
+  const struct opened *from = opened_as(needed(connection));
   struct sent_packet *it = &sent_packets[sent_count++ % SENT_PACKETS];
 
   check_length();
   it->mote = mote_number();
   it->value = value;
   it->length = length;
+  it->second = buffer[1];
   it->kind = from->kind;
   it->channel = from->channel;
   motesim_send(value);
@@ -487,8 +504,6 @@ call(const struct opened *it, uint16_t value)
     return;
   }
   if(it->kind == UNICAST && value >> 8 == mote_number() && of_unicast->recv != NULL) {
-    length = 1;
-    buffer[1] = UNSET;
     of_unicast->recv(it->connection, &sender);
   } else if(it->kind == BROADCAST && of_broadcast->recv != NULL) {
     of_broadcast->recv(it->connection, &sender);
@@ -510,6 +525,13 @@ deliver(int from, uint16_t value)
   buffer[1] = length > 1 ? (unsigned char)(value >> 8) : UNSET;
   sender.u8[0] = (unsigned char)from;
   sender.u8[2] = 1;
+  /* (the upper byte of the value is the mote; a packet from a program in the notation has one byte) */
+  if(packet != NULL && packet->kind == UNICAST) {
+    buffer[1] = length > 1 ? packet->second : UNSET;
+  } else if(packet == NULL && opened_count > 0 && opened[opened_count - 1].kind == UNICAST) {
+    length = 1;
+    buffer[1] = UNSET;
+  }
   for(i = opened_count - 1; i >= 0; i--) {
     if(packet == NULL || (opened[i].kind == packet->kind && opened[i].channel == packet->channel)) {
       call(&opened[i], value);

@@ -24,6 +24,20 @@
 #include "motesim_radio.h"
 #include "trace.h"
 
+/* The limits of a node. */
+#undef INT_MAX
+#undef INT_MIN
+#undef UINT_MAX
+#undef LONG_MAX
+#undef LONG_MIN
+#undef ULONG_MAX
+#define INT_MAX   32767
+#define INT_MIN   (-32767 - 1)
+#define UINT_MAX  65535U
+#define LONG_MAX  2147483647L
+#define LONG_MIN  (-2147483647L - 1)
+#define ULONG_MAX 4294967295UL
+
 /* The report names a process as the program does. */
 #undef PROCESS
 #define PROCESS(name, strname)    \
@@ -52,6 +66,7 @@ extern const struct host_timer library_timers[];
 
 int library_print(const char *format, ...);
 int library_text(const char *text);
+int library_character(int character);
 int library_rand(void);
 unsigned short *library_node_id(void);
 const rimeaddr_t *library_address(void);
@@ -63,7 +78,9 @@ void library_qsort(void *base, size_t count, size_t size, short (*compare)(const
 /* The number of bytes that are copied into a variable; bytes that have no room there end the program. */
 size_t library_size(size_t size, size_t room);
 int library_copyto(void *to, size_t room);
-#define LIBRARY_SIZE(to, size)  library_size(size, __builtin_object_size(to, 0))
+/* (an address has three bytes here) */
+#define LIBRARY_HAS_THIRD(to, size) _Generic((to), rimeaddr_t *: (size) == 2, default: 0)
+#define LIBRARY_SIZE(to, size)      library_size((size) + LIBRARY_HAS_THIRD(to, size), __builtin_object_size(to, 0))
 #define memcpy(to, from, size)  memcpy(to, from, LIBRARY_SIZE(to, size))
 #define memmove(to, from, size) memmove(to, from, LIBRARY_SIZE(to, size))
 #define memset(to, value, size) memset(to, value, LIBRARY_SIZE(to, size))
@@ -118,7 +135,7 @@ int library_copyto(void *to, size_t room);
 #define puts(text)         library_text(text)
 #define rand()             library_rand()
 #define qsort(base, count, size, compare) library_qsort(base, count, size, compare)
-#define putchar(character) library_text("1")
+#define putchar(character) library_character(character)
 
 #define node_id            (*library_node_id())
 #define rimeaddr_node_addr (*library_address())

@@ -28,6 +28,9 @@ int rimeaddr_cmp(const rimeaddr_t *one, const rimeaddr_t *other);
 void linkaddr_copy(linkaddr_t *to, const linkaddr_t *from);
 int linkaddr_cmp(const linkaddr_t *one, const linkaddr_t *other);
 
+#define RIMESTATS_GET(name) 0
+#define RIMESTATS_ADD(name)
+
 typedef uint16_t packetbuf_attr_t;
 
 enum {

@@ -101,6 +101,24 @@ class Checks(unittest.TestCase):
         assert isinstance(found, Refusal)
         self.assertIn('`p` has no `PROCESS_BEGIN();`', NotTranslated(found, source).lines[1])
 
+    def test_a_name_that_gcc_knows_is_not_misspelt(self) -> None:
+        own = 'static int sort(int n) { return n; }\nPROCESS(p'
+        for include, call, wanted in (('<stdlib.h>', 'x = labs(x);', True), ('<errno.h>', 'x = errno;', True),
+                                      ('<stdio.h>', 'x = sorrt(x);', False)):
+            source = '#include %s\n' % include + HEAD + PROGRAM.replace('PROCESS(p', own, 1).replace(
+                'static int x,', 'static int x, errn,') % call
+            found = translation_of(source)
+            assert isinstance(found, Refusal)
+            self.assertEqual(NotTranslated(found, source).may_be_right, wanted, found.reason)
+
+    def test_two_waits_in_one_line_are_explained(self) -> None:
+        source = HEAD + PROGRAM % 'PROCESS_PAUSE(); PROCESS_PAUSE();'
+        error = certain_error(source)
+        assert error
+        self.assertIn('duplicate case value. Two waits in one line', error[1])
+        self.assertFalse(NotTranslated(Refusal(3, ''), source).is_compiled)
+        self.assertTrue(NotTranslated(Refusal(3, ''), HEAD + PROGRAM % 'PROCESS_PAUSE();').is_compiled)
+
     def test_a_program_that_is_not_translated_may_lack_a_file(self) -> None:
         source = HEAD + PROGRAM % 'done = node_id;'
         self.assertEqual(certain_error(source), None)

@@ -17,6 +17,22 @@ class Locals(unittest.TestCase):
             self.assertEqual(text is None, is_refused, notes)
             self.assertIn(wanted, notes)
 
+    def test_a_part_that_is_an_array_gets_its_value_by_its_address(self) -> None:
+        above = ('#include "net/rime.h"\n#include <string.h>\nstatic uint16_t v;\n'
+                 'struct m { uint8_t n; uint8_t b[2]; };\nstatic void fill(uint8_t *to) { to[0] = 1; to[1] = 2; }\nstatic void recv(struct broadcast_conn *c,'
+                 ' const rimeaddr_t *from) { %s }\nstatic const struct broadcast_callbacks calls = {recv};\n'
+                 'static struct broadcast_conn bc;')
+        for lines in ('rimeaddr_t a; memcpy(a.u8, packetbuf_dataptr(), 2); v = a.u8[0];',
+                      'rimeaddr_t a; memset(a.u8, 0, sizeof(a.u8)); v = a.u8[0];', 'struct m m; fill(m.b); v = m.b[0];',
+                      'struct m m; packetbuf_copyto(m.b); v = m.b[0];'):
+            notes = translation(in_process('  broadcast_open(&bc, 9, &calls); PROCESS_WAIT_EVENT();', above % lines))[1]
+            self.assertNotIn('has no value yet', notes, lines)
+        self.check(in_process('  { struct m { uint8_t b[2]; } m; printf("%d", m.b[0]); }'), '`m` has no value yet')
+
+    def test_a_name_that_extern_declares_is_no_local_variable(self) -> None:
+        source = in_process('  extern unsigned short node_id; printf("%d", node_id);')
+        self.check(source, 'An address is one number', False)
+
     def test_a_value_that_a_wait_loses_is_refused(self) -> None:
         for inside, body, name in (
                 (' int i;', FOR, 'i'), (' int i = 0;', FOR, 'i'),

@@ -260,6 +260,40 @@ class Comparison(unittest.TestCase):
             translated(source.replace('by_size', 'sort'))
         self.assertNotIsInstance(caught.exception, Mistake)
 
+    def test_an_address_has_two_bytes(self) -> None:
+        above = ('#include "net/rime.h"\n#include <string.h>\nstatic rimeaddr_t a, b; static const rimeaddr_t null;\n'
+                 'static rimeaddr_t list[4];')
+        tests = ('sizeof(rimeaddr_t) == 2', 'sizeof(a) == RIMEADDR_SIZE', 'sizeof(list) / sizeof(list[0]) == 4',
+                 'sizeof(list) / sizeof(linkaddr_t) == 4', 'sizeof a == 2', 'rimeaddr_cmp(&a, &rimeaddr_node_addr)',
+                 'rimeaddr_cmp(&b, &null) == rimeaddr_cmp(&null, &rimeaddr_null)')
+        source = in_process('  memcpy(&a, &rimeaddr_node_addr, sizeof(rimeaddr_t)); memset(&b, 0, sizeof(b));\n'
+                            + '\n'.join('  printf("%%d", %s);' % it for it in tests), above)
+        found = [it.value for it in deeds_in(self.compiled.report(self.in_c(source, in_process('  ;')), 'p'))[0]]
+        self.assertEqual(found, [1] * len(tests))
+
+    def test_a_unicast_has_all_its_bytes(self) -> None:
+        above = ('#include "net/rime.h"\nstatic void recv(struct unicast_conn *c, const rimeaddr_t *from)'
+                 ' { printf("%u", *(uint16_t *)packetbuf_dataptr()); printf("%u", packetbuf_datalen()); }\n'
+                 'static const struct unicast_callbacks calls = {recv};\n'
+                 'static struct unicast_conn uc; static uint16_t v;')
+        body = ('  unicast_open(&uc, 9, &calls); if(node_id == 0) { static rimeaddr_t to; to.u8[0] = 1; v = VALUE;'
+                ' packetbuf_copyfrom(&v, SIZE); unicast_send(&uc, &to); } PROCESS_WAIT_EVENT();')
+        for value, size, seen in ('7', '2', [7, 2]), ('300', '2', [300, 2]), ('7', '1', [7 + 256 * 0xfe, 1]):
+            source = in_process(body.replace('VALUE', value).replace('SIZE', size), above)
+            found = deeds_in(self.compiled.report(self.in_c(source, in_process('  ;')), 'p'))
+            self.assertEqual([it.value for it in found[1]], seen)
+
+    def test_limits_and_characters_are_those_of_a_node(self) -> None:
+        body = ('  printf("%d", INT_MAX); putchar(\'\\n\'); printf("%u", UINT_MAX);'
+                ' putchar(\' \'); printf("%d", INT_MIN);')
+        found = deeds_in(self.compiled.report(self.in_c(in_process(body), in_process('  ;')), 'p'))
+        self.assertEqual([it.value for it in found[0]], [32767, 65535, 32768])
+
+    def test_a_connection_without_memory_crashes(self) -> None:
+        above = '#include "net/rime.h"\nstatic struct broadcast_conn *bc;'
+        source = in_process('  broadcast_open(bc, 9, NULL);', above)
+        self.assertEqual(self.difference(source, in_process('  ;')), CRASHES)
+
     def test_a_pointer_has_two_bytes(self) -> None:
         for kept, wanted in ('uint16_t', ''), ('uint8_t', CRASHES):
             above = '#include <string.h>\nstatic uint16_t n = 7; static %s v; static uint16_t *m;' % kept

@@ -46,7 +46,7 @@ ADVICE = (
     (r'mesh_|collect_|netflood_|multihop_|route_discovery|neighbor_discovery', NO_ROUTING),
     (r'trickle_|i?polite_|stbroadcast_|announcement', NO_REPEATS),
     (r'simple_udp|udp_|tcp_|tcpip_|uip_|UIP_|rpl_|psock|PSOCK', NO_INTERNET),
-    (r'v?sn?printf$|str(len|n?cpy|n?cmp|n?cat|chr|str|tou?l)$|ato[il]$', NO_TEXTS),
+    (r'v?sn?printf$|str(len|n?cpy|n?cmp|n?cat|chr|str|tou?l)$|ato[il]$|[ul]?l?toa$|itoa$', NO_TEXTS),
     (r'(qsort|bsearch|memchr|l?l?div|l?labs|strtok|str(n?case)?cmp|strc?spn|strpbrk|s?scanf)$', NO_LIBRARY),
     (r'packetbuf_(set_)?attr$',
      'A packet has no attributes. All packets arrive with the same strength: use a constant instead. Send a number of '

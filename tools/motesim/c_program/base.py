@@ -8,7 +8,7 @@ from dataclasses import dataclass, field
 from motesim.c_program.absent import absent, advice_for
 from motesim.c_program.knowledge import Knowledge, LoopLimits
 from motesim.c_program.names import fresh, is_changed
-from motesim.c_program.refusal import Mistake, Refusal
+from motesim.c_program.refusal import Misspelt, Refusal
 from motesim.c_program.remark import Remark
 from motesim.c_program.tree import File, Function, Variable
 from motesim.c_program.types import INT, Type
@@ -133,7 +133,7 @@ class Base:
         of Contiki, of which this name may be one with a mistake."""
         names = [it for it in calls if is_misspelt(name, it)] or self.file.functions
         meant = '' if advice_for(name) else similar(name, names)
-        return (Mistake if meant else Refusal)(line, absent(name) + meant)
+        return Misspelt(line, absent(name) + meant, name) if meant else Refusal(line, absent(name))
 
     def absent_variable(self, name: str, line: int) -> Refusal:
         """A name that isn't declared, with what to write instead, or with a similar name."""
@@ -141,7 +141,7 @@ class Base:
         if advice_for(name):
             return Refusal(line, absent(name))
         meant = similar(name, names)
-        return (Mistake if meant else Refusal)(line, NOT_DECLARED % name + meant)
+        return Misspelt(line, NOT_DECLARED % name + meant, name) if meant else Refusal(line, NOT_DECLARED % name)
 
     def remark(self, line: int, text: str) -> None:
         self.program.remark(line, text)

@@ -68,7 +68,8 @@ UNDECLARED, NO_TYPE = re.compile(r"'(\w+)' undeclared"), re.compile(r"unknown ty
 ALIKE = 0.8
 TYPES = ('uint8_t', 'int8_t', 'uint16_t', 'int16_t', 'uint32_t', 'int32_t', 'clock_time_t', 'rimeaddr_t', 'linkaddr_t',
          'process_event_t', 'process_data_t', 'static', 'struct', 'unsigned', 'signed', 'const', 'void')
-REFUSED, WARNED = 'gcc refuses it: %s.', 'gcc warns: %s.'
+REFUSES, WARNED = 'gcc refuses it: ', 'gcc warns: %s.'
+TWO_WAITS = ' Two waits in one line, or in one macro, have the same number: write each in a line of its own.'
 LACKS = 'gcc refuses this line: '
 LACKS_ONE = LACKS + '%s. The program needs `#include %s`.'
 LACKS_SEVERAL = LACKS + '%s. The program doesn\'t include all files that it needs.'
@@ -106,7 +107,7 @@ def check(text: str) -> list[Remark]:
     lasting = errors_in(complete)
     if lasting:
         error = next((it for it in lasting if it in errors), errors[0])
-        raise Mistake(error.line, REFUSED % error.words)
+        raise Mistake(error.line, refused(error.words))
     return [Remark(errors[0].line, lacks(source, errors[0]), True, is_seen=False), *warnings_in(complete)]
 
 
@@ -117,7 +118,20 @@ def certain_error(text: str) -> tuple[int, str] | None:
         return None
     source = with_headers(text)
     own, complete = (errors_in(complaints_of(it)) for it in (source, with_more(source, FILES)))
-    return next(((it.line, REFUSED % it.words) for it in own if it in complete and is_certain(it.words)), None)
+    return next(((it.line, refused(it.words)) for it in own if it in complete and is_certain(it.words)), None)
+
+
+def is_unknown(text: str, name: str) -> bool:
+    """Returns whether a program has a name that neither C's library nor Contiki declares, as far as gcc can say it."""
+    if not is_installed():
+        return True
+    complaints = complaints_of(with_more(with_headers(text), FILES))
+    return knows_files_of(text) and any("'%s'" % name in it.words for it in complaints)
+
+
+def refused(words: str) -> str:
+    """The words about an error."""
+    return '%s%s.%s' % (REFUSES, words, TWO_WAITS * words.startswith('duplicate case'))
 
 
 def is_certain(words: str) -> bool:

@@ -10,6 +10,7 @@ from motesim.c_program.constants import constant_of
 from motesim.c_program.control import WAITS
 from motesim.c_program.refusal import Mistake
 from motesim.c_program.tree import Expression, Function, Statement, Variable
+from motesim.c_program.types import BYTE, Type, size_of
 from motesim.c_program.walk import all_parts, assigned_in, declared_in, parts_of, with_called, without_casts
 
 LOST = ('In C, `%s` isn\'t static, so its value is lost at each wait of its process, and this line reads it after a '
@@ -217,7 +218,7 @@ class Locals:
         if it is None or self.state is None or it.kind == 'sizeof':
             return
         if it.kind in ('index', 'member'):
-            self.at_place(it, self.note_read)
+            self.at_place(it, self.note_value if is_array(it) else self.note_read)
         elif it.kind == 'name':
             (self.give if is_array(it) else self.note_read)(it)
         elif it.kind == 'assign':
@@ -300,7 +301,7 @@ class Locals:
                 self.check_data(inner)
             only_reads = it.text in READS_ALL or it.text in READS_SECOND and at
             if only_reads and is_array(inner):
-                self.note_read(inner)
+                self.at_place(inner, self.note_read)
             else:
                 self.read(inner if only_reads else one)
         if it.text in self.functions:
@@ -356,7 +357,20 @@ class Locals:
 
 
 def is_array(it: Expression) -> bool:
-    return it.kind == 'name' and it.variable is not None and it.variable.type.kind == 'array'
+    its = type_at(it)
+    return its is not None and its.kind == 'array'
+
+
+def type_at(it: Expression) -> Type | None:
+    """The type of a variable, or of a part of one; None if it isn't known."""
+    if it.kind == 'name':
+        return it.variable.type if it.variable else None
+    outer = type_at(it.parts[0]) if it.kind in ('index', 'member') else None
+    if outer is None or it.kind == 'index':
+        return outer.of if outer and outer.kind == 'array' else None
+    if outer.kind == 'address':
+        return Type('array', of=BYTE, size=size_of(outer))
+    return dict(outer.fields).get(it.text)
 
 
 def is_pointer(it: Expression) -> bool:

@@ -261,7 +261,7 @@ class Declarations(Expressions):
             initial, kind = (self.initial(one.type) if self.accept('=') else (None, one.type))
             if is_typedef:
                 self.define_type(one)
-            elif one.parameters is None:
+            elif one.parameters is None and 'extern' not in qualifiers:
                 yield self.declare(one._replace(type=kind), qualifiers, initial)
             elif self.is_sign('{'):
                 raise Refusal(self.token.line, NO_END % one.name)

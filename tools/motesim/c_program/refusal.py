@@ -12,3 +12,11 @@ class Refusal(Exception):
 
 class Mistake(Refusal):
     """A line that is refused because it doesn't work on a node either. Other refused lines may be right in C."""
+
+
+class Misspelt(Mistake):
+    """A line with a name that isn't known here, and that is like another name."""
+
+    def __init__(self, line: int, reason: str, name: str):
+        super().__init__(line, reason)
+        self.name = name

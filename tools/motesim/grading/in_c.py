@@ -8,7 +8,7 @@ from motesim.c_program import compiler
 from motesim.c_program.constants import SECOND
 from motesim.c_program.origin import Origin
 from motesim.c_program.program import Translation
-from motesim.c_program.refusal import Mistake, Refusal
+from motesim.c_program.refusal import Misspelt, Mistake, Refusal
 from motesim.c_program.remark import Remark
 from motesim.c_program.values import MOST
 from motesim.explain.whole import line_at, translation_of, with_comment
@@ -36,14 +36,18 @@ WRAPS = '; clock_time() and clock_seconds() begin again at 0 after %d seconds, w
 
 class NotTranslated(Fault):
     """A line of a program in C isn't translated. `lines` are the line and the reason; `may_be_right`: whether the line
-    may be right on a node."""
+    may be right on a node; `is_compiled`: whether gcc doesn't refuse it."""
 
     def __init__(self, refusal: Refusal, source: str):
-        error = None if isinstance(refusal, Mistake) else compiler.certain_error(source)
+        is_mistake = isinstance(refusal, Mistake)
+        if isinstance(refusal, Misspelt):
+            is_mistake = compiler.is_unknown(source, refusal.name)
+        error = None if is_mistake else compiler.certain_error(source)
         line, reason = error or (refusal.line, refusal.reason)
-        self.may_be_right = not isinstance(refusal, Mistake) and error is None
+        self.may_be_right = not is_mistake and error is None
         super().__init__((NO_TRANSLATION if self.may_be_right else MISTAKEN) % line)
         row = one_line(line_at(source, line))
+        self.is_compiled = not reason.startswith(compiler.REFUSES)
         own = [refusal.reason] if error and line == refusal.line else []
         self.lines = ('line %d:%s' % (line, ' ' + row if row else ''), reason, *own)
 

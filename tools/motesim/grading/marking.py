@@ -139,7 +139,7 @@ class Task:
             return Marks(entry.name, why=str(fault), fix=(fault.hint,))
         except NotTranslated as fault:
             row = Marks(entry.name, why=str(fault), fix=fault.lines, is_open=fault.may_be_right)
-            return self.with_gcc_alone(row, data)
+            return self.with_gcc_alone(row, data) if fault.is_compiled else row
         except UnknownSentence as fault:
             return Marks(entry.name, why=fault.which, fix=self.fix(entry, data))
         except Fault as fault:
