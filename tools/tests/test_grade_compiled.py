@@ -544,6 +544,11 @@ class Callbacks(unittest.TestCase):
         sentences = [read_sentence(it, names_of(scenario)) for it in wanted]
         marks = marks_of(report, scenario, 'p', [*zip(wanted, sentences)])
         self.assertEqual([it.holds for it in marks], [True, True, False])
+        # (another program of the net may print, too)
+        printing = report.replace(b'mote 2 other\n', b'mote 2 other\n0 print b 9\n0 print c 9\n')
+        self.assertIn(b'print c 9', printing)
+        self.assertEqual(marks_of(printing, scenario, 'p', [*zip(wanted, sentences)]), marks)
+        self.assertEqual(marks_of(report.replace(b'mote 0 p\n', b'mote 0 p\n0 print c 9\n'), scenario, 'p', []), [])
 
 
 if __name__ == '__main__':

@@ -64,7 +64,7 @@ def marks_of(report: bytes, scenario: Scenario, program: str, sentences: Sequenc
     its callback prints counts for the process for which a sentence holds."""
     def found() -> list[Mark]:
         judges = [Judge(Report.parse(text), scenario)
-                  for text in compiled_readings(report.decode(), scenario.programs[program])]
+                  for text in compiled_readings(report.decode(), program, scenario.programs[program])]
         return [mark_of(words, it, judges) for words, it in sentences] if judges else []
 
     return without_fault(found) or []

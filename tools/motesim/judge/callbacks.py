@@ -89,7 +89,7 @@ def with_prints(report: str, it: Callback, printing: Sequence[str], has_one: boo
     return '\n'.join(rows)
 
 
-def compiled_readings(report: str, text: str) -> list[str]:
+def compiled_readings(report: str, program: str, text: str) -> list[str]:
     """The report of a compiled program, for each process of its translation: this process prints what the callback
     prints; and at last one in which each process prints it. There is none if the compiled program has other names."""
     found = PROCESSES.search(text)
@@ -97,7 +97,7 @@ def compiled_readings(report: str, text: str) -> list[str]:
     # (the events of a compiled program have no names)
     traces, medium = report.split('\nmedium\n')
     rows = [row for row in traces.split('\n') if row.split(' ')[1] not in EVENTS]
-    if not {row.split(' ')[2] for row in rows if row.split(' ')[1] == 'print'} <= {OF_RADIO, *processes}:
+    if not printing_in(rows, program) <= {OF_RADIO, *processes}:
         return []
     of_radio, texts = ' print %s ' % OF_RADIO, list[str]()
     for printing in (*([it] for it in processes), processes):
@@ -105,3 +105,14 @@ def compiled_readings(report: str, text: str) -> list[str]:
                  for row in rows for it in (printing if of_radio in row else ['']))
         texts.append('%s\nmedium\n%s' % ('\n'.join(lines), medium))
     return texts
+
+
+def printing_in(rows: Sequence[str], program: str) -> set[str]:
+    """The processes that print on the motes of a program."""
+    found, is_own = set[str](), False
+    for words in (row.split(' ') for row in rows):
+        if words[0] == 'mote':
+            is_own = words[2] == program
+        elif is_own and words[1] == 'print':
+            found.add(words[2])
+    return found
