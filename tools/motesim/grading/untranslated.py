@@ -15,9 +15,9 @@ from motesim.notation.faults import find_fault
 # The functions and variables of Contiki and of C that a compiled program may use.
 CALLS = re.compile(
     r'(?:process|etimer|ctimer|timer|stimer|packetbuf|abc|broadcast|unicast|rimeaddr|linkaddr|leds|random|clock|list|'
-    r'memb|library|watchdog|work)_\w+|autostart_processes|mem(?:cpy|move|set|cmp)|str(?:len|n?cmp|n?cpy|chr)|abs|labs|'
-    r'tolower|toupper|__ctype_b_loc|__ubsan_\w+|abort|l?labs|l?div|memchr|ato[il]|strtou?l|'
-    r'str(?:n?cat|rchr|str|tok|c?spn|pbrk)|sn?printf')
+    r'memb|library|watchdog|work)_\w+|autostart_processes|mem(?:cpy|move|set|cmp|chr)|'
+    r'str(?:len|n?cmp|n?cpy|n?cat|r?chr|str|tok|c?spn|pbrk|tou?l)|l?l?abs|l?div|ato[il]|sn?printf|'
+    r'tolower|toupper|__ctype_b_loc|__ubsan_\w+|abort')
 # Words with two underscores in front that don't leave C.
 PLAIN = ('__func__', '__FUNCTION__', '__attribute__', '__packed__', '__unused__')
 ATTRIBUTES = ('packed', 'unused', '__packed__', '__unused__')
