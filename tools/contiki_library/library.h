@@ -44,6 +44,16 @@
   PROCESS_THREAD(name, ev, data); \
   PROCESS_SCOPE struct process name = PROCESS_INIT(name, #name)
 
+/* A pause ends at any event, as in some versions of Contiki. */
+#ifdef LIBRARY_PAUSES_END
+#undef PROCESS_PAUSE
+#define PROCESS_PAUSE()                                            \
+  do {                                                             \
+    process_post(PROCESS_CURRENT(), PROCESS_EVENT_CONTINUE, NULL); \
+    PROCESS_WAIT_EVENT();                                          \
+  } while(0)
+#endif
+
 /*
  * The tables of a program: whether it calls printf, so that its LEDs aren't printed; whether it writes addresses of
  * zeros; whether nothing but its report is known; whether packets wait in the queue of events; its processes that draw random numbers; and the one in which the callback for packets draws them.

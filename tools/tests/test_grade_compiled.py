@@ -12,10 +12,11 @@ from motesim.c_program.remark import Remark
 from motesim.explain.moments import Burst
 from motesim.faults import Fault
 from motesim.grading.by_gcc import (
-    BY_GCC, OF_HIDDEN_RUN, by_gcc_in, by_gcc_words, difference_in, differences_in, marks_of, remarks_in, untranslated,
+    BY_GCC, OF_HIDDEN_RUN, OF_OTHER_RUN, by_gcc_in, by_gcc_words, difference_in, differences_in, marks_of, remarks_in,
+    untranslated,
 )
 from motesim.grading.compiled import (
-    CRASHES, DEFINES, DIVIDES, MEETING, NEVER_ENDS, OF_INDEX, OF_REMARK, OF_UNSET, ON_NODE, SAME, Compiled, Difference,
+    CRASHES, DEFINES, DIVIDES, MEETING, NEVER_ENDS, OF_INDEX, OF_REMARK, OF_UNSET, ON_NODE, Compiled, Difference,
     InC, NoComparison, deeds_in, first_meeting,
 )
 from motesim.grading.entries import Entry
@@ -26,6 +27,7 @@ from motesim.grading.nets import Net
 from motesim.grading.node_types import as_on_node
 from motesim.grading.page import page_of
 from motesim.grading.tables import why
+from motesim.grading.variants import OF_CHARACTERS, OF_PAUSE, OF_QUEUE
 from motesim.judge.expectations import known_of, parts_of, read_all
 from motesim.judge.sentences import names_of, read_sentence
 from motesim.runner import Limits
@@ -108,6 +110,36 @@ class Comparison(unittest.TestCase):
             source = in_process(body + ' PROCESS_WAIT_EVENT();', above + '\nstatic char word[] = "P";', '  ' + TIMER)
             self.assertEqual(self.difference(source), '', text)
             self.assertIn('send %d;' % value, translated(source).text)
+
+    def test_a_program_that_depends_on_a_variant_of_a_node_has_a_remark(self) -> None:
+        pauses = '  %s PROCESS_PAUSE(); n = ev == PROCESS_EVENT_MSG; printf("%%d", n);'
+        posts = ('  for(n = 0; n < %d; n++) { process_post(&p, PROCESS_EVENT_MSG, NULL); } '
+                 'while(n > 0) { PROCESS_WAIT_EVENT(); printf("%%d", n--); }')
+        signs = '  { char c = (char)(%d + node_id); n = c; printf("%%d", n); }'
+        for body, variant in ((pauses % '', None), (pauses % 'process_post(&p, PROCESS_EVENT_MSG, NULL);', OF_PAUSE),
+                              (posts % 8, None), (posts % 9, OF_QUEUE), (signs % 100, None),
+                              (signs % 200, OF_CHARACTERS)):
+            source = in_process(body, RADIO.replace('rime.h"', 'rime.h"\n#include "sys/node-id.h"'), '  ' + TIMER)
+            its = self.in_c(source)
+            found = self.compiled.difference(its, 'p', answer(its.scenario.encode()).report)
+            assert found
+            self.assertEqual(found.words, '', body)
+            self.assertEqual([it.text for it, _ in found.variants], [variant.remark] if variant else [], body)
+            text = remarks_in([in_net(found)], source)[0].text if variant else ''
+            self.assertRegex(text, r', mote 0 prints \S+ .*, but here it prints .* \(in n\)$' if variant else '^$')
+            length = its.scenario.replace('[programs]', '[queue]\np = 32\n[programs]')
+            if variant is OF_QUEUE:
+                own = self.compiled.difference(its._replace(scenario=length), 'p', answer(length.encode()).report)
+                self.assertEqual(own, found._replace(variants=(), report=b''))
+
+    def test_a_remark_about_a_variant_has_no_values_of_a_hidden_net(self) -> None:
+        remark = Remark(7, 'It depends. With 8, ', True, False)
+        source = in_process('  printf("%d", 1);', RADIO, '  ' + TIMER)
+        hidden, shown = (in_net(Difference('', variants=((remark, its),)))._replace(is_hidden=its == 'hidden')
+                         for its in ('hidden', 'mote 1 prints 3'))
+        for nets, words in (([hidden], OF_OTHER_RUN), ([hidden, shown, shown], 'mote 1 prints 3 (in n)')):
+            self.assertEqual(remarks_in(nets, source)[:1], [remark._replace(text=remark.text + words)])
+            self.assertEqual(on_node(remarks_in(nets, source)), 'on a node, line 7 may do something else')
 
     def test_a_process_may_close_the_connection_of_another_one(self) -> None:
         body = ('  broadcast_open(&bc, 129, &calls); while(n++ < %d) { etimer_set(&et, 20); '
@@ -332,7 +364,7 @@ class Comparison(unittest.TestCase):
         self.assertEqual([it.holds for it in by_gcc], [True, True, True, False, True, False])
         marks = [Mark('', True)] * 6
         differs = in_net(found)._replace(marks=marks, by_gcc=by_gcc)
-        in_both = by_gcc_in([differs, in_net(found)._replace(marks=marks, differs=SAME)], 1)
+        in_both = by_gcc_in([differs, in_net(found)._replace(marks=marks, differs=Difference(''))], 1)
         self.assertEqual(in_both, tuple(it._replace(is_required=at == 0, nets=('n',) * (not it.holds),
                                                     shown=() if it.holds else ('in n', *it.more))
                                         for at, it in enumerate(by_gcc)))
@@ -447,7 +479,7 @@ PROCESS_THREAD(q, ev, data) {
             self.assertIn(OF_LONG, [it.text for it in remarks])
             self.assertEqual(found.words.partition(';')[0], words)
             self.assertEqual(any(it.is_mistake for it in remarks), bool(words))
-        uncompared = [in_net(SAME)._replace(differs=None)]
+        uncompared = [in_net(Difference(''))._replace(differs=None)]
         self.assertTrue(any(it.is_mistake for it in remarks_in(uncompared, its.source)))
 
     def test_remarks_about_which_the_compiled_program_shows_nothing_stay(self) -> None:
@@ -457,7 +489,8 @@ PROCESS_THREAD(q, ev, data) {
             source = in_process('  ' + body)
             mistake = next(it for it in translated(source).remarks if it.is_mistake)
             self.assertEqual(mistake.is_seen, is_seen, mistake.text)
-            for differs, wanted in (SAME, not is_seen), (Difference('a', True), not is_seen), (Difference('a'), True):
+            for differs, wanted in ((Difference(''), not is_seen), (Difference('a', True), not is_seen),
+                                    (Difference('a'), True)):
                 its = [it for it in remarks_in([in_net(differs)], source) if it.text == mistake.text]
                 self.assertEqual([it.is_mistake for it in its], [wanted])
 
@@ -530,7 +563,8 @@ PROCESS_THREAD(q, ev, data) { PROCESS_BEGIN(); printf("%d", random_rand() & 15);
                     continue
                 its = InC(path.read_text(), found, IN_A_ROW % (ENDS.get(path.stem, 1_000), found.text))
                 self.compiled.report(its, 'p')
-                self.assertEqual(self.compiled.difference(its, 'p', answer(its.scenario.encode()).report), SAME)
+                found = self.compiled.difference(its, 'p', answer(its.scenario.encode()).report)
+                self.assertEqual(found, Difference(''))
 
 
 class Callbacks(unittest.TestCase):

@@ -20,6 +20,7 @@ from motesim.scenario import Scenario
 
 Result = TypeVar('Result')
 OF_HIDDEN_RUN = 'compiled by gcc, the program does something else in a hidden net'
+OF_OTHER_RUN = 'the program does something else in a hidden net'
 BY_GCC = 'compiled by gcc, it gets %d of %d'
 
 
@@ -46,7 +47,18 @@ def remarks_in(found: Sequence[InNet], source: str) -> list[Remark]:
     """The remarks about a program in C. If the compiled program does the same in each net, only those remarks name
     mistakes of which it shows nothing."""
     is_same = all(it.differs and not it.differs.is_certain for it in found)
-    return [it._replace(is_mistake=it.is_mistake and not (is_same and it.is_seen)) for it in remarks_of(source)]
+    return [*variants_in(found),
+            *(it._replace(is_mistake=it.is_mistake and not (is_same and it.is_seen)) for it in remarks_of(source))]
+
+
+def variants_in(found: Sequence[InNet]) -> list[Remark]:
+    """The remarks about variants of a node with which a program does something else, without the values of a hidden
+    net."""
+    words = dict[Remark, str]()
+    for it in sorted(found, key=lambda it: it.is_hidden):
+        for remark, differs in it.differs.variants if it.differs else ():
+            words.setdefault(remark, OF_OTHER_RUN if it.is_hidden else '%s (in %s)' % (differs, it.net))
+    return [it._replace(text=it.text + its) for it, its in words.items()]
 
 
 def by_gcc_in(found: Sequence[InNet], required: int) -> tuple[Mark, ...]:

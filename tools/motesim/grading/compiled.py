@@ -20,12 +20,14 @@ from motesim.c_program.compiler import HEADERS as LIBRARY, limited
 from motesim.c_program.parse_file import tokens_in
 from motesim.c_program.places import OF_ZEROS
 from motesim.c_program.program import Translation
+from motesim.c_program.remark import Remark
 from motesim.contiki.folder import HOST, host_tables, program_files, text_of
 from motesim.contiki.names import file_names
 from motesim.grading.in_c import CRASHED, HANGS, UNLINKED
 from motesim.grading.node_operations import with_operations
 from motesim.grading.node_types import as_on_node
 from motesim.grading.untranslated import may_call
+from motesim.grading.variants import Way, variants_of
 from motesim.scenario import Scenario
 
 FLAGS = ('-w', '-O0', '-fno-pic', '-std=gnu99', '-fsanitize=bounds',
@@ -60,6 +62,7 @@ OF_UNSET = ('; a local variable, or a part of it, has no value there: the progra
             '`static`, and its value is lost at a wait')
 OF_REMARK = '; see the remark on line %d'
 DIFFERS = 'compiled by gcc, mote %d %s, but its translation %s'
+OF_VARIANT = 'mote %d %s, but here it %s'
 
 
 class NoComparison(Exception):
@@ -79,26 +82,24 @@ class InC(NamedTuple):
     is_alone: bool = False
 
 
-class Options(NamedTuple):
-    """The name of a program, its number among all programs, and whether packets wait in the queue of events."""
-    program: str
-    number: int
-    has_queue: bool
-
-
 class Difference(NamedTuple):
     """A difference between a program in C and its translation, in words; the words are empty if there is none.
-    `may_differ`: only the order of packets and events of one moment differs. `report`: that of the program in C."""
+
+    may_differ  whether only the order of packets and events of one moment differs
+    report      that of the program in C
+    variants    the remarks about variants of a node with which it does something else, and the words about this
+    """
     words: str
     may_differ: bool = False
     report: bytes = b''
+    variants: tuple[tuple[Remark, str], ...] = ()
 
     @property
     def is_certain(self) -> bool:
         return bool(self.words) and not self.may_differ
 
 
-SAME = Difference('')
+PLAIN, WITH_ZEROS, WITH_QUEUE = Way(GARBAGE), Way(ZEROS), Way(GARBAGE, has_queue=True)
 
 
 class Deed(NamedTuple):
@@ -122,10 +123,11 @@ class Compiled:
         called(['objcopy', *SECTIONS, 'library.o'], folder)
         self.objects = [str(it) for it in sorted(folder.glob('*.o'))]
 
-    def report(self, it: InC, program: str, fill: str = GARBAGE, has_queue: bool = False) -> bytes:
-        """The report of a scenario in which a program is the one in C. `fill`: the bytes of local variables without a
-        value; `has_queue`: whether packets wait in the queue of events, as in the translation. Raises NoComparison."""
+    def report(self, it: InC, program: str, way: Way = PLAIN) -> bytes:
+        """The report of a scenario in which a program is the one in C. Raises NoComparison and Crash."""
         scenario = Scenario.parse(it.scenario)
+        if way.places:
+            scenario.queue[program] = way.places
         files = program_files(scenario, counts_work=True)
         file_of = file_names(files)
         with tempfile.TemporaryDirectory(dir=self.folder) as name:
@@ -135,7 +137,8 @@ class Compiled:
             tables = [its for its in host_tables(scenario, files) if its[0] != file_of[program] + '_host.c']
             for its, text in tables:
                 (place / its).write_text(text, 'utf-8')
-            self.compile(it, Options(program, [*files].index(program), has_queue), fill, place)
+            table = 'LIBRARY_PROGRAM(host_program_%d, "%s");' % ([*files].index(program), program)
+            self.compile(it, way, table, place)
             if not may_call(called(['nm', '-u', '-j', 'solution.o'], place).decode().split()):
                 raise NoComparison('it calls functions that no mote has')
             called(['objcopy', *SECTIONS, 'solution.o'], place)
@@ -151,14 +154,14 @@ class Compiled:
                 line = tokens_in(it.source)[int(index[1]) - 2].line
                 raise Crash(OF_INDEX % (line, index[2], index[3])) from None
 
-    def compile(self, it: InC, options: Options, fill: str, place: Path) -> None:
-        """Compiles a program. If the macros for operations can't be compiled, such as those in the size of an array, it is
-        compiled without them."""
+    def compile(self, it: InC, way: Way, table: str, place: Path) -> None:
+        """Compiles a program with its table. If the macros for operations can't be compiled, such as those in the size of
+        an array, it is compiled without them."""
         tokens = tokens_in(it.source)
         for texts in with_operations(tokens), [token.text for token in tokens]:
-            (place / 'solution.c').write_text(whole(it, texts, options), 'utf-8')
+            (place / 'solution.c').write_text('\n'.join([*whole(it, texts, way.has_queue), table, '']), 'utf-8')
             try:
-                called(['gcc', *self.flags, *[fill] * self.can_fill, '-c', 'solution.c'], place)
+                called(['gcc', *self.flags, *way.flags, *[way.fill] * self.can_fill, '-c', 'solution.c'], place)
                 return
             except NoComparison as fault:
                 refused = fault
@@ -171,15 +174,15 @@ class Compiled:
             theirs = self.report(it, program)
             found = first(it, program, theirs, report)
             if found is None:
-                return SAME
+                return Difference('', variants=self.variants(it, program, theirs))
             at, words = found
-            if self.can_fill and first(it, program, self.report(it, program, ZEROS), report) != found:
+            if self.can_fill and first(it, program, self.report(it, program, WITH_ZEROS), report) != found:
                 return Difference(words + OF_UNSET, False, theirs)
             meeting = first_meeting(report, program)
             if meeting is not None and meeting <= at:
-                in_order = first(it, program, self.report(it, program, has_queue=True), report)
+                in_order = first(it, program, self.report(it, program, WITH_QUEUE), report)
                 if in_order is None:
-                    return Difference(words + MEETING % meeting, True, theirs)
+                    return Difference(words + MEETING % meeting, True, theirs, self.variants(it, program, theirs))
                 words = in_order[1]
         except NoComparison as fault:
             twice = TWICE.search(str(fault))
@@ -189,12 +192,28 @@ class Compiled:
         mistaken = next((one.line for one in it.translation.remarks if one.is_mistake or one.text == OF_ZEROS), 0)
         return Difference(words + (OF_REMARK % mistaken if mistaken else ON_NODE), False, theirs)
 
+    def variants(self, it: InC, program: str, report: bytes) -> tuple[tuple[Remark, str], ...]:
+        """The remarks about variants of a node with which a program does something else, and the words about this.
+        `report`: that of the compiled program."""
+        found = []
+        for variant, remark in variants_of(tokens_in(it.source), program in Scenario.parse(it.scenario).queue):
+            try:
+                differs = first(it, program, self.report(it, program, variant.of(PLAIN)), report, OF_VARIANT)
+            except NoComparison:
+                continue
+            except Crash as crash:
+                differs = 0, str(crash)
+            if differs:
+                found.append((remark, differs[1]))
+        return tuple(found)
 
-def first(it: InC, program: str, compiled: bytes, report: bytes) -> tuple[int, str] | None:
-    """The moment of the first difference between two reports, and the words about it; None if there is none."""
+
+def first(it: InC, program: str, compiled: bytes, report: bytes, differs: str = DIFFERS) -> tuple[int, str] | None:
+    """The moment of the first difference between two reports, and the words about it, in the form of `differs`; None if
+    there is none."""
     theirs, ours = deeds_in(compiled), deeds_in(report)
     found = [one for mote, place in enumerate(Scenario.parse(it.scenario).places) if place.program == program
-             and (one := first_difference(mote, theirs[mote], ours[mote]))]
+             and (one := first_difference(mote, theirs[mote], ours[mote], differs))]
     return min(found, default=None)
 
 
@@ -224,7 +243,8 @@ def first_meeting(report: bytes, program: str) -> int | None:
                 if kind == 'recv' and (count > 1 or (mote, at, 'post') in found)), default=None)
 
 
-def first_difference(mote: int, compiled: Sequence[Deed], translated: Sequence[Deed]) -> tuple[int, str] | None:
+def first_difference(mote: int, compiled: Sequence[Deed], translated: Sequence[Deed], differs: str
+                     ) -> tuple[int, str] | None:
     """The first moment at which a mote does something else, and the words about it. The order of what it prints and
     what it sends at one moment doesn't matter."""
     found = []
@@ -233,7 +253,7 @@ def first_difference(mote: int, compiled: Sequence[Deed], translated: Sequence[D
         one, other = next(((one, other) for one, other in pairs if one != other), (None, None))
         if one or other:
             at = min(it.at for it in (one, other) if it)
-            found.append((at, DIFFERS % (mote, words_of(one, kind), words_of(other, kind))))
+            found.append((at, differs % (mote, words_of(one, kind), words_of(other, kind))))
     return min(found, default=None)
 
 
@@ -263,17 +283,16 @@ def is_possible(command: Sequence[str], folder: Path) -> bool:
     return True
 
 
-def whole(it: InC, texts: Sequence[str], options: Options) -> str:
-    """The text that is compiled, made of the texts of the tokens. Each has a line of its own: a wait keeps its line as
+def whole(it: InC, texts: Sequence[str], has_queue: bool) -> list[str]:
+    """The lines that are compiled, made of the texts of the tokens. Each has a line of its own: a wait keeps its line as
     its place."""
     rows = [token.text for token in tokens_in(it.source)]
     drawing = ', '.join(['&' + name for name in it.translation.drawing] + ['NULL'])
     receiver = '&' + it.translation.receiver if it.translation.receiver else 'NULL'
-    return '\n'.join(['#include "library.h"', *as_on_node(texts),
-                      'const int library_has_text = %d;' % any(map(PRINTS.fullmatch, rows)),
-                      'const int library_writes_zero = %d;' % bool(ZERO.search(' '.join(rows))),
-                      'const int library_is_alone = %d;' % it.is_alone,
-                      'const int library_has_queue = %d;' % options.has_queue,
-                      'const struct process *const library_drawing[] = { %s };' % drawing,
-                      'const struct process *const library_receiver_of_packets = %s;' % receiver,
-                      'LIBRARY_PROGRAM(host_program_%d, "%s");' % (options.number, options.program), ''])
+    return ['#include "library.h"', *as_on_node(texts),
+            'const int library_has_text = %d;' % any(map(PRINTS.fullmatch, rows)),
+            'const int library_writes_zero = %d;' % bool(ZERO.search(' '.join(rows))),
+            'const int library_is_alone = %d;' % it.is_alone,
+            'const int library_has_queue = %d;' % has_queue,
+            'const struct process *const library_drawing[] = { %s };' % drawing,
+            'const struct process *const library_receiver_of_packets = %s;' % receiver]
