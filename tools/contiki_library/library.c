@@ -71,12 +71,21 @@ long_number(int32_t value)
   return value < 0 && value >= -32768 ? (uint16_t)value : (uint32_t)value;
 }
 
+/* A value that a node prints by `%d`; 0 if the program hides such values. */
+static uint16_t
+decimal_number(int value)
+{
+  int is_hidden = library_hides == 1 ? value > INT_MAX : library_hides == 2 && value < 0;
+
+  return is_hidden ? 0 : (uint16_t)value;
+}
+
 int
 library_print(const char *format, ...)
 {
   va_list values;
   const char *text = format;
-  int count = 0, is_long;
+  int count = 0, is_long, value;
 
   va_start(values, format);
   for(; *format != '\0'; format++) {
@@ -90,8 +99,12 @@ library_print(const char *format, ...)
       (void)va_arg(values, char *);
       continue;
     }
-    trace_print(PROCESS_CURRENT(), is_long ? long_number((int32_t)va_arg(values, long))
-                                           : (uint16_t)va_arg(values, int));
+    if(is_long) {
+      trace_print(PROCESS_CURRENT(), long_number((int32_t)va_arg(values, long)));
+    } else {
+      value = va_arg(values, int);
+      trace_print(PROCESS_CURRENT(), *format == 'd' || *format == 'i' ? decimal_number(value) : (uint16_t)value);
+    }
     count++;
   }
   va_end(values);
@@ -287,6 +300,9 @@ size_on_node(size_t size)
 #define UNSET   0xfe
 static unsigned char buffer[PACKETBUF_SIZE];
 static uint16_t length;
+/* A send writes its header in front of the data, and a further send sends this header as data. */
+#define HEADER  0xfd
+static int has_header;
 static rimeaddr_t sender;
 
 void *packetbuf_dataptr(void) { return buffer; }
@@ -301,11 +317,12 @@ packetbuf_addr(uint8_t type)
   return type == PACKETBUF_ADDR_SENDER ? &sender : library_address();
 }
 
-void packetbuf_clear(void) { length = 0; }
+void packetbuf_clear(void) { length = 0; has_header = 0; }
 
 int
 packetbuf_copyfrom(const void *from, uint16_t size)
 {
+  packetbuf_clear();
   length = size < PACKETBUF_SIZE ? (uint16_t)size_on_node(size) : PACKETBUF_SIZE;
   memmove(buffer, from, length);
   return length;
@@ -378,7 +395,12 @@ open_connection(enum kind kind, uint16_t channel, void *connection, const void *
 }
 /*---------------------------------------------------------------------------*/
 /* The latest packets, for all motes together: the copies of a packet have only a value. */
-struct sent_packet { int mote; uint16_t value; uint16_t length; enum kind kind; uint16_t channel; unsigned char second; };
+struct sent_packet {
+  int mote;
+  uint16_t value, length, channel;
+  enum kind kind;
+  unsigned char second, third;              /* (an address has three bytes here) */
+};
 #define SENT_PACKETS 4096
 static struct sent_packet sent_packets[SENT_PACKETS] __attribute__((section("library_of_all")));
 static unsigned sent_count __attribute__((section("library_of_all")));
@@ -422,6 +444,7 @@ send(const void *connection, uint16_t value)
   it->value = value;
   it->length = length;
   it->second = buffer[1];
+  it->third = buffer[2];
   it->kind = from->kind;
   it->channel = from->channel;
   motesim_send(value);
@@ -429,8 +452,12 @@ send(const void *connection, uint16_t value)
 }
 /*---------------------------------------------------------------------------*/
 static uint16_t
-word_in(void)
+word_to_send(void)
 {
+  if(has_header) {
+    memset(buffer, HEADER, BYTES);
+  }
+  has_header = 1;
   return (uint16_t)((length > 0 ? buffer[0] : 0) | (length > 1 ? buffer[1] << 8 : 0));
 }
 
@@ -459,7 +486,7 @@ unicast_open(struct unicast_conn *c, uint16_t channel, const struct unicast_call
 int
 abc_send(struct abc_conn *c)
 {
-  const struct abc_callbacks *calls = send(c, word_in());
+  const struct abc_callbacks *calls = send(c, word_to_send());
 
   if(calls != NULL && calls->sent != NULL) {
     calls->sent(c, MAC_TX_OK, 1);
@@ -470,7 +497,7 @@ abc_send(struct abc_conn *c)
 int
 broadcast_send(struct broadcast_conn *c)
 {
-  const struct broadcast_callbacks *calls = send(c, word_in());
+  const struct broadcast_callbacks *calls = send(c, word_to_send());
 
   if(calls != NULL && calls->sent != NULL) {
     calls->sent(c, MAC_TX_OK, 1);
@@ -485,7 +512,8 @@ broadcast_send(struct broadcast_conn *c)
 int
 unicast_send(struct unicast_conn *c, const rimeaddr_t *to)
 {
-  const struct unicast_callbacks *calls = send(c, (uint16_t)((to->u8[1] == 0 ? to->u8[0] : NO_MOTE) << 8 | buffer[0]));
+  uint16_t address = (uint16_t)(to->u8[1] == 0 ? to->u8[0] : NO_MOTE);
+  const struct unicast_callbacks *calls = send(c, (uint16_t)(address << 8 | (word_to_send() & 0xff)));
 
   if(calls != NULL && calls->sent != NULL) {
     calls->sent(c, MAC_TX_OK, 1);
@@ -519,10 +547,12 @@ deliver(int from, uint16_t value)
   const struct sent_packet *packet = sent_by(from, value);
   int i;
 
+  packetbuf_clear();
   memset(buffer, 0, sizeof(buffer));
   length = packet != NULL ? packet->length : BYTES;
   buffer[0] = (unsigned char)value;
   buffer[1] = length > 1 ? (unsigned char)(value >> 8) : UNSET;
+  buffer[2] = packet != NULL && length > 2 ? packet->third : 0;
   sender.u8[0] = (unsigned char)from;
   sender.u8[2] = 1;
   /* (the upper byte of the value is the mote; a packet from a program in the notation has one byte) */

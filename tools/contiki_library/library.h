@@ -56,12 +56,18 @@
 
 /*
  * The tables of a program: whether it calls printf, so that its LEDs aren't printed; whether it writes addresses of
- * zeros; whether nothing but its report is known; whether packets wait in the queue of events; its processes that draw random numbers; and the one in which the callback for packets draws them.
+ * zeros; whether nothing but its report is known; whether packets wait in the queue of events;
+ * its processes that draw random numbers; the one in which the callback for packets draws them;
+ * and which values of %d are printed as 0: 1 for those above the largest `int`, 2 for those below 0.
  */
+#ifndef LIBRARY_HIDES
+#define LIBRARY_HIDES 0
+#endif
 extern const int library_has_text;
 extern const int library_writes_zero;
 extern const int library_is_alone;
 extern const int library_has_queue;
+extern const int library_hides;
 extern const struct process *const library_drawing[];
 extern const struct process *const library_receiver_of_packets;
 extern struct process library_receiver;
@@ -69,6 +75,7 @@ extern struct host_memory library_memory[];
 extern const struct host_event library_events[];
 extern const struct host_timer library_timers[];
 #define LIBRARY_PROGRAM(table, name)                                                              \
+  const int library_hides = LIBRARY_HIDES;                                                         \
   const struct host_program table = {                                                              \
     name, library_memory, (struct process *const *)autostart_processes,                            \
     (struct process *const *)autostart_processes, &library_receiver, library_events, library_timers \
@@ -84,6 +91,11 @@ const rimeaddr_t *library_address(void);
 void library_qsort(void *base, size_t count, size_t size, short (*compare)(const void *, const void *));
 
 #define LIBRARY_IS_ADDRESS(x) __builtin_types_compatible_p(__typeof__(x), rimeaddr_t)
+
+/* The size of a variable. An address and a pointer have two bytes on a node; an array is no pointer. */
+#define LIBRARY_IS_POINTER(x)                                                                       \
+  (__builtin_classify_type(x) == 5 && __builtin_types_compatible_p(__typeof__(x), __typeof__(0 ? (x) : (x))))
+#define LIBRARY_SIZE_OF(x) ((unsigned short)(LIBRARY_IS_ADDRESS(x) || LIBRARY_IS_POINTER(x) ? 2 : sizeof(x)))
 
 /* The number of bytes that are copied into a variable; bytes that have no room there end the program. */
 size_t library_size(size_t size, size_t room);

@@ -25,7 +25,7 @@ from here import TOOLS
 from motesim.grading.command import remarks, status_of
 from motesim.grading.entries import Entry, anonymous, data_of, entries_of
 from motesim.grading.in_c import notation_of
-from motesim.grading.in_c import with_names
+from motesim.grading.in_c import names_in
 from motesim.grading.marking import BINARY, Task, page_name
 from motesim.grading.marks import Mark, Marks
 from motesim.grading.nets import cut_off, nets_of, program_of
@@ -253,7 +253,10 @@ PROCESS_THREAD(a, ev, data) {
         self.assertEqual(rows['ben.c'], rows['ada.c'])
         self.assertEqual(rows['cem.c'], rows['ada.c'])
         self.assertNotEqual(rows['dan.c'], rows['ada.c'])
-        self.assertEqual(with_names('PROCESS(b, "a"); int a;', ['a']), 'PROCESS(b, "a"); int a;')
+        self.assertEqual(names_in('PROCESS(b, "a"); int a;', ['a']), {})
+        named = program.replace('(a,', '(a_process,').replace('&a)', '&a_process)')
+        self.hand_in('fay.c', named.replace('  PROCESS_BEGIN();\n', ''))
+        self.assertIn('PROCESS_THREAD(a_process, ev, data) {', self.grade('--net', 'task.toml', '--why', 'fay.c'))
 
     def test_an_option_names_the_connection_of_programs_in_c(self) -> None:
         opens = 'broadcast_open(&bc, %d, NULL); printf("%%d", 3);'

@@ -27,7 +27,7 @@ from motesim.grading.nets import Net
 from motesim.grading.node_types import as_on_node
 from motesim.grading.page import page_of
 from motesim.grading.tables import why
-from motesim.grading.variants import OF_CHARACTERS, OF_PAUSE, OF_QUEUE
+from motesim.grading.variants import OF_CHARACTERS, OF_PAUSE, OF_QUEUE, OF_SIGNED, OF_UNSIGNED
 from motesim.judge.expectations import known_of, parts_of, read_all
 from motesim.judge.sentences import names_of, read_sentence
 from motesim.runner import Limits
@@ -115,10 +115,13 @@ class Comparison(unittest.TestCase):
         pauses = '  %s PROCESS_PAUSE(); n = ev == PROCESS_EVENT_MSG; printf("%%d", n);'
         posts = ('  for(n = 0; n < %d; n++) { process_post(&p, PROCESS_EVENT_MSG, NULL); } '
                  'while(n > 0) { PROCESS_WAIT_EVENT(); printf("%%d", n--); }')
-        signs = '  { char c = (char)(%d + node_id); n = c; printf("%%d", n); }'
+        signs = '  { char c = (char)(%d + node_id); n = c; printf("%%u", n); }'
+        large = '  { uint16_t v = %d; printf("%%d", v + node_id); }'
+        below = '  n |= 1 << %d; printf("%%d", n);'
         for body, variant in ((pauses % '', None), (pauses % 'process_post(&p, PROCESS_EVENT_MSG, NULL);', OF_PAUSE),
                               (posts % 8, None), (posts % 9, OF_QUEUE), (signs % 100, None),
-                              (signs % 200, OF_CHARACTERS)):
+                              (signs % 200, OF_CHARACTERS), (large % 32766, None), (large % 32767, OF_UNSIGNED),
+                              (below % 14, None), (below % 15, OF_SIGNED)):
             source = in_process(body, RADIO.replace('rime.h"', 'rime.h"\n#include "sys/node-id.h"'), '  ' + TIMER)
             its = self.in_c(source)
             found = self.compiled.difference(its, 'p', answer(its.scenario.encode()).report)
@@ -126,11 +129,38 @@ class Comparison(unittest.TestCase):
             self.assertEqual(found.words, '', body)
             self.assertEqual([it.text for it, _ in found.variants], [variant.remark] if variant else [], body)
             text = remarks_in([in_net(found)], source)[0].text if variant else ''
-            self.assertRegex(text, r', mote 0 prints \S+ .*, but here it prints .* \(in n\)$' if variant else '^$')
+            self.assertRegex(text, r'(, mote 0 prints \S+ .*, but here it|mote \d) prints .* \(in n\)$'
+                             if variant else '^$')
             length = its.scenario.replace('[programs]', '[queue]\np = 32\n[programs]')
             if variant is OF_QUEUE:
                 own = self.compiled.difference(its._replace(scenario=length), 'p', answer(length.encode()).report)
                 self.assertEqual(own, found._replace(variants=(), report=b''))
+
+    def test_a_packet_that_is_sent_again_begins_with_the_header_of_the_first_one(self) -> None:
+        again = self.counting('1').replace('broadcast_send(&bc);', 'broadcast_send(&bc); broadcast_send(&bc);')
+        for source, is_same in ((self.counting('1'), True), (again, False), (again.replace(
+                'broadcast_send(&bc); broadcast', 'broadcast_send(&bc); packetbuf_copyfrom(&n, 2); broadcast'), True)):
+            found = self.difference(source)
+            self.assertRegex(found, r'^$' if is_same else r'sends 65021 at .*; see the remark on line \d+$')
+
+    def test_a_pointer_has_two_bytes_and_an_array_has_all_of_its_bytes(self) -> None:
+        above = RADIO + """
+static int list[5] = {1, 2, 3, 4, 5}; static struct { int a, b; } pair; static int sized[sizeof(list)];
+static int sum(int *a, int b[5]) { int at, s = 0; for(at = 0; at < sizeof(a) / sizeof(a[0]); at++) { s += b[at]; }
+  return s + (int)sizeof b; }"""
+        for body, value in (('sum(list, list)', 3), ('(int)sizeof(list)', 10), ('(int)sizeof(pair)', 4),
+                            ('(int)(sizeof(sized) / sizeof(sized[0]))', 10), ('(int)sizeof(n)', 2)):
+            source = in_process('  printf("%%d", %s);' % body, above, '  ' + TIMER)
+            report = self.compiled.report(self.in_c(source, in_process('', RADIO, '  ' + TIMER)), 'p')
+            self.assertEqual([it.value for it in deeds_in(report)[0]], [value], body)
+
+    def test_a_packet_may_be_an_address(self) -> None:
+        prints = 'struct m { rimeaddr_t of; } *m = packetbuf_dataptr(); printf("%d", rimeaddr_cmp(&m->of, from));'
+        above = RADIO.replace('printf("%d", *(int *)packetbuf_dataptr());', prints)
+        fills = 'static struct { rimeaddr_t of; } m; rimeaddr_copy(&m.of, &rimeaddr_node_addr);'
+        body = ('  broadcast_open(&bc, 129, &calls); { %s packetbuf_copyfrom(&m, sizeof(m)); broadcast_send(&bc); } '
+                'PROCESS_WAIT_EVENT();' % fills)
+        self.assertEqual(self.difference(in_process(body, above, '  ' + TIMER)), '')
 
     def test_a_remark_about_a_variant_has_no_values_of_a_hidden_net(self) -> None:
         remark = Remark(7, 'It depends. With 8, ', True, False)
@@ -564,7 +594,8 @@ PROCESS_THREAD(q, ev, data) { PROCESS_BEGIN(); printf("%d", random_rand() & 15);
                 its = InC(path.read_text(), found, IN_A_ROW % (ENDS.get(path.stem, 1_000), found.text))
                 self.compiled.report(its, 'p')
                 found = self.compiled.difference(its, 'p', answer(its.scenario.encode()).report)
-                self.assertEqual(found, Difference(''))
+                assert found
+                self.assertEqual(found._replace(variants=()), Difference(''))
 
 
 class Callbacks(unittest.TestCase):

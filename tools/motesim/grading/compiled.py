@@ -61,8 +61,9 @@ ON_NODE = '; a node probably does the same as the compiled program'
 OF_UNSET = ('; a local variable, or a part of it, has no value there: the program assigns none before, or it isn\'t '
             '`static`, and its value is lost at a wait')
 OF_REMARK = '; see the remark on line %d'
-DIFFERS = 'compiled by gcc, mote %d %s, but its translation %s'
-OF_VARIANT = 'mote %d %s, but here it %s'
+DIFFERS = 'compiled by gcc, mote {mote} {theirs}, but its translation {ours}'
+# The largest value of an `int`.
+LARGE = 32_767
 
 
 class NoComparison(Exception):
@@ -196,9 +197,11 @@ class Compiled:
         """The remarks about variants of a node with which a program does something else, and the words about this.
         `report`: that of the compiled program."""
         found = []
-        for variant, remark in variants_of(tokens_in(it.source), program in Scenario.parse(it.scenario).queue):
+        has_length = program in Scenario.parse(it.scenario).queue
+        has_large = any(one.kind == 'print' and one.value > LARGE for deeds in deeds_in(report) for one in deeds)
+        for variant, remark in variants_of(tokens_in(it.source), has_length, has_large):
             try:
-                differs = first(it, program, self.report(it, program, variant.of(PLAIN)), report, OF_VARIANT)
+                differs = first(it, program, self.report(it, program, variant.of(PLAIN)), report, variant.words)
             except NoComparison:
                 continue
             except Crash as crash:
@@ -253,7 +256,8 @@ def first_difference(mote: int, compiled: Sequence[Deed], translated: Sequence[D
         one, other = next(((one, other) for one, other in pairs if one != other), (None, None))
         if one or other:
             at = min(it.at for it in (one, other) if it)
-            found.append((at, differs % (mote, words_of(one, kind), words_of(other, kind))))
+            words = differs.format(mote=mote, theirs=words_of(one, kind), ours=words_of(other, kind))
+            found.append((at, words))
     return min(found, default=None)
 
 

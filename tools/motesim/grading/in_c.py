@@ -2,7 +2,7 @@
 from __future__ import annotations
 
 import re
-from collections.abc import Iterable, Sequence
+from collections.abc import Iterable, Mapping, Sequence
 
 from motesim.c_program import compiler
 from motesim.c_program.constants import SECOND
@@ -83,14 +83,25 @@ def lacks_of(source: str) -> tuple[Remark, ...]:
         return ()
 
 
-def with_names(source: str, wanted: Iterable[str]) -> str:
-    """A program in which a process has its second name in C, such as `hb` of `PROCESS(hb_process, "hb")`, if sentences
-    use this name, and not the first one."""
-    for first, second in PROCESS.findall(source):
-        is_free = not re.search(r'\b%s\b' % re.escape(second), TEXT.sub('', source))
-        if second in wanted and first not in wanted and is_free:
-            source = re.sub(r'\b%s\b' % first, second, source)
+def names_in(source: str, wanted: Iterable[str]) -> dict[str, str]:
+    """The processes that have a second name in C, such as `hb` of `PROCESS(hb_process, "hb")`, if sentences use this name,
+    and not the first one: the first name for each second one."""
+    return {second: first for first, second in PROCESS.findall(source) if second in wanted and first not in wanted
+            and not re.search(r'\b%s\b' % re.escape(second), TEXT.sub('', source))}
+
+
+def with_names(source: str, names: Mapping[str, str]) -> str:
+    """A program with the second names of processes."""
+    for second, first in names.items():
+        source = re.sub(r'\b%s\b' % first, second, source)
     return source
+
+
+def without_names(text: str, names: Mapping[str, str]) -> str:
+    """A text about a program with the first names of processes, but not in a text of C."""
+    for second, first in names.items():
+        text = re.sub(r'(?<!")\b%s\b' % second, first, text)
+    return text
 
 
 def notation_of(source: str) -> str:

@@ -17,7 +17,9 @@ from motesim.grading.by_gcc import (
 from motesim.grading.compiled import Compiled, Difference, InC
 from motesim.grading.connections import Connection, remarks_on
 from motesim.grading.entries import Entry, data_of, without_program
-from motesim.grading.in_c import NotTranslated, in_words_of_c, lacks_of, made_of, origin_of, with_names
+from motesim.grading.in_c import (
+    NotTranslated, in_words_of_c, lacks_of, made_of, names_in, origin_of, with_names, without_names,
+)
 from motesim.grading.marks import LONGEST_WHY, OTHER_PROCESS, InNet, Mark, Marks, over_nets, spread, unmarked
 from motesim.grading.nets import NOT_UTF8, Net, NoProgram, program_of, unused_of
 from motesim.grading.warned import in_lines_of_c, net_warned, seen_of, warned_of
@@ -81,13 +83,12 @@ class Task:
     compiled: Compiled | None = None
     connections: tuple[Connection, ...] = ()
 
-    def data_of(self, entry: Entry) -> bytes:
-        """The bytes of a solution. The processes of a program in C have the names that sentences use."""
-        data = data_of(entry)
+    def names_in(self, entry: Entry, data: bytes) -> dict[str, str]:
+        """The second names of a program's processes in C that sentences use."""
         if entry.path.suffix != '.c' or not encodings.is_text(data) or encodings.encoding_of(data):
-            return data
-        wanted = [name for it in self.part.sentences for name in PRINTS.findall(it)]
-        return with_names(encodings.text_of_c(data), wanted).encode()
+            return {}
+        wanted = [it for words in self.part.sentences for it in PRINTS.findall(words)]
+        return names_in(encodings.text_of_c(data), wanted)
 
     def of(self, numbered: tuple[int, Entry]) -> Marks:
         """The marks of an entry."""
@@ -96,9 +97,21 @@ class Task:
             return Marks(entry.name, why=entry.why, is_solution=entry.is_solution)
         if entry.path.suffix in ('.mote', '.c') and not self.nets:
             return Marks(entry.name, why='a program needs a net: name one with --net')
-        data = b''
         try:
-            data = self.data_of(entry)
+            data = data_of(entry)
+        except Fault as fault:
+            return Marks(entry.name, why=str(fault))
+        names = self.names_in(entry, data)
+        if names:
+            data = with_names(encodings.text_of_c(data), names).encode()
+        row = self.of_data(number, entry, data)
+        fix, warned = (tuple(without_names(it, names) for it in its) for its in (row.fix, row.warned))
+        return replace(row, fix=fix, warned=warned,
+                       of_c=tuple(it._replace(text=without_names(it.text, names)) for it in row.of_c))
+
+    def of_data(self, number: int, entry: Entry, data: bytes) -> Marks:
+        """The marks of an entry that has these bytes."""
+        try:
             lacks = without_program(entry, data)
             if lacks:
                 return Marks(entry.name, why=lacks)

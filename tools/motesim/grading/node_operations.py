@@ -76,14 +76,17 @@ class Operations(FileReader):
         return found
 
     def size(self) -> Expression:
-        """The size of an address, which has two bytes on a node."""
+        """The size of a type or of a variable. An address and a pointer have two bytes on a node."""
         start = self.at
         found = super().size()
-        name = found.parts[0].variable if found.kind == 'sizeof' and found.parts[0].kind == 'name' else None
-        is_type = [it.text for it in self.tokens[start + 2:self.at - 1]] in (['rimeaddr_t'], ['linkaddr_t'])
+        size = ''
+        if [it.text for it in self.tokens[start + 2:self.at - 1]] in (['rimeaddr_t'], ['linkaddr_t']):
+            size = '((unsigned short)2)'
+        elif found.kind == 'sizeof' and found.parts[0].kind == 'name':
+            size = 'LIBRARY_SIZE_OF(%s)' % found.parts[0].text
         # (the number of the members of an array depends on the size that they have here)
-        if (is_type or name and name.type.kind == 'address') and self.texts[start - 1] != '/':
-            self.texts[start:self.at] = ['((unsigned short)2)', *[''] * (self.at - start - 1)]
+        if size and self.texts[start - 1] != '/':
+            self.texts[start:self.at] = [size, *[''] * (self.at - start - 1)]
         return found
 
     def is_new(self, it: Expression, place: int) -> bool:
