@@ -151,7 +151,7 @@ def write_scenarios(folder: Path, entries: Sequence[Entry], task: Task) -> None:
             try:
                 if entry.why:
                     raise Fault(entry.why)
-                text = net.with_program(program_of(task.data_of(entry), entry.path.name, net.program))
+                text = net.with_program(program_of(task.named(entry, data_of(entry))[0], entry.path.name, net.program))
             except Fault as fault:
                 print('grade: %s isn\'t written: %s' % (one_line(entry.name), fault), file=sys.stderr)
                 break

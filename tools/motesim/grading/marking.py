@@ -83,12 +83,14 @@ class Task:
     compiled: Compiled | None = None
     connections: tuple[Connection, ...] = ()
 
-    def names_in(self, entry: Entry, data: bytes) -> dict[str, str]:
-        """The second names of a program's processes in C that sentences use."""
+    def named(self, entry: Entry, data: bytes) -> tuple[bytes, dict[str, str]]:
+        """A solution whose processes in C have the names that sentences use, and their first name for each such name."""
         if entry.path.suffix != '.c' or not encodings.is_text(data) or encodings.encoding_of(data):
-            return {}
+            return data, {}
         wanted = [it for words in self.part.sentences for it in PRINTS.findall(words)]
-        return names_in(encodings.text_of_c(data), wanted)
+        source = encodings.text_of_c(data)
+        names = names_in(source, wanted)
+        return with_names(source, names).encode() if names else data, names
 
     def of(self, numbered: tuple[int, Entry]) -> Marks:
         """The marks of an entry."""
@@ -98,12 +100,9 @@ class Task:
         if entry.path.suffix in ('.mote', '.c') and not self.nets:
             return Marks(entry.name, why='a program needs a net: name one with --net')
         try:
-            data = data_of(entry)
+            data, names = self.named(entry, data_of(entry))
         except Fault as fault:
             return Marks(entry.name, why=str(fault))
-        names = self.names_in(entry, data)
-        if names:
-            data = with_names(encodings.text_of_c(data), names).encode()
         row = self.of_data(number, entry, data)
         fix, warned = (tuple(without_names(it, names) for it in its) for its in (row.fix, row.warned))
         return replace(row, fix=fix, warned=warned,
