@@ -257,6 +257,9 @@ PROCESS_THREAD(a, ev, data) {
         named = program.replace('(a,', '(a_process,').replace('&a)', '&a_process)')
         self.hand_in('fay.c', named.replace('  PROCESS_BEGIN();\n', ''))
         self.assertIn('PROCESS_THREAD(a_process, ev, data) {', self.grade('--net', 'task.toml', '--why', 'fay.c'))
+        self.hand_in('gus.c', named.replace('a_process', 'neighbour_process').replace('"a"', '"neighbours"'))
+        self.assertIn('no process `a` (it has `neighbou_process`, in C `neighbour_process`)',
+                      self.grade('--net', 'task.toml', '--why', 'gus.c'))
 
     def test_an_option_names_the_connection_of_programs_in_c(self) -> None:
         opens = 'broadcast_open(&bc, %d, NULL); printf("%%d", 3);'

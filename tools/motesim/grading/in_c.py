@@ -6,6 +6,7 @@ from collections.abc import Iterable, Mapping, Sequence
 
 from motesim.c_program import compiler
 from motesim.c_program.constants import SECOND
+from motesim.c_program.names import is_changed, similar
 from motesim.c_program.origin import Origin
 from motesim.c_program.program import Translation
 from motesim.c_program.refusal import Misspelt, Mistake, Refusal
@@ -102,6 +103,14 @@ def without_names(text: str, names: Mapping[str, str]) -> str:
     for second, first in names.items():
         text = re.sub(r'(?<!")\b%s\b' % second, first, text)
     return text
+
+
+def with_first_names(message: str, source: str) -> str:
+    """A message in which a process that has a shorter name in the notation has its name in C, too."""
+    for first, _ in PROCESS.findall(source):
+        if is_changed(first):
+            message = message.replace('`%s`' % similar(first), '`%s`, in C `%s`' % (similar(first), first))
+    return message
 
 
 def notation_of(source: str) -> str:

@@ -18,7 +18,7 @@ from motesim.grading.compiled import Compiled, Difference, InC
 from motesim.grading.connections import Connection, remarks_on
 from motesim.grading.entries import Entry, data_of, without_program
 from motesim.grading.in_c import (
-    NotTranslated, in_words_of_c, lacks_of, made_of, names_in, origin_of, with_names, without_names,
+    NotTranslated, in_words_of_c, lacks_of, made_of, names_in, origin_of, with_first_names, with_names, without_names,
 )
 from motesim.grading.marks import LONGEST_WHY, OTHER_PROCESS, InNet, Mark, Marks, over_nets, spread, unmarked
 from motesim.grading.nets import NOT_UTF8, Net, NoProgram, program_of, unused_of
@@ -209,7 +209,7 @@ class Task:
         that the solution has; if it is empty, all programs of the scenario are the solution's. `in_c` is the text of
         this program in C, if it is compared with its translation."""
         known, names = known_of(text)
-        lacks = [lacking(it, names) for it in self.part.sentences]
+        lacks = [with_first_names(lacking(it, names), in_c) for it in self.part.sentences]
         part = replace(self.part, sentences=[it for it, lack in zip(self.part.sentences, lacks) if not lack])
         sentences = read_all(part.sentences, names)
         got = self.answer(text.encode())
