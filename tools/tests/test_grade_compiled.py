@@ -451,11 +451,13 @@ PROCESS_THREAD(q, ev, data) {
         task = Task(part, (net,), Limits(), compiled=self.compiled)
 
         def words_of(text: str) -> str:
-            marks, crash = untranslated(text, self.compiled, part, (net,))
-            return crash + by_gcc_words(marks)
+            found = untranslated(text, self.compiled, part, (net,))
+            return found.crash + by_gcc_words(found.marks) + on_node(found.remarks)
 
         for more, mark in (
                 ('', BY_GCC % (1, 2)), ('printf("%d", list_length(items) + 3);', BY_GCC % (2, 2)),
+                ('{ char c = (char)200; if(c > 0) { printf("%d", 9); } }',
+                 BY_GCC % (1, 2) + 'on a node, line 26 may do something else'),
                 ('system("true");', ''), ('__asm__("nop");', ''), ('list_add(items, NULL);', CRASHES)):
             self.assertEqual(words_of(source.replace('%s', more)), mark, more)
         self.assertEqual(words_of('PROCESS_THREAD('), '')

@@ -2,11 +2,11 @@
 from __future__ import annotations
 
 from collections.abc import Callable, Sequence
-from typing import TypeVar
+from typing import NamedTuple, TypeVar
 
 from motesim.c_program.remark import Remark
 from motesim.faults import Fault, tried
-from motesim.grading.compiled import Compiled, Crash, InC, NoComparison
+from motesim.grading.compiled import Compiled, Crash, Difference, InC, NoComparison
 from motesim.grading.in_c import remarks_of
 from motesim.grading.marks import InNet, Mark, number_held, over_nets, spread
 from motesim.grading.nets import Net
@@ -90,21 +90,29 @@ def mark_of(words: str, sentence: Sentence, judges: Sequence[Judge]) -> Mark:
     return Mark(words, why is None, more=tuple(more_of(why, judges[-1].rows)) if why else ())
 
 
-def untranslated(source: str, compiled: Compiled | None, part: Part, nets: Sequence[Net]
-                 ) -> tuple[tuple[Mark, ...], str]:
-    """The marks of a compiled program that can't be translated, if it has some, and the words about a mistake that ends
-    it."""
+class Untranslated(NamedTuple):
+    """The marks of a compiled program that can't be translated, if it has some; the words about a mistake that ends it; and
+    the remarks about variants of a node."""
+    marks: tuple[Mark, ...] = ()
+    crash: str = ''
+    remarks: Sequence[Remark] = ()
+
+
+def untranslated(source: str, compiled: Compiled | None, part: Part, nets: Sequence[Net]) -> Untranslated:
+    """Compiles a program that can't be translated, and runs it in all nets."""
     outline = outline_of(source)
     if compiled is None or outline is None:
-        return (), ''
+        return Untranslated()
     try:
         found = [in_net(InC(source, outline, net.with_program(outline.text), True), compiled, part, net)
                  for net in nets]
     except NoComparison:
-        return (), ''
+        return Untranslated()
     except Crash as crash:
-        return (), str(crash)
-    return over_nets(found, part.required) if all(it.marks for it in found) else (), ''
+        return Untranslated(crash=str(crash))
+    if not all(it.marks for it in found):
+        return Untranslated()
+    return Untranslated(over_nets(found, part.required), '', variants_in(found))
 
 
 def in_net(its: InC, compiled: Compiled, part: Part, net: Net) -> InNet:
@@ -112,9 +120,11 @@ def in_net(its: InC, compiled: Compiled, part: Part, net: Net) -> InNet:
     scenario, names = Scenario.parse(its.scenario), known_of(its.scenario)[1]
     lacks = [lacking(it, names) for it in part.sentences]
     known = [it for it, lack in zip(part.sentences, lacks) if not lack]
-    marks = marks_of(compiled.report(its, net.program), scenario, net.program, [*zip(known, read_all(known, names))])
+    report = compiled.report(its, net.program)
+    marks = marks_of(report, scenario, net.program, [*zip(known, read_all(known, names))])
+    differs = Difference('', variants=compiled.variants(its, net.program, report))
     return InNet(spread(marks, part.sentences, lacks) if marks or not known else (), lacks, '', None, [],
-                 net=net.name, is_hidden=net.is_hidden)
+                 differs=differs, net=net.name, is_hidden=net.is_hidden)
 
 
 def without_fault(work: Callable[[], Result]) -> Result | None:

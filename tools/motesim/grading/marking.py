@@ -12,13 +12,15 @@ from motesim.explain.within import busiest
 from motesim.faults import Fault, tried
 from motesim.files import replace_whole
 from motesim.grading.by_gcc import (
-    by_gcc_in, by_gcc_words, difference_in, differences_in, marks_of, remarks_in, untranslated, without_fault,
+    Untranslated, by_gcc_in, by_gcc_words, difference_in, differences_in, marks_of, remarks_in, untranslated,
+    without_fault,
 )
 from motesim.grading.compiled import Compiled, Difference, InC
 from motesim.grading.connections import Connection, remarks_on
 from motesim.grading.entries import Entry, data_of, without_program
 from motesim.grading.in_c import (
-    NotTranslated, in_words_of_c, lacks_of, made_of, names_in, origin_of, with_first_names, with_names, without_names,
+    NotTranslated, in_words_of_c, lacks_of, made_of, names_in, on_node, origin_of, with_first_names, with_names,
+    without_names,
 )
 from motesim.grading.marks import LONGEST_WHY, OTHER_PROCESS, InNet, Mark, Marks, over_nets, spread, unmarked
 from motesim.grading.nets import NOT_UTF8, Net, NoProgram, program_of, unused_of
@@ -254,11 +256,10 @@ class Task:
         """The row of a program in C of which only the compiled program has marks. The row doesn't depend on them, so an
         error in them leaves them out."""
         source = encodings.text_of_c(data).removeprefix(MARK)
-        found = without_fault(lambda: untranslated(source, self.compiled, self.part, self.nets))
-        marks, crash = found or ((), '')
-        why = '; '.join(filter(None, (row.why, crash, by_gcc_words(marks))))
-        return replace(row, why=why, by_gcc=marks,
-                       of_c=(*lacks_of(source), *remarks_on(source, self.connections)))
+        found = without_fault(lambda: untranslated(source, self.compiled, self.part, self.nets)) or Untranslated()
+        why = '; '.join(filter(None, (row.why, found.crash, by_gcc_words(found.marks), on_node(found.remarks))))
+        return replace(row, why=why, by_gcc=found.marks,
+                       of_c=(*found.remarks, *lacks_of(source), *remarks_on(source, self.connections)))
 
     def answer(self, scenario: bytes) -> Answer:
         """The answer of `motesim`, within the limits. The error at a limit says what the run does most often."""
