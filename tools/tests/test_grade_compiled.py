@@ -149,7 +149,8 @@ static int list[5] = {1, 2, 3, 4, 5}; static struct { int a, b; } pair; static i
 static int sum(int *a, int b[5]) { int at, s = 0; for(at = 0; at < sizeof(a) / sizeof(a[0]); at++) { s += b[at]; }
   return s + (int)sizeof b; }"""
         for body, value in (('sum(list, list)', 3), ('(int)sizeof(list)', 10), ('(int)sizeof(pair)', 4),
-                            ('(int)(sizeof(sized) / sizeof(sized[0]))', 10), ('(int)sizeof(n)', 2)):
+                            ('(int)(sizeof(sized) / sizeof(sized[0]))', 10), ('(int)sizeof(n)', 2),
+                            ('(int)sizeof(char *)', 2), ('(int)(2 * sizeof(int *) / 8)', 2)):
             source = in_process('  printf("%%d", %s);' % body, above, '  ' + TIMER)
             report = self.compiled.report(self.in_c(source, in_process('', RADIO, '  ' + TIMER)), 'p')
             self.assertEqual([it.value for it in deeds_in(report)[0]], [value], body)
@@ -161,6 +162,18 @@ static int sum(int *a, int b[5]) { int at, s = 0; for(at = 0; at < sizeof(a) / s
         body = ('  broadcast_open(&bc, 129, &calls); { %s packetbuf_copyfrom(&m, sizeof(m)); broadcast_send(&bc); } '
                 'PROCESS_WAIT_EVENT();' % fills)
         self.assertEqual(self.difference(in_process(body, above, '  ' + TIMER)), '')
+
+    def test_constants_have_the_values_of_a_node(self) -> None:
+        for constant, value in (('200 * 200 / 200', -127), ('200 * 200 > 0', 0), ('200L * 200 / 200', 200),
+                                ('200u * 200 / 200', 200), ('(uint16_t)200 * 200 / 200', 200), ('300 * 300 / 300', 81),
+                                ('-(-32767 - 1) / 2', -16384), ('~0u / 2', 32767), ('(0 - 1u) / 2', 32767),
+                                ('1 ? 40 * 1000 / 1000 : 2', -25), ('sizeof(int) - 3 > 0', 1), ('!0 << 15 > 0', 0),
+                                ('40000 / 2', 20000), ('(uint8_t)300 + UINT16_MAX', 43), ('0x7fff + 1 > 0', 0)):
+            source = in_process('  { static int v = %s; printf("%%d", v); }' % constant)
+            report = self.compiled.report(self.in_c(source, in_process('')), 'p')
+            self.assertEqual([it.value for it in deeds_in(report)[0]], [value % 65_536], constant)
+        source = in_process('  { static int v = 200 * 200 / 200; printf("%d", v); }')
+        self.assertIn('mote 0 prints 65409 at 0, but its translation prints 200 at 0', self.difference(source))
 
     def test_a_remark_about_a_variant_has_no_values_of_a_hidden_net(self) -> None:
         remark = Remark(7, 'It depends. With 8, ', True, False)

@@ -10,7 +10,7 @@ from __future__ import annotations
 
 from collections.abc import Sequence
 
-from motesim.c_program.constants import constant_of
+from motesim.c_program.constants import NotConstant, constant_of
 from motesim.c_program.parse_expressions import LEVELS
 from motesim.c_program.parse_file import FileReader
 from motesim.c_program.refusal import Refusal
@@ -18,16 +18,20 @@ from motesim.c_program.tokens import Token
 from motesim.c_program.tree import Expression
 from motesim.c_program.types import INT, UNSIGNED
 from motesim.c_program.walk import parts_of
+from motesim.grading.node_constants import on_node
 
 TESTS, LOGICAL, SHIFTS = ('==', '!=', '<', '<=', '>', '>='), ('&&', '||', '!'), ('<<', '>>')
 # (the macro for a choice has each of its operands four times)
 MOST_NESTED = 4
+# The signs in front of the size of a member.
+OF_ARRAYS = '*', '/'
 # The macros that say of which kind an operand is: by its type; an `int`; an `unsigned int`.
 BY_TYPE, AS_INT, AS_UNSIGNED = 'LIBRARY_TYPE', 'LIBRARY_INT', 'LIBRARY_UNSIGNED'
 
 
 class Operations(FileReader):
-    """Reads a file, and writes macros around the operations that aren't constant. Those of the operands are inside."""
+    """Reads a file, and writes macros around the operations that aren't constant. Those of the operands are inside.
+    Constants that have another value on a node get this value."""
 
     def __init__(self, tokens: Sequence[Token]):
         super().__init__(tokens)
@@ -64,6 +68,7 @@ class Operations(FileReader):
                 name = {**dict.fromkeys(SHIFTS, 'SHIFT'), **dict.fromkeys(TESTS, 'COMPARE')}.get(sign.text, 'BINARY')
                 self.write(start, 'LIBRARY_' + name, sign.text, kind_of(left), kind_of(right))
                 self.texts[place] = ','
+            self.fold(found, start)
             left = found
         return left
 
@@ -73,19 +78,20 @@ class Operations(FileReader):
         if found.kind == 'unary' and found.text in '-~' and self.is_new(found, start):
             self.texts[start] = ''
             self.write(start, 'LIBRARY_UNARY', found.text, kind_of(found.parts[0]))
+        self.fold(found, start)
         return found
 
     def size(self) -> Expression:
         """The size of a type or of a variable. An address and a pointer have two bytes on a node."""
         start = self.at
         found = super().size()
-        size = ''
-        if [it.text for it in self.tokens[start + 2:self.at - 1]] in (['rimeaddr_t'], ['linkaddr_t']):
+        words, size = [it.text for it in self.tokens[start + 2:self.at - 1]], ''
+        if found.kind == 'number' and (words in (['rimeaddr_t'], ['linkaddr_t']) or words[-1:] == ['*']):
             size = '((unsigned short)2)'
         elif found.kind == 'sizeof' and found.parts[0].kind == 'name':
             size = 'LIBRARY_SIZE_OF(%s)' % found.parts[0].text
         # (the number of the members of an array depends on the size that they have here)
-        if size and self.texts[start - 1] != '/':
+        if size and self.texts[start - 1] not in OF_ARRAYS and self.token.text != '*':
             self.texts[start:self.at] = [size, *[''] * (self.at - start - 1)]
         return found
 
@@ -94,6 +100,17 @@ class Operations(FileReader):
         is_new = constant_of(it) is None and place not in self.seen
         self.seen.add(place)
         return is_new
+
+    def fold(self, it: Expression, start: int) -> None:
+        """Writes the value that a constant has on a node, if it is another one than in mathematics."""
+        if it.kind not in ('binary', 'unary') or constant_of(it) is None:
+            return
+        try:
+            its = on_node(it)
+        except NotConstant:
+            return
+        if its.value != constant_of(it):
+            self.texts[start:self.at] = [its.text, *[''] * (self.at - start - 1)]
 
     def write(self, start: int, *words: str) -> None:
         """Writes a macro with its first arguments around the tokens behind a start."""
