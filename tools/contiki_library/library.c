@@ -521,23 +521,27 @@ unicast_send(struct unicast_conn *c, const rimeaddr_t *to)
   return 1;
 }
 
+/* The callback gets an address that is gone when it has ended, as a local variable is. */
 static void
 call(const struct opened *it, uint16_t value)
 {
   const struct abc_callbacks *of_abc = it->calls;
   const struct broadcast_callbacks *of_broadcast = it->calls;
   const struct unicast_callbacks *of_unicast = it->calls;
+  static rimeaddr_t from;
 
   if(it->calls == NULL) {
     return;
   }
+  from = sender;
   if(it->kind == UNICAST && value >> 8 == mote_number() && of_unicast->recv != NULL) {
-    of_unicast->recv(it->connection, &sender);
+    of_unicast->recv(it->connection, &from);
   } else if(it->kind == BROADCAST && of_broadcast->recv != NULL) {
-    of_broadcast->recv(it->connection, &sender);
+    of_broadcast->recv(it->connection, &from);
   } else if(it->kind == ABC && of_abc->recv != NULL) {
     of_abc->recv(it->connection);
   }
+  memset(&from, UNSET, sizeof(from));
 }
 
 /* A packet from a program in the notation is for the connection that was opened last. */

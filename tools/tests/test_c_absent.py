@@ -7,6 +7,7 @@ from motesim.c_program.others import with_others
 from motesim.c_program.parse_file import read_file
 from motesim.c_program.program import translated
 from motesim.c_program.refusal import Mistake, Refusal
+from motesim.grading.in_c import on_node
 from student_programs import PROGRAMS
 from translated_c import in_process, translation
 
@@ -276,6 +277,18 @@ static const struct broadcast_callbacks calls = {recv};'''
                 translated('#include "%s"\n' % path + in_process('  ;'))
         for path in 'sys/mt.h', 'net/rime/runicast.h', 'dev/etimer.h', 'lib/list.h', 'net/other.h':
             self.assertIsNotNone(translated('#include "%s"\n' % path + in_process('  ;')))
+
+    def test_a_header_that_is_not_known_has_a_remark(self) -> None:
+        for path, meant in (('dev/led.h', 'dev/leds.h'), ('dev/leds.c', 'dev/leds.h'), ('dev/foo.h', ''),
+                            ('net/nullnet/nullnet.h', ''), ('dev/etimer.h', 'sys/etimer.h')):
+            found = translated('#include "%s"\n' % path + in_process('  ;')).remarks[0]
+            self.assertEqual((found.line, found.is_mistake, found.is_seen), (1, True, False))
+            self.assertIn('The header `%s` isn\'t known here.' % path, found.text)
+            self.assertTrue(found.text.endswith(' Do you mean `%s`?' % meant if meant else 'this line.'), found.text)
+            self.assertEqual(on_node([found]), 'gcc may refuse line 1, because its header isn\'t known here')
+        for path in 'dev/leds.h', 'dev/cc2420.h', 'net/ipv6/uip-ds6.h', 'cfs/cfs.h', 'stdio.h', 'contiki-net.h':
+            self.assertEqual([it for it in translated('#include "%s"\n' % path + in_process('  ;')).remarks
+                              if it.is_mistake], [], path)
 
     def test_a_program_with_a_printf_prints_no_leds(self) -> None:
         above = 'static void show(void) { printf("%d", leds_get()); }'

@@ -77,6 +77,13 @@ class Checks(unittest.TestCase):
             self.assertIn('no effect', warned.text)
             self.assertEqual(on_node([lacks]), 'gcc refuses line %d, because an #include is missing' % lacks.line)
 
+    def test_the_files_of_the_radio_are_in_no_file_of_another_part(self) -> None:
+        last = HEAD.splitlines(True)[-1]
+        for path, is_lacking in (('net/ipv6/uip-ds6.h', True), ('dev/cc2420.h', True), ('contiki-net.h', False),
+                                 ('net/rime/mesh.h', False), ('shared.h', False)):
+            found = check('#include "%s"\n' % path + last + PROGRAM % '')
+            self.assertEqual(['`#include "net/rime.h"`' in it.text for it in found], [True] * is_lacking, path)
+
     def test_certain_errors_differ_from_missing_parts_of_contiki(self) -> None:
         for line, wanted in (('done = 1', True), ('static struct runicast_conn c; runicast_open(&c, 1, NULL);', False),
                              ('done = 1;', False), ('done = node_id;', False), ('if(done == 1 { }', True),

@@ -175,6 +175,20 @@ static int sum(int *a, int b[5]) { int at, s = 0; for(at = 0; at < sizeof(a) / s
         source = in_process('  { static int v = 200 * 200 / 200; printf("%d", v); }')
         self.assertIn('mote 0 prints 65409 at 0, but its translation prints 200 at 0', self.difference(source))
 
+    def test_the_address_of_a_callback_is_gone_when_it_has_ended(self) -> None:
+        keeps = 'last = from; copy = *from; process_poll(&p);'
+        above = RADIO.replace('printf("%d", *(int *)packetbuf_dataptr());', keeps)
+        above = above.replace('static void', 'PROCESS_NAME(p); static const rimeaddr_t *last; static rimeaddr_t copy;'
+                              '\nstatic void', 1)
+        above = above.replace('\n', '\n#include "sys/node-id.h"\n', 1)
+        for printed, value in (('last->u8[0]', 254), ('copy.u8[0]', 1),
+                               ('packetbuf_addr(PACKETBUF_ADDR_SENDER)->u8[0]', 1)):
+            source = in_process('  broadcast_open(&bc, 129, &calls); if(node_id) { packetbuf_copyfrom("a", 2); '
+                                'broadcast_send(&bc); } else { PROCESS_WAIT_EVENT_UNTIL(ev == PROCESS_EVENT_POLL); '
+                                'printf("%%d", %s); }' % printed, above)
+            report = self.compiled.report(self.in_c(source, in_process('', RADIO)), 'p')
+            self.assertEqual([it.value for it in deeds_in(report)[0]], [value], printed)
+
     def test_a_remark_about_a_variant_has_no_values_of_a_hidden_net(self) -> None:
         remark = Remark(7, 'It depends. With 8, ', True, False)
         source = in_process('  printf("%d", 1);', RADIO, '  ' + TIMER)

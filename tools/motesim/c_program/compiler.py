@@ -34,6 +34,7 @@ FILES = {
     'lists.h': ('lib/list.h', 'lib/memb.h'), 'leds.h': ('dev/leds.h',), 'random.h': ('lib/random.h',),
     'node-id.h': ('node-id.h', 'sys/node-id.h', 'dev/watchdog.h'),
 }
+RADIO = 'rime.h'
 OF_LIBRARY = ('ctype.h', 'inttypes.h', 'limits.h', 'stdbool.h', 'stddef.h', 'stdint.h', 'stdio.h', 'stdlib.h',
               'string.h', 'strings.h')
 # The headers that declare what a program may lack; without those of C's functions, a program only gets a warning.
@@ -94,15 +95,19 @@ def check(text: str) -> list[Remark]:
     """The warnings about a program, and a mistake if the program can't be compiled for a node because it lacks an
     `#include`.
 
-    Nothing is checked if gcc isn't installed. Errors don't matter if the program includes a file that isn't known here.
+    Nothing is checked if gcc isn't installed. Errors don't matter if the program includes a file that isn't known here,
+    and that may declare the names.
     """
     if not is_installed():
         return []
     source = with_headers(text)
     own = complaints_of(source)
     errors = errors_in(own)
-    if not errors or not knows_files_of(text):
-        return [] if errors else warnings_in(own)
+    if not errors:
+        return warnings_in(own)
+    if not knows_files_of(text):
+        is_certain = not may_declare_radio(text) and not errors_in(complaints_of(with_more(source, [RADIO])))
+        return [Remark(errors[0].line, lacks(source, errors[0]), True, is_seen=False)] if is_certain else []
     complete = complaints_of(with_more(source, DECLARING))
     lasting = errors_in(complete)
     if lasting:
@@ -166,6 +171,12 @@ def is_known(name: str | None) -> bool:
 def knows_files_of(text: str) -> bool:
     """Returns whether all files that a program includes are known here."""
     return all(is_known(it[2]) for it in INCLUDE.finditer(text))
+
+
+def may_declare_radio(text: str) -> bool:
+    """Returns whether a program includes a file that isn't known here, and that may include those of the radio."""
+    paths = [it[2] or '' for it in INCLUDE.finditer(text)]
+    return any('/' not in it or it.startswith('net/rime') for it in paths if not is_known(it))
 
 
 def with_headers(text: str) -> str:

@@ -334,7 +334,7 @@ def read_file(text: str) -> File:
     """The tree of a file in C. Raises a Refusal."""
     reading = Preprocessor(text, tested)
     found = FileReader(reading.result()).read()
-    found.comments = reading.tokens[0].comments
+    found.comments, found.unknown = reading.tokens[0].comments, reading.unknown
     return found
 
 

@@ -5,7 +5,7 @@ from collections.abc import Callable, Sequence
 from typing import NamedTuple
 
 from motesim.c_program.compiler import HEADER_OF, OF_LIBRARY
-from motesim.c_program.headers import NO_FILE, meant_by
+from motesim.c_program.headers import KNOWN, NO_FILE, meant_by
 from motesim.c_program.refusal import Mistake, Refusal
 from motesim.c_program.tokens import Token, tokens_of
 
@@ -38,6 +38,8 @@ class Preprocessor:
         self.opened: list[int] = []
         self.branches: list[tuple[bool, bool]] = []
         self.found: list[Token] = []
+        # The headers below folders of Contiki that aren't known here, and their lines.
+        self.unknown: list[tuple[int, str]] = []
         # The number of tokens that were read to expand macros.
         self.expansions = 0
 
@@ -94,7 +96,10 @@ class Preprocessor:
         elif word == 'undef' and rest:
             self.macros.pop(rest[0].text, None)
         elif word == 'include' and rest[:1] and rest[0].text[0] in '"<':
-            check_header(''.join(it.text for it in rest).strip('"<>'), number)
+            path = ''.join(it.text for it in rest).strip('"<>')
+            check_header(path, number)
+            if path not in (*KNOWN, *OF_LIBRARY, *OTHERS):
+                self.unknown.append((number, path))
         elif word == 'error':
             raise Refusal(number, 'The program has an `#error` here.')
 

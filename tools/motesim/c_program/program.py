@@ -17,6 +17,7 @@ from motesim.c_program.allocation import check_allocated, early_posts
 from motesim.c_program.base import Program
 from motesim.c_program.chance import drawing_in
 from motesim.c_program.constants import EVENT_NUMBERS, SECOND, constant_of
+from motesim.c_program.headers import unknown
 from motesim.c_program.indexes import indexes_for_pointers
 from motesim.c_program.knowledge import Knowledge
 from motesim.c_program.lost import check_locals
@@ -90,6 +91,8 @@ def translated(text: str, second: int = SECOND) -> Translation:
             program.remark(line, remark)
         for line, remark in without_value:
             program.remark(line, remark, True)
+        for line, path in file.unknown:
+            program.remark(line, unknown(path), True, False)
     except Refusal as refusal:
         raise (with_others(refusal, file) if file else refusal) from None
     except RecursionError:

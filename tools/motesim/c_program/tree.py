@@ -70,7 +70,7 @@ class Function:
 
 @dataclass
 class File:
-    """The declarations of a file."""
+    """The declarations of a file. `unknown`: the headers that aren't known here, with their lines."""
     functions: dict[str, Function] = field(default_factory=dict)
     bodies: dict[str, Function] = field(default_factory=dict)
     processes: dict[str, int] = field(default_factory=dict)
@@ -78,3 +78,4 @@ class File:
     autostart_line: int = 0
     variables: list[Variable] = field(default_factory=list)
     comments: tuple[str, ...] = ()
+    unknown: list[tuple[int, str]] = field(default_factory=list)

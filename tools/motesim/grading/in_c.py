@@ -6,6 +6,7 @@ from collections.abc import Iterable, Mapping, Sequence
 
 from motesim.c_program import compiler
 from motesim.c_program.constants import SECOND
+from motesim.c_program.headers import REFUSED
 from motesim.c_program.names import is_changed, similar
 from motesim.c_program.origin import Origin
 from motesim.c_program.program import Translation
@@ -145,11 +146,13 @@ def on_node(remarks: Sequence[Remark], mark: str = '') -> str:
     `mark`: the one that the compiled program would have, if it is known."""
     mistakes = [it for it in remarks if it.is_mistake]
     lacking = [it.line for it in mistakes if it.text.startswith(compiler.LACKS)]
-    others = sorted({it.line for it in mistakes if it.line} - {*lacking})
+    unknown = [it.line for it in mistakes if REFUSED in it.text]
+    others = sorted({it.line for it in mistakes if it.line} - {*lacking, *unknown})
     lines = ['%d' % it for it in others]
     listed = ' and '.join(filter(None, [', '.join(lines[:-1]), *lines[-1:]]))
     compiled = [it.text.partition(':')[0] if it.text.startswith((CRASHED, HANGS, UNLINKED)) else
                 DIFFERS + ' (%s)' % mark * bool(mark) for it in mistakes if not it.line]
     return '; '.join([*compiled,
                       *['gcc refuses line %d, because an #include is missing' % it for it in lacking],
+                      *['gcc may refuse line %d, because its header isn\'t known here' % it for it in unknown],
                       *['on a node, line%s %s may do something else' % ('s' * (len(lines) > 1), listed)] * bool(lines)])
