@@ -64,6 +64,21 @@ class Locals(unittest.TestCase):
                 self.assertIsNotNone(text, notes)
                 self.assertNotIn('static', notes)
 
+    def test_a_value_that_a_test_makes_sure_of_has_only_a_remark(self) -> None:
+        loop = 'for(i = 0; i < 3; i++) '
+        for body, is_refused in (
+                ('if(n) { v = 4; } if(n) { printf("%d", v); }', False),
+                ('if(n == 0) { v = 4; } else if(n == 1) { v = 5; } printf("%d", v);', False),
+                ('switch(n) { case 0: v = 4; break; case 1: v = 5; break; } printf("%d", v);', False),
+                (loop + 'if(n == i) { v = i; break; } if(i < 3) { printf("%d", v); }', False),
+                (loop + 'v = i; printf("%d", v);', False), ('n = n == 2 && (v = 3); if(n) { printf("%d", v); }', False),
+                ('if(n) { v = 4; } printf("%d", v);', True), (loop + 'v = v + i; printf("%d", v);', True),
+                ('v = 4; if(n) { PROCESS_YIELD(); } if(n) { printf("%d", v); }', True),
+                ('if(n) { v = 4; } PROCESS_YIELD(); if(n) { printf("%d", v); }', True),
+                ('v = 4; while(n--) { printf("%d", v); PROCESS_YIELD(); }', True)):
+            source = in_process('  PROCESS_YIELD(); ' + body, 'static int n;', '  int i, v;')
+            self.check(source, '`v` isn\'t static, so it' + ('s value' if is_refused else ' has a value'), is_refused)
+
     def test_a_protothread_loses_its_values_too(self) -> None:
         for inside, body, is_refused in (('int n = 0;', 'while(n < 3) { n++; PT_YIELD(pt); }', True),
                                          ('static int n = 0;', 'while(n < 3) { n++; PT_YIELD(pt); }', False),

@@ -17,6 +17,8 @@ LOST = ('In C, `%s` isn\'t static, so its value is lost at each wait of its proc
         'wait: declare it as `static` in line %d.')
 AGAIN = ('In C, `%s` isn\'t static, so each call of its process assigns its first value again, and this line reads it '
          'after a wait: declare it as `static` in line %d.')
+MAYBE_LOST = ('In C, `%s` isn\'t static, so it has a value here only if a line has assigned one since the last wait of '
+              'its process. To be sure, declare it as `static` in line %d.')
 UNSET = 'In C, `%s` has no value yet in this line: assign one above, or in line %d, which declares it.'
 MAYBE_UNSET = ('In C, `%s` has a value here only if a line above has assigned one. To be sure, assign one in line %d, '
                'which declares it.')
@@ -50,26 +52,49 @@ class State(NamedTuple):
     waited    whether it may have waited
     posted    those whose address is the data of an event that no process has got yet
     ended     the line of a wait that may have ended last, with the event of a timer or of a pause; otherwise 0
+    unsure    those that have a value if the program has taken some of the ways since the last wait
+    guarded   those of them that a program may read here because a test makes sure that it has taken such a way
     """
     certain: frozenset[Variable] = frozenset()
     possible: frozenset[Variable] = frozenset()
     waited: bool = False
     posted: frozenset[Variable] = frozenset()
     ended: int = 0
+    unsure: frozenset[Variable] = frozenset()
+    guarded: frozenset[Variable] = frozenset()
+
+    @property
+    def assigned(self) -> frozenset[Variable]:
+        return self.certain | self.unsure
 
     def with_value(self, it: Variable) -> State:
         return self._replace(certain=self.certain | {it}, possible=self.possible | {it})
 
     def without_value(self, it: Variable) -> State:
-        return self._replace(certain=self.certain - {it}, possible=self.possible - {it})
+        return self._replace(certain=self.certain - {it}, possible=self.possible - {it}, unsure=self.unsure - {it})
+
+    def tested(self) -> State:
+        """The state below a test."""
+        return self._replace(guarded=self.guarded | self.unsure)
 
 
-def joined(states: Iterable[State | None]) -> State | None:
-    """The state at a place that is reached in several ways; None if no way leads there."""
+def joined(states: Iterable[State | None], before: State | None = None,
+           assigning: Iterable[State | None] | None = None) -> State | None:
+    """The state at a place that is reached in several ways; None if no way leads there. `before`: the state at which they
+    part; `assigning`: the ways of which each has to assign a variable, so that no other test is necessary; by default,
+    one way is enough."""
     known = [it for it in states if it is not None]
-    return State(frozenset.intersection(*(it.certain for it in known)),
-                 frozenset.union(*(it.possible for it in known)), any(it.waited for it in known),
-                 frozenset.union(*(it.posted for it in known)), max(it.ended for it in known)) if known else None
+    if not known:
+        return None
+    certain = frozenset.intersection(*(it.certain for it in known))
+    assigned, had = [it.assigned for it in known], before.assigned if before else frozenset[Variable]()
+    # (a variable that had a value before the ways parted is lost by a wait)
+    unsure = (frozenset.union(*assigned) - had | frozenset.intersection(*assigned)) - certain
+    needed = [it.assigned for it in assigning or () if it is not None]
+    enough = unsure if assigning is None else frozenset.intersection(*needed) if needed else frozenset[Variable]()
+    guarded = (before.guarded if before else frozenset[Variable]()) | unsure & enough - had
+    return State(certain, frozenset.union(*(it.possible for it in known)), any(it.waited for it in known),
+                 frozenset.union(*(it.posted for it in known)), max(it.ended for it in known), unsure, guarded)
 
 
 class Reading(NamedTuple):
@@ -147,10 +172,17 @@ class Locals:
         self.read(it.expressions[0])
         self.note_test(it.expressions[0])
         before = self.state
+        self.enter(before)
         self.run(it.body)
-        then, self.state = self.state, before
+        then = self.state
+        self.enter(before)
         self.run(it.others)
-        self.state = joined((then, self.state))
+        ways = then, self.state
+        self.state = joined(ways, before, ways)
+
+    def enter(self, state: State | None) -> None:
+        """Follows a way that a test chooses."""
+        self.state = state.tested() if state is not None else None
 
     def of_while(self, it: Statement) -> None:
         self.loop(it, it.expressions[0], None)
@@ -165,23 +197,24 @@ class Locals:
     def loop(self, it: Statement, test: Expression | None, step: Expression | None, last: Expression | None = None
              ) -> None:
         """A loop: it is followed until nothing changes at its head."""
-        head = self.state
+        head = first = self.state
         while True:
             self.state = head
             self.breaks.append([])
             self.continues.append([])
             self.read(test)
             ends = [] if is_always(test) else [self.state]
+            self.enter(self.state)
             self.run(it.body)
-            self.state = joined((self.state, *self.continues.pop()))
+            self.state = joined((self.state, *self.continues.pop()), head)
             self.read(step)
             self.read(last)
             ends += [*self.breaks.pop(), *([] if is_always(last) else [self.state])]
-            again = joined((head, None if last and constant_of(last) == 0 else self.state))
+            again = joined((head, None if last and constant_of(last) == 0 else self.state), head)
             if again == head:
                 break
             head = again
-        self.state = joined(ends)
+        self.state = joined(ends, first)
 
     def note_test(self, it: Expression | None) -> None:
         """Notes a test of the event: below it, the program knows which event has ended its wait."""
@@ -195,11 +228,12 @@ class Locals:
         self.breaks.append([])
         for one in it.body:
             if one.kind in ('case', 'default'):
-                self.state = joined((self.state, before))
+                self.state = joined((self.state, before.tested() if before else None), before, ())
             else:
                 self.run([one])
         has_default = any(one.kind == 'default' for one in it.body)
-        self.state = joined((self.state, *self.breaks.pop(), *([] if has_default else [before])))
+        ways = self.state, *self.breaks.pop()
+        self.state = joined((*ways, *([] if has_default else [before])), before, ways)
 
     def of_break(self, it: Statement) -> None:
         if self.breaks:
@@ -242,10 +276,10 @@ class Locals:
         self.read(it.parts[0])
         before, ends = self.state, list[State | None]()
         for one in it.parts[1:]:
-            self.state = before
+            self.enter(before)
             self.read(one)
             ends.append(self.state)
-        self.state = joined(ends if it.kind == 'choice' else (before, *ends))
+        self.state = joined(ends if it.kind == 'choice' else (before, *ends), before, ())
 
     def assign(self, it: Expression) -> None:
         self.read(it.parts[1])
@@ -349,11 +383,15 @@ class Locals:
             return
         if variable in self.state.certain:
             return
+        lost = AGAIN if variable in self.above else LOST
         if self.state.waited:
-            text = AGAIN if variable in self.above else LOST
+            text = MAYBE_LOST if variable in self.state.unsure & self.state.guarded else lost
         else:
             text = MAYBE_UNSET if variable in self.state.possible else UNSET
-        self.found[id(it)] = Reading(it.line, text % (variable.name, variable.line), text == MAYBE_UNSET)
+        words = [one % (variable.name, variable.line) for one in (text, lost)]
+        # (in a loop, the first reading may have no value, although later ones have one)
+        if text != MAYBE_LOST or id(it) not in self.found or self.found[id(it)].text != words[1]:
+            self.found[id(it)] = Reading(it.line, words[0], text in (MAYBE_UNSET, MAYBE_LOST))
 
 
 def is_array(it: Expression) -> bool:
