@@ -18,6 +18,7 @@ from motesim.c_program.refusal import Refusal
 from motesim.c_program.tree import Expression, Function, Statement, Variable
 from motesim.c_program.types import INT, Type, leaves_of
 from motesim.c_program.values import Value, converted, negated, number
+from motesim.c_program.waits import NO_WAIT, OF_CALLBACK
 from motesim.c_program.walk import all_parts, base_of, has_jump, parts_of
 from motesim.c_program.written import Block, Comment, Flag, If, Line, While
 
@@ -27,10 +28,6 @@ OTHER_CONTEXT = ('Here, the event of a timer goes to the process whose functions
                  'process in `PROCESS_CONTEXT_BEGIN`.')
 LEFT_CONTEXT = ('A jump out of the statements of a `PROCESS_CONTEXT_BEGIN` leaves out its `PROCESS_CONTEXT_END`: let '
                 'them run up to their end.')
-NO_WAIT = ('Only a process and its protothreads can wait in Contiki: write this wait in the process, or make `%s` a '
-           'protothread, `PT_THREAD(%s(struct pt *pt))`, that the process runs by `PROCESS_PT_SPAWN(&pt, %s(&pt));`.')
-OF_CALLBACK = ('A callback and a handler can\'t wait in Contiki: let it poll the process, `process_poll(&%s);`, and '
-               'let the process wait.')
 OF_COMPARISON = '`%s = ..` would change the event of this call: write `%s == ..` for a comparison.'
 OF_ALLOCATED = ('`%s` gets its event only by `process_alloc_event()` here: name another event at the place that needs '
                 'it.')

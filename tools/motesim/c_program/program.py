@@ -30,6 +30,7 @@ from motesim.c_program.refusal import Mistake, Refusal
 from motesim.c_program.remark import Remark
 from motesim.c_program.tree import Expression, File, Statement
 from motesim.c_program.usage import usage_of
+from motesim.c_program.waits import check_waits
 from motesim.c_program.walk import all_parts, declared_in, without_casts
 from motesim.c_program.written import Row
 from motesim.notation.faults import ProgramError, find_fault
@@ -78,6 +79,7 @@ def translated(text: str, second: int = SECOND) -> Translation:
         file = read_file(text)
         check_processes(file)
         check_order(file)
+        check_waits(file)
         without_value = check_locals((*file.bodies.values(), *file.functions.values()))
         remarks = indexes_for_pointers(file)
         program, rows = settled(file, second)
