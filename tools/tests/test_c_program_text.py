@@ -256,6 +256,20 @@ REFUSALS = (
     ('struct { int v[0]; int k; } s; s.k = 1;', 'An array has at least one member'),
     ('static int big[4096][4096]; x = big[1][2];', '`big` has too many members'),
     ('later(1);', '`later` has 0 parameters.'), ('f();', '`f` has 1 parameter.'),
+    ('etimer_set(et, 5);', 'An `&` is missing in front of `et`'), ('process_poll(p);', 'front of `p`'),
+    ('if(n == 1 and x) n = 2;', 'In C, `and` is `&&`.'), ('printf(\u201cx\u201d);', 'write `"` around a text'),
+    ('printf(\u201c\\n\u201d);', 'write `"` around a text'),
+)
+# Programs that no compiler accepts: what is above the process, a line, and a part of the reason.
+BROKEN = (
+    ('static void f(void) {\n  n = 2; }\n  printf("%d", n);\n}', 3, 'This line is outside of all functions'),
+    ('struct m {\n  int a;\n}\nstatic struct m m;', 3, 'A `;` is missing'),
+    ('struct m { int a;\n}\nPROCESS_NAME(q);', 2, 'A `;` is missing'),
+    ('struct m { int a; };\nstatic void f(void) {\n  m *x = NULL; }', 3, 'write `struct m` as its type'),
+    ('struct m { int a; };\nstatic void f(m *x) { }', 2, 'write `struct m` as its type'),
+    ('static void f(void) {\n  return\n}', 2, 'A `;` is missing'),
+    ('static void f(void) {\n  int k = 2;\n  PROCESS_PAUSE();\n  n = k;\n}', 3, 'make `f` a protothread'),
+    ('struct m {\n  int a;\n}\nm;', 0, ''), ('typedef struct m {\n  int a;\n} m;\nstatic m *x;', 0, ''),
 )
 
 
@@ -267,6 +281,17 @@ class Forms(unittest.TestCase):
                 self.assertIsNotNone(text, notes)
                 self.assertIsNone(find_fault(text or ''))
                 self.assertEqual('\n'.join(body_of(text)), textwrap.dedent(wanted).strip('\n'))
+
+    def test_a_line_that_no_compiler_accepts_is_named(self) -> None:
+        for above, line, wanted in BROKEN:
+            source = in_process('  f();' if 'void f(' in above else '  n = 2;', 'static int n;\n' + above)
+            text, notes = translation(source)
+            with self.subTest(above):
+                self.assertEqual(text is None, bool(line), notes)
+                self.assertIn(wanted, notes)
+                if line:
+                    at = source[:source.index(above)].count('\n') + line
+                    self.assertTrue(notes.startswith('line %d: ' % at), notes)
 
     def test_comments_are_kept(self) -> None:
         text, _ = translation('/* Counts. */\n' + in_process('  /* one more,\n   * each time */\n  n++; // here', '',

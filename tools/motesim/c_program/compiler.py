@@ -63,8 +63,10 @@ CERTAIN = ('expected ', 'stray ', 'missing terminating', 'unterminated', 'unmatc
            'invalid initializer', 'duplicate case value', 'case label not within', 'break statement not within',
            'continue statement not within', 'called object', 'subscripted value is neither', 'wrong type argument',
            'assignment to expression with array type', 'variable-sized object', 'label ', 'used struct type',
-           'redeclaration of', 'static declaration of', 'cannot convert to a pointer')
+           'redeclaration of', 'static declaration of', 'cannot convert to a pointer', '\'else\' without')
 UNDECLARED, NO_TYPE = re.compile(r"'(\w+)' undeclared"), re.compile(r"unknown type name '(\w+)'")
+# (of a type, such as "use 'struct' keyword to refer to the type")
+NEEDS_WORD = 'keyword to refer to'
 # (such as that of `unit8_t` and `uint8_t`)
 ALIKE = 0.8
 TYPES = ('uint8_t', 'int8_t', 'uint16_t', 'int16_t', 'uint32_t', 'int32_t', 'clock_time_t', 'rimeaddr_t', 'linkaddr_t',
@@ -144,7 +146,7 @@ def is_certain(words: str) -> bool:
     Contiki only if it is in capitals, or if motesim has advice for it."""
     name, its_type = UNDECLARED.match(words), NO_TYPE.match(words)
     is_own = name is not None and not name[1].isupper() and not advice_for(name[1])
-    is_misspelt = its_type is not None and nearest(its_type[1], TYPES, ALIKE) is not None
+    is_misspelt = its_type is not None and nearest(its_type[1], TYPES, ALIKE) is not None or NEEDS_WORD in words
     return is_own or is_misspelt or words.startswith(CERTAIN)
 
 

@@ -80,9 +80,12 @@ class State(NamedTuple):
 
 def joined(states: Iterable[State | None], before: State | None = None,
            assigning: Iterable[State | None] | None = None) -> State | None:
-    """The state at a place that is reached in several ways; None if no way leads there. `before`: the state at which they
-    part; `assigning`: the ways of which each has to assign a variable, so that no other test is necessary; by default,
-    one way is enough."""
+    """The state at a place that is reached in several ways; None if no way leads there.
+
+    before      the state at which the ways part
+    assigning   the ways of which each has to assign a variable, so that no other test is necessary; by default, one
+                way is enough
+    """
     known = [it for it in states if it is not None]
     if not known:
         return None
@@ -361,6 +364,8 @@ class Locals:
 
     def wait(self, it: Expression) -> None:
         """A wait: the variables lose their values, and its test is evaluated in later calls of the function."""
+        if self.function.kind == 'function':
+            return
         if it.text in TESTS_FIRST:
             self.read_parts(it)
         if self.state is not None:

@@ -5,9 +5,9 @@ from collections.abc import Iterator
 from typing import NamedTuple
 
 from motesim.c_program.absent import WHOLE, absent
-from motesim.c_program.parse_expressions import Expressions
+from motesim.c_program.parse_expressions import NO_SEMICOLON, Expressions
 from motesim.c_program.reals import whole
-from motesim.c_program.refusal import Refusal
+from motesim.c_program.refusal import Mistake, Refusal
 from motesim.c_program.tree import Expression, File, Variable
 from motesim.c_program.types import (
     CHARACTER, INT, NAMED, STRUCTURES, VOID, Type, has_empty, members_of, pointer_to,
@@ -21,6 +21,9 @@ TWICE = '`%s` is declared twice, also in line %d: leave one of these declaration
 OF_BITS = 'A field with a number of bits has no counterpart: use a field of the type `uint8_t`.'
 MOST_MEMBERS, MOST_SIZE = 64, 4_096
 ZERO = Expression('number', '0', number=0, type=INT)
+OF_TAG = '`%s` is the name of a structure: write `struct %s` as its type.'
+# Macros of Contiki that begin a line outside of functions.
+OF_PROCESSES = ('PROCESS', 'PROCESS_NAME', 'AUTOSTART_PROCESSES', 'PROCESS_THREAD', 'PT_THREAD')
 WORDS = ('unsigned', 'signed', 'short', 'long', 'int', 'char', 'void', 'float', 'double')
 
 
@@ -66,17 +69,37 @@ class Declarations(Expressions):
                 words.append(self.step().text)
             elif found is None and not words and self.is_type():
                 found = self.named_type()
+                self.check_end()
             else:
                 break
         if 'float' in words or 'double' in words:
             raise Refusal(line, WHOLE)
         if found is None and not words:
+            self.check_tag()
             raise Refusal(line, 'A type is expected here, not `%s`.' % self.token.text)
         return found or of_words(words), qualifiers
+
+    def check_end(self) -> None:
+        """Refuses a structure without a `;` behind it, if another declaration follows in a line below."""
+        last = self.tokens[self.at - 1]
+        if last.text == '}' and self.token.line > last.line and (
+                self.is_type() or self.token.text == 'typedef' or self.token.text in OF_PROCESSES):
+            raise Mistake(last.line, NO_SEMICOLON)
+
+    def check_tag(self) -> None:
+        """Refuses the name of a structure without the word `struct` in front of it."""
+        it = self.token
+        if it.kind == 'name' and self.known(it.text) is None and isinstance(self.known('struct ' + it.text), Type) and (
+                self.ahead(1).text == '*' or self.ahead(1).kind == 'name'):
+            raise Mistake(it.line, OF_TAG % (it.text, it.text))
 
     def skip_brackets(self) -> None:
         """Skips an attribute of the compiler."""
         self.step()
+        self.skip_brackets_ahead()
+
+    def skip_brackets_ahead(self) -> None:
+        """Skips the tokens from a bracket to its counterpart."""
         depth = 0
         while self.token.kind != 'end':
             depth += (self.token.text == '(') - (self.token.text == ')')
@@ -180,6 +203,7 @@ class Declarations(Expressions):
             if self.token.text == '...':
                 raise Refusal(self.token.line, 'A function has a fixed number of parameters here.')
             if self.token.kind == 'name' and not self.is_type():
+                self.check_tag()
                 raise Refusal(self.token.line, OF_PARAMETERS % self.token.text)
             its, _ = self.specifiers()
             one = self.declarator(its)

@@ -8,7 +8,7 @@ from motesim.c_program.absent import WHOLE, absent
 from motesim.c_program.constants import NotConstant, value_of
 from motesim.c_program.reals import LONG, whole
 from motesim.c_program.refusal import Refusal
-from motesim.c_program.tokens import Token
+from motesim.c_program.tokens import OF_QUOTE, QUOTES, Token
 from motesim.c_program.tree import Expression, Variable
 from motesim.c_program.types import INT, UNSIGNED, Type, size_of
 
@@ -21,6 +21,7 @@ ESCAPES = {'n': 10, 't': 9, 'r': 13, 'a': 7, 'b': 8, 'f': 12, 'v': 11}
 # (these functions convert no value)
 FORMATTED = ('printf', 'sprintf', 'snprintf')
 NO_SEMICOLON = 'A `;` is missing at the end of this line.'
+SIGNS_OF, IN_WORDS = {'and': '&&', 'or': '||'}, ' In C, `%s` is `%s`.'
 OF_FUNCTION_POINTER = 'A pointer to a function is called here: call each function by its name, in an `if`.'
 OF_CHARACTER = 'This isn\'t one character: %s.'
 
@@ -79,7 +80,8 @@ class Expressions:
             if sign == ';' and self.at and self.token.line > self.tokens[self.at - 1].line:
                 raise Refusal(self.tokens[self.at - 1].line, NO_SEMICOLON)
             found = '`%s`' % self.token.text if self.token.text else 'the end of the file'
-            raise Refusal(self.token.line, 'A `%s` is expected here, not %s.' % (sign, found))
+            more = IN_WORDS % (self.token.text, SIGNS_OF[self.token.text]) if self.token.text in SIGNS_OF else ''
+            raise Refusal(self.token.line, 'A `%s` is expected here, not %s.%s' % (sign, found, more))
 
     def known(self, name: str) -> Variable | Type | Expression | None:
         """The meaning of a name, in the innermost scope that declares it."""
@@ -216,7 +218,8 @@ class Expressions:
             self.need(')')
             return found
         shown = '`%s`' % it.text if it.text else 'the end of the file'
-        raise Refusal(it.line, 'An expression is expected here, not %s.' % shown)
+        of_quote = OF_QUOTE % it.text if it.text in QUOTES else ''
+        raise Refusal(it.line, of_quote or 'An expression is expected here, not %s.' % shown)
 
     def name(self, it: Token) -> Expression:
         known = self.known(it.text)

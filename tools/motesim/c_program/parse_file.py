@@ -6,7 +6,7 @@ from collections.abc import Sequence
 from motesim.c_program.absent import absent
 from motesim.c_program.constants import constant_of
 from motesim.c_program.parse_declarations import NO_END, Declarations, Declared
-from motesim.c_program.parse_expressions import Expressions
+from motesim.c_program.parse_expressions import NO_SEMICOLON, Expressions
 from motesim.c_program.preprocess import Preprocessor
 from motesim.c_program.reals import whole
 from motesim.c_program.refusal import Mistake, Refusal
@@ -68,10 +68,20 @@ class FileReader(Declarations):
             return
         self.at = at
         if self.ahead(1).text == '(' and it.kind == 'name' and not self.is_type():
-            raise Refusal(it.line, OUTSIDE if it.text in (*STATEMENTS, *KEYWORDS) else absent(it.text))
+            is_outside = it.text in (*STATEMENTS, *KEYWORDS) or self.is_call_ahead() and not it.text.isupper()
+            raise Refusal(it.line, OUTSIDE if is_outside else absent(it.text))
         if it.text == '}':
             raise Refusal(it.line, OUTSIDE)
         self.declaration(comments)
+
+    def is_call_ahead(self) -> bool:
+        """Returns whether a name begins a call that is a statement, and no function."""
+        at = self.at
+        self.step()
+        self.skip_brackets_ahead()
+        is_call = self.is_sign(';')
+        self.at = at
+        return is_call
 
     def of_processes(self) -> None:
         word = self.step()
@@ -187,7 +197,7 @@ class FileReader(Declarations):
         if it.text in HANDLERS:
             return [self.handler(HANDLERS[it.text])]
         if it.text == 'else':
-            raise Refusal(it.line, NO_IF)
+            raise Mistake(it.line, NO_IF)
         if it.text in ('PROCESS_THREAD', 'PT_THREAD', 'AUTOSTART_PROCESSES'):
             raise Refusal(it.line, NO_END % it.text)
         if it.text == 'goto' or it.kind == 'name' and self.ahead(1).text == ':' and it.text != 'default':
@@ -195,6 +205,7 @@ class FileReader(Declarations):
         if self.is_type() or it.text == 'typedef':
             found_all = [Statement('declare', it.line, (), (), (), (), one) for one in self.declared_variables()]
             return [one._replace(comments=it.comments if not at else ()) for at, one in enumerate(found_all)]
+        self.check_tag()
         value = self.expression()
         if value.text in (CONTEXT, CONTEXT_END):
             return [self.context(value, it.comments)]
@@ -286,6 +297,8 @@ class FileReader(Declarations):
         return Statement('continue', 0)
 
     def _return(self) -> Statement:
+        if self.is_sign('}'):
+            raise Mistake(self.tokens[self.at - 1].line, NO_SEMICOLON)
         value = None if self.is_sign(';') else whole(self.expression())
         self.need(';')
         return Statement('return', 0, (), (value,))

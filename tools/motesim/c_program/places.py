@@ -5,6 +5,7 @@ from typing import NamedTuple
 
 from motesim.c_program.absent import absent, advice_for
 from motesim.c_program.base import Base, joined_limits
+from motesim.c_program.parse_file import NO_SIGN
 from motesim.c_program.refusal import Mistake
 from motesim.c_program.tree import Expression, Variable
 from motesim.c_program.types import (
@@ -294,7 +295,9 @@ class Places(Base):
             if variable.initial and variable.initial.kind == 'text' and variable not in self.program.usage.assigned:
                 return Pointer('text')
             return Pointer('place', Place('variable', variable.type, variable))
-        raise self.refuse(it.line, (OF_PAST if variable in self.past else NO_POINTER) % it.text)
+        is_pointer = variable.type.kind in ('pointer', 'function') or variable.is_parameter
+        reason = OF_PAST if variable in self.past else NO_POINTER if is_pointer else NO_SIGN
+        raise self.refuse(it.line, reason % it.text)
 
     def address_of(self, it: Expression) -> Pointer:
         """The pointer to what an expression names."""

@@ -17,6 +17,11 @@ TOKEN = re.compile(r'''
   | (?P<sign>%s|.)''' % '|'.join(map(re.escape, _SIGNS)), re.X)
 
 
+# Quotes that a word processor writes.
+QUOTES = ('\u201c', '\u201d', '\u201e', '\u2018', '\u2019')
+OF_QUOTE = 'The sign `%s` isn\'t one of C: write `"` around a text, and `\'` around a character.'
+
+
 class Token(NamedTuple):
     """A token: its kind, its text and its line.
 
@@ -43,8 +48,9 @@ def tokens_of(text: str) -> list[Token]:
         kind = it.lastgroup if it else None
         if it is None or kind is None or it[0] in '"\'\\' and kind == 'sign':
             quote = it[0] if it and it[0] in '"\'' else ''
+            other = next((sign.text for sign in found if sign.line == line and sign.text in QUOTES), '')
             raise Refusal(line, 'A text has no end in this line: a `%s` is missing.' % quote if quote else
-                          'This text isn\'t C: a sign is wrong.')
+                          OF_QUOTE % other if other else 'This text isn\'t C: a sign is wrong.')
         if kind == 'newline':
             first = True
         elif kind == 'comment':
