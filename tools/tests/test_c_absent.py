@@ -200,6 +200,9 @@ static const struct broadcast_callbacks calls = {recv};'''
                              ('s->a = 1;', '`s` isn\'t a pointer: write `.a` instead of `->a`.'),
                              ('s.c = 1;', 'There is no field `c` here.'), ('numbr = 1;', 'Do you mean `number`?'),
                              ('addd(3);', 'Do you mean `adds`?'), ('no_such_call();', ''),
+                             ('PROCESS_YEILD();', 'Do you mean `PROCESS_YIELD`?'), ('PROCESS_SLEEP(5);', ''),
+                             ('Process_Pause();', 'Do you mean `PROCESS_PAUSE`?'), ('PROCESS_SPAWN(0);', ''),
+                             ('PROCESS_WAIT_EVENT_UNTILL(n);', 'Do you mean `PROCESS_WAIT_EVENT_UNTIL`?'),
                              ('no_such_name = 1;', '')):
             with self.assertRaises(Refusal) as caught:
                 translated(in_process('  ' + body, above))

@@ -91,8 +91,8 @@ def is_misspelt(word: str, name: str) -> bool:
     both = set(its) & set(others)
     if both and not _are_alike(*(''.join(it for it in parts if it not in both) for parts in (its, others))):
         return False
-    ratio = difflib.SequenceMatcher(None, word.lower(), name).ratio()
-    return ratio >= MISSPELT or sorted(word.lower()) == sorted(name)
+    ratio = difflib.SequenceMatcher(None, word.lower(), name.lower()).ratio()
+    return ratio >= MISSPELT or sorted(word.lower()) == sorted(name.lower())
 
 
 def changed_in(text: str) -> frozenset[str]:
