@@ -20,13 +20,13 @@ from motesim.grading.compiled import (
     InC, NoComparison, deeds_in, first_meeting,
 )
 from motesim.grading.entries import Entry
-from motesim.grading.in_c import UNLINKED, in_words_of_c, on_node
+from motesim.grading.in_c import COMPILED, UNLINKED, in_words_of_c, on_node
 from motesim.grading.marking import Task
 from motesim.grading.marks import InNet, Mark, Marks, number_held
 from motesim.grading.nets import Net
 from motesim.grading.node_types import as_on_node
 from motesim.grading.page import page_of
-from motesim.grading.tables import why
+from motesim.grading.tables import table, why
 from motesim.grading.variants import OF_CHARACTERS, OF_PAUSE, OF_QUEUE, OF_SIGNED, OF_UNSIGNED
 from motesim.judge.expectations import known_of, parts_of, read_all
 from motesim.judge.sentences import names_of, read_sentence
@@ -188,6 +188,25 @@ static int sum(int *a, int b[5]) { int at, s = 0; for(at = 0; at < sizeof(a) / s
                                 'printf("%%d", %s); }' % printed, above)
             report = self.compiled.report(self.in_c(source, in_process('', RADIO)), 'p')
             self.assertEqual([it.value for it in deeds_in(report)[0]], [value], printed)
+
+    def test_the_mark_of_the_compiled_program_may_be_the_mark(self) -> None:
+        part = parts_of('expect = ["mote 0 prints p 1", "mote 0 prints p 9"]', 'task')[0]
+        net = Net('n', Scenario.parse(SCENARIO % 'process p; autostart p; code p { body { pause; } }'), 'p')
+        task = Task(part, (net,), Limits(), compiled=self.compiled, by_gcc=True)
+        prints = '  printf("%%d", 9); n = 200 * 200 / 200; if(n %s 0) { printf("%%d", 1); }'
+        for body, mark, words in ((prints % '<', '2 of 2', COMPILED + '; its translation gets 1 of 2'),
+                                  (prints % '>', '1 of 2', 'broken: 1; ' + COMPILED + '; its translation gets 2 of 2'),
+                                  (prints % '!=', '2 of 2', ''),
+                                  ('  { union { int a; char b; } u; u.a = 1; printf("%d", u.a); }', '1 of 2',
+                                   'broken: 2; %s; its line 12 may be right in C, but the tool can\'t translate it'
+                                   % COMPILED),
+                                  ('  { uint8_t k; k = 1; PROCESS_PAUSE(); printf("%d", k); }', '0 of 2',
+                                   'its line 12 is a mistake in C; compiled by gcc, it gets 0 of 2')):
+            with tempfile.TemporaryDirectory() as folder:
+                path = Path(folder) / 'a.c'
+                path.write_text(in_process(body, RADIO, '  ' + TIMER))
+                self.assertEqual(table([task.of((1, Entry('a.c', path)))], part.sentences)[0].split('  ')[1:],
+                                 [mark, *filter(None, [words])], body)
 
     def test_a_remark_about_a_variant_has_no_values_of_a_hidden_net(self) -> None:
         remark = Remark(7, 'It depends. With 8, ', True, False)

@@ -73,6 +73,11 @@ class State(NamedTuple):
     def without_value(self, it: Variable) -> State:
         return self._replace(certain=self.certain - {it}, possible=self.possible - {it}, unsure=self.unsure - {it})
 
+    def with_unsure(self, earlier: State) -> State:
+        """This state, in which also the variables of an earlier one may have a value."""
+        unsure = (self.unsure | earlier.unsure) - self.certain
+        return self._replace(unsure=unsure, guarded=self.guarded | earlier.guarded)
+
     def tested(self) -> State:
         """The state below a test."""
         return self._replace(guarded=self.guarded | self.unsure)
@@ -214,6 +219,8 @@ class Locals:
             self.read(last)
             ends += [*self.breaks.pop(), *([] if is_always(last) else [self.state])]
             again = joined((head, None if last and constant_of(last) == 0 else self.state), head)
+            # (from one round to the next, no variable becomes one that surely has no value, so the loop ends)
+            again = again and head and again.with_unsure(head)
             if again == head:
                 break
             head = again

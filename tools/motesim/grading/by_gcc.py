@@ -1,14 +1,16 @@
 """The marks of compiled programs, and their differences from their translations."""
 from __future__ import annotations
 
+import re
 from collections.abc import Callable, Sequence
+from dataclasses import replace
 from typing import NamedTuple, TypeVar
 
 from motesim.c_program.remark import Remark
 from motesim.faults import Fault, tried
 from motesim.grading.compiled import Compiled, Crash, Difference, InC, NoComparison
-from motesim.grading.in_c import remarks_of
-from motesim.grading.marks import InNet, Mark, number_held, over_nets, spread
+from motesim.grading.in_c import COMPILED, remarks_of
+from motesim.grading.marks import InNet, Mark, Marks, number_held, over_nets, spread
 from motesim.grading.nets import Net
 from motesim.grading.untranslated import outline_of
 from motesim.judge.callbacks import compiled_readings
@@ -21,12 +23,29 @@ from motesim.scenario import Scenario
 Result = TypeVar('Result')
 OF_HIDDEN_RUN = 'compiled by gcc, the program does something else in a hidden net'
 OF_OTHER_RUN = 'the program does something else in a hidden net'
+NO_RUN = 'no page of the run: the mark is that of the compiled program, and a page shows the translation'
+NOT_MARKED = re.compile(r'^not marked[^:]*: ')
+ITS_TRANSLATION = 'its translation gets %d of %d'
 BY_GCC = 'compiled by gcc, it gets %d of %d'
 
 
 def by_gcc_words(marks: Sequence[Mark]) -> str:
     """The words about the marks of a compiled program; an empty text if there are none."""
     return BY_GCC % (number_held(marks), len(marks)) if marks else ''
+
+
+def as_compiled(row: Marks) -> Marks:
+    """A row with the marks of the compiled program, if it has some, and if no line is a mistake. It has no page, which
+    would show a run of the translation."""
+    if not row.by_gcc or row.why and not row.is_open:
+        return row
+    other = NOT_MARKED.sub('', row.why) if row.is_open else ITS_TRANSLATION % (row.held, len(row.marks))
+    marked = Remark(0, '%s; %s' % (COMPILED, other.partition('; compiled')[0]), True)
+    # (the compiled program has the mistakes that it shows)
+    of_c = [it._replace(is_mistake=it.is_mistake and not it.is_seen) if it.line else it._replace(is_mistake=False)
+            for it in row.of_c]
+    return replace(row, marks=row.by_gcc, by_gcc=(), why='', fix=(), is_open=False, halts='', shown_halts='',
+                   warned=(), no_page=NO_RUN, of_c=(marked, *of_c))
 
 
 def difference_in(found: Sequence[InNet]) -> list[Remark]:

@@ -61,6 +61,8 @@ def grade(entries: Sequence[Entry], task: Task, jobs: int | None = None) -> list
 
 def task_of(asked: argparse.Namespace, pictures: Path | None) -> Task:
     """The task of all solutions. Faults of the sentences and of the nets are the teacher's."""
+    if asked.compiled and not is_installed():
+        raise Fault('--compiled needs gcc: on Debian `apt-get install gcc` installs it')
     name = str(asked.expectations)
     part = parts_of(text_of(asked.expectations), name)[0]
     nets = [*nets_of(asked.net, asked.vary, asked.program),
@@ -72,7 +74,8 @@ def task_of(asked: argparse.Namespace, pictures: Path | None) -> Task:
     except Fault as fault:
         raise Fault('%s: %s' % (name, fault)) from None
     limits = Limits(asked.seconds * PATIENCE, asked.memory * MEGABYTE, asked.report * MEGABYTE, asked.seconds)
-    return Task(part, tuple(nets), limits, pictures, connections=tuple(map(connection_of, asked.connection)))
+    return Task(part, tuple(nets), limits, pictures, connections=tuple(map(connection_of, asked.connection)),
+                by_gcc=asked.compiled)
 
 
 def compiled_for(entries: Sequence[Entry], folder: Path) -> Compiled | None:

@@ -31,6 +31,7 @@ PROCESS, TEXT = re.compile(r'\bPROCESS\s*\(\s*(\w+)\s*,\s*"(\w+)"'), re.compile(
 UNLINKED = 'gcc can\'t link it'
 CRASHED, HANGS = 'compiled by gcc, it crashes', 'compiled by gcc, it never ends'
 DIFFERS = 'compiled by gcc, it does something else'
+COMPILED = 'marked as compiled by gcc'
 MISTAKEN = 'its line %d is a mistake in C'
 # (a time has 16 bits here)
 WRAPS = '; clock_time() and clock_seconds() begin again at 0 after %d seconds, which they don\'t do on a node'
@@ -151,7 +152,8 @@ def on_node(remarks: Sequence[Remark], mark: str = '') -> str:
     lines = ['%d' % it for it in others]
     listed = ' and '.join(filter(None, [', '.join(lines[:-1]), *lines[-1:]]))
     compiled = [it.text.partition(':')[0] if it.text.startswith((CRASHED, HANGS, UNLINKED)) else
-                DIFFERS + ' (%s)' % mark * bool(mark) for it in mistakes if not it.line]
+                it.text if it.text.startswith(COMPILED) else DIFFERS + ' (%s)' % mark * bool(mark)
+                for it in mistakes if not it.line]
     return '; '.join([*compiled,
                       *['gcc refuses line %d, because an #include is missing' % it for it in lacking],
                       *['gcc may refuse line %d, because its header isn\'t known here' % it for it in unknown],

@@ -12,8 +12,8 @@ from motesim.explain.within import busiest
 from motesim.faults import Fault, tried
 from motesim.files import replace_whole
 from motesim.grading.by_gcc import (
-    Untranslated, by_gcc_in, by_gcc_words, difference_in, differences_in, marks_of, remarks_in, untranslated,
-    without_fault,
+    Untranslated, as_compiled, by_gcc_in, by_gcc_words, difference_in, differences_in, marks_of, remarks_in,
+    untranslated, without_fault,
 )
 from motesim.grading.compiled import Compiled, Difference, InC
 from motesim.grading.connections import Connection, remarks_on
@@ -77,13 +77,15 @@ def without_own(broken: Sequence[Broken | None], sentences: Sequence[str]) -> li
 @dataclass(frozen=True)
 class Task:
     """The parts that all solutions have in common: the sentences, the nets (if there are none, each solution has its
-    own), the limits, and the connections that programs in C have to open."""
+    own), the limits, the connections that programs in C have to open, and whether their marks are those of the compiled
+    programs."""
     part: Part
     nets: tuple[Net, ...]
     limits: Limits
     pictures: Path | None = None
     compiled: Compiled | None = None
     connections: tuple[Connection, ...] = ()
+    by_gcc: bool = False
 
     def named(self, entry: Entry, data: bytes) -> tuple[bytes, dict[str, str]]:
         """A solution whose processes in C have the names that sentences use, and their first name for each such name."""
@@ -166,6 +168,8 @@ class Task:
                                   *remarks_in(found, in_c)),
                             by_gcc=by_gcc_in(found, self.part.required),
                             hidden=next(iter(differences_in(found)), (False, False, ''))[2])
+            if self.by_gcc and marks.by_gcc:
+                return as_compiled(marks)
         if any(its.is_refused for its in found):
             # (a file whose programs are expected to be refused keeps its marks)
             if any(its.why for its in found) and self.has_c(data, entry.path.name):
@@ -258,8 +262,9 @@ class Task:
         source = encodings.text_of_c(data).removeprefix(MARK)
         found = without_fault(lambda: untranslated(source, self.compiled, self.part, self.nets)) or Untranslated()
         why = '; '.join(filter(None, (row.why, found.crash, by_gcc_words(found.marks), on_node(found.remarks))))
-        return replace(row, why=why, by_gcc=found.marks,
-                       of_c=(*found.remarks, *lacks_of(source), *remarks_on(source, self.connections)))
+        row = replace(row, why=why, by_gcc=found.marks,
+                      of_c=(*found.remarks, *lacks_of(source), *remarks_on(source, self.connections)))
+        return as_compiled(row) if self.by_gcc else row
 
     def answer(self, scenario: bytes) -> Answer:
         """The answer of `motesim`, within the limits. The error at a limit says what the run does most often."""
