@@ -57,6 +57,9 @@ class Locals(unittest.TestCase):
                 (' int n;', 'while(1) { PROCESS_YIELD(); if(ev == PROCESS_EVENT_MSG) { n = 1; } else { n = 2; } '
                  'printf("%d", n); }'),
                 (' int n;', 'n = 1; while(1) { n = 2; if(n > 3) break; PROCESS_PAUSE(); } printf("%d", n);'),
+                (' int n;', 'while(1) { PROCESS_YIELD(); if(ev == 9) { n = 1; } else if(ev == 8) { n = 2; } else '
+                 '{ continue; } printf("%d", n); }'),
+                (' int n; static int m;', 'while(m--) { if(m == 3) { n = 1; } else { PROCESS_YIELD(); } }'),
                 ('', 'if(ev == PROCESS_EVENT_MSG) { PROCESS_PAUSE(); } else { int n = 3; printf("%d", n); }'),
                 (' uint8_t a[2];', 'PROCESS_PAUSE(); memset(a, 0, 2); printf("%d", a[1]);')):
             text, notes = translation(in_process('  ' + body, '', TIMER + inside))
@@ -71,6 +74,9 @@ class Locals(unittest.TestCase):
                 ('if(n == 0) { v = 4; } else if(n == 1) { v = 5; } printf("%d", v);', False),
                 ('switch(n) { case 0: v = 4; break; case 1: v = 5; break; } printf("%d", v);', False),
                 (loop + 'if(n == i) { v = i; break; } if(i < 3) { printf("%d", v); }', False),
+                (loop + '{ if(i == 0 || n > v) { v = n; } }', False),
+                (loop + '{ if(i > 0) { printf("%d", v); } v = i; }', False),
+                (loop + '{ printf("%d", v); v = i; }', True),
                 (loop + 'v = i; printf("%d", v);', False), ('n = n == 2 && (v = 3); if(n) { printf("%d", v); }', False),
                 ('if(n) { v = 4; } printf("%d", v);', True), (loop + 'v = v + i; printf("%d", v);', True),
                 ('v = 4; if(n) { PROCESS_YIELD(); } if(n) { printf("%d", v); }', True),

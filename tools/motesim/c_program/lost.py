@@ -212,13 +212,15 @@ class Locals:
             self.continues.append([])
             self.read(test)
             ends = [] if is_always(test) else [self.state]
-            self.enter(self.state)
+            # (the test of a loop makes sure of no value that an earlier round of the loop has assigned)
+            if self.state is not None and first is not None:
+                self.state = self.state._replace(guarded=self.state.guarded | first.unsure)
             self.run(it.body)
             self.state = joined((self.state, *self.continues.pop()), head)
             self.read(step)
             self.read(last)
             ends += [*self.breaks.pop(), *([] if is_always(last) else [self.state])]
-            again = joined((head, None if last and constant_of(last) == 0 else self.state), head)
+            again = joined((head, None if last and constant_of(last) == 0 else self.state), head, ())
             # (from one round to the next, no variable becomes one that surely has no value, so the loop ends)
             again = again and head and again.with_unsure(head)
             if again == head:
@@ -400,10 +402,8 @@ class Locals:
             text = MAYBE_LOST if variable in self.state.unsure & self.state.guarded else lost
         else:
             text = MAYBE_UNSET if variable in self.state.possible else UNSET
-        words = [one % (variable.name, variable.line) for one in (text, lost)]
-        # (in a loop, the first reading may have no value, although later ones have one)
-        if text != MAYBE_LOST or id(it) not in self.found or self.found[id(it)].text != words[1]:
-            self.found[id(it)] = Reading(it.line, words[0], text in (MAYBE_UNSET, MAYBE_LOST))
+        is_remark = text in (MAYBE_UNSET, MAYBE_LOST)
+        self.found[id(it)] = Reading(it.line, text % (variable.name, variable.line), is_remark)
 
 
 def is_array(it: Expression) -> bool:
