@@ -298,14 +298,17 @@ size_on_node(size_t size)
 }
 /* The byte behind a packet that has one byte: a value that is rarely right by chance. */
 #define UNSET   0xfe
-static unsigned char buffer[PACKETBUF_SIZE];
+/* The data of a packet that has arrived are behind its headers; those of a packet to send are at the beginning. */
+#define HEADERS 24
+static unsigned char buffer[HEADERS + PACKETBUF_SIZE];
+static unsigned char *contents = buffer;
 static uint16_t length;
 /* A send writes its header in front of the data, and a further send sends this header as data. */
 #define HEADER  0xfd
 static int has_header;
 static rimeaddr_t sender;
 
-void *packetbuf_dataptr(void) { return buffer; }
+void *packetbuf_dataptr(void) { return contents; }
 uint16_t packetbuf_datalen(void) { return length; }
 void packetbuf_set_datalen(uint16_t size) { length = (uint16_t)size_on_node(size); }
 int packetbuf_set_attr(uint8_t type, packetbuf_attr_t value) { (void)type; (void)value; return 1; }
@@ -317,14 +320,21 @@ packetbuf_addr(uint8_t type)
   return type == PACKETBUF_ADDR_SENDER ? &sender : library_address();
 }
 
-void packetbuf_clear(void) { length = 0; has_header = 0; }
+
+void
+packetbuf_clear(void)
+{
+  contents = buffer;
+  length = 0;
+  has_header = 0;
+}
 
 int
 packetbuf_copyfrom(const void *from, uint16_t size)
 {
   packetbuf_clear();
   length = size < PACKETBUF_SIZE ? (uint16_t)size_on_node(size) : PACKETBUF_SIZE;
-  memmove(buffer, from, length);
+  memmove(contents, from, length);
   return length;
 }
 
@@ -342,7 +352,7 @@ library_size(size_t size, size_t room)
 int
 library_copyto(void *to, size_t room)
 {
-  memcpy(to, buffer, library_size(length, room));
+  memcpy(to, contents, library_size(length, room));
   return length;
 }
 /*---------------------------------------------------------------------------*/
@@ -427,7 +437,7 @@ check_length(void)
   int i;
 
   for(i = BYTES; i < length && library_is_alone; i++) {
-    if(buffer[i] != 0) {
+    if(contents[i] != 0) {
       exit(EXIT_FAILURE);
     }
   }
@@ -443,8 +453,8 @@ send(const void *connection, uint16_t value)
   it->mote = mote_number();
   it->value = value;
   it->length = length;
-  it->second = buffer[1];
-  it->third = buffer[2];
+  it->second = contents[1];
+  it->third = contents[2];
   it->kind = from->kind;
   it->channel = from->channel;
   motesim_send(value);
@@ -455,10 +465,10 @@ static uint16_t
 word_to_send(void)
 {
   if(has_header) {
-    memset(buffer, HEADER, BYTES);
+    memset(contents, HEADER, BYTES);
   }
   has_header = 1;
-  return (uint16_t)((length > 0 ? buffer[0] : 0) | (length > 1 ? buffer[1] << 8 : 0));
+  return (uint16_t)((length > 0 ? contents[0] : 0) | (length > 1 ? contents[1] << 8 : 0));
 }
 
 void abc_close(struct abc_conn *c) { close_connection(c); }
@@ -507,12 +517,12 @@ broadcast_send(struct broadcast_conn *c)
 
 /*
  * The upper byte of a packet for one mote is the number of this mote. No mote has an address whose
- * second byte isn't 0.
+ * second byte isn't 0, and none has `rimeaddr_null`.
  */
 int
 unicast_send(struct unicast_conn *c, const rimeaddr_t *to)
 {
-  uint16_t address = (uint16_t)(to->u8[1] == 0 ? to->u8[0] : NO_MOTE);
+  uint16_t address = (uint16_t)(to->u8[1] == 0 && to != &rimeaddr_null ? to->u8[0] : NO_MOTE);
   const struct unicast_callbacks *calls = send(c, (uint16_t)(address << 8 | (word_to_send() & 0xff)));
 
   if(calls != NULL && calls->sent != NULL) {
@@ -553,18 +563,20 @@ deliver(int from, uint16_t value)
 
   packetbuf_clear();
   memset(buffer, 0, sizeof(buffer));
+  memset(buffer, HEADER, HEADERS);
+  contents = buffer + HEADERS;
   length = packet != NULL ? packet->length : BYTES;
-  buffer[0] = (unsigned char)value;
-  buffer[1] = length > 1 ? (unsigned char)(value >> 8) : UNSET;
-  buffer[2] = packet != NULL && length > 2 ? packet->third : 0;
+  contents[0] = (unsigned char)value;
+  contents[1] = length > 1 ? (unsigned char)(value >> 8) : UNSET;
+  contents[2] = packet != NULL && length > 2 ? packet->third : 0;
   sender.u8[0] = (unsigned char)from;
   sender.u8[2] = 1;
   /* (the upper byte of the value is the mote; a packet from a program in the notation has one byte) */
   if(packet != NULL && packet->kind == UNICAST) {
-    buffer[1] = length > 1 ? packet->second : UNSET;
+    contents[1] = length > 1 ? packet->second : UNSET;
   } else if(packet == NULL && opened_count > 0 && opened[opened_count - 1].kind == UNICAST) {
     length = 1;
-    buffer[1] = UNSET;
+    contents[1] = UNSET;
   }
   for(i = opened_count - 1; i >= 0; i--) {
     if(packet == NULL || (opened[i].kind == packet->kind && opened[i].channel == packet->channel)) {

@@ -44,6 +44,11 @@
   PROCESS_THREAD(name, ev, data); \
   PROCESS_SCOPE struct process name = PROCESS_INIT(name, #name)
 
+/* The result of a function that ends without a `return`: a value that is rarely right by chance. */
+#ifndef LIBRARY_NO_VALUE
+#define LIBRARY_NO_VALUE 0x5a5a
+#endif
+
 /* A pause ends at any event, as in some versions of Contiki. */
 #ifdef LIBRARY_PAUSES_END
 #undef PROCESS_PAUSE

@@ -253,7 +253,17 @@ PROCESS_THREAD(a, ev, data) {
         self.assertEqual(rows['ben.c'], rows['ada.c'])
         self.assertEqual(rows['cem.c'], rows['ada.c'])
         self.assertNotEqual(rows['dan.c'], rows['ada.c'])
-        self.assertEqual(names_in('PROCESS(b, "a"); int a;', ['a']), {})
+        self.assertEqual(names_in('#define NAME "a"\n#define its b_\nPROCESS(its, NAME);', ['a']), {'b_': 'a'})
+        self.assertEqual(names_in('PROCESS(a_process, "a"); PROCESS(a, "b");', ['a']),
+                         {'a_process': 'a_process', 'a': 'a'})
+        self.assertEqual(names_in('PROCESS(one, "a"); PROCESS(two, "a");', ['a']), {'one': 'a', 'two': 'two'})
+        self.assertEqual(names_in('PROCESS(neighbour_process, "b")', ['a']), {'neighbour_process': 'neighbou_process'})
+        self.assertEqual(names_in('PROCESS(b, "A")', ['a']), {'b': 'a'})
+        for number, above in enumerate(('/* the a */', 'static int a; // a', 'struct a { int a; };',
+                                        'static void a(void) {}')):
+            self.hand_in('o%d.c' % number, program.replace('PROCESS(a,', above + '\nPROCESS(a_process,').replace(
+                '(a,', '(a_process,').replace('&a)', '&a_process)').replace('"Task"', '"a"'))
+            self.assertEqual(self.rows('--net', 'task.toml')['o%d.c' % number], rows['ada.c'], above)
         named = program.replace('(a,', '(a_process,').replace('&a)', '&a_process)')
         self.hand_in('fay.c', named.replace('  PROCESS_BEGIN();\n', ''))
         self.assertIn('PROCESS_THREAD(a_process, ev, data) {', self.grade('--net', 'task.toml', '--why', 'fay.c'))

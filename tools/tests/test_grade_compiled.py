@@ -6,6 +6,7 @@ from pathlib import Path
 from unittest import mock
 
 from motesim.c_program.base import OF_LONG
+from motesim.c_program.compiler import NO_RETURN, check
 from motesim.c_program.program import translated
 from motesim.c_program.refusal import Mistake, Refusal
 from motesim.c_program.remark import Remark
@@ -207,6 +208,48 @@ static int sum(int *a, int b[5]) { int at, s = 0; for(at = 0; at < sizeof(a) / s
                 path.write_text(in_process(body, RADIO, '  ' + TIMER))
                 self.assertEqual(table([task.of((1, Entry('a.c', path)))], part.sentences)[0].split('  ')[1:],
                                  [mark, *filter(None, [words])], body)
+
+    def test_structures_have_the_sizes_of_a_node_and_no_mote_has_the_address_null(self) -> None:
+        above = RADIO + ('\nstruct one { long a; int b; }; struct two { char a; long b; };'
+                         ' struct three { char a, b, c; };')
+        for body, value in ('sizeof(struct one)', 6), ('sizeof(struct two)', 6), ('sizeof(struct three)', 3):
+            source = in_process('  printf("%%d", (int)%s);' % body, above, '  ' + TIMER)
+            report = self.compiled.report(self.in_c(source, in_process('', RADIO, '  ' + TIMER)), 'p')
+            self.assertEqual([it.value for it in deeds_in(report)[0]], [value], body)
+        unicast = ('#include "net/rime.h"\n'
+                   'static void recv(struct unicast_conn *c, const rimeaddr_t *from) { printf("%d", 1); }\nstatic const struct unicast_callbacks calls = {recv}; static struct unicast_conn uc;')
+        body = ('  unicast_open(&uc, 146, &calls); packetbuf_copyfrom("a", 1); unicast_send(&uc, &%s); '
+                'PROCESS_WAIT_EVENT();')
+        for address, count in ('rimeaddr_null', 0), ('zero', 1):
+            source = in_process(body % address, unicast + ' static const rimeaddr_t zero = {{0, 0}};')
+            report = self.compiled.report(self.in_c(source, in_process('', RADIO)), 'p')
+            self.assertEqual([it.kind for it in deeds_in(report)[0]].count('print'), count, address)
+
+    def test_a_function_that_ends_without_a_return_has_no_result_that_is_known(self) -> None:
+        above = RADIO + '\nstatic int is_ack(int v) { if(v > 100) { return 1; } MORE }'
+        for more, body, words, is_mistake in (
+                ('', 'is_ack(200)', '', True), ('return 0;', 'is_ack(3)', '', False), ('', '0); is_ack(3', None, False),
+                ('', 'is_ack(3) ? 0 : 5', 'prints 0 at 0, but its translation prints 5', True),
+                ('', 'n ? is_ack(3) : 5', '', True)):
+            source = in_process('  printf("%%d", %s);' % body, above.replace('MORE', more), '  ' + TIMER)
+            if words is not None:
+                self.assertEqual(self.difference(source) == '', words == '', body)
+                self.assertIn(words, self.difference(source), body)
+            found = [it for it in check(source) if NO_RETURN in it.text]
+            self.assertEqual([(it.is_mistake, it.is_seen) for it in found],
+                             [(is_mistake, not is_mistake)] * (not more), body)
+
+    def test_the_data_of_a_packet_that_has_arrived_are_behind_its_headers(self) -> None:
+        for reads, value in (('packetbuf_clear(); n = *(uint8_t *)packetbuf_dataptr();', 253),
+                             ('uint8_t *m = packetbuf_dataptr(); packetbuf_clear(); n = *m;', 97),
+                             ('uint8_t *m = packetbuf_dataptr(); packetbuf_copyfrom("b", 1); n = *m;', 97),
+                             ('packetbuf_copyfrom("b", 1); n = *(uint8_t *)packetbuf_dataptr();', 98)):
+            above = RADIO.replace('printf("%d", *(int *)packetbuf_dataptr());', reads + ' printf("%d", n);')
+            above = above.replace('static void', 'static int n;\nstatic void', 1)
+            source = in_process('  broadcast_open(&bc, 129, &calls); packetbuf_copyfrom("a", 1); broadcast_send(&bc); '
+                                'PROCESS_WAIT_EVENT();', above)
+            report = self.compiled.report(self.in_c(source, in_process('', RADIO)), 'p')
+            self.assertEqual([it.value for it in deeds_in(report)[0] if it.kind == 'print'], [value], reads)
 
     def test_a_remark_about_a_variant_has_no_values_of_a_hidden_net(self) -> None:
         remark = Remark(7, 'It depends. With 8, ', True, False)
@@ -497,7 +540,7 @@ PROCESS_THREAD(q, ev, data) {
         task = Task(part, (net,), Limits(), compiled=self.compiled)
 
         def words_of(text: str) -> str:
-            found = untranslated(text, self.compiled, part, (net,))
+            found = untranslated(text, {}, self.compiled, part, (net,))
             return found.crash + by_gcc_words(found.marks) + on_node(found.remarks)
 
         for more, mark in (

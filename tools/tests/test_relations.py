@@ -80,7 +80,8 @@ SENTENCES: list[tuple[str, str | None, int | None]] = [
     ('mote 1 sends 1 within 17 moments of receiving 1', None, None),
     ('mote 1 sends 1 at least once within 10 of it receives 1', None, None),
     ('mote 1 sends 1 exactly twice within 10 of receiving 1',
-     'mote 1 has 1 such line within 10 of `receiving 1`; wanted: exactly 2', None),
+     'mote 1 has 1 such line within 10 of `receiving 1`; wanted: exactly 2\n'
+     'this line of mote 1 is 17 moments after the last `receiving 1`, at 63 (line 11); wanted: at most 10', 12),
     ('mote 2 prints a within 3 of mote 1 sends',
      'this line of mote 2 has no `mote 1 sends` before it: the first is at 13 (line 10)', 14),
     ('mote 1 sends 1 within 17 of each time it receives 1', None, None),

@@ -20,6 +20,7 @@ from typing import NamedTuple
 from motesim.c_program.absent import advice_for
 from motesim.c_program.refusal import Mistake
 from motesim.c_program.remark import Remark
+from motesim.c_program.results import is_used
 from motesim.explain.synonyms import nearest
 
 HEADERS = Path(__file__).resolve().parents[2] / 'contiki_library'
@@ -72,6 +73,8 @@ ALIKE = 0.8
 TYPES = ('uint8_t', 'int8_t', 'uint16_t', 'int16_t', 'uint32_t', 'int32_t', 'clock_time_t', 'rimeaddr_t', 'linkaddr_t',
          'process_event_t', 'process_data_t', 'static', 'struct', 'unsigned', 'signed', 'const', 'void')
 REFUSES, WARNED = 'gcc refuses it: ', 'gcc warns: %s.'
+NO_RETURN = 'control reaches end of non-void function'
+OF_RESULT = ' Then the result of the function isn\'t known, and the program uses it: write a `return` at its end.'
 TWO_WAITS = ' Two waits in one line, or in one macro, have the same number: write each in a line of its own.'
 LACKS = 'gcc refuses this line: '
 LACKS_ONE = LACKS + '%s. The program needs `#include %s`.'
@@ -106,7 +109,7 @@ def check(text: str) -> list[Remark]:
     own = complaints_of(source)
     errors = errors_in(own)
     if not errors:
-        return warnings_in(own)
+        return warnings_in(own, text)
     if not knows_files_of(text):
         is_certain = not may_declare_radio(text) and not errors_in(complaints_of(with_more(source, [RADIO])))
         return [Remark(errors[0].line, lacks(source, errors[0]), True, is_seen=False)] if is_certain else []
@@ -115,7 +118,7 @@ def check(text: str) -> list[Remark]:
     if lasting:
         error = next((it for it in lasting if it in errors), errors[0])
         raise Mistake(error.line, refused(error.words))
-    return [Remark(errors[0].line, lacks(source, errors[0]), True, is_seen=False), *warnings_in(complete)]
+    return [Remark(errors[0].line, lacks(source, errors[0]), True, is_seen=False), *warnings_in(complete, text)]
 
 
 def certain_error(text: str) -> tuple[int, str] | None:
@@ -154,8 +157,14 @@ def errors_in(complaints: Sequence[Complaint]) -> list[Complaint]:
     return [it for it in complaints if it.is_error]
 
 
-def warnings_in(complaints: Sequence[Complaint]) -> list[Remark]:
-    return [Remark(it.line, WARNED % it.words) for it in dict.fromkeys(complaints) if OF_TRANSLATOR not in it.words]
+def warnings_in(complaints: Sequence[Complaint], text: str) -> list[Remark]:
+    return [warning(it, text) for it in dict.fromkeys(complaints) if OF_TRANSLATOR not in it.words]
+
+
+def warning(it: Complaint, text: str) -> Remark:
+    """The remark about a warning. A result that isn't known, and that the program uses, is a mistake."""
+    is_mistake = it.words == NO_RETURN and is_used(text, it.line)
+    return Remark(it.line, WARNED % it.words + OF_RESULT * is_mistake, is_mistake, is_seen=not is_mistake)
 
 
 def lacks(source: str, error: Complaint) -> str:

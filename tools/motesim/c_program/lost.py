@@ -8,7 +8,7 @@ from typing import NamedTuple
 
 from motesim.c_program.constants import constant_of
 from motesim.c_program.control import WAITS
-from motesim.c_program.refusal import Mistake
+from motesim.c_program.refusal import Mistake, Refusal
 from motesim.c_program.tree import Expression, Function, Statement, Variable
 from motesim.c_program.types import BYTE, Type, size_of
 from motesim.c_program.walk import all_parts, assigned_in, declared_in, parts_of, with_called, without_casts
@@ -106,10 +106,11 @@ def joined(states: Iterable[State | None], before: State | None = None,
 
 
 class Reading(NamedTuple):
-    """A line that reads a variable without a value, with the message about it."""
+    """A line that reads a variable without a value, or changes the data of an event, with the message about it."""
     line: int
     text: str
     is_remark: bool
+    may_be_right: bool = False
 
 
 class Locals:
@@ -317,7 +318,7 @@ class Locals:
         if self.is_below:
             self.changed.add(variable)
         if self.state is not None and variable in self.state.posted:
-            self.found[id(it)] = Reading(it.line, CHANGED % ((variable.name,) * 3), False)
+            self.found[id(it)] = Reading(it.line, CHANGED % ((variable.name,) * 3), False, True)
 
     def at_place(self, it: Expression, use: Callable[[Expression], None]) -> None:
         """Follows the parts of a place, and uses its variable: a member or a field counts as the whole variable."""
@@ -467,9 +468,9 @@ def posted_by(it: Expression) -> frozenset[Variable]:
 
 def check_locals(functions: Collection[Function]) -> list[tuple[int, str]]:
     """The remarks about local variables that may have no value. Raises a Mistake for those that certainly have none,
-    or lose it."""
+    or lose it, and a Refusal for data that change before a process gets the event."""
     readings = [it for function in functions for it in Locals(function, functions).check()]
     for it in readings:
         if not it.is_remark:
-            raise Mistake(it.line, it.text)
+            raise (Refusal if it.may_be_right else Mistake)(it.line, it.text)
     return [(it.line, it.text) for it in readings]

@@ -39,8 +39,8 @@ OF_PACKET = ('A packet, or the data of an event, is one number of 16 bits: one v
              'number, such as `type * 64 + seq %% 64`.')
 OF_SIZE = ('This reads two bytes, but the program also sends or posts values of one byte. If such a value arrives, its '
            'second byte is 0 here, and that of something else on a node: read it with its own type, such as `uint8_t`.')
-OVERWRITTEN = ('Contiki has one packet buffer. So after `packetbuf_copyfrom`, this is a value of the packet that is '
-               'sent there; here, it is still the value of the packet that has arrived. Copy the value before.')
+OVERWRITTEN = ('Contiki has one packet buffer. So after `packetbuf_copyfrom`, this may be a value of the packet '
+               'that is sent there; here, it is still the value of the packet that has arrived. Copy the value before.')
 # The names under which the limits of a mote's number are known, and those of the motes on which a statement has
 # overwritten the packet buffer; and the limits for no mote and for all motes.
 SELF, OVERWRITING = 'self', 'packet buffer'
@@ -400,7 +400,7 @@ class Places(Base):
         if place.source == 'packet':
             self.need_packet(line)
         if place.source == 'packet' and not self.is_intact:
-            self.remark_mistake(line, OVERWRITTEN)
+            self.remark_mistake(line, OVERWRITTEN, is_seen=False)
         if place.source == 'data' and ('', 'data') in self.program.knowledge.limits and not self.forms('data'):
             self.remark_mistake(line, NUMBER_READ)
         its = place.root

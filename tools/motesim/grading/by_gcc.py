@@ -2,7 +2,7 @@
 from __future__ import annotations
 
 import re
-from collections.abc import Callable, Sequence
+from collections.abc import Callable, Mapping, Sequence
 from dataclasses import replace
 from typing import NamedTuple, TypeVar
 
@@ -117,13 +117,14 @@ class Untranslated(NamedTuple):
     remarks: Sequence[Remark] = ()
 
 
-def untranslated(source: str, compiled: Compiled | None, part: Part, nets: Sequence[Net]) -> Untranslated:
+def untranslated(source: str, names: Mapping[str, str], compiled: Compiled | None, part: Part, nets: Sequence[Net]
+                 ) -> Untranslated:
     """Compiles a program that can't be translated, and runs it in all nets."""
-    outline = outline_of(source)
+    outline = outline_of(source, names)
     if compiled is None or outline is None:
         return Untranslated()
     try:
-        found = [in_net(InC(source, outline, net.with_program(outline.text), True), compiled, part, net)
+        found = [in_net(InC(source, outline, net.with_program(outline.text), names, True), compiled, part, net)
                  for net in nets]
     except NoComparison:
         return Untranslated()

@@ -154,7 +154,9 @@ def write_scenarios(folder: Path, entries: Sequence[Entry], task: Task) -> None:
             try:
                 if entry.why:
                     raise Fault(entry.why)
-                text = net.with_program(program_of(task.named(entry, data_of(entry))[0], entry.path.name, net.program))
+                data = data_of(entry)
+                names = task.names_in(entry, data)
+                text = net.with_program(program_of(data, entry.path.name, net.program, names))
             except Fault as fault:
                 print('grade: %s isn\'t written: %s' % (one_line(entry.name), fault), file=sys.stderr)
                 break

@@ -10,9 +10,10 @@ import signal
 import subprocess
 import tempfile
 from collections import Counter
-from collections.abc import Sequence
+from collections.abc import Mapping, Sequence
 from itertools import zip_longest
 from pathlib import Path
+from types import MappingProxyType
 from typing import NamedTuple
 
 from motesim.c_program.calls import PRINTS
@@ -30,7 +31,8 @@ from motesim.grading.untranslated import may_call
 from motesim.grading.variants import Way, variants_of
 from motesim.scenario import Scenario
 
-FLAGS = ('-w', '-O0', '-fno-pic', '-std=gnu99', '-fsanitize=bounds',
+# (the members of a structure are at even addresses, as on a node)
+FLAGS = ('-w', '-O0', '-fno-pic', '-std=gnu99', '-fsanitize=bounds', '-fpack-struct=2',
          '-I.', '-I%s' % LIBRARY, '-I%s' % HOST)
 # The memory of local variables that have no value has bytes that are rarely right by chance; or zeros.
 GARBAGE, ZEROS = '-ftrivial-auto-var-init=pattern', '-ftrivial-auto-var-init=zero'
@@ -59,7 +61,7 @@ ENDS = {-it: CRASHES for it in (signal.SIGSEGV, signal.SIGBUS, signal.SIGILL, si
 MEETING = '; at %d, a packet and another event have the same moment, and their order may differ on a node'
 ON_NODE = '; a node probably does the same as the compiled program'
 OF_UNSET = ('; a local variable, or a part of it, has no value there: the program assigns none before, or it isn\'t '
-            '`static`, and its value is lost at a wait')
+            '`static`, and its value is lost at a wait; or a function ends without a `return`')
 OF_REMARK = '; see the remark on line %d'
 DIFFERS = 'compiled by gcc, mote {mote} {theirs}, but its translation {ours}'
 # The largest value of an `int`.
@@ -75,11 +77,12 @@ class Crash(Exception):
 
 
 class InC(NamedTuple):
-    """A program in C in a net: its text, its translation, and the scenario with this translation. `is_alone`: whether the
-    translation has only its processes."""
+    """A program in C in a net: its text, its translation, and the scenario with this translation. `names`: the names of
+    its processes in the scenario; `is_alone`: whether the translation has only its processes."""
     source: str
     translation: Translation
     scenario: str
+    names: Mapping[str, str] = MappingProxyType({})
     is_alone: bool = False
 
 
@@ -100,7 +103,8 @@ class Difference(NamedTuple):
         return bool(self.words) and not self.may_differ
 
 
-PLAIN, WITH_ZEROS, WITH_QUEUE = Way(GARBAGE), Way(ZEROS), Way(GARBAGE, has_queue=True)
+PLAIN, WITH_QUEUE = Way(GARBAGE), Way(GARBAGE, has_queue=True)
+WITH_ZEROS = Way(ZEROS, flags=('-DLIBRARY_NO_VALUE=0',))
 
 
 class Deed(NamedTuple):
@@ -146,7 +150,7 @@ class Compiled:
             sources = ['solution.o', *(name for name, _ in tables), *self.objects]
             called(['gcc', *self.flags, '-no-pie', '-o', 'run', *sources], place)
             try:
-                return called(['./run'], place)
+                return renamed(called(['./run'], place), program, it.names)
             except NoComparison as fault:
                 index = INDEX.search(str(fault))
                 if index is None:
@@ -230,6 +234,16 @@ def deeds_in(report: bytes) -> list[list[Deed]]:
         elif words[1] in KINDS:
             motes[-1].append(Deed(int(words[0]), words[1], int(words[3])))
     return motes
+
+
+def renamed(report: bytes, program: str, names: Mapping[str, str]) -> bytes:
+    """A report in which the processes of a program have the names of the scenario."""
+    rows, is_own = list[str](), False
+    for words in (row.split(' ') for row in report.decode().split('\n')):
+        is_own = words[2:3] == [program] if words[0] == 'mote' else is_own and words[0] != 'medium'
+        rows.append(' '.join([*words[:2], *(names.get(it, it) for it in words[2:])]) if is_own and words[0] != 'mote'
+                    else ' '.join(words))
+    return '\n'.join(rows).encode()
 
 
 def first_meeting(report: bytes, program: str) -> int | None:

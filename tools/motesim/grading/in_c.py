@@ -2,13 +2,15 @@
 from __future__ import annotations
 
 import re
-from collections.abc import Iterable, Mapping, Sequence
+from collections.abc import Collection, Mapping, Sequence
+from types import MappingProxyType
 
 from motesim.c_program import compiler
 from motesim.c_program.constants import SECOND
 from motesim.c_program.headers import REFUSED
 from motesim.c_program.names import is_changed, similar
 from motesim.c_program.origin import Origin
+from motesim.c_program.parse_file import tokens_in
 from motesim.c_program.program import Translation
 from motesim.c_program.refusal import Misspelt, Mistake, Refusal
 from motesim.c_program.remark import Remark
@@ -26,8 +28,8 @@ WORDS_OF_C = {'wait by `yield_until`': 'wait by `PROCESS_WAIT_EVENT_UNTIL(etimer
               '`yield_until`': '`PROCESS_WAIT_EVENT_UNTIL`', '`wait_until`': '`PROCESS_WAIT_UNTIL`',
               '`wait_while`': '`PROCESS_WAIT_WHILE`', '`yield`': '`PROCESS_YIELD`', '`pause`': '`PROCESS_PAUSE`'}
 NO_TRANSLATION = 'not marked: its line %d may be right in C, but the tool can\'t translate it'
-# A process with its two names; and a text in a program.
-PROCESS, TEXT = re.compile(r'\bPROCESS\s*\(\s*(\w+)\s*,\s*"(\w+)"'), re.compile(r'"[^"\n]*"')
+# A process with its name and its text. And a word of a program in the notation, or a comment.
+PROCESS, WORD = re.compile(r'\bPROCESS\s*\(\s*(\w+)\s*,\s*"(\w+)"'), re.compile(r'//[^\n]*|[a-z]\w*')
 UNLINKED = 'gcc can\'t link it'
 CRASHED, HANGS = 'compiled by gcc, it crashes', 'compiled by gcc, it never ends'
 DIFFERS = 'compiled by gcc, it does something else'
@@ -86,38 +88,46 @@ def lacks_of(source: str) -> tuple[Remark, ...]:
         return ()
 
 
-def names_in(source: str, wanted: Iterable[str]) -> dict[str, str]:
-    """The processes that have a second name in C, such as `hb` of `PROCESS(hb_process, "hb")`, if sentences use this name,
-    and not the first one: the first name for each second one."""
-    return {second: first for first, second in PROCESS.findall(source) if second in wanted and first not in wanted
-            and not re.search(r'\b%s\b' % re.escape(second), TEXT.sub('', source))}
+def processes_in(source: str) -> list[tuple[str, str]]:
+    """The processes of a program in C: the name of each, and its text, such as those of `PROCESS(hb_process, "hb")`."""
+    try:
+        words = [it.text for it in tokens_in(source)]
+    except Refusal:
+        return PROCESS.findall(source)
+    return [(words[at + 2], words[at + 4].strip('"')) for at in range(len(words) - 4)
+            if words[at:at + 2] == ['PROCESS', '('] and words[at + 3] == ',']
 
 
-def with_names(source: str, names: Mapping[str, str]) -> str:
-    """A program with the second names of processes."""
-    for second, first in names.items():
-        source = re.sub(r'\b%s\b' % first, second, source)
-    return source
+def names_in(source: str, wanted: Collection[str]) -> dict[str, str]:
+    """For each process of a program in C, its name in sentences: its text if they use this one, and not its name."""
+    processes, found = processes_in(source), dict[str, str]()
+    taken = [similar(name) for name, _ in processes]
+    for name, its in processes:
+        text = its.lower()
+        is_meant = text in wanted and similar(name) not in wanted and not is_changed(text)
+        found[name] = text if is_meant and text not in (*taken, *found.values()) else similar(name)
+    return found
 
 
-def without_names(text: str, names: Mapping[str, str]) -> str:
-    """A text about a program with the first names of processes, but not in a text of C."""
-    for second, first in names.items():
-        text = re.sub(r'(?<!")\b%s\b' % second, first, text)
-    return text
+def with_names(text: str, names: Mapping[str, str]) -> str:
+    """A program in the notation whose processes have their names in sentences. What had such a name gets that of the
+    process."""
+    exchanged = {similar(name): other for name, other in names.items() if other != similar(name)}
+    exchanged |= {other: name for name, other in exchanged.items()}
+    return WORD.sub(lambda it: exchanged.get(it[0], it[0]), text) if exchanged else text
 
 
 def with_first_names(message: str, source: str) -> str:
     """A message in which a process that has a shorter name in the notation has its name in C, too."""
-    for first, _ in PROCESS.findall(source):
-        if is_changed(first):
-            message = message.replace('`%s`' % similar(first), '`%s`, in C `%s`' % (similar(first), first))
+    for name, _ in processes_in(source):
+        if is_changed(name):
+            message = message.replace('`%s`' % similar(name), '`%s`, in C `%s`' % (similar(name), name))
     return message
 
 
-def notation_of(source: str) -> str:
-    """The text of a program in C in the notation."""
-    return with_comment(made_of(source), 'C').text
+def notation_of(source: str, names: Mapping[str, str] = MappingProxyType({})) -> str:
+    """The text of a program in C in the notation. `names`: those of its processes in sentences."""
+    return with_names(with_comment(made_of(source), 'C').text, names)
 
 
 def origin_of(source: str) -> Origin:

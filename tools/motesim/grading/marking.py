@@ -2,9 +2,10 @@
 from __future__ import annotations
 
 import re
-from collections.abc import Sequence
+from collections.abc import Mapping, Sequence
 from dataclasses import dataclass, replace
 from pathlib import Path
+from types import MappingProxyType
 
 from motesim.explain.explanation import explanation, of_program as fault_of_program, of_program_file, tables_or_none
 from motesim.explain.lint import ZERO_GIVEN
@@ -19,8 +20,7 @@ from motesim.grading.compiled import Compiled, Difference, InC
 from motesim.grading.connections import Connection, remarks_on
 from motesim.grading.entries import Entry, data_of, without_program
 from motesim.grading.in_c import (
-    NotTranslated, in_words_of_c, lacks_of, made_of, names_in, on_node, origin_of, with_first_names, with_names,
-    without_names,
+    NotTranslated, in_words_of_c, lacks_of, made_of, names_in, on_node, origin_of, remarks_of, with_first_names,
 )
 from motesim.grading.marks import LONGEST_WHY, OTHER_PROCESS, InNet, Mark, Marks, over_nets, spread, unmarked
 from motesim.grading.nets import NOT_UTF8, Net, NoProgram, program_of, unused_of
@@ -87,14 +87,12 @@ class Task:
     connections: tuple[Connection, ...] = ()
     by_gcc: bool = False
 
-    def named(self, entry: Entry, data: bytes) -> tuple[bytes, dict[str, str]]:
-        """A solution whose processes in C have the names that sentences use, and their first name for each such name."""
+    def names_in(self, entry: Entry, data: bytes) -> dict[str, str]:
+        """The names that sentences have for the processes of a program in C."""
         if entry.path.suffix != '.c' or not encodings.is_text(data) or encodings.encoding_of(data):
-            return data, {}
+            return {}
         wanted = [it for words in self.part.sentences for it in PRINTS.findall(words)]
-        source = encodings.text_of_c(data)
-        names = names_in(source, wanted)
-        return with_names(source, names).encode() if names else data, names
+        return names_in(encodings.text_of_c(data), wanted)
 
     def of(self, numbered: tuple[int, Entry]) -> Marks:
         """The marks of an entry."""
@@ -104,16 +102,14 @@ class Task:
         if entry.path.suffix in ('.mote', '.c') and not self.nets:
             return Marks(entry.name, why='a program needs a net: name one with --net')
         try:
-            data, names = self.named(entry, data_of(entry))
+            data = data_of(entry)
         except Fault as fault:
             return Marks(entry.name, why=str(fault))
-        row = self.of_data(number, entry, data)
-        fix, warned = (tuple(without_names(it, names) for it in its) for its in (row.fix, row.warned))
-        return replace(row, fix=fix, warned=warned,
-                       of_c=tuple(it._replace(text=without_names(it.text, names)) for it in row.of_c))
+        return self.of_data(number, entry, data)
 
     def of_data(self, number: int, entry: Entry, data: bytes) -> Marks:
         """The marks of an entry that has these bytes."""
+        names = self.names_in(entry, data)
         try:
             lacks = without_program(entry, data)
             if lacks:
@@ -135,12 +131,12 @@ class Task:
             if not self.nets:
                 found = [self.in_net(data.decode('utf-8'), (file, data.decode('utf-8')))]
             else:
-                source = [program_of(data, entry.path.name, net.program) for net in self.nets]
+                source = [program_of(data, entry.path.name, net.program, names) for net in self.nets]
                 its = file, source[0] if entry.path.suffix == '.c' else data.decode('utf-8')
                 in_c = encodings.text_of_c(data).removeprefix(MARK) if entry.path.suffix == '.c' else ''
                 found = []
                 for each, text in zip(self.nets, source):
-                    marks_here = self.in_net(each.with_program(text), its, each.program, in_c)
+                    marks_here = self.in_net(each.with_program(text), its, each.program, in_c, names)
                     found.append(marks_here._replace(net=each.name, is_hidden=each.is_hidden))
         except UnicodeDecodeError:
             return Marks(entry.name, why=NOT_UTF8)
@@ -148,14 +144,17 @@ class Task:
             return unmarked(entry.name, '%s, though the program had used less processor time than it may' % fault)
         except Ended as fault:
             row = Marks(entry.name, why=in_words_of_c(str(fault)) if entry.path.suffix == '.c' else str(fault))
-            if entry.path.suffix != '.c' or ONLY_PAUSES not in row.why:
+            if entry.path.suffix != '.c':
                 return row
-            return self.with_gcc_alone(replace(row, why=NO_MARK + row.why, is_open=True), data)
+            row = replace(row, of_c=tuple(remarks_of(in_c)))
+            if ONLY_PAUSES not in row.why:
+                return row
+            return self.with_gcc_alone(replace(row, why=NO_MARK + row.why, is_open=True), data, names)
         except NoProgram as fault:
             return Marks(entry.name, why=str(fault), fix=(fault.hint,))
         except NotTranslated as fault:
             row = Marks(entry.name, why=str(fault), fix=fault.lines, is_open=fault.may_be_right)
-            return self.with_gcc_alone(row, data) if fault.is_compiled else row
+            return self.with_gcc_alone(row, data, names) if fault.is_compiled else row
         except UnknownSentence as fault:
             return Marks(entry.name, why=fault.which, fix=self.fix(entry, data))
         except Fault as fault:
@@ -210,14 +209,15 @@ class Task:
                 lines = explanation(entry.name, data, 'motesim: ' + fault.message) if fault else []
         return tuple(line[:LONGEST_WHY] for line in lines[:MOST_LINES])
 
-    def in_net(self, text: str, file: tuple[str, str], program: str = '', in_c: str = '') -> InNet:
+    def in_net(self, text: str, file: tuple[str, str], program: str = '', in_c: str = '',
+               names: Mapping[str, str] = MappingProxyType({})) -> InNet:
         """The marks of a scenario. `file` is the name and the text of the solution's file. `program` is the program
         that the solution has; if it is empty, all programs of the scenario are the solution's. `in_c` is the text of
-        this program in C, if it is compared with its translation."""
-        known, names = known_of(text)
-        lacks = [with_first_names(lacking(it, names), in_c) for it in self.part.sentences]
+        this program in C, if it is compared with its translation, and `names` are those of its processes."""
+        known, known_names = known_of(text)
+        lacks = [with_first_names(lacking(it, known_names), in_c) for it in self.part.sentences]
         part = replace(self.part, sentences=[it for it, lack in zip(self.part.sentences, lacks) if not lack])
-        sentences = read_all(part.sentences, names)
+        sentences = read_all(part.sentences, known_names)
         got = self.answer(text.encode())
         if got.status:
             verdicts = refused(part, sentences, got)
@@ -243,7 +243,7 @@ class Task:
             marks.append(Mark(whole.sentence, whole.holds, (), tuple(whole.more)))
         origin = origin_of(in_c) if in_c else None
         run = Run('', report, scenario, file, origin) if len(got.report) <= MOST_SHOWN else None
-        differs = self.difference(InC(in_c, made_of(in_c), text), program, got.report) if in_c else None
+        differs = self.difference(InC(in_c, made_of(in_c), text, names), program, got.report) if in_c else None
         programs = {program: scenario.programs[program]} if program else scenario.programs
         compiled = differs.report if differs else b''
         by_gcc = marks_of(compiled, scenario, program, [*zip(part.sentences, sentences)]) if compiled else []
@@ -256,11 +256,12 @@ class Task:
         """The difference between a program in C and its translation, if gcc is installed."""
         return self.compiled.difference(it, program, report) if self.compiled else None
 
-    def with_gcc_alone(self, row: Marks, data: bytes) -> Marks:
+    def with_gcc_alone(self, row: Marks, data: bytes, names: Mapping[str, str]) -> Marks:
         """The row of a program in C of which only the compiled program has marks. The row doesn't depend on them, so an
         error in them leaves them out."""
         source = encodings.text_of_c(data).removeprefix(MARK)
-        found = without_fault(lambda: untranslated(source, self.compiled, self.part, self.nets)) or Untranslated()
+        found = without_fault(lambda: untranslated(source, names, self.compiled, self.part, self.nets))
+        found = found or Untranslated()
         why = '; '.join(filter(None, (row.why, found.crash, by_gcc_words(found.marks), on_node(found.remarks))))
         row = replace(row, why=why, by_gcc=found.marks,
                       of_c=(*found.remarks, *lacks_of(source), *remarks_on(source, self.connections)))

@@ -3,9 +3,10 @@ from __future__ import annotations
 
 import itertools
 import math
-from collections.abc import Iterable, Iterator, Sequence
+from collections.abc import Iterable, Iterator, Mapping, Sequence
 from dataclasses import dataclass, replace
 from pathlib import Path
+from types import MappingProxyType
 
 from motesim.experiments.asked import values_of
 from motesim.faults import Fault
@@ -183,8 +184,9 @@ def nets_with_wide_sets(nets: Sequence[Net], sentences: Sequence[Sentence]) -> l
     return found
 
 
-def program_of(data: bytes, name: str, wanted: str) -> str:
-    """The text of the program that a solution has: the one of this name, or its only one."""
+def program_of(data: bytes, name: str, wanted: str, names: Mapping[str, str] = MappingProxyType({})) -> str:
+    """The text of the program that a solution has: the one of this name, or its only one. `names`: for a program in C,
+    the names of its processes in sentences."""
     if len(data) > LONGEST_TEXT:
         raise Fault('the file is longer than {:,} bytes'.format(LONGEST_TEXT))
     try:
@@ -194,7 +196,7 @@ def program_of(data: bytes, name: str, wanted: str) -> str:
     if name.endswith('.mote'):
         return text.removeprefix(MARK)
     if name.endswith('.c'):
-        return notation_of(text.removeprefix(MARK))
+        return notation_of(text.removeprefix(MARK), names)
     if has_plan(data):
         raise Fault('the file is a plan, not a scenario')
     try:

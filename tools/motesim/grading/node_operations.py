@@ -11,6 +11,7 @@ from __future__ import annotations
 from collections.abc import Sequence
 
 from motesim.c_program.constants import NotConstant, constant_of
+from motesim.c_program.parse_declarations import Declared
 from motesim.c_program.parse_expressions import LEVELS
 from motesim.c_program.parse_file import FileReader
 from motesim.c_program.refusal import Refusal
@@ -37,6 +38,13 @@ class Operations(FileReader):
         super().__init__(tokens)
         self.texts = [it.text for it in tokens]
         self.seen = set[int]()
+
+    def define(self, one: Declared, comments: tuple[str, ...]) -> None:
+        """A function that ends without a `return` has a result that isn't known."""
+        super().define(one, comments)
+        if one.type.kind in ('int', 'bool', 'event', 'pointer', 'data'):
+            its = '(void *)' if one.type.kind in ('pointer', 'data') else ''
+            self.texts[self.at - 1] = 'return %sLIBRARY_NO_VALUE; }' % its
 
     def choice(self) -> Expression:
         start = self.at

@@ -5,7 +5,7 @@ The compiled program runs on the host with what tools/contiki_library declares, 
 from __future__ import annotations
 
 import re
-from collections.abc import Iterable, Sequence
+from collections.abc import Iterable, Mapping, Sequence
 
 from motesim.c_program.parse_file import tokens_in
 from motesim.c_program.program import Translation
@@ -24,18 +24,20 @@ ATTRIBUTES = ('packed', 'unused', '__packed__', '__unused__')
 DRAWING = ('random_rand', 'rand')
 
 
-def outline_of(source: str) -> Translation | None:
-    """A program in the notation that has the processes of a program in C, but does nothing; None if there is none."""
+def outline_of(source: str, names: Mapping[str, str]) -> Translation | None:
+    """A program in the notation that has the processes of a program in C, but does nothing; None if there is none.
+    `names`: those of its processes in sentences."""
     try:
         words = [it.text for it in tokens_in(source)]
     except Refusal:
         return None
-    names = [words[at + 2] for at in range(len(words) - 2) if words[at:at + 2] == ['PROCESS_THREAD', '(']]
-    text = 'process %s;\nautostart %s;\n' % (', '.join(names), ', '.join(names)) + ''.join(
-        'code %s { body { pause; } }\n' % it for it in names)
-    if not names or find_fault(text) is not None or not is_plain(words):
+    own = [words[at + 2] for at in range(len(words) - 2) if words[at:at + 2] == ['PROCESS_THREAD', '(']]
+    known = [names.get(it, it) for it in own]
+    text = 'process %s;\nautostart %s;\n' % (', '.join(known), ', '.join(known)) + ''.join(
+        'code %s { body { pause; } }\n' % it for it in known)
+    if not own or find_fault(text) is not None or not is_plain(words):
         return None
-    return Translation(text, (), tuple(names) if any(it in words for it in DRAWING) else (), names[0])
+    return Translation(text, (), tuple(own) if any(it in words for it in DRAWING) else (), own[0])
 
 
 def is_plain(words: Sequence[str]) -> bool:

@@ -141,7 +141,17 @@ def _counted(it: Does, relation: Relation, name: str, when: str, lines: Sequence
     why = '%s%s %s `%s`; wanted: %s' % (
         has_lines(name, len(fit)), when, _kind_in_words(relation), relation.words, it.count)
     most = it.count.most
-    return why, fit[max(most, 0)].row if most is not None and len(fit) > max(most, 0) else None
+    if most is not None and len(fit) > max(most, 0):
+        return why, fit[max(most, 0)].row
+    others = [line for line in lines if relation.kind == 'within' and line not in fit]
+    nearest = min(others, key=lambda it: _distance(it, order), default=None)
+    return ('%s\n%s' % (why, _why_not(relation, nearest, order)), nearest.row) if nearest else (why, None)
+
+
+def _distance(line: Found, order: Order) -> int:
+    """The moments from the last event that is not after a line."""
+    event = order.last_before(line)
+    return line.line.at - event.line.at if event else LAST
 
 
 def _kind_in_words(relation: Relation) -> str:
