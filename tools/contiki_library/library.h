@@ -162,6 +162,7 @@ int library_copyto(void *to, size_t room);
 #define puts(text)         library_text(text)
 #define rand()             library_rand()
 #define qsort(base, count, size, compare) library_qsort(base, count, size, compare)
+#define abs(value)         ({ short library_of = (short)(value); (short)(library_of < 0 ? -library_of : library_of); })
 #define putchar(character) library_character(character)
 
 #define node_id            (*library_node_id())

@@ -251,6 +251,14 @@ static int sum(int *a, int b[5]) { int at, s = 0; for(at = 0; at < sizeof(a) / s
             report = self.compiled.report(self.in_c(source, in_process('', RADIO)), 'p')
             self.assertEqual([it.value for it in deeds_in(report)[0] if it.kind == 'print'], [value], reads)
 
+    def test_the_absolute_value_is_that_of_an_int(self) -> None:
+        above = RADIO.replace('net/rime.h"', 'net/rime.h"\n#include <stdlib.h>') + '\nstatic uint16_t a = 5, b = 10;'
+        for body, value in ('abs(a - b)', 5), ('abs(b - a)', 5), ('abs(a) + abs(-3) + abs(a - 9)', 12):
+            source = in_process('  printf("%%d", %s);' % body, above, '  ' + TIMER)
+            self.assertEqual(self.difference(source), '', body)
+            report = self.compiled.report(self.in_c(source), 'p')
+            self.assertEqual([it.value for it in deeds_in(report)[0]], [value], body)
+
     def test_a_remark_about_a_variant_has_no_values_of_a_hidden_net(self) -> None:
         remark = Remark(7, 'It depends. With 8, ', True, False)
         source = in_process('  printf("%d", 1);', RADIO, '  ' + TIMER)

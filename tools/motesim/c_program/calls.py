@@ -14,7 +14,7 @@ from motesim.c_program.refusal import Mistake, Refusal
 from motesim.c_program.tree import Expression, Function, Variable
 from motesim.c_program.types import BYTE, INT, UNSIGNED, fields_of, leaves_of
 from motesim.c_program.usage import members_of
-from motesim.c_program.values import MOST, NOTHING, Limits, Value, added, as_type, compared, number
+from motesim.c_program.values import MOST, NOTHING, Limits, Value, added, as_type, compared, converted, number
 from motesim.c_program.walk import all_parts, base_of, parts_of, shown, with_called, without_casts
 from motesim.c_program.written import Block, If, Line
 
@@ -736,7 +736,8 @@ class Calls(Chance):
         return self.program.semaphores[pointer.variable]
 
     def value_abs(self, it: Expression) -> Value:
-        value = self.operand(self.arguments(it, 1)[0])
+        # (its parameter is an `int`)
+        value = converted(self.operand(self.arguments(it, 1)[0]), INT)
         if not value.is_negative:
             return value
         kept = self.temporary(value)

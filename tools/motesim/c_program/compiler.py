@@ -48,7 +48,7 @@ WARNINGS = ('parentheses', 'unused-value', 'return-type', 'empty-body', 'mislead
 # Newer compilers refuse what those for nodes warn of.
 PERMITTED = ('implicit-function-declaration', 'implicit-int', 'int-conversion', 'incompatible-pointer-types')
 GCC = ('gcc', '-x', 'c', '-std=gnu99', '-S', '-o', '/dev/null', '-I%s' % HEADERS, '-DMOTESIM_FOR_CONTIKI',
-       '-DCONTIKI_TARGET_SKY=1', '-ftrack-macro-expansion=0', '-fno-diagnostics-show-caret',
+       '-DCONTIKI_TARGET_SKY=1', '-D__MSP430__=1', '-ftrack-macro-expansion=0', '-fno-diagnostics-show-caret',
        '-fdiagnostics-color=never',
        *('-W' + it for it in WARNINGS), *('-Wno-error=' + it for it in PERMITTED))
 # (a program may be made to keep a compiler busy, and a compiled one runs for as long as it likes)

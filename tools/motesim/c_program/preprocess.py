@@ -17,7 +17,7 @@ FOLDERS = ('net', 'sys', 'dev', 'lib', 'cfs', 'loader', 'apps', 'avr')
 OF_PROJECT = ('Headers of a project, such as `%s`, aren\'t read. Instead of this line, write the lines of the header '
               'that the program needs.')
 # The macros of a node such as the Tmote Sky that programs test.
-OF_NODE = {'CONTIKI_TARGET_SKY': '1', 'LINKADDR_SIZE': '2', 'RIMEADDR_SIZE': '2'}
+OF_NODE = {'CONTIKI_TARGET_SKY': '1', '__MSP430__': '1', 'LINKADDR_SIZE': '2', 'RIMEADDR_SIZE': '2'}
 NO_TEST = 'The test of this `#%s` can\'t be evaluated.'
 
 
