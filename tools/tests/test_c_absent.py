@@ -273,6 +273,18 @@ static const struct broadcast_callbacks calls = {recv};'''
                 translated(source.replace('MORE', more))
             self.assertEqual(type(caught.exception) is Mistake, is_mistake, caught.exception.reason)
 
+    def test_a_misspelt_name_of_contiki_is_a_mistake(self) -> None:
+        for line, name in (('leds_toggel(1);', 'leds_toggle'), ('packetbuf_copyFrom(&k, 1);', 'packetbuf_copyfrom'),
+                           ('packetbuf_copy_from(&k, 1);', 'packetbuf_copyfrom'),
+                           ('k = CLOCK_SECONDS;', 'CLOCK_SECOND'), ('leds_on(LED_RED);', 'LEDS_RED'),
+                           ('k = nodeid;', 'node_id')):
+            with self.assertRaisesRegex(Mistake, 'Do you mean `%s`' % name):
+                translated(in_process('  ' + line, 'static int k;'))
+        for line in 'packetbuf_attr(1);', 'runicast_send(&k, &k, 3);', 'k = LEDS_CONF_ALL;', 'packetbuf_hdrlen();':
+            with self.assertRaises(Refusal) as caught:
+                translated(in_process('  ' + line, 'static int k;'))
+            self.assertFalse(isinstance(caught.exception, Mistake), caught.exception.reason)
+
     def test_a_misspelt_header_is_a_mistake(self) -> None:
         for path, meant in (('net/broadcast.h', 'net/rime/broadcast.h'), ('sys/etimers.h', 'sys/etimer.h'),
                             ('lib/random.hh', 'lib/random.h'), ('net/rme.h', 'net/rime.h')):

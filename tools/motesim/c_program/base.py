@@ -5,7 +5,8 @@ from collections.abc import Iterable, Iterator
 from contextlib import contextmanager
 from dataclasses import dataclass, field
 
-from motesim.c_program.absent import absent, advice_for
+from motesim.c_program.absent import NO_NAME, absent, advice_for
+from motesim.c_program.constants import EVENT_NUMBERS, NUMBERS
 from motesim.c_program.knowledge import Knowledge, LoopLimits
 from motesim.c_program.names import fresh, is_changed
 from motesim.c_program.refusal import Misspelt, Refusal
@@ -17,6 +18,11 @@ from motesim.c_program.values import Limits, Value, converted, united
 from motesim.c_program.written import Block, Line, Target, at_line
 from motesim.from_c.scope import is_misspelt, nearest
 
+# Names of Contiki that are no variables of a program; and functions of Contiki that are like others.
+CONSTANTS = (*NUMBERS, *EVENT_NUMBERS, 'CLOCK_SECOND', 'node_id', 'rimeaddr_node_addr', 'linkaddr_node_addr',
+             'rimeaddr_null', 'linkaddr_null')
+OTHER_CALLS = ('packetbuf_attr', 'packetbuf_addr', 'packetbuf_set_attr', 'packetbuf_set_addr', 'packetbuf_hdrlen',
+               'packetbuf_totlen', 'clock_set_seconds', 'etimer_start_time', 'process_nevents', 'process_run')
 NOT_DECLARED = '`%s` isn\'t declared above this line.'
 LIKE = ' Do you mean `%s`?'
 OF_LONG = 'Values have 16 bits here: those of this type above 65,535 wrap.'
@@ -131,13 +137,17 @@ class Base:
     def absent_call(self, name: str, line: int, calls: Iterable[str]) -> Refusal:
         """A function that the program doesn't have, with what to write instead, or with a similar name. `calls`: names
         of Contiki, of which this name may be one with a mistake."""
-        names = [it for it in calls if is_misspelt(name, it)] or self.file.functions
-        meant = '' if advice_for(name) else similar(name, names)
+        likely = [it for it in calls if is_misspelt(name, it)]
+        own = [it for it in likely if it.split('_')[0] == name.split('_')[0] and name not in OTHER_CALLS]
+        if own:
+            return Misspelt(line, NO_NAME % name + similar(name, own), name)
+        meant = '' if advice_for(name) else similar(name, likely or self.file.functions)
         return Misspelt(line, absent(name) + meant, name) if meant else Refusal(line, absent(name))
 
     def absent_variable(self, name: str, line: int) -> Refusal:
         """A name that isn't declared, with what to write instead, or with a similar name."""
         names = [it.name for it in (*self.file.variables, *self.use.variables)]
+        names += [it for it in CONSTANTS if is_misspelt(name, it)]
         if advice_for(name):
             return Refusal(line, absent(name))
         meant = similar(name, names)
