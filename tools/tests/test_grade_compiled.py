@@ -692,9 +692,9 @@ PROCESS_THREAD(q, ev, data) { PROCESS_BEGIN(); printf("%d", random_rand() & 15);
                     continue
                 its = InC(path.read_text(), found, IN_A_ROW % (ENDS.get(path.stem, 1_000), found.text))
                 self.compiled.report(its, 'p')
-                found = self.compiled.difference(its, 'p', answer(its.scenario.encode()).report)
-                assert found
-                self.assertEqual(found._replace(variants=()), Difference(''))
+                differs = self.compiled.difference(its, 'p', answer(its.scenario.encode()).report)
+                assert differs
+                self.assertEqual(differs._replace(variants=()), Difference(''))
 
 
 class Callbacks(unittest.TestCase):
