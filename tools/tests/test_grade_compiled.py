@@ -259,6 +259,21 @@ static int sum(int *a, int b[5]) { int at, s = 0; for(at = 0; at < sizeof(a) / s
             report = self.compiled.report(self.in_c(source), 'p')
             self.assertEqual([it.value for it in deeds_in(report)[0]], [value], body)
 
+    def test_a_translation_that_does_not_end_stops_no_marking(self) -> None:
+        def endless(*_: object) -> str:
+            while True:
+                pass
+
+        part = parts_of('expect = ["mote 0 prints p 1"]', 'task')[0]
+        net = Net('n', Scenario.parse(SCENARIO % 'process p; autostart p; code p { body { pause; } }'), 'p')
+        task = Task(part, (net,), Limits(processor=0.2), compiled=self.compiled)
+        with tempfile.TemporaryDirectory() as folder, mock.patch('motesim.grading.nets.notation_of', endless):
+            path = Path(folder) / 'a.c'
+            path.write_text(in_process('  printf("%d", 1);', RADIO, '  ' + TIMER))
+            self.assertEqual(table([task.of((1, Entry('a.c', path)))], part.sentences), [
+                'a.c  - of 1  not marked: its translation needs more than 0.2 seconds of processor time; '
+                'compiled by gcc, it gets 1 of 1'])
+
     def test_a_remark_about_a_variant_has_no_values_of_a_hidden_net(self) -> None:
         remark = Remark(7, 'It depends. With 8, ', True, False)
         source = in_process('  printf("%d", 1);', RADIO, '  ' + TIMER)

@@ -24,6 +24,7 @@ from motesim.grading.in_c import (
 )
 from motesim.grading.marks import LONGEST_WHY, OTHER_PROCESS, InNet, Mark, Marks, over_nets, spread, unmarked
 from motesim.grading.nets import NOT_UTF8, Net, NoProgram, program_of, unused_of
+from motesim.grading.processor_time import TooSlow, at_most
 from motesim.grading.warned import in_lines_of_c, net_warned, seen_of, warned_of
 from motesim.judge.callbacks import of_callbacks
 from motesim.judge.expectations import (
@@ -53,6 +54,7 @@ UNSAFE = re.compile(r'[^A-Za-z0-9.-]|^\.')
 LONGEST_NAME = 80
 # (a loop that only pauses repeats many times in a moment here, but not on a node)
 ONLY_PAUSES, NO_MARK = 'a loop that only pauses', 'not marked (a larger --report may be enough): '
+TRANSLATING = 'its translation'
 BINARY = 'the file is binary: it has bytes that no text has'
 OF_C = 'its program is in C'
 NOT_NOTATION = ', not in the notation of mote programs (tools/explain FILE.c --apply NEW.toml translates it)'
@@ -131,7 +133,8 @@ class Task:
             if not self.nets:
                 found = [self.in_net(data.decode('utf-8'), (file, data.decode('utf-8')))]
             else:
-                source = [program_of(data, entry.path.name, net.program, names) for net in self.nets]
+                with at_most(self.limits.processor, TRANSLATING):
+                    source = [program_of(data, entry.path.name, net.program, names) for net in self.nets]
                 its = file, source[0] if entry.path.suffix == '.c' else data.decode('utf-8')
                 in_c = encodings.text_of_c(data).removeprefix(MARK) if entry.path.suffix == '.c' else ''
                 found = []
@@ -150,6 +153,8 @@ class Task:
             if ONLY_PAUSES not in row.why:
                 return row
             return self.with_gcc_alone(replace(row, why=NO_MARK + row.why, is_open=True), data, names)
+        except TooSlow as fault:
+            return self.with_gcc_alone(Marks(entry.name, why='not marked: %s' % fault, is_open=True), data, names)
         except NoProgram as fault:
             return Marks(entry.name, why=str(fault), fix=(fault.hint,))
         except NotTranslated as fault:
