@@ -3,6 +3,8 @@
  * variables of this file, and those of the program, are between two symbols of the linker, so
  * that each mote has its own copy of them.
  */
+#include <stdio.h>
+
 #include "library.h"
 #include "radio.h"
 
@@ -58,9 +60,14 @@ library_text(const char *text)
   return 0;
 }
 
+/* A digit is its number. */
 int
 library_character(int character)
 {
+  if(isdigit((unsigned char)character)) {
+    trace_print(PROCESS_CURRENT(), (uint16_t)(character - '0'));
+    return 0;
+  }
   return isalnum((unsigned char)character) ? library_text("1") : 0;
 }
 
@@ -303,6 +310,7 @@ size_on_node(size_t size)
 static unsigned char buffer[HEADERS + PACKETBUF_SIZE];
 static unsigned char *contents = buffer;
 static uint16_t length;
+static int is_sized;
 /* A send writes its header in front of the data, and a further send sends this header as data. */
 #define HEADER  0xfd
 static int has_header;
@@ -325,6 +333,7 @@ void
 packetbuf_clear(void)
 {
   contents = buffer;
+  is_sized = 1;
   length = 0;
   has_header = 0;
 }
@@ -344,6 +353,7 @@ library_size(size_t size, size_t room)
   size_t copied = size > room ? size_on_node(size) : size;
 
   if(copied > room) {
+    fprintf(stderr, "copies %u bytes into %u\n", (unsigned)copied, (unsigned)room);
     abort();
   }
   return copied;
@@ -352,8 +362,11 @@ library_size(size_t size, size_t room)
 int
 library_copyto(void *to, size_t room)
 {
-  memcpy(to, contents, library_size(length, room));
-  return length;
+  /* (a packet from a program in the notation has no length) */
+  size_t size = is_sized || length <= room || contents[1] != 0 ? length : room;
+
+  memcpy(to, contents, library_size(size, room));
+  return (int)size;
 }
 /*---------------------------------------------------------------------------*/
 /* A connection that is open. */
@@ -565,6 +578,7 @@ deliver(int from, uint16_t value)
   memset(buffer, 0, sizeof(buffer));
   memset(buffer, HEADER, HEADERS);
   contents = buffer + HEADERS;
+  is_sized = packet != NULL;
   length = packet != NULL ? packet->length : BYTES;
   contents[0] = (unsigned char)value;
   contents[1] = length > 1 ? (unsigned char)(value >> 8) : UNSET;

@@ -17,8 +17,8 @@ from motesim.grading.by_gcc import (
     untranslated,
 )
 from motesim.grading.compiled import (
-    CRASHES, DEFINES, DIVIDES, MEETING, NEVER_ENDS, OF_INDEX, OF_REMARK, OF_UNSET, ON_NODE, Compiled, Difference,
-    InC, NoComparison, deeds_in, first_meeting,
+    CRASHES, DEFINES, DIVIDES, MEETING, NEVER_ENDS, OF_COPY, OF_INDEX, OF_REMARK, OF_UNSET, ON_NODE, Compiled,
+    Difference, InC, NoComparison, deeds_in, first_meeting,
 )
 from motesim.grading.entries import Entry
 from motesim.grading.in_c import COMPILED, UNLINKED, in_words_of_c, on_node
@@ -274,6 +274,28 @@ static int sum(int *a, int b[5]) { int at, s = 0; for(at = 0; at < sizeof(a) / s
                 'a.c  - of 1  not marked: its translation needs more than 0.2 seconds of processor time; '
                 'compiled by gcc, it gets 1 of 1'])
 
+    def test_a_character_that_is_a_digit_is_its_number(self) -> None:
+        for body, values in (('putchar(\'0\' + n);', [5]), ('putchar(n % 10 + \'0\'); putchar(10);', [5]),
+                             ('putchar(\'0\' + n / 2); putchar(\'3\');', [2, 3]), ('putchar(\'a\');', [1])):
+            source = in_process('  n = 5; ' + body, RADIO, '  ' + TIMER)
+            self.assertEqual(self.difference(source), '', body)
+            report = self.compiled.report(self.in_c(source), 'p')
+            self.assertEqual([it.value for it in deeds_in(report)[0]], values, body)
+        for body in 'n = 12; putchar(\'0\' + n);', 'n = node_id + 60; putchar(\'0\' + n);':
+            source = in_process('  ' + body, RADIO.replace('\n', '\n#include "sys/node-id.h"\n', 1), '  ' + TIMER)
+            self.assertNotEqual(self.difference(source), '', body)
+        with self.assertRaisesRegex(Refusal, '`putchar` prints a character'):
+            translated(in_process('  n = 65; putchar(n);', RADIO, '  ' + TIMER))
+
+    def test_a_packet_in_the_notation_has_no_length(self) -> None:
+        above = RADIO.replace('printf("%d", *(int *)packetbuf_dataptr());',
+                              'uint8_t v; packetbuf_copyto(&v); printf("%d", v);')
+        source = in_process('  broadcast_open(&bc, 129, &calls); if(node_id == 1) { packetbuf_copyfrom("a", 1); '
+                            'broadcast_send(&bc); } PROCESS_WAIT_EVENT();',
+                            above.replace('\n', '\n#include "sys/node-id.h"\n', 1))
+        self.assertEqual(self.difference(source), '')
+        self.assertEqual(self.difference(source.replace('"a", 1', '"ab", 2')), OF_COPY % (2, 1))
+
     def test_a_remark_about_a_variant_has_no_values_of_a_hidden_net(self) -> None:
         remark = Remark(7, 'It depends. With 8, ', True, False)
         source = in_process('  printf("%d", 1);', RADIO, '  ' + TIMER)
@@ -376,7 +398,7 @@ static int sum(int *a, int b[5]) { int at, s = 0; for(at = 0; at < sizeof(a) / s
 
     def test_a_variable_has_room_for_the_packet(self) -> None:
         for sent, kept, copied, wanted in (
-                ('uint16_t', 'uint8_t', 'packetbuf_copyto(&v)', CRASHES),
+                ('uint16_t', 'uint8_t', 'packetbuf_copyto(&v)', OF_COPY % (2, 1)),
                 ('uint8_t', 'uint8_t', 'packetbuf_copyto(&v)', ''),
                 ('uint16_t', 'uint8_t', 'memcpy(&v, packetbuf_dataptr(), sizeof(v))', ''),
                 ('int', 'uint16_t', 'packetbuf_copyto(&v)', ''), ('int', 'int', 'packetbuf_copyto(&v)', ''),
@@ -469,7 +491,7 @@ static int sum(int *a, int b[5]) { int at, s = 0; for(at = 0; at < sizeof(a) / s
         self.assertEqual(self.difference(source, in_process('  ;')), CRASHES)
 
     def test_a_pointer_has_two_bytes(self) -> None:
-        for kept, wanted in ('uint16_t', ''), ('uint8_t', CRASHES):
+        for kept, wanted in ('uint16_t', ''), ('uint8_t', OF_COPY % (2, 1)):
             above = '#include <string.h>\nstatic uint16_t n = 7; static %s v; static uint16_t *m;' % kept
             source = in_process('  m = &n; memcpy(&v, m, sizeof(m)); printf("%u", v);', above)
             self.assertEqual(self.difference(source, in_process('  printf("%u", 7);')), wanted)

@@ -51,6 +51,8 @@ OF_CHOSEN_TIMER = ('A timer is chosen by a constant here, not by a variable: wri
                    '`if(i == 0) { etimer_set(&t[0], 10); }`.')
 BY_NAME = 'The data of an event is compared with a timer here, but a timer is set only by its name, such as `&et`.'
 LONGEST_LABEL = 40
+OF_CHARACTER_VARIABLE = ('`putchar` prints a character, and a report has only numbers: write `printf("%u", n)`, or '
+                         '`putchar(\'0\' + n)` for a digit.')
 OF_BELOW = 'This value may be below 0. Then it is printed as a number that is 65,536 above it.'
 OF_BITS = ('On the Tmote Sky, `%s` of a `printf` reads %d bits, but this value has %d. So the node prints wrong '
            'numbers: write `%s`. Here, the value itself is printed.')
@@ -703,8 +705,17 @@ class Calls(Chance):
         self.print_text(it)
 
     def call_putchar(self, it: Expression) -> None:
-        if not (constant_of(self.first(it)) in range(128) and not chr(constant_of(self.first(it)) or 0).isalnum()):
-            self.print_text(it)
+        """A digit is its number; another character is a text."""
+        character, digit = constant_of(self.first(it)), digit_in(self.first(it))
+        if character is not None and chr(character % 256).isdigit():
+            self.emit('print %d;' % (character - ord('0')))
+        elif character is not None:
+            if character in range(128) and chr(character).isalnum():
+                self.print_text(it)
+        elif digit is not None:
+            self.printed(digit, True, '')
+        else:
+            raise self.refuse(it.line, OF_CHARACTER_VARIABLE)
 
     def value_rimeaddr_cmp(self, it: Expression) -> Value:
         one, other = self.arguments(it, 2)
@@ -743,6 +754,13 @@ class Calls(Chance):
         kept = self.temporary(value)
         self.out.append(If(compared('<', kept, number(0)), [Line('%s = (0 - %s);' % (kept.text, kept.text))], []))
         return kept._replace(low=0, high=max(-value.low, value.high))
+
+
+def digit_in(it: Expression) -> Expression | None:
+    """The number of a character such as `'0' + n`."""
+    if it.kind != 'binary' or it.text != '+':
+        return None
+    return next((other for zero, other in (it.parts, it.parts[::-1]) if constant_of(zero) == ord('0')), None)
 
 
 def labels_of(text: str, found: Sequence[re.Match[str]]) -> list[str]:

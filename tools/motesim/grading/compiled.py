@@ -48,6 +48,8 @@ KINDS = 'print', 'send'
 # The tokens that write an address of zeros: an assignment, or an initial value.
 ZERO = re.compile(r'u8 \[ 0 \] = 0 ;|\{ (?:\. u8 = )?\{ 0 [,}]')
 CRASHES = CRASHED + ': it uses memory that it doesn\'t have'
+COPIES = re.compile(r'^copies (\d+) bytes into (\d+)$', re.M)
+OF_COPY = CRASHED + ': it copies %s bytes into a variable that has room for %s'
 OF_INDEX = CRASHED + ': in line %d, it uses the index %s of an array with %s members'
 INDEX = re.compile(r"^solution\.c:(\d+):\d+: runtime error: index (-?\d+) out of bounds for type '.*\[(\d+)\]'",
                    re.M)
@@ -286,7 +288,8 @@ def called(command: Sequence[str], folder: Path) -> bytes:
     except (subprocess.TimeoutExpired, OSError):
         raise NoComparison from None
     if done.returncode in ENDS:
-        raise Crash(ENDS[done.returncode])
+        copies = COPIES.search(done.stderr.decode(errors='replace'))
+        raise Crash(OF_COPY % copies.groups() if copies else ENDS[done.returncode])
     if done.returncode:
         raise NoComparison(done.stderr.decode(errors='replace'))
     return done.stdout
