@@ -386,6 +386,17 @@ needed(const void *connection)
   return connection;
 }
 
+/* Contiki doesn't check whether a connection has callbacks. */
+static const void *
+with_callbacks(const void *calls)
+{
+  if(calls == NULL) {
+    fprintf(stderr, "no callbacks\n");
+    abort();
+  }
+  return calls;
+}
+
 static struct opened *
 opened_as(const void *connection)
 {
@@ -471,7 +482,7 @@ send(const void *connection, uint16_t value)
   it->kind = from->kind;
   it->channel = from->channel;
   motesim_send(value);
-  return from < opened + opened_count ? from->calls : NULL;
+  return from < opened + opened_count ? with_callbacks(from->calls) : NULL;
 }
 /*---------------------------------------------------------------------------*/
 static uint16_t
@@ -553,8 +564,8 @@ call(const struct opened *it, uint16_t value)
   const struct unicast_callbacks *of_unicast = it->calls;
   static rimeaddr_t from;
 
-  if(it->calls == NULL) {
-    return;
+  if(it->kind != UNICAST || value >> 8 == mote_number()) {
+    with_callbacks(it->calls);
   }
   from = sender;
   if(it->kind == UNICAST && value >> 8 == mote_number() && of_unicast->recv != NULL) {

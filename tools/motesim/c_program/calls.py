@@ -780,7 +780,8 @@ def label_of(text: str) -> str:
 
 def number_in(text: str) -> int:
     """The only number in a text, up to 65,535; or 1."""
-    found = [int(it) for it in NUMBER_IN_TEXT.findall(text)]
+    # (the number behind the end of a line is a number, too)
+    found = [int(it) for it in NUMBER_IN_TEXT.findall(re.sub(r'\\[a-z]', ' ', text))]
     return found[0] if len(found) == 1 and found[0] <= MOST else 1
 
 

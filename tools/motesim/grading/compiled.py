@@ -50,11 +50,16 @@ ZERO = re.compile(r'u8 \[ 0 \] = 0 ;|\{ (?:\. u8 = )?\{ 0 [,}]')
 CRASHES = CRASHED + ': it uses memory that it doesn\'t have'
 COPIES = re.compile(r'^copies (\d+) bytes into (\d+)$', re.M)
 OF_COPY = CRASHED + ': it copies %s bytes into a variable that has room for %s'
+NO_CALLBACKS = 'no callbacks'
+OF_NULL = CRASHED + ': it opens a connection with NULL, and Contiki needs the address of callbacks, which may be empty'
 OF_INDEX = CRASHED + ': in line %d, it uses the index %s of an array with %s members'
 INDEX = re.compile(r"^solution\.c:(\d+):\d+: runtime error: index (-?\d+) out of bounds for type '.*\[(\d+)\]'",
                    re.M)
 DIVIDES = CRASHED + ': it divides by 0, which is 0 in the translation'
 NEVER_ENDS = HANGS + ': it has a loop without a wait'
+# The bytes of memory of the Tmote Sky.
+MEMORY = 10_240
+NO_MEMORY = UNLINKED + ': its variables need {:,} bytes, and all memory of the Tmote Sky has {:,}'
 DEFINES = UNLINKED + ': it defines `%s`, and so does Contiki'
 TWICE = re.compile('multiple definition of `(\\w+)\'')
 # The signals that end a program because of a mistake.
@@ -148,6 +153,9 @@ class Compiled:
             self.compile(it, way, table, place)
             if not may_call(called(['nm', '-u', '-j', 'solution.o'], place).decode().split()):
                 raise NoComparison('it calls functions that no mote has')
+            size = size_in(called(['nm', '-S', 'solution.o'], place).decode())
+            if size > MEMORY:
+                raise Crash(NO_MEMORY.format(size, MEMORY))
             called(['objcopy', *SECTIONS, 'solution.o'], place)
             sources = ['solution.o', *(name for name, _ in tables), *self.objects]
             called(['gcc', *self.flags, '-no-pie', '-o', 'run', *sources], place)
@@ -215,6 +223,12 @@ class Compiled:
             if differs:
                 found.append((remark, differs[1]))
         return tuple(found)
+
+
+def size_in(symbols: str) -> int:
+    """The bytes of the variables of an object file, whose symbols `nm` lists with their sizes."""
+    rows = [row.split() for row in symbols.splitlines()]
+    return sum(int(words[1], 16) for words in rows if len(words) == 4 and words[2] in 'bBdD')
 
 
 def first(it: InC, program: str, compiled: bytes, report: bytes, differs: str = DIFFERS) -> tuple[int, str] | None:
@@ -288,8 +302,9 @@ def called(command: Sequence[str], folder: Path) -> bytes:
     except (subprocess.TimeoutExpired, OSError):
         raise NoComparison from None
     if done.returncode in ENDS:
-        copies = COPIES.search(done.stderr.decode(errors='replace'))
-        raise Crash(OF_COPY % copies.groups() if copies else ENDS[done.returncode])
+        said = done.stderr.decode(errors='replace')
+        copies = COPIES.search(said)
+        raise Crash(OF_COPY % copies.groups() if copies else OF_NULL if NO_CALLBACKS in said else ENDS[done.returncode])
     if done.returncode:
         raise NoComparison(done.stderr.decode(errors='replace'))
     return done.stdout

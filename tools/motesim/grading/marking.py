@@ -20,7 +20,7 @@ from motesim.grading.compiled import Compiled, Difference, InC
 from motesim.grading.connections import Connection, remarks_on
 from motesim.grading.entries import Entry, data_of, without_program
 from motesim.grading.in_c import (
-    NotTranslated, in_words_of_c, lacks_of, made_of, names_in, on_node, origin_of, remarks_of, with_first_names,
+    NotTranslated, in_words_of_c, lacks_of, made_of, names_in, origin_of, remarks_of, with_first_names,
 )
 from motesim.grading.marks import LONGEST_WHY, OTHER_PROCESS, InNet, Mark, Marks, over_nets, spread, unmarked
 from motesim.grading.nets import NOT_UTF8, Net, NoProgram, program_of, unused_of
@@ -267,7 +267,7 @@ class Task:
         source = encodings.text_of_c(data).removeprefix(MARK)
         found = without_fault(lambda: untranslated(source, names, self.compiled, self.part, self.nets))
         found = found or Untranslated()
-        why = '; '.join(filter(None, (row.why, found.crash, by_gcc_words(found.marks), on_node(found.remarks))))
+        why = '; '.join(filter(None, (row.why, found.crash, by_gcc_words(found.marks))))
         row = replace(row, why=why, by_gcc=found.marks,
                       of_c=(*found.remarks, *lacks_of(source), *remarks_on(source, self.connections)))
         return as_compiled(row) if self.by_gcc else row
