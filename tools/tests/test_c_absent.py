@@ -285,6 +285,13 @@ static const struct broadcast_callbacks calls = {recv};'''
                 translated(in_process('  ' + line, 'static int k;'))
             self.assertFalse(isinstance(caught.exception, Mistake), caught.exception.reason)
 
+    def test_an_include_without_a_path_is_a_mistake(self) -> None:
+        for words in 'net/rime.h', '<stdio.h', '', '\u201cnet/rime.h\u201d', '__FILE__', "'net/rime.h'":
+            with self.assertRaises(Mistake):
+                translated('#include %s\n' % words + in_process('  ;'))
+        for words in '"net/rime.h"', '"net/rime.h";', '<stdio.h>  // of C', ' <net/rime.h> /* radio */', '<  stdio.h >':
+            self.assertIsNotNone(translated('#include %s\n' % words + in_process('  ;')))
+
     def test_a_misspelt_header_is_a_mistake(self) -> None:
         for path, meant in (('net/broadcast.h', 'net/rime/broadcast.h'), ('sys/etimers.h', 'sys/etimer.h'),
                             ('lib/random.hh', 'lib/random.h'), ('net/rme.h', 'net/rime.h')):

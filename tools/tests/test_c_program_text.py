@@ -5,6 +5,7 @@ import time
 import unittest
 
 import here  # noqa: F401
+from motesim.c_program.calls import number_in
 from motesim.c_program.program import translated
 from motesim.c_program.refusal import Mistake, Refusal
 from motesim.notation.faults import find_fault
@@ -1027,6 +1028,7 @@ static struct item *unused(void) {
         self.assertIn('write an `if` for each timer', notes)
 
     def test_a_text_without_words_prints_nothing(self) -> None:
+        self.assertEqual([number_in(it) for it in (r'11\n22', r'a\n7', '3 of 4', 'x9')], [1, 7, 1, 1])
         for body, count in (('printf("\\n"); printf(" -- \\t"); putchar(10); puts("");', 0), ('printf("\\n3");', 1),
                             ("putchar('a'); puts(\"a\"); printf(\"%s\", \"b\");", 3), ('printf("%d\\n", 4);', 1)):
             text, notes = translation(in_process('  ' + body))

@@ -17,11 +17,11 @@ from motesim.grading.by_gcc import (
     untranslated,
 )
 from motesim.grading.compiled import (
-    CRASHES, DEFINES, DIVIDES, MEETING, NEVER_ENDS, OF_COPY, OF_INDEX, OF_REMARK, OF_UNSET, ON_NODE, Compiled,
-    Difference, InC, NoComparison, deeds_in, first_meeting,
+    CRASHES, DEFINES, DIVIDES, MEETING, NEVER_ENDS, OF_COPY, OF_INDEX, OF_NULL, OF_REMARK, OF_UNSET,
+    ON_NODE, Compiled, Crash, Difference, InC, NoComparison, deeds_in, first_meeting,
 )
 from motesim.grading.entries import Entry
-from motesim.grading.in_c import COMPILED, UNLINKED, in_words_of_c, on_node
+from motesim.grading.in_c import COMPILED, CRASHED, UNLINKED, in_words_of_c, on_node
 from motesim.grading.marking import Task
 from motesim.grading.marks import InNet, Mark, Marks, number_held
 from motesim.grading.nets import Net
@@ -387,8 +387,8 @@ static int sum(int *a, int b[5]) { int at, s = 0; for(at = 0; at < sizeof(a) / s
                          'compiled by gcc, mote 0 prints 3 at 0, but its translation prints 1 at 0' + OF_REMARK % 5)
 
     def test_a_part_of_a_local_variable_without_a_value_is_named(self) -> None:
-        above = '#include "net/rime.h"\nstatic struct unicast_conn uc;'
-        body = ('  unicast_open(&uc, 9, NULL); { rimeaddr_t to; uint8_t b[2]; b[0] = 7; %s to.u8[0] = 1;'
+        above = '#include "net/rime.h"\nstatic struct unicast_conn uc; static const struct unicast_callbacks none;'
+        body = ('  unicast_open(&uc, 9, &none); { rimeaddr_t to; uint8_t b[2]; b[0] = 7; %s to.u8[0] = 1;'
                 ' packetbuf_copyfrom(b, 1); unicast_send(&uc, &to); printf("%%d", b[1] == 3); }')
         for values, unset in (('to.u8[1] = 0; b[1] = 2;', False), ('b[1] = 2;', True), ('to.u8[1] = 0;', False)):
             self.assertEqual(OF_UNSET in self.difference(in_process(body % values, above)), unset, values)
@@ -485,6 +485,22 @@ static int sum(int *a, int b[5]) { int at, s = 0; for(at = 0; at < sizeof(a) / s
         found = deeds_in(self.compiled.report(self.in_c(in_process(body), in_process('  ;')), 'p'))
         self.assertEqual([it.value for it in found[0]], [32767, 65535, 32768])
 
+    def test_a_connection_without_callbacks_crashes(self) -> None:
+        above = RADIO + '\nstatic const struct broadcast_callbacks none;'
+        for calls, sends, words in (('NULL', True, OF_NULL), ('NULL', False, ''), ('&none', True, ''),
+                                    ('&calls', True, '')):
+            body = '  broadcast_open(&bc, 129, %s); if(n < %d) { packetbuf_copyfrom(&n, 2); broadcast_send(&bc); }'
+            source = in_process(body % (calls, sends), above, '  ' + TIMER)
+            self.assertEqual(self.difference(source), words, calls)
+        self.assertEqual(on_node([Remark(0, OF_NULL, True)]), CRASHED)
+
+    def test_variables_have_the_memory_of_a_node(self) -> None:
+        above = 'static int all[%d], more[%d];'
+        its = [self.in_c(in_process('  printf("%d", 1);', above % (it, it)), in_process('')) for it in (4, 2_600)]
+        self.compiled.report(its[0], 'p')
+        with self.assertRaisesRegex(Crash, "^gcc can't link it: its variables need 10,\\d+ bytes"):
+            self.compiled.report(its[1], 'p')
+
     def test_a_connection_without_memory_crashes(self) -> None:
         above = '#include "net/rime.h"\nstatic struct broadcast_conn *bc;'
         source = in_process('  broadcast_open(bc, 9, NULL);', above)
@@ -508,8 +524,9 @@ static int sum(int *a, int b[5]) { int at, s = 0; for(at = 0; at < sizeof(a) / s
         self.assertEqual(self.difference(in_process(body, 'static uint8_t n;')), NEVER_ENDS)
 
     def test_the_second_byte_of_an_address_is_0(self) -> None:
-        above = '#include "net/rime.h"\nstatic struct unicast_conn uc; static rimeaddr_t to; static uint8_t v;'
-        body = ('  unicast_open(&uc, 9, NULL); to.u8[0] = 1; to.u8[1] = %d; packetbuf_copyfrom(&v, 1);'
+        above = ('#include "net/rime.h"\nstatic struct unicast_conn uc; static rimeaddr_t to; static uint8_t v;'
+                 ' static const struct unicast_callbacks none;')
+        body = ('  unicast_open(&uc, 9, &none); to.u8[0] = 1; to.u8[1] = %d; packetbuf_copyfrom(&v, 1);'
                 ' unicast_send(&uc, &to);')
         self.assertEqual([self.difference(in_process(body % it, above)) != '' for it in (0, 1)], [False, True])
 
@@ -606,9 +623,9 @@ PROCESS_THREAD(q, ev, data) {
                 with mock.patch('motesim.grading.by_gcc.outline_of', side_effect=error):
                     self.assertRegex(task.of((1, Entry('a.c', path))).why, r'^its line \d+ is a mistake in C$')
         above = ('#include "net/rime.h"\nstatic struct broadcast_conn bc; static struct { uint8_t a, b, c; } m;'
-                 ' static int n = -2;')
+                 ' static int n = -2; static const struct broadcast_callbacks none;')
         for filled, mark in ('&m, sizeof(m)', BY_GCC % (1, 2)), ('&n, sizeof(n)', BY_GCC % (1, 2)):
-            sends = 'broadcast_open(&bc, 9, NULL); packetbuf_copyfrom(%s); broadcast_send(&bc);' % filled
+            sends = 'broadcast_open(&bc, 9, &none); packetbuf_copyfrom(%s); broadcast_send(&bc);' % filled
             whole = source.replace('LIST(items);', above + '\nLIST(items);')
             self.assertEqual(words_of(whole.replace('%s', sends)), mark, filled)
             self.assertEqual(words_of(whole.replace('%s', 'm.c = 1; ' + sends)), mark * ('m' not in filled))

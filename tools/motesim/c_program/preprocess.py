@@ -18,6 +18,7 @@ OF_PROJECT = ('Headers of a project, such as `%s`, aren\'t read. Instead of this
               'that the program needs.')
 # The macros of a node such as the Tmote Sky that programs test.
 OF_NODE = {'CONTIKI_TARGET_SKY': '1', '__MSP430__': '1', 'LINKADDR_SIZE': '2', 'RIMEADDR_SIZE': '2'}
+NO_PATH = 'An `#include` needs the path of a file in quotes, or between `<` and `>`.'
 NO_TEST = 'The test of this `#%s` can\'t be evaluated.'
 
 
@@ -95,8 +96,10 @@ class Preprocessor:
             self.define(rest)
         elif word == 'undef' and rest:
             self.macros.pop(rest[0].text, None)
-        elif word == 'include' and rest[:1] and rest[0].text[0] in '"<':
-            path = ''.join(it.text for it in rest).strip('"<>')
+        elif word == 'include':
+            path = path_in(rest)
+            if path is None:
+                raise (Refusal if rest and rest[0].text in self.macros else Mistake)(number, NO_PATH)
             check_header(path, number)
             if path not in (*KNOWN, *OF_LIBRARY, *OTHERS):
                 self.unknown.append((number, path))
@@ -212,6 +215,14 @@ class Preprocessor:
             found[-1:] = [found[-1]._replace(kind=joined.kind, text=found[-1].text + behind[0].text), *behind[1:]]
         else:
             found += behind
+
+
+def path_in(tokens: Sequence[Token]) -> str | None:
+    """The path of a file, in quotes or between `<` and `>`; None if there is none. (A compiler ignores further tokens.)"""
+    texts = [it.text for it in tokens]
+    if tokens and tokens[0].kind == 'text':
+        return texts[0].strip('"')
+    return ''.join(texts[1:texts.index('>')]) if texts[:1] == ['<'] and '>' in texts else None
 
 
 def check_header(path: str, line: int) -> None:
