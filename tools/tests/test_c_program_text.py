@@ -1027,6 +1027,21 @@ static struct item *unused(void) {
         notes = translation(in_process('  i = node_id & 1; etimer_set(&t[i], 3);', above))[1]
         self.assertIn('write an `if` for each timer', notes)
 
+    def test_a_value_of_16_bits_that_is_read_at_once_has_a_remark(self) -> None:
+        above = """#include "net/rime.h"
+#include <string.h>
+static %s v;
+static void recv(struct broadcast_conn *c, const rimeaddr_t *from) { %s; printf("%%u", v); }
+static const struct broadcast_callbacks calls = {recv};
+static struct broadcast_conn bc;"""
+        for its, reads, count in (('uint16_t', 'v = *(uint16_t *)packetbuf_dataptr()', 1),
+                                  ('uint16_t', 'memcpy(&v, packetbuf_dataptr(), 2)', 0),
+                                  ('uint16_t', 'packetbuf_copyto(&v)', 0),
+                                  ('uint8_t', 'v = *(uint8_t *)packetbuf_dataptr()', 0)):
+            body = '  broadcast_open(&bc, 129, &calls); PROCESS_WAIT_EVENT();'
+            found = translated(in_process(body, above % (its, reads))).remarks
+            self.assertEqual([it.is_mistake for it in found if 'odd address' in it.text], [False] * count, reads)
+
     def test_a_text_without_words_prints_nothing(self) -> None:
         self.assertEqual([number_in(it) for it in (r'11\n22', r'a\n7', '3 of 4', 'x9')], [1, 7, 1, 1])
         for body, count in (('printf("\\n"); printf(" -- \\t"); putchar(10); puts("");', 0), ('printf("\\n3");', 1),

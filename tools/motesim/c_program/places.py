@@ -41,6 +41,8 @@ OF_SIZE = ('This reads two bytes, but the program also sends or posts values of 
            'second byte is 0 here, and that of something else on a node: read it with its own type, such as `uint8_t`.')
 OVERWRITTEN = ('Contiki has one packet buffer. So after `packetbuf_copyfrom`, this may be a value of the packet '
                'that is sent there; here, it is still the value of the packet that has arrived. Copy the value before.')
+OF_ODD = ('A packet may have its value at an odd address, and there the processor of the Tmote Sky doesn\'t read 16 '
+          'bits at once. To be sure, copy the value: `memcpy(&v, packetbuf_dataptr(), sizeof(v));`.')
 # The names under which the limits of a mote's number are known, and those of the motes on which a statement has
 # overwritten the packet buffer; and the limits for no mote and for all motes.
 SELF, OVERWRITING = 'self', 'packet buffer'
@@ -82,8 +84,9 @@ NUMBER_READ = ('The program posts numbers as the data of its events, and no addr
 class Place(NamedTuple):
     """A place: a variable with the paths of its parts. If several paths are possible, `chosen` says which one.
 
-    source  variable, packet or data
-    root    for a packet or for data, the type that it is read as
+    source     variable, packet or data
+    root       for a packet or for data, the type that it is read as
+    is_copied  whether its bytes are copied, one by one
     """
     source: str
     type: Type
@@ -91,6 +94,7 @@ class Place(NamedTuple):
     paths: tuple[Path, ...] = ((),)
     chosen: Value | None = None
     root: Type = INT
+    is_copied: bool = False
 
 
 class Pointer(NamedTuple):
@@ -449,6 +453,8 @@ class Places(Base):
         """The only value of a packet or of an event."""
         if size_of(place.type) > 1:
             self.note_second_byte(place, line)
+        if place.source == 'packet' and place.type.bits == 16 and not place.is_copied:
+            self.remark(line, OF_ODD)
         if place.source == 'packet' and place.type.signed and whole.high > 255:
             # (a packet of another program is taken to have a value of the same kind)
             low, high = self.program.knowledge.limits.get(('', 'packet'), (-1, -1))

@@ -54,6 +54,7 @@ NO_ROOM_FOR_ALL = ('`packetbuf_copyto` copies all bytes of a packet, and packets
                    'overwrites the memory behind `%s`: use a larger variable, or `memcpy` with a length.')
 OF_DATALEN = ('This program sends no packets, and the length of those that arrive isn\'t known: it is taken to be 2 '
               'bytes here.')
+COPIED_PACKET = Place('packet', UNSIGNED, is_copied=True)
 # The name under which it is known that the packet buffer has the value to send.
 FILLED = 'value to send'
 SIZES = 'The packets of this program have several sizes, and none of them is known here.'
@@ -312,9 +313,9 @@ class Radio(Calls):
             check_target(without_casts(target))
             if not self.forms('packet'):
                 self.program.refusals.append(self.refuse(it.line, OF_PACKET % shown_type(to.place.type)))
-            self.copy_bytes(self.bytes_from(to.place, max(sizes), it.line), Place('packet', UNSIGNED), it.line)
+            self.copy_bytes(self.bytes_from(to.place, max(sizes), it.line), COPIED_PACKET, it.line)
             return
-        place = self.copy(target, to, Place('packet', UNSIGNED), it.line)
+        place = self.copy(target, to, COPIED_PACKET, it.line)
         if place.variable and size_of(place.type) == 1 and self.forms('packet') - {'byte'}:
             self.remark_mistake(it.line, NO_ROOM_FOR_ALL % place.variable.name)
 
@@ -326,10 +327,11 @@ class Radio(Calls):
         target, source, size = self.arguments(it, 3)
         pointer, to = self.pointer(source), self.pointer(target)
         if pointer.kind in ('packet', 'data'):
+            copied = Place(pointer.kind, UNSIGNED, is_copied=True)
             if to.place is not None and self.evaluate(size).constant not in (size_of(to.place.type), None):
-                self.copy_bytes(self.span(to.place, size, it.line), Place(pointer.kind, UNSIGNED), it.line)
+                self.copy_bytes(self.span(to.place, size, it.line), copied, it.line)
             else:
-                self.copy(target, to, Place(pointer.kind, UNSIGNED), it.line)
+                self.copy(target, to, copied, it.line)
             return
         if to.kind == 'packet':
             if not self.first_call('packetbuf_set_datalen'):

@@ -123,8 +123,9 @@ def csv_of(marked: Sequence[Marks], sentences: Sequence[str], is_for_excel: bool
     for it in marked:
         holds: list[object] = [int(one.holds) for one in it.marks]
         missing = 0 if it.has_mark else ''
-        rows.writerow([cell(without_separators(it.name)), it.held if it.has_mark else missing, len(sentences),
-                       cell(without_separators(fault_of(it))), *(holds or [missing] * len(sentences))])
+        fault = cell(without_separators(fault_of(it).replace('; ', ', ')))
+        rows.writerow([cell(without_separators(it.name)), it.held if it.has_mark else missing, len(sentences), fault,
+                       *(holds or [missing] * len(sentences))])
     return out.getvalue()
 
 
