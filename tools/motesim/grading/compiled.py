@@ -56,7 +56,7 @@ OF_INDEX = CRASHED + ': in line %d, it uses the index %s of an array with %s mem
 INDEX = re.compile(r"^solution\.c:(\d+):\d+: runtime error: index (-?\d+) out of bounds for type '.*\[(\d+)\]'",
                    re.M)
 DIVIDES = CRASHED + ': it divides by 0, which is 0 in the translation'
-NEVER_ENDS = HANGS + ': it has a loop without a wait'
+NEVER_ENDS = HANGS + ': it has a loop without a wait, in which no time passes here'
 # The bytes of memory of the Tmote Sky.
 MEMORY = 10_240
 NO_MEMORY = UNLINKED + ': its variables need {:,} bytes, and all memory of the Tmote Sky has {:,}'

@@ -31,7 +31,7 @@ NO_TRANSLATION = 'not marked: its line %d may be right in C, but the tool can\'t
 # A process with its name and its text. And a word of a program in the notation, or a comment.
 PROCESS, WORD = re.compile(r'\bPROCESS\s*\(\s*(\w+)\s*,\s*"(\w+)"'), re.compile(r'//[^\n]*|[a-z]\w*')
 UNLINKED = 'gcc can\'t link it'
-CRASHED, HANGS = 'compiled by gcc, it crashes', 'compiled by gcc, it never ends'
+CRASHED, HANGS = 'compiled by gcc, it crashes', 'compiled by gcc, it never ends here'
 DIFFERS = 'compiled by gcc, it does something else'
 COMPILED = 'marked as compiled by gcc'
 MISTAKEN = 'its line %d is a mistake in C'
