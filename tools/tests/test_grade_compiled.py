@@ -6,6 +6,7 @@ from pathlib import Path
 from unittest import mock
 
 from motesim.c_program.base import OF_LONG
+from motesim.c_program.calls import OF_BELOW
 from motesim.c_program.compiler import NO_RETURN, check
 from motesim.c_program.program import translated
 from motesim.c_program.refusal import Mistake, Refusal
@@ -304,6 +305,11 @@ static int sum(int *a, int b[5]) { int at, s = 0; for(at = 0; at < sizeof(a) / s
         for nets, words in (([hidden], OF_OTHER_RUN), ([hidden, shown, shown], 'mote 1 prints 3 (in n)')):
             self.assertEqual(remarks_in(nets, source)[:1], [remark._replace(text=remark.text + words)])
             self.assertEqual(on_node(remarks_in(nets, source)), 'on a node, line 7 may do something else')
+        below = in_process('  n = -3; printf("%d", n);', RADIO, '  ' + TIMER)
+        self.assertEqual([it.text for it in remarks_in([], below)].count(OF_BELOW), 1)
+        said = in_net(Difference('', variants=((remark._replace(text=OF_BELOW + ' '), 'mote 1 prints 65533'),)))
+        self.assertEqual([it.text for it in remarks_in([said], below) if OF_BELOW in it.text],
+                         [OF_BELOW + ' mote 1 prints 65533 (in n)'])
 
     def test_a_process_may_close_the_connection_of_another_one(self) -> None:
         body = ('  broadcast_open(&bc, 129, &calls); while(n++ < %d) { etimer_set(&et, 20); '

@@ -66,8 +66,10 @@ def remarks_in(found: Sequence[InNet], source: str) -> list[Remark]:
     """The remarks about a program in C. If the compiled program does the same in each net, only those remarks name
     mistakes of which it shows nothing."""
     is_same = all(it.differs and not it.differs.is_certain for it in found)
-    return [*variants_in(found),
-            *(it._replace(is_mistake=it.is_mistake and not (is_same and it.is_seen)) for it in remarks_of(source))]
+    seen = variants_in(found)
+    # (a remark with values of a run says more than the same one without them)
+    others = [it for it in remarks_of(source) if not any(one.text.startswith(it.text) for one in seen)]
+    return [*seen, *(it._replace(is_mistake=it.is_mistake and not (is_same and it.is_seen)) for it in others)]
 
 
 def variants_in(found: Sequence[InNet]) -> list[Remark]:
