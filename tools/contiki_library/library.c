@@ -311,6 +311,8 @@ static unsigned char buffer[HEADERS + PACKETBUF_SIZE];
 static unsigned char *contents = buffer;
 static uint16_t length;
 static int is_sized;
+/* The greatest length of the packets that this mote has sent. */
+static uint16_t sent_length;
 /* A send writes its header in front of the data, and a further send sends this header as data. */
 #define HEADER  0xfd
 static int has_header;
@@ -492,6 +494,7 @@ word_to_send(void)
     memset(contents, HEADER, BYTES);
   }
   has_header = 1;
+  sent_length = length > sent_length ? length : sent_length;
   return (uint16_t)((length > 0 ? contents[0] : 0) | (length > 1 ? contents[1] << 8 : 0));
 }
 
@@ -590,9 +593,10 @@ deliver(int from, uint16_t value)
   memset(buffer, HEADER, HEADERS);
   contents = buffer + HEADERS;
   is_sized = packet != NULL;
-  length = packet != NULL ? packet->length : BYTES;
+  /* (a packet from a program in the notation is as long as those of this mote) */
+  length = packet != NULL ? packet->length : sent_length == 1 && value < 256 ? 1 : BYTES;
   contents[0] = (unsigned char)value;
-  contents[1] = length > 1 ? (unsigned char)(value >> 8) : UNSET;
+  contents[1] = length > 1 || packet == NULL ? (unsigned char)(value >> 8) : UNSET;
   contents[2] = packet != NULL && length > 2 ? packet->third : 0;
   sender.u8[0] = (unsigned char)from;
   sender.u8[2] = 1;

@@ -1027,6 +1027,17 @@ static struct item *unused(void) {
         notes = translation(in_process('  i = node_id & 1; etimer_set(&t[i], 3);', above))[1]
         self.assertIn('write an `if` for each timer', notes)
 
+    def test_a_packet_may_have_a_value_below_0_if_the_program_asks_for_it(self) -> None:
+        above = """#include "net/rime.h"
+static void recv(struct broadcast_conn *c, const rimeaddr_t *from) {
+  int16_t t = *(int16_t *)packetbuf_dataptr(); if(%s) { printf("1"); } }
+static const struct broadcast_callbacks calls = {recv};
+static struct broadcast_conn bc;"""
+        body = ('  broadcast_open(&bc, 129, &calls); { static int n = 1; packetbuf_copyfrom(&n, 2); '
+                'broadcast_send(&bc); } PROCESS_WAIT_EVENT();')
+        for test, wanted in ('t < 0', '>= 32768'), ('t == 3', '== 3'), ('t < 5', '< 5'):
+            self.assertIn(wanted, translated(in_process(body, above % test)).text)
+
     def test_a_value_of_16_bits_that_is_read_at_once_has_a_remark(self) -> None:
         above = """#include "net/rime.h"
 #include <string.h>

@@ -294,8 +294,41 @@ static int sum(int *a, int b[5]) { int at, s = 0; for(at = 0; at < sizeof(a) / s
         source = in_process('  broadcast_open(&bc, 129, &calls); if(node_id == 1) { packetbuf_copyfrom("a", 1); '
                             'broadcast_send(&bc); } PROCESS_WAIT_EVENT();',
                             above.replace('\n', '\n#include "sys/node-id.h"\n', 1))
-        self.assertEqual(self.difference(source), '')
         self.assertEqual(self.difference(source.replace('"a", 1', '"ab", 2')), OF_COPY % (2, 1))
+        asks = source.replace('uint8_t v; packetbuf_copyto(&v);', 'int v = packetbuf_datalen();')
+        for text, value in (source, 98), (asks, 1), (asks.replace('"a", 1', '"ab", 2'), 2):
+            its = self.in_c(text)
+            its = its._replace(scenario=its.scenario.replace('process b;', 'process b;\nautostart b;\nreceiver b;'))
+            found = deeds_in(self.compiled.report(its, 'p'))[1]
+            self.assertEqual([it.value for it in found if it.kind == 'print'], [value])
+
+    def test_what_cannot_be_read_hides_no_operations_of_other_parts(self) -> None:
+        for above, body in (('', 'goto end; end: ;'), ('union { int a; uint8_t b; } u;', 'u.a = 3;'),
+                            ('struct { unsigned a : 3; } f;', 'f.a = 1;'), ('static int (*g)(int);', 'if(g) { g(2); }'),
+                            ('', 'do { goto out; } while(n); out: n = 0;')):
+            source = in_process('  n = 30000; n = (n + 30000 < 0) + sizeof(void *); printf("%d", n);  ' + body,
+                                RADIO + '\n' + above, '  ' + TIMER)
+            report = self.compiled.report(self.in_c(source, in_process('', RADIO)), 'p')
+            self.assertEqual([it.value for it in deeds_in(report)[0]], [3], body)
+
+    def test_unsigned_constants_have_16_bits(self) -> None:
+        for test, value in (('s < 100U', 1), ('s / 2U == -2', 1), ('s > 0x10u', 0), ('s < sizeof(int)', 1),
+                            ('n < 100U', 0), ('s < 100UL', 0), ('s < 70000U', 0), ('n - 1U > 0', 1),
+                            ('s + 3U == -1', 1)):
+            body = '  { static long s; s = 3; s -= 7; n = -4; printf("%%d", %s); }' % test
+            source = in_process(body, RADIO, '  ' + TIMER)
+            report = self.compiled.report(self.in_c(source, in_process('', RADIO)), 'p')
+            self.assertEqual([it.value for it in deeds_in(report)[0]], [value], test)
+
+    def test_assignments_divide_as_a_node_does(self) -> None:
+        for line, value in (('n /= u;', 16374), ('n %= 7U;', 4), ('n /= 4;', -10), ('n >>= 1;', -20),
+                            ('u >>= 1; n = u;', 2), ('n /= sizeof(v) / sizeof(v[0]);', 21832),
+                            ('n = n / (sizeof(v) / sizeof(int));', 21832),
+                            ('v[0] = -9; v[0] /= u; n = v[0];', 16381), ('n -= u; n *= 2; n += 1U;', -87)):
+            source = in_process('  { static uint16_t u = 4; static int v[3]; n = -40; %s printf("%%d", n); }' % line,
+                                RADIO, '  ' + TIMER)
+            report = self.compiled.report(self.in_c(source, in_process('', RADIO)), 'p')
+            self.assertEqual([it.value for it in deeds_in(report)[0]], [value % 65_536], line)
 
     def test_a_remark_about_a_variant_has_no_values_of_a_hidden_net(self) -> None:
         remark = Remark(7, 'It depends. With 8, ', True, False)

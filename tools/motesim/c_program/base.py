@@ -4,9 +4,10 @@ from __future__ import annotations
 from collections.abc import Iterable, Iterator
 from contextlib import contextmanager
 from dataclasses import dataclass, field
+from functools import cached_property
 
 from motesim.c_program.absent import NO_NAME, absent, advice_for
-from motesim.c_program.constants import EVENT_NUMBERS, NUMBERS
+from motesim.c_program.constants import EVENT_NUMBERS, NUMBERS, constant_of
 from motesim.c_program.knowledge import Knowledge, LoopLimits
 from motesim.c_program.names import fresh, is_changed
 from motesim.c_program.refusal import Misspelt, Refusal
@@ -15,6 +16,7 @@ from motesim.c_program.tree import File, Function, Variable
 from motesim.c_program.types import INT, Type
 from motesim.c_program.usage import Usage
 from motesim.c_program.values import Limits, Value, converted, united
+from motesim.c_program.walk import all_parts
 from motesim.c_program.written import Block, Line, Target, at_line
 from motesim.from_c.scope import is_misspelt, nearest
 
@@ -23,6 +25,7 @@ CONSTANTS = (*NUMBERS, *EVENT_NUMBERS, 'CLOCK_SECOND', 'node_id', 'rimeaddr_node
              'rimeaddr_null', 'linkaddr_null')
 OTHER_CALLS = ('packetbuf_attr', 'packetbuf_addr', 'packetbuf_set_attr', 'packetbuf_set_addr', 'packetbuf_hdrlen',
                'packetbuf_totlen', 'clock_set_seconds', 'etimer_start_time', 'process_nevents', 'process_run')
+ORDERS = ('<', '<=', '>', '>=')
 NOT_DECLARED = '`%s` isn\'t declared above this line.'
 LIKE = ' Do you mean `%s`?'
 OF_LONG = 'Values have 16 bits here: those of this type above 65,535 wrap.'
@@ -58,6 +61,14 @@ class Program:
 
     # The names of C that the notation can't have, with their lines and the names here.
     renamed: dict[str, tuple[int, str]] = field(default_factory=dict)
+
+    @cached_property
+    def tests_sign(self) -> bool:
+        """True if a comparison has a constant that is 0 or less, so that values below 0 may matter."""
+        units = (*self.file.functions.values(), *self.file.bodies.values())
+        return any(it.kind == 'binary' and it.text in ORDERS and any((constant_of(one) or 0) <= 0 for one in it.parts
+                                                                     if constant_of(one) is not None)
+                   for unit in units for it in all_parts(unit.body))
 
     def remark(self, line: int, text: str, is_mistake: bool = False, is_seen: bool = True) -> None:
         """Notes what differs from C, once for each cause. Each line with a mistake has a remark."""

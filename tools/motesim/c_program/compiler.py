@@ -64,7 +64,8 @@ CERTAIN = ('expected ', 'stray ', 'missing terminating', 'unterminated', 'unmatc
            'invalid initializer', 'duplicate case value', 'case label not within', 'break statement not within',
            'continue statement not within', 'called object', 'subscripted value is neither', 'wrong type argument',
            'assignment to expression with array type', 'variable-sized object', 'label ', 'used struct type',
-           'redeclaration of', 'static declaration of', 'cannot convert to a pointer', '\'else\' without')
+           'no macro name given', '#else without', '#elif without', '#endif without', 'invalid preprocessing directive',
+           'macro names must be', '#include expects', 'size of array', 'redeclaration of', 'static declaration of', 'cannot convert to a pointer', '\'else\' without')
 UNDECLARED, NO_TYPE = re.compile(r"'(\w+)' undeclared"), re.compile(r"unknown type name '(\w+)'")
 # (of a type, such as "use 'struct' keyword to refer to the type")
 NEEDS_WORD = 'keyword to refer to'

@@ -455,7 +455,7 @@ class Places(Base):
             self.note_second_byte(place, line)
         if place.source == 'packet' and place.type.bits == 16 and not place.is_copied:
             self.remark(line, OF_ODD)
-        if place.source == 'packet' and place.type.signed and whole.high > 255:
+        if place.source == 'packet' and place.type.signed and whole.high > 255 and not self.program.tests_sign:
             # (a packet of another program is taken to have a value of the same kind)
             low, high = self.program.knowledge.limits.get(('', 'packet'), (-1, -1))
             whole = whole._replace(high=32_767) if 0 <= low and high <= 32_767 else whole

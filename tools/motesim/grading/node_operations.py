@@ -8,24 +8,31 @@ The macros find out by the types of the operands whether a node calculates with 
 """
 from __future__ import annotations
 
-from collections.abc import Sequence
+import re
+from collections.abc import Callable, Sequence
 
 from motesim.c_program.constants import NotConstant, constant_of
 from motesim.c_program.parse_declarations import Declared
-from motesim.c_program.parse_expressions import LEVELS
+from motesim.c_program.parse_expressions import ASSIGNS, LEVELS
 from motesim.c_program.parse_file import FileReader
+from motesim.c_program.places import has_effects
 from motesim.c_program.refusal import Refusal
 from motesim.c_program.tokens import Token
-from motesim.c_program.tree import Expression
+from motesim.c_program.tree import Expression, File, Statement
 from motesim.c_program.types import INT, UNSIGNED
+from motesim.c_program.values import MOST
 from motesim.c_program.walk import parts_of
 from motesim.grading.node_constants import on_node
 
 TESTS, LOGICAL, SHIFTS = ('==', '!=', '<', '<=', '>', '>='), ('&&', '||', '!'), ('<<', '>>')
 # (the macro for a choice has each of its operands four times)
 MOST_NESTED = 4
+UNSIGNED_NUMBER = re.compile(r'(?:0[xX][0-9a-fA-F]+|[1-9][0-9]*|0)[uU]')
+OPENING, CLOSING = ('(', '[', '{'), (')', ']', '}')
 # The signs in front of the size of a member.
 OF_ARRAYS = '*', '/'
+# The macros for assignments with a division.
+DIVISIONS = {'/=': 'BINARY', '%=': 'BINARY', '>>=': 'SHIFT'}
 # The macros that say of which kind an operand is: by its type; an `int`; an `unsigned int`.
 BY_TYPE, AS_INT, AS_UNSIGNED = 'LIBRARY_TYPE', 'LIBRARY_INT', 'LIBRARY_UNSIGNED'
 
@@ -36,8 +43,42 @@ class Operations(FileReader):
 
     def __init__(self, tokens: Sequence[Token]):
         super().__init__(tokens)
-        self.texts = [it.text for it in tokens]
+        self.plain = [constant_text(it) for it in tokens]
+        self.texts = [*self.plain]
         self.seen = set[int]()
+
+    def read(self) -> File:
+        while self.token.kind != 'end':
+            self.read_part(self.external)
+        return self.file
+
+    def statement(self) -> list[Statement]:
+        found = list[Statement]()
+        self.read_part(lambda: found.extend(FileReader.statement(self)))
+        return found
+
+    def read_part(self, read: Callable[[], object]) -> None:
+        """Reads a declaration or a statement. One that can't be read keeps its texts."""
+        start, scopes = self.at, len(self.scopes)
+        try:
+            read()
+        except Refusal:
+            del self.scopes[scopes:]
+            self.at = self.end_of(start)
+            self.texts[start:self.at] = self.plain[start:self.at]
+
+    def end_of(self, start: int) -> int:
+        """The place behind a declaration, a statement or a label."""
+        texts, depth = [it.text for it in self.tokens], 0
+        if self.tokens[start].kind == 'name' and texts[start + 1] == ':':
+            return start + 2
+        for at in range(start, len(texts) - 1):
+            depth += (texts[at] in OPENING) - (texts[at] in CLOSING)
+            if depth < 0:
+                return max(at, start + 1)
+            if not depth and texts[at] in (';', '}'):
+                return at + 1
+        return len(texts) - 1
 
     def define(self, one: Declared, comments: tuple[str, ...]) -> None:
         """A function that ends without a `return` has a result that isn't known."""
@@ -45,6 +86,21 @@ class Operations(FileReader):
         if one.type.kind in ('int', 'bool', 'event', 'pointer', 'data'):
             its = '(void *)' if one.type.kind in ('pointer', 'data') else ''
             self.texts[self.at - 1] = 'return %sLIBRARY_NO_VALUE; }' % its
+
+    def assignment(self) -> Expression:
+        """An assignment. The other ones with an operation, such as `+=`, have the same result as on a node."""
+        start, left = self.at, self.choice()
+        if not self.is_sign(*ASSIGNS):
+            return left
+        place, sign = self.at, self.step()
+        value = self.assignment()
+        if sign.text in DIVISIONS and not any(map(has_effects, parts_of(left))) and place not in self.seen:
+            self.seen.add(place)
+            target = ' '.join(self.texts[start:place])
+            self.texts[place] = '= LIBRARY_%s(%s, %s, %s, %s,' % (
+                DIVISIONS[sign.text], sign.text[:-1], kind_of(left), kind_of(value), target)
+            self.texts[self.at - 1] += ')'
+        return Expression('assign', sign.text, (left, value), sign.line)
 
     def choice(self) -> Expression:
         start = self.at
@@ -101,6 +157,9 @@ class Operations(FileReader):
         # (the number of the members of an array depends on the size that they have here)
         if size and self.texts[start - 1] not in OF_ARRAYS and self.token.text != '*':
             self.texts[start:self.at] = [size, *[''] * (self.at - start - 1)]
+        elif self.texts[start] == 'sizeof':
+            self.texts[start] = '((unsigned short)sizeof'
+            self.texts[self.at - 1] += ')'
         return found
 
     def is_new(self, it: Expression, place: int) -> bool:
@@ -126,22 +185,28 @@ class Operations(FileReader):
         self.texts[self.at - 1] += ')'
 
 
+def constant_text(it: Token) -> str:
+    """The text of a token. A constant such as `100U` has 16 bits on a node."""
+    is_unsigned = it.kind == 'number' and UNSIGNED_NUMBER.fullmatch(it.text) is not None
+    return '((unsigned short)%s)' % it.text if is_unsigned and int(it.text[:-1], 0) <= MOST else it.text
+
+
 def kind_of(it: Expression) -> str:
-    """The kind of an operand: numbers and tests are an `int` on a node, too."""
-    parts = [*parts_of(it)]
-    if constant_of(it) is not None and all(one.parts and one.kind != 'cast' or one.type in (INT, UNSIGNED)
-                                           for one in parts):
-        return AS_UNSIGNED if any(one.type == UNSIGNED for one in parts) else AS_INT
+    """The kind of an operand: constants and tests are an `int` on a node, too."""
     if it.kind == 'sizeof':
         return AS_UNSIGNED
-    return AS_INT if it.kind in ('binary', 'unary') and it.text in (*TESTS, *LOGICAL) else BY_TYPE
+    try:
+        its = on_node(it)
+    except NotConstant:
+        return AS_INT if it.kind in ('binary', 'unary') and it.text in (*TESTS, *LOGICAL) else BY_TYPE
+    return BY_TYPE if its.bits > 16 else AS_INT if its.is_signed else AS_UNSIGNED
 
 
 def with_operations(tokens: Sequence[Token]) -> list[str]:
-    """The texts of tokens, with macros around the operations. There are none if the program can't be read."""
+    """The texts of tokens, with macros around the operations. There are none if the program is nested too deeply."""
     reader = Operations(tokens)
     try:
         reader.read()
-    except (Refusal, RecursionError):
+    except RecursionError:
         return [it.text for it in tokens]
     return reader.texts
