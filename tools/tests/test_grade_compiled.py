@@ -330,6 +330,17 @@ static int sum(int *a, int b[5]) { int at, s = 0; for(at = 0; at < sizeof(a) / s
             report = self.compiled.report(self.in_c(source, in_process('', RADIO)), 'p')
             self.assertEqual([it.value for it in deeds_in(report)[0]], [value % 65_536], line)
 
+    def test_names_of_this_machines_libraries_are_no_obstacle(self) -> None:
+        for name in 'index', 'random', 'select', 'div', 'exit', 'rand', 'abort', 'atoi', 'mote', 'swap', 'trace_print':
+            for above, body in (('static int NAME(int a, int b) { return a + b; }', 'NAME(3, 4)'),
+                                ('static int NAME = 7;', 'NAME')):
+                source = in_process('  printf("%%d", %s);' % body, RADIO + '\n' + above, '  ' + TIMER)
+                source = source.replace('NAME', name)
+                report = self.compiled.report(self.in_c(source), 'p')
+                self.assertEqual([it.value for it in deeds_in(report)[0]], [7], (name, above))
+        source = in_process('  n = sizeof(time_t); printf("%d", n);', 'typedef uint16_t time_t;', '  ' + TIMER)
+        self.assertEqual(self.difference(source), '')
+
     def test_a_remark_about_a_variant_has_no_values_of_a_hidden_net(self) -> None:
         remark = Remark(7, 'It depends. With 8, ', True, False)
         source = in_process('  printf("%d", 1);', RADIO, '  ' + TIMER)

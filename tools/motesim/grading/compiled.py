@@ -25,14 +25,14 @@ from motesim.c_program.remark import Remark
 from motesim.contiki.folder import HOST, host_tables, program_files, text_of
 from motesim.contiki.names import file_names
 from motesim.grading.in_c import CRASHED, HANGS, UNLINKED
-from motesim.grading.node_operations import with_operations
+from motesim.grading.node_operations import with_operations, with_own_names
 from motesim.grading.node_types import as_on_node
 from motesim.grading.untranslated import may_call
 from motesim.grading.variants import Way, variants_of
 from motesim.scenario import Scenario
 
 # (the members of a structure are at even addresses, as on a node)
-FLAGS = ('-w', '-O0', '-fno-pic', '-std=gnu99', '-fsanitize=bounds', '-fpack-struct=2',
+FLAGS = ('-w', '-O0', '-fno-pic', '-std=gnu99', '-D_ISOC99_SOURCE', '-fsanitize=bounds', '-fpack-struct=2',
          '-I.', '-I%s' % LIBRARY, '-I%s' % HOST)
 # The memory of local variables that have no value has bytes that are rarely right by chance; or zeros.
 GARBAGE, ZEROS = '-ftrivial-auto-var-init=pattern', '-ftrivial-auto-var-init=zero'
@@ -171,15 +171,17 @@ class Compiled:
 
     def compile(self, it: InC, way: Way, table: str, place: Path) -> None:
         """Compiles a program with its table. If the macros for operations can't be compiled, such as those in the size of
-        an array, it is compiled without them."""
-        tokens = tokens_in(it.source)
-        for texts in with_operations(tokens), [token.text for token in tokens]:
-            (place / 'solution.c').write_text('\n'.join([*whole(it, texts, way.has_queue), table, '']), 'utf-8')
-            try:
-                called(['gcc', *self.flags, *way.flags, *[way.fill] * self.can_fill, '-c', 'solution.c'], place)
-                return
-            except NoComparison as fault:
-                refused = fault
+        an array, it is compiled without them; and if names are those of this machine's libraries, with other names."""
+        tokens, refused = tokens_in(it.source), NoComparison()
+        for has_own_names in False, True:
+            its = with_own_names(tokens) if has_own_names else tokens
+            for texts in with_operations(its), [token.text for token in its]:
+                (place / 'solution.c').write_text('\n'.join([*whole(it, texts, way.has_queue), table, '']), 'utf-8')
+                try:
+                    called(['gcc', *self.flags, *way.flags, *[way.fill] * self.can_fill, '-c', 'solution.c'], place)
+                    return
+                except NoComparison as fault:
+                    refused = fault
         raise refused
 
     def difference(self, it: InC, program: str, report: bytes) -> Difference | None:

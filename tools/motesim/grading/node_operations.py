@@ -210,3 +210,15 @@ def with_operations(tokens: Sequence[Token]) -> list[str]:
     except RecursionError:
         return [it.text for it in tokens]
     return reader.texts
+
+
+def with_own_names(tokens: Sequence[Token]) -> list[Token]:
+    """The tokens of a program whose functions, variables and types have names that no library of this machine has."""
+    reader = Operations(tokens)
+    try:
+        reader.read()
+    except RecursionError:
+        return [*tokens]
+    own = {*reader.scopes[0], *reader.file.functions} - {*reader.file.processes, *reader.file.bodies}
+    return [it._replace(text='solution_' + it.text) if it.text in own and before not in ('.', '->') else it
+            for it, before in zip(tokens, ['', *(one.text for one in tokens)])]
