@@ -285,6 +285,13 @@ static const struct broadcast_callbacks calls = {recv};'''
                 translated(in_process('  ' + line, 'static int k;'))
             self.assertFalse(isinstance(caught.exception, Mistake), caught.exception.reason)
 
+    def test_a_quote_matters_only_if_its_line_is_read(self) -> None:
+        for above in '#if 0\n  this isn\'t C "\n#endif\n', '#ifdef NEVER\n#error don\'t \\ do it\n#endif\n':
+            self.assertIsNotNone(translated(above + in_process('  ;')))
+        for above in 'static int n = don\'t;\n', '#define IT "no end\n', '#if 1\n  "\n#endif\n':
+            with self.assertRaisesRegex(Refusal, 'has no end in this line'):
+                translated(above + in_process('  ;'))
+
     def test_an_include_without_a_path_is_a_mistake(self) -> None:
         for words in 'net/rime.h', '<stdio.h', '', '\u201cnet/rime.h\u201d', '__FILE__', "'net/rime.h'":
             with self.assertRaises(Mistake):

@@ -26,7 +26,7 @@ from motesim.grading.command import remarks, status_of
 from motesim.grading.entries import Entry, anonymous, data_of, entries_of
 from motesim.grading.in_c import notation_of
 from motesim.grading.in_c import names_in
-from motesim.grading.marking import BINARY, Task, page_name
+from motesim.grading.marking import BINARY, OF_CR, Task, page_name
 from motesim.grading.marks import Mark, Marks
 from motesim.grading.nets import cut_off, nets_of, program_of
 from motesim.grading.page import page_of
@@ -265,6 +265,8 @@ PROCESS_THREAD(a, ev, data) {
                 '(a,', '(a_process,').replace('&a)', '&a_process)').replace('"Task"', '"a"'))
             self.assertEqual(self.rows('--net', 'task.toml')['o%d.c' % number], rows['ada.c'], above)
         named = program.replace('(a,', '(a_process,').replace('&a)', '&a_process)')
+        self.hand_in('hal.c', program.replace('\n', '\r'))
+        self.assertEqual(self.rows('--net', 'task.toml')['hal.c'], '0 of 3  ' + OF_CR)
         self.hand_in('fay.c', named.replace('  PROCESS_BEGIN();\n', ''))
         self.assertIn('PROCESS_THREAD(a_process, ev, data) {', self.grade('--net', 'task.toml', '--why', 'fay.c'))
         self.hand_in('gus.c', named.replace('a_process', 'neighbour_process').replace('"a"', '"neighbours"'))

@@ -7,7 +7,7 @@ from typing import NamedTuple
 from motesim.c_program.compiler import HEADER_OF, OF_LIBRARY
 from motesim.c_program.headers import KNOWN, NO_FILE, meant_by
 from motesim.c_program.refusal import Mistake, Refusal
-from motesim.c_program.tokens import Token, tokens_of
+from motesim.c_program.tokens import Token, tokens_of, without_end
 
 MOST_TOKENS = 200_000
 # Further headers of Contiki, of C and of nodes, which declare nothing that is translated, and the folders of others.
@@ -48,9 +48,14 @@ class Preprocessor:
         """The tokens after all macros are expanded, and the end."""
         at, plain = 0, list[Token]()
         while self.tokens[at].kind != 'end':
+            if self.tokens[at].kind == 'quote' and self.is_read():
+                raise without_end(self.tokens, at)
             if self.tokens[at].first and self.tokens[at].text == '#':
                 self.flush(plain)
                 end = self.end_of_line(at + 1)
+                quote = next((it for it in range(at, end) if self.tokens[it].kind == 'quote'), None)
+                if quote is not None and self.is_read():
+                    raise without_end(self.tokens, quote)
                 self.directive(self.tokens[at + 1:end], self.tokens[at].line)
                 at = end
                 continue

@@ -2,6 +2,7 @@
 from __future__ import annotations
 
 import re
+from collections.abc import Sequence
 from typing import NamedTuple
 
 from motesim.c_program.refusal import Refusal
@@ -20,6 +21,7 @@ TOKEN = re.compile(r'''
 # Quotes that a word processor writes.
 QUOTES = ('\u201c', '\u201d', '\u201e', '\u2018', '\u2019')
 OF_QUOTE = 'The sign `%s` isn\'t one of C: write `"` around a text, and `\'` around a character.'
+NO_SIGN_OF_C = 'This text isn\'t C: a sign is wrong.'
 
 
 class Token(NamedTuple):
@@ -39,6 +41,14 @@ class Token(NamedTuple):
     glued: bool = False
 
 
+def without_end(tokens: Sequence[Token], at: int) -> Refusal:
+    """The refusal of a quote that has no end in its line, or of another sign that C doesn't have."""
+    it = tokens[at]
+    other = next((one.text for one in tokens[:at] if one.line == it.line and one.text in QUOTES), '')
+    return Refusal(it.line, 'A text has no end in this line: a `%s` is missing.' % it.text if it.text != '\\' else
+                   OF_QUOTE % other if other else NO_SIGN_OF_C)
+
+
 def tokens_of(text: str) -> list[Token]:
     """The tokens of a text in C, and its end."""
     found, comments = list[Token](), list[str]()
@@ -46,11 +56,10 @@ def tokens_of(text: str) -> list[Token]:
     while at < len(text):
         it = TOKEN.match(text, at)
         kind = it.lastgroup if it else None
-        if it is None or kind is None or it[0] in '"\'\\' and kind == 'sign':
-            quote = it[0] if it and it[0] in '"\'' else ''
-            other = next((sign.text for sign in found if sign.line == line and sign.text in QUOTES), '')
-            raise Refusal(line, 'A text has no end in this line: a `%s` is missing.' % quote if quote else
-                          OF_QUOTE % other if other else 'This text isn\'t C: a sign is wrong.')
+        if it is None or kind is None:
+            raise Refusal(line, NO_SIGN_OF_C)
+        # (a quote without its end matters only if the line is read)
+        kind = 'quote' if it[0] in '"\'\\' and kind == 'sign' else kind
         if kind == 'newline':
             first = True
         elif kind == 'comment':

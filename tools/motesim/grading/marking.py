@@ -56,6 +56,7 @@ LONGEST_NAME = 80
 ONLY_PAUSES, NO_MARK = 'a loop that only pauses', 'not marked (a larger --report may be enough): '
 TRANSLATING = 'its translation'
 BINARY = 'the file is binary: it has bytes that no text has'
+OF_CR = 'its lines end with CR, so a compiler reads only one line: save the file with the line ends LF or CRLF'
 OF_C = 'its program is in C'
 NOT_NOTATION = ', not in the notation of mote programs (tools/explain FILE.c --apply NEW.toml translates it)'
 # The words of a sentence about a process that prints.
@@ -118,6 +119,8 @@ class Task:
                 return Marks(entry.name, why=lacks)
             if not encodings.is_text(data) and not encodings.encoding_of(data):
                 return Marks(entry.name, why=BINARY)
+            if entry.path.suffix == '.c' and b'\r' in data and b'\n' not in data:
+                return Marks(entry.name, why=OF_CR)
             if entry.path.suffix == '.toml' and begins_as_program(data):
                 return Marks(entry.name, why='it is the text of a program, not a scenario: a file of such a text is '
                                              'NAME.mote')
