@@ -341,6 +341,20 @@ static int sum(int *a, int b[5]) { int at, s = 0; for(at = 0; at < sizeof(a) / s
         source = in_process('  n = sizeof(time_t); printf("%d", n);', 'typedef uint16_t time_t;', '  ' + TIMER)
         self.assertEqual(self.difference(source), '')
 
+    def test_an_enumeration_has_16_bits(self) -> None:
+        for above, body, value in (
+                ('enum kind { A, B = 3 }; static enum kind k = B;', 'sizeof(k) * 10 + k', 23),
+                ('typedef enum { A, B } kind; static kind k = B;', 'sizeof(kind) * 10 + k', 21),
+                ('static enum { A = -1, B } k = A;', 'k < B', 1), ('enum { A, B };', 'B', 1),
+                ('struct m { enum kind { A, B } k; enum kind other; }; static struct m m = {B, A};',
+                 'sizeof(m) * 10 + m.k', 41),
+                ('static const enum kind { A, B } k = B; static enum kind f(enum kind g) { return g; }',
+                 'f(k) + (enum kind)1', 2),
+                ('', 'sizeof(1 + 1) + sizeof(\'a\') + sizeof(1L)', 8)):
+            source = in_process('  { int v = %s; printf("%%d", v); }' % body, RADIO + '\n' + above, '  ' + TIMER)
+            report = self.compiled.report(self.in_c(source, in_process('', RADIO)), 'p')
+            self.assertEqual([it.value for it in deeds_in(report)[0]], [value], body)
+
     def test_a_remark_about_a_variant_has_no_values_of_a_hidden_net(self) -> None:
         remark = Remark(7, 'It depends. With 8, ', True, False)
         source = in_process('  printf("%d", 1);', RADIO, '  ' + TIMER)

@@ -152,8 +152,10 @@ class Operations(FileReader):
         words, size = [it.text for it in self.tokens[start + 2:self.at - 1]], ''
         if found.kind == 'number' and (words in (['rimeaddr_t'], ['linkaddr_t']) or words[-1:] == ['*']):
             size = '((unsigned short)2)'
-        elif found.kind == 'sizeof' and found.parts[0].kind == 'name':
+        elif found.kind == 'sizeof' and found.parts[0].kind == 'name' and found.parts[0].variable:
             size = 'LIBRARY_SIZE_OF(%s)' % found.parts[0].text
+        elif found.kind == 'sizeof':
+            size = constant_size(found.parts[0])
         # (the number of the members of an array depends on the size that they have here)
         if size and self.texts[start - 1] not in OF_ARRAYS and self.token.text != '*':
             self.texts[start:self.at] = [size, *[''] * (self.at - start - 1)]
@@ -183,6 +185,14 @@ class Operations(FileReader):
         """Writes a macro with its first arguments around the tokens behind a start."""
         self.texts[start] = '%s(%s, %s' % (words[0], ', '.join(words[1:]), self.texts[start])
         self.texts[self.at - 1] += ')'
+
+
+def constant_size(it: Expression) -> str:
+    """The size of a constant on a node; an empty text if an expression isn't constant."""
+    try:
+        return '((unsigned short)%d)' % (on_node(it).bits // 8)
+    except NotConstant:
+        return ''
 
 
 def constant_text(it: Token) -> str:

@@ -14,6 +14,7 @@ from itertools import groupby
 
 # Other types that have another size than on a node.
 OTHERS = {'size_t': 'uint16_t', 'ssize_t': 'int16_t', 'ptrdiff_t': 'int16_t'}
+QUALIFIERS = 'static', 'const', 'volatile', 'extern', 'typedef'
 SPECIFIERS = ('int', 'long', 'short', 'unsigned', 'signed', 'char', 'double')
 
 
@@ -21,9 +22,28 @@ def as_on_node(words: Sequence[str]) -> list[str]:
     """The tokens of a program, with types of the same size as on a node. Each token keeps its place: one that has no
     meaning there is an empty text."""
     found = list[str]()
-    words = [OTHERS.get(it, it) for it in words]
+    words = with_short_enumerations([OTHERS.get(it, it) for it in words])
     for is_type, its in groupby(words, lambda it: it in SPECIFIERS):
         found += of_type(list(its)) if is_type else its
+    return found
+
+
+def with_short_enumerations(words: Sequence[str]) -> list[str]:
+    """The tokens of a program in which a variable of an enumeration has 16 bits. The enumeration itself is in front of
+    the declaration."""
+    found, types = list(words), dict[str, str]()
+    for at, word in enumerate(words):
+        if word != 'enum':
+            continue
+        brace = at + 1 if words[at + 1] == '{' else at + 2
+        name = ' '.join(words[at + 1:brace])
+        end = words.index('}', brace) if words[brace] == '{' else brace - 1
+        if words[brace] == '{':
+            types[name] = 'signed short' if any('-' in it for it in words[brace:end]) else 'unsigned short'
+        found[at:end + 1] = [types.get(name, 'unsigned short'), *[''] * (end - at)]
+        if words[brace] == '{':
+            begin = next(place for place in range(at, -1, -1) if not place or words[place - 1] not in QUALIFIERS)
+            found[begin] = 'enum %s; %s' % (' '.join(words[brace:end + 1]), found[begin])
     return found
 
 
