@@ -18,7 +18,7 @@ from motesim.grading.by_gcc import (
     untranslated,
 )
 from motesim.grading.compiled import (
-    CRASHES, DEFINES, DIVIDES, MEETING, NEVER_ENDS, OF_COPY, OF_INDEX, OF_NULL, OF_REMARK, OF_UNSET,
+    CRASHES, DEFINES, DIVIDES, NEVER_ENDS, OF_COPY, OF_INDEX, OF_NULL, OF_REMARK, OF_UNSET,
     ON_NODE, Compiled, Crash, Difference, InC, NoComparison, deeds_in, first_meeting,
 )
 from motesim.grading.entries import Entry

@@ -19,12 +19,11 @@ from motesim.c_program.places import has_effects
 from motesim.c_program.refusal import Refusal
 from motesim.c_program.tokens import Token
 from motesim.c_program.tree import Expression, File, Statement
-from motesim.c_program.types import INT, UNSIGNED
 from motesim.c_program.values import MOST
 from motesim.c_program.walk import parts_of
-from motesim.grading.node_constants import on_node
+from motesim.grading.node_constants import SHIFTS, TESTS, on_node
 
-TESTS, LOGICAL, SHIFTS = ('==', '!=', '<', '<=', '>', '>='), ('&&', '||', '!'), ('<<', '>>')
+LOGICAL = '&&', '||', '!'
 # (the macro for a choice has each of its operands four times)
 MOST_NESTED = 4
 UNSIGNED_NUMBER = re.compile(r'(?:0[xX][0-9a-fA-F]+|[1-9][0-9]*|0)[uU]')
