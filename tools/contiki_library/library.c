@@ -78,6 +78,16 @@ long_number(int32_t value)
   return value < 0 && value >= -32768 ? (uint16_t)value : (uint32_t)value;
 }
 
+/* Prints the text of a `printf` whose values are texts, as `puts` prints it. */
+static void
+texts_in_format(const char *format, va_list texts)
+{
+  char text[512];
+
+  vsnprintf(text, sizeof(text), format, texts);
+  library_text(text);
+}
+
 /* A value that a node prints by `%d`; 0 if the program hides such values. */
 static uint16_t
 decimal_number(int value)
@@ -90,11 +100,12 @@ decimal_number(int value)
 int
 library_print(const char *format, ...)
 {
-  va_list values;
+  va_list values, texts;
   const char *text = format;
-  int count = 0, is_long, value;
+  int count = 0, is_long, is_text = 1, value;
 
   va_start(values, format);
+  va_copy(texts, values);
   for(; *format != '\0'; format++) {
     if(*format != '%' || *++format == '%') {
       continue;
@@ -103,7 +114,7 @@ library_print(const char *format, ...)
       is_long |= *format == 'l';
     }
     if(*format == 's' || *format == 'p') {
-      (void)va_arg(values, char *);
+      is_text &= va_arg(values, uintptr_t) > 65535;    /* (a number for a `%s` is no text) */
       continue;
     }
     if(is_long) {
@@ -115,7 +126,13 @@ library_print(const char *format, ...)
     count++;
   }
   va_end(values);
-  return count > 0 ? 0 : library_text(text);
+  if(count == 0 && is_text) {
+    texts_in_format(text, texts);
+  } else if(count == 0) {
+    library_text(text);
+  }
+  va_end(texts);
+  return 0;
 }
 /*---------------------------------------------------------------------------*/
 static unsigned char lit;

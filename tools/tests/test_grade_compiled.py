@@ -288,6 +288,19 @@ static int sum(int *a, int b[5]) { int at, s = 0; for(at = 0; at < sizeof(a) / s
         with self.assertRaisesRegex(Refusal, '`putchar` prints a character'):
             translated(in_process('  n = 65; putchar(n);', RADIO, '  ' + TIMER))
 
+    def test_a_text_of_a_printf_is_printed_as_puts_prints_it(self) -> None:
+        fills = 'char b[20]; sprintf(b, "%u", 42); '
+        for body, values in ((fills + 'printf("%s\\n", b);', [42]), (fills + 'printf("%s %s", b, "ms");', [42]),
+                             (fills + 'printf("%s %u", b, n);', [5]), (fills + 'printf("%s 3\\n", b);', [1]),
+                             ('printf("%s", "7");', [7]), ('printf("%-5s: 100%%\\n", "at 7");', [1]),
+                             ('printf("%s\\n", "");', []), ('printf("%s", n);', [1]), ('puts("%d 5");', [5]),
+                             ('printf("%s\\n", n > 4 ? "yes" : "no");', [1])):
+            source = in_process('  { %s }' % ('n = 5; ' + body), RADIO, '  ' + TIMER)
+            report = self.compiled.report(self.in_c(source, in_process('', RADIO)), 'p')
+            self.assertEqual([it.value for it in deeds_in(report)[0]], values, body)
+            if fills not in body:
+                self.assertEqual(self.difference(source), '', body)
+
     def test_a_packet_in_the_notation_has_no_length(self) -> None:
         above = RADIO.replace('printf("%d", *(int *)packetbuf_dataptr());',
                               'uint8_t v; packetbuf_copyto(&v); printf("%d", v);')

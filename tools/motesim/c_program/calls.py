@@ -679,7 +679,7 @@ class Calls(Chance):
 
     def print_text(self, it: Expression) -> None:
         """A text without a value is the number in it, or 1; one without a letter and a digit is nothing."""
-        text = it.parts[0].text if it.parts and it.parts[0].kind == 'text' else '1'
+        text = text_printed(it.parts) if it.parts and it.parts[0].kind == 'text' else '1'
         if not re.search(r'[^\W_]', re.sub(r'\\[a-z]', '', text)):
             return
         self.remark(it.line, OF_TEXT)
@@ -776,6 +776,17 @@ def label_of(text: str) -> str:
     plain = ' '.join(re.sub(r'\\[a-z]', ' ', text).replace('\\', '').replace("'''", '"').replace('%%', '%').split())
     found = plain.strip(' :=,;.-|/()[]<>\'"')
     return found[:LONGEST_LABEL - 2] + '..' if len(found) > LONGEST_LABEL else found
+
+
+def text_printed(values: Sequence[Expression]) -> str:
+    """The text of a `printf` or `puts`, with the constant texts among its values."""
+    texts = iter(values[1:])
+
+    def filled(conversion: re.Match[str]) -> str:
+        value = next(texts, None) if conversion['kind'] else None
+        return value.text if value and value.kind == 'text' else conversion[0]
+
+    return CONVERSION.sub(filled, values[0].text)
 
 
 def number_in(text: str) -> int:
