@@ -324,6 +324,16 @@ static int sum(int *a, int b[5]) { int at, s = 0; for(at = 0; at < sizeof(a) / s
             report = self.compiled.report(self.in_c(source, in_process('', RADIO)), 'p')
             self.assertEqual([it.value for it in deeds_in(report)[0]], [3], body)
 
+    def test_initial_values_that_must_be_constant_hide_no_operations(self) -> None:
+        for above, within in (('static clock_time_t d = CLOCK_SECOND / 2;', ''),
+                              ('', 'static clock_time_t d = (int)2 + CLOCK_SECOND, f = CLOCK_SECOND - 1;'),
+                              ('static int a[3]; static int *last = a + 2, size = sizeof(a);', ''),
+                              ('static const struct { long t; } its[] = {{CLOCK_SECOND * 2}, {-CLOCK_SECOND}};', '')):
+            body = '  { %s n = 30000; n = n + 30000 < 0; printf("%%d", n); }' % within
+            source = in_process(body, RADIO + '\n' + above, '  ' + TIMER)
+            report = self.compiled.report(self.in_c(source, in_process('', RADIO)), 'p')
+            self.assertEqual([it.value for it in deeds_in(report)[0]], [1], above + within)
+
     def test_unsigned_constants_have_16_bits(self) -> None:
         for test, value in (('s < 100U', 1), ('s / 2U == -2', 1), ('s > 0x10u', 0), ('s < sizeof(int)', 1),
                             ('n < 100U', 0), ('s < 100UL', 0), ('s < 70000U', 0), ('n - 1U > 0', 1),

@@ -19,6 +19,7 @@ from motesim.c_program.places import has_effects
 from motesim.c_program.refusal import Refusal
 from motesim.c_program.tokens import Token
 from motesim.c_program.tree import Expression, File, Statement
+from motesim.c_program.types import Type
 from motesim.c_program.values import MOST
 from motesim.c_program.walk import parts_of
 from motesim.grading.node_constants import SHIFTS, TESTS, on_node
@@ -45,6 +46,8 @@ class Operations(FileReader):
         self.plain = [constant_text(it) for it in tokens]
         self.texts = [*self.plain]
         self.seen = set[int]()
+        # Whether a variable that is declared keeps its value, and whether an initial value of such a variable is read.
+        self.is_kept = self.is_constant = False
 
     def read(self) -> File:
         while self.token.kind != 'end':
@@ -85,6 +88,19 @@ class Operations(FileReader):
         if one.type.kind in ('int', 'bool', 'event', 'pointer', 'data'):
             its = '(void *)' if one.type.kind in ('pointer', 'data') else ''
             self.texts[self.at - 1] = 'return %sLIBRARY_NO_VALUE; }' % its
+
+    def specifiers(self) -> tuple[Type, set[str]]:
+        its, qualifiers = super().specifiers()
+        self.is_kept = not self.function or 'static' in qualifiers
+        return its, qualifiers
+
+    def initial(self, its: Type) -> tuple[Expression, Type]:
+        """The initial value of a variable; if this keeps its value, C needs a constant, which no macro is."""
+        is_kept = self.is_constant = self.is_kept
+        try:
+            return super().initial(its)
+        finally:
+            self.is_kept, self.is_constant = is_kept, False
 
     def assignment(self) -> Expression:
         """An assignment. The other ones with an operation, such as `+=`, have the same result as on a node."""
@@ -165,7 +181,7 @@ class Operations(FileReader):
 
     def is_new(self, it: Expression, place: int) -> bool:
         """Returns whether an operation isn't constant, and has no macro."""
-        is_new = constant_of(it) is None and place not in self.seen
+        is_new = constant_of(it) is None and place not in self.seen and not self.is_constant
         self.seen.add(place)
         return is_new
 
