@@ -91,6 +91,40 @@ LINES = (
     ('var sum = 0;', ['static int sum;']),
     ('spawn received;', ['PROCESS_END();', 'PROCESS_WAIT_EVENT_UNTIL(etimer_expired(&et));']),
     ('thread add {', ['']), ('// Counts.', ['']))
+# A sender that sets its timer once instead of before each wait.
+ONCE = '''#include "contiki.h"
+#include "net/rime.h"
+PROCESS(a, "a");
+AUTOSTART_PROCESSES(&a);
+static int is_done, tries;
+
+static void
+received(struct broadcast_conn *c, const rimeaddr_t *from)
+{
+  is_done = 1;
+  printf("1\\n");
+}
+static const struct broadcast_callbacks callbacks = { received };
+static struct broadcast_conn conn;
+
+PROCESS_THREAD(a, ev, data)
+{
+  static struct etimer et;
+  PROCESS_BEGIN();
+  broadcast_open(&conn, 129, &callbacks);
+  etimer_set(&et, 10);
+  PROCESS_WAIT_EVENT_UNTIL(etimer_expired(&et));
+  etimer_set(&et, 20);
+  while(!is_done && tries < 4) {
+    packetbuf_copyfrom("a", 1);
+    broadcast_send(&conn);
+    tries++;
+    PROCESS_WAIT_EVENT_UNTIL(is_done || etimer_expired(&et));
+  }
+  printf("%d\\n", tries);
+  PROCESS_END();
+}
+'''
 NET = '''version = 1
 end = 400
 [medium]
@@ -150,19 +184,30 @@ class Lines(unittest.TestCase):
         self.assertIn('set it in line %d of a.c: `etimer_set(&et, CLOCK_SECOND * (2));' % line_of('etimer_set'),
                       said['post 0 a timer 0'])
 
-    def ran(self) -> Run:
-        """A run of the program."""
+    def ran(self, program: str = PROGRAM, net: str = NET) -> Run:
+        """A run of a program."""
         need_program(self)
-        text = notation_of(PROGRAM)
-        net = NET % text
-        return Run('a', Report.parse(run_program(net.encode())), Scenario.parse(net), ('a.c', text), origin_of(PROGRAM))
+        text = notation_of(program)
+        net %= text
+        return Run('a', Report.parse(run_program(net.encode())), Scenario.parse(net), ('a.c', text), origin_of(program))
+
+    @staticmethod
+    def note_lines(run: Run, words: str) -> list[str]:
+        """The lines of the note about a sentence that is broken in a run."""
+        assert run.scenario is not None
+        note = note_of(run, words, Judge(run.report, run.scenario).broken(read_sentence(words)))
+        return [it.text for it in note.lines]
+
+    def test_a_note_about_a_callback_and_a_timer_that_is_set_once(self) -> None:
+        lines = self.note_lines(self.ran(ONCE, NET.replace('x = 5', 'x = 50')), 'mote 0 prints a 4')
+        self.assertIn('mote 0: line 11 of a.c: `printf("1\\n");` was never reached, because no packet came to its '
+                      'callback received', lines)
+        self.assertIn('mote 0: a has waited at line 28 of a.c: `PROCESS_WAIT_EVENT_UNTIL(is_done || '
+                      'etimer_expired(&et));` since 30, and nothing has called it since; line 23 of a.c: '
+                      '`etimer_set(&et, 20);`, which sets the timer, was last reached at 10', lines)
 
     def test_a_note_names_a_line_in_c_once(self) -> None:
-        run = self.ran()
-        assert run.scenario is not None
-        sentence = read_sentence('mote 0 prints a 999')
-        note = note_of(run, 'mote 0 prints a 999', Judge(run.report, run.scenario).broken(sentence))
-        lines = [it.text for it in note.lines]
+        lines = self.note_lines(self.ran(), 'mote 0 prints a 999')
         self.assertEqual(len(lines), len({*lines}))
         self.assertEqual(sum('`printf("200\\n");`' in it for it in lines), 1, lines)
         self.assertIn('(translated: `print turns`) was reached', str(lines))

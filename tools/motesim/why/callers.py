@@ -14,12 +14,15 @@ from motesim.why.translate import Program, Statement
 
 MOST_CALLERS, DEEPEST = 3, 3
 SENDS, SETS = ('post', 'synch', 'poll'), ('set', 'reset', 'restart_timer')
-OF_EVENT, OF_TIMER, OF_SEMAPHORE = (re.compile(form % r'\(\s*(\w+)\s*\)') for form in ('is%s', 'fired%s', 'count%s'))
+OF_EVENT, OF_TIMER, OF_EXPIRED, OF_SEMAPHORE = (
+    re.compile(form % r'\(\s*(\w+)\s*\)') for form in ('is%s', 'fired%s', 'expired%s', 'count%s'))
 # The effect of a statement on the process, its thread, timer or semaphore, if the statement isn't a call.
 DOES = {'start': 'starts it', 'kill': 'kills it', 'spawn': 'runs it', 'restart': 'runs it',
         'signal': 'adds 1 to the semaphore', **dict.fromkeys(SETS, 'sets the timer')}
 NEVER, LAST = 'was never %s, the last time at %d', 'was not %s the last time, at %d'
 ELSEWHERE = '; timer %s was due at %d: its event was taken while %s waited at %s'
+# The statement in front of one that runs the callback of a program in C.
+BEFORE_CALLBACK = re.compile(r'(?:while|if|yield_until) is\(packet\)')
 # Events that only the kernel makes, never a statement.
 OF_KERNEL = ('packet', 'timer', 'exited', 'exit', 'init', 'continue')
 
@@ -83,8 +86,10 @@ class Callers:
         until = self.until(number for number, one in enumerate(self.program.statements, 1) if one.inside == it.inside)
         if kind == 'thread':
             thread = name.partition('_')[2]
-            return ', because nothing ran its thread %s%s%s' % (thread, until, self.sentence(
-                self.numbered(('spawn', 'restart'), thread, it.process), depth))
+            runs = self.numbered(('spawn', 'restart'), thread, it.process)
+            if self.is_of_packets(runs):
+                return ', because no packet came to its callback %s%s' % (thread, until)
+            return ', because nothing ran its thread %s%s%s' % (thread, until, self.sentence(runs, depth))
         if kind == 'callback':
             timer = self.program.timers[int(name)].name
             return ', because its timer %s was never due%s%s' % (timer, until, self.sentence(
@@ -100,6 +105,11 @@ class Callers:
             return ', because %s never started%s%s' % (
                 process.name, until, '' if is_known else self.starts(process.name, depth))
         return ''
+
+    def is_of_packets(self, runs: Sequence[int]) -> bool:
+        """Returns whether these statements run the callback of a program in C for each packet."""
+        return bool(runs) and all(self.program.line_in_c(it) and BEFORE_CALLBACK.fullmatch(
+            self.program.statement(it - 1).text) for it in runs)
 
     def starts(self, name: str, depth: int = 0) -> str:
         """The statements that would have started a process."""
@@ -120,6 +130,7 @@ class Callers:
             why = self.of_timer(process, timer, waits, since)
             said += why
             found += [] if why else [self.numbered(SETS, timer, process)]
+        found += [self.last_set(timer, process) for timer in dict.fromkeys(OF_EXPIRED.findall(it.text))]
         for event in events:
             found.append(self.makers(event, name))
             if not found[-1] and event not in OF_KERNEL:
@@ -127,6 +138,13 @@ class Callers:
                     'polls' if event == 'poll' else 'posts the event %s to' % event, name)
         return said + ''.join(self.sentence([one for one in its if one != waits and not any(
             here.at > since for here in self.reached(one))], 0) for its in found)
+
+    def last_set(self, timer: str, process: int) -> list[int]:
+        """The statement that was the last one to set a timer; all that set it if none of them was reached."""
+        sets = self.numbered(SETS, timer, process)
+        last = next((it.statement for it in reversed(self.replay.reached)
+                     if it.statement in sets and it.at <= self.end), None)
+        return [last] if last else sets
 
     def makers(self, event: str, name: str) -> list[int]:
         """The statements that make an event for a process; none for the events of the kernel."""
