@@ -728,6 +728,20 @@ PROCESS_THREAD(q, ev, data) {
         self.assertTrue(marks.why.endswith(BY_GCC % (1, 1)))
         self.assertFalse(marks.has_mark)
 
+    def test_a_loop_that_never_ends_is_a_mistake_if_a_mote_gets_into_it(self) -> None:
+        part = parts_of('expect = ["mote 0 prints p 3"]', 'task')[0]
+        net = Net('n', Scenario.parse(SCENARIO % 'process p; autostart p; code p { body { pause; } }'), 'p')
+        task = Task(part, (net,), Limits(), compiled=self.compiled)
+        with tempfile.TemporaryDirectory() as folder:
+            path = Path(folder) / 'a.c'
+            for mote, why, is_open in ((0, r'^its line \d+ is a mistake in C; ' + NEVER_ENDS, False),
+                                       (7, '^not marked: its line .* gets 0 of 1$', True)):
+                body = '  if(node_id == %d) { etimer_set(&et, 9); while(!etimer_expired(&et)); }' % mote
+                path.write_text(in_process(body, '#include "sys/node-id.h"', '  static struct etimer et;'))
+                marks = task.of((1, Entry('a.c', path)))
+                self.assertRegex(marks.why, why)
+                self.assertEqual(marks.is_open, is_open)
+
     def test_from_a_packet_at_the_moment_of_a_timer_on_runs_may_differ(self) -> None:
         report = (b'mote 0 p\n3 recv 1 0 3\n5 recv 1 1 3\n5 post 2 p timer 0\n'
                   b'mote 1 q\n1 recv 0 0 3\n1 recv 0 1 3\nmedium\nleft 0\n')

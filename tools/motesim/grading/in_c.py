@@ -28,20 +28,20 @@ WORDS_OF_C = {'wait by `yield_until`': 'wait by `PROCESS_WAIT_EVENT_UNTIL(etimer
               '`yield_until`': '`PROCESS_WAIT_EVENT_UNTIL`', '`wait_until`': '`PROCESS_WAIT_UNTIL`',
               '`wait_while`': '`PROCESS_WAIT_WHILE`', '`yield`': '`PROCESS_YIELD`', '`pause`': '`PROCESS_PAUSE`'}
 NO_TRANSLATION = 'not marked: its line %d may be right in C, but the tool can\'t translate it'
+MISTAKEN = 'its line %d is a mistake in C'
 # A process with its name and its text. And a word of a program in the notation, or a comment.
 PROCESS, WORD = re.compile(r'\bPROCESS\s*\(\s*(\w+)\s*,\s*"(\w+)"'), re.compile(r'//[^\n]*|[a-z]\w*')
 UNLINKED = 'gcc can\'t link it'
 CRASHED, HANGS = 'compiled by gcc, it crashes', 'compiled by gcc, it never ends here'
 DIFFERS = 'compiled by gcc, it does something else'
 COMPILED = 'marked as compiled by gcc'
-MISTAKEN = 'its line %d is a mistake in C'
 # (a time has 16 bits here)
 WRAPS = '; clock_time() and clock_seconds() begin again at 0 after %d seconds, which they don\'t do on a node'
 
 
 class NotTranslated(Fault):
     """A line of a program in C isn't translated. `lines` are the line and the reason; `may_be_right`: whether the line
-    may be right on a node; `is_compiled`: whether gcc doesn't refuse it."""
+    may be right on a node; `is_compiled`: whether gcc doesn't refuse it; `as_mistake`: the words if it isn't right."""
 
     def __init__(self, refusal: Refusal, source: str):
         is_mistake = isinstance(refusal, Mistake)
@@ -49,8 +49,8 @@ class NotTranslated(Fault):
             is_mistake = compiler.is_unknown(source, refusal.name)
         error = None if is_mistake else compiler.certain_error(source)
         line, reason = error or (refusal.line, refusal.reason)
-        self.may_be_right = not is_mistake and error is None
-        super().__init__((NO_TRANSLATION if self.may_be_right else MISTAKEN) % line)
+        self.may_be_right, self.as_mistake = not is_mistake and error is None, MISTAKEN % line
+        super().__init__(NO_TRANSLATION % line if self.may_be_right else self.as_mistake)
         row = one_line(line_at(source, line))
         self.is_compiled = not reason.startswith(compiler.REFUSES)
         own = [refusal.reason] if error and line == refusal.line else []

@@ -7,6 +7,7 @@ from dataclasses import dataclass, replace
 from pathlib import Path
 from types import MappingProxyType
 
+from motesim.c_program.control import NEVER_ENDS
 from motesim.explain.explanation import explanation, of_program as fault_of_program, of_program_file, tables_or_none
 from motesim.explain.lint import ZERO_GIVEN
 from motesim.explain.within import busiest
@@ -16,7 +17,7 @@ from motesim.grading.by_gcc import (
     Untranslated, as_compiled, by_gcc_in, by_gcc_words, difference_in, differences_in, marks_of, remarks_in,
     untranslated, without_fault,
 )
-from motesim.grading.compiled import Compiled, Difference, InC
+from motesim.grading.compiled import NEVER_ENDS as RUN_NEVER_ENDS, Compiled, Difference, InC
 from motesim.grading.connections import Connection, remarks_on
 from motesim.grading.entries import Entry, data_of, without_program
 from motesim.grading.in_c import (
@@ -161,8 +162,7 @@ class Task:
         except NoProgram as fault:
             return Marks(entry.name, why=str(fault), fix=(fault.hint,))
         except NotTranslated as fault:
-            row = Marks(entry.name, why=str(fault), fix=fault.lines, is_open=fault.may_be_right)
-            return self.with_gcc_alone(row, data, names) if fault.is_compiled else row
+            return self.without_translation(fault, entry, data, names)
         except UnknownSentence as fault:
             return Marks(entry.name, why=fault.which, fix=self.fix(entry, data))
         except Fault as fault:
@@ -263,6 +263,16 @@ class Task:
     def difference(self, it: InC, program: str, report: bytes) -> Difference | None:
         """The difference between a program in C and its translation, if gcc is installed."""
         return self.compiled.difference(it, program, report) if self.compiled else None
+
+    def without_translation(self, fault: NotTranslated, entry: Entry, data: bytes, names: Mapping[str, str]) -> Marks:
+        """The row of a program in C of which a line isn't translated."""
+        row = Marks(entry.name, why=str(fault), fix=fault.lines, is_open=fault.may_be_right)
+        if not fault.is_compiled:
+            return row
+        row = self.with_gcc_alone(row, data, names)
+        # (the run of the compiled program shows that a mote gets into the loop)
+        is_endless = NEVER_ENDS in fault.lines and row.why.endswith(RUN_NEVER_ENDS)
+        return replace(row, why='%s; %s' % (fault.as_mistake, RUN_NEVER_ENDS), is_open=False) if is_endless else row
 
     def with_gcc_alone(self, row: Marks, data: bytes, names: Mapping[str, str]) -> Marks:
         """The row of a program in C of which only the compiled program has marks. The row doesn't depend on them, so an
