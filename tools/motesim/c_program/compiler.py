@@ -54,7 +54,7 @@ GCC = ('gcc', '-x', 'c', '-std=gnu99', '-S', '-o', '/dev/null', '-I%s' % HEADERS
 # (a program may be made to keep a compiler busy, and a compiled one runs for as long as it likes)
 LIMITED = 'ulimit -v 2000000; ulimit -S -t 10; ulimit -f 200000; exec "$0" "$@"'
 # (on a busy machine, the limit of processor time is met late)
-SECONDS = 120
+SECONDS = 300
 NO_SUCH_FILE = 'No such file or directory'
 COMPLAINT = re.compile(r'^<stdin>:(\d+):\d+: (?:fatal )?(error|warning): (.*?)(?: \[-W[^\]]*\])?$', re.M)
 # The beginnings of errors that no further declaration corrects.

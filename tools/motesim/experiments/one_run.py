@@ -6,13 +6,9 @@ from __future__ import annotations
 
 import hashlib
 import os
-import signal
-import threading
-from collections.abc import Iterator, Sequence
-from contextlib import contextmanager
+from collections.abc import Sequence
 from functools import lru_cache
 from pathlib import Path
-from types import FrameType
 from typing import NamedTuple
 
 from motesim.explain.halted import all_halted
@@ -29,6 +25,7 @@ from motesim.experiments.overflow import of_overflow
 from motesim.plan.plan import Plan
 from motesim.plan.files import Files
 from motesim.plan.tables import Value
+from motesim.processor_time import at_most
 from motesim.report import Report
 from motesim.runner.run import ProgramFault, Run
 from motesim.scenario import Scenario
@@ -114,24 +111,9 @@ def program_here(work: Work) -> Path:
     return path
 
 
-@contextmanager
-def limited(seconds: float) -> Iterator[None]:
-    """Ends its block with a TimeoutError after this many seconds of processor time; only for a process's main
-    thread."""
-    if threading.current_thread() is not threading.main_thread():
-        yield
-        return
-
-    def stop(signal_number: int, frame: FrameType | None) -> None:
-        raise TimeoutError('not finished after %g seconds of processor time' % seconds)
-
-    before = signal.signal(signal.SIGPROF, stop)
-    signal.setitimer(signal.ITIMER_PROF, seconds)
-    try:
-        yield
-    finally:
-        signal.setitimer(signal.ITIMER_PROF, 0)
-        signal.signal(signal.SIGPROF, before)
+def not_finished(seconds: float) -> TimeoutError:
+    """The fault of work that reaches its limit of processor time."""
+    return TimeoutError('not finished after %g seconds of processor time' % seconds)
 
 
 def one_line(text: str) -> str:
@@ -157,7 +139,7 @@ def measured(work: Work, bench: Bench, known: Scenario) -> tuple[dict[str, Cell]
     for words in work.measures:
         name = name_of(words)
         try:
-            with limited(work.seconds):
+            with at_most(work.seconds, not_finished(work.seconds)):
                 measure = read_measure(words, names, sources)
                 found[name] = measure.of(bench)
                 doubts.setdefault(measure.warning(bench), []).append(name)
@@ -185,7 +167,7 @@ def warned(report: Report, known: Scenario, seconds: float, text: str = '') -> l
     text  the scenario's text, whose comment has the parameters of the plan that made it
     """
     try:
-        with limited(seconds):
+        with at_most(seconds, not_finished(seconds)):
             programs = programs_of(known)
             its = [*of_losses(known, report), *of_seeds(known, programs), *of_moments(report),
                    *(it for program in programs.values() for it in of_numbers(program, has_zero(text)))]
@@ -202,7 +184,7 @@ def run_job(job: Job) -> Result:
     measures: dict[str, Cell] = {}
     work = job.work
     try:
-        with limited(work.seconds):
+        with at_most(work.seconds, not_finished(work.seconds)):
             plan = Plan(work.plan, work.text, Files(Path(work.folder), dict(job.files)))
             builder = plan.builder(dict(job.given))
             text = builder.scenario()

@@ -25,7 +25,6 @@ from motesim.grading.in_c import (
 )
 from motesim.grading.marks import LONGEST_WHY, OTHER_PROCESS, InNet, Mark, Marks, over_nets, spread, unmarked
 from motesim.grading.nets import NOT_UTF8, Net, NoProgram, program_of, unused_of
-from motesim.grading.processor_time import TooSlow, at_most
 from motesim.grading.warned import in_lines_of_c, net_warned, seen_of, warned_of
 from motesim.judge.callbacks import of_callbacks
 from motesim.judge.expectations import (
@@ -35,6 +34,7 @@ from motesim.judge.judge import Broken, Judge
 from motesim.judge.remarks import remark_of
 from motesim.judge.sentences import Sentence, lacking
 from motesim.notation.faults import find_fault as find_program_fault
+from motesim.processor_time import at_most
 from motesim.report import Report
 from motesim.runner import LimitMet, Limits, Runner
 from motesim.runner.run import Answer, Run
@@ -55,7 +55,7 @@ UNSAFE = re.compile(r'[^A-Za-z0-9.-]|^\.')
 LONGEST_NAME = 80
 # (a loop that only pauses repeats many times in a moment here, but not on a node)
 ONLY_PAUSES, NO_MARK = 'a loop that only pauses', 'not marked (a larger --report may be enough): '
-TRANSLATING = 'its translation'
+TOO_SLOW = 'its translation needs more than %g seconds of processor time'
 BINARY = 'the file is binary: it has bytes that no text has'
 OF_CR = 'its lines end with CR, so a compiler reads only one line: save the file with the line ends LF or CRLF'
 OF_C = 'its program is in C'
@@ -68,6 +68,10 @@ MOST_LINES = 60
 
 class Ended(Fault):
     """The run of a solution reached one of its own limits."""
+
+
+class TooSlow(Fault):
+    """The translation of a solution needs more processor time than it may."""
 
 
 def without_own(broken: Sequence[Broken | None], sentences: Sequence[str]) -> list[Broken | None]:
@@ -137,7 +141,7 @@ class Task:
             if not self.nets:
                 found = [self.in_net(data.decode('utf-8'), (file, data.decode('utf-8')))]
             else:
-                with at_most(self.limits.processor, TRANSLATING):
+                with at_most(self.limits.processor, TooSlow(TOO_SLOW % self.limits.processor)):
                     source = [program_of(data, entry.path.name, net.program, names) for net in self.nets]
                 its = file, source[0] if entry.path.suffix == '.c' else data.decode('utf-8')
                 in_c = encodings.text_of_c(data).removeprefix(MARK) if entry.path.suffix == '.c' else ''

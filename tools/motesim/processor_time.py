@@ -1,4 +1,8 @@
-"""A limit on the processor time of work in this process."""
+"""A limit on the processor time of work in this process.
+
+    with at_most(10, TimeoutError('not finished after 10 seconds')):
+        ...
+"""
 from __future__ import annotations
 
 import math
@@ -7,23 +11,17 @@ import threading
 from collections.abc import Iterator
 from contextlib import contextmanager
 
-from motesim.faults import Fault
-
-
-class TooSlow(Fault):
-    """The work needs more processor time than it may."""
-
 
 @contextmanager
-def at_most(seconds: float, words: str) -> Iterator[None]:
-    """Ends the work inside with a `TooSlow` if it needs more processor time. Only the main thread of a process can be
+def at_most(seconds: float, failure: Exception) -> Iterator[None]:
+    """Raises a failure in the work inside if this needs more processor time. Only the main thread of a process can be
     ended."""
     if seconds == math.inf or threading.current_thread() is not threading.main_thread():
         yield
         return
 
     def end(*_: object) -> None:
-        raise TooSlow('%s needs more than %g seconds of processor time' % (words, seconds))
+        raise failure
 
     before = signal.signal(signal.SIGPROF, end)
     signal.setitimer(signal.ITIMER_PROF, seconds)
