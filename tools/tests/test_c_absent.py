@@ -315,7 +315,8 @@ static const struct broadcast_callbacks calls = {recv};'''
             self.assertIn('The header `%s` isn\'t known here.' % path, found.text)
             self.assertTrue(found.text.endswith(' Do you mean `%s`?' % meant if meant else 'this line.'), found.text)
             self.assertEqual(on_node([found]), 'gcc may refuse line 1, because its header isn\'t known here')
-        for path in 'dev/leds.h', 'dev/cc2420.h', 'net/ipv6/uip-ds6.h', 'cfs/cfs.h', 'stdio.h', 'contiki-net.h':
+        for path in ('dev/leds.h', 'dev/cc2420.h', 'net/ipv6/uip-ds6.h', 'cfs/cfs.h', 'stdio.h', 'contiki-net.h',
+                     'random.h', 'rime.h', 'etimer.h', 'button-sensor.h', 'list.h', 'runicast.h'):
             self.assertEqual([it for it in translated('#include "%s"\n' % path + in_process('  ;')).remarks
                               if it.is_mistake], [], path)
 

@@ -217,6 +217,13 @@ class Lines(unittest.TestCase):
         lines = (Line('write a `PROCESS_WAIT_EVENT_UNTIL`', 3),)
         self.assertEqual(note, Note('title', 'write a `PROCESS_PAUSE`', lines))
 
+    def test_a_warning_has_the_words_of_c(self) -> None:
+        for warning, said in (
+                ('so `expired(et)` stays true: set it, such as by `reset et;` below',
+                 'so `etimer_expired(&et)` stays true: set it, such as by `etimer_reset(&et);` below'),
+                ('an `autostart` with its names is missing', 'an `AUTOSTART_PROCESSES` with its names is missing')):
+            self.assertEqual(in_words_of_c(warning), said)
+
     def test_a_warning_names_the_lines_in_c(self) -> None:
         text, origin = 'b;\nwhile 1 {\nc;\n', Origin('b();\n\nwhile(1) {\n  c();\n', (1, 3, 0))
         for warning, said in (

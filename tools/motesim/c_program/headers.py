@@ -37,8 +37,10 @@ NAMES = {
                 'rime-udp rimestats route route-discovery rucb rudolph0 rudolph1 rudolph2 runicast stbroadcast '
                 'stunicast timesynch trickle unicast',
 }
-KNOWN = {*(it for names in FILES.values() for it in names),
+PATHS = {*(it for names in FILES.values() for it in names),
          *('%s/%s.h' % (folder, name) for folder, names in NAMES.items() for name in names.split())}
+# (Contiki's Makefile.include has these folders in the compiler's search path, so a header needs no path)
+KNOWN = PATHS | {it.rpartition('/')[2] for it in PATHS}
 # The folders whose headers are all known here. (Those of `dev` depend on the node, for example.)
 COMPLETE = 'sys', 'lib', 'net', 'net/rime'
 NO_FILE = 'Contiki has no file `%s`. Do you mean `%s`?'
@@ -57,8 +59,8 @@ def meant_by(path: str) -> str | None:
 def similar_to(path: str) -> str | None:
     """The header of Contiki that has the most similar name."""
     plain = ENDING.sub('.h', path)
-    elsewhere = sorted(it for it in KNOWN if it == plain or it.endswith('/' + path.rpartition('/')[2]))
-    return elsewhere[0] if elsewhere else nearest(plain, KNOWN, ALIKE)
+    elsewhere = sorted(it for it in PATHS if it == plain or it.endswith('/' + path.rpartition('/')[2]))
+    return elsewhere[0] if elsewhere else nearest(plain, PATHS, ALIKE)
 
 
 def unknown(path: str) -> str:

@@ -4,7 +4,7 @@ from __future__ import annotations
 from collections.abc import Callable, Sequence
 from typing import NamedTuple
 
-from motesim.c_program.compiler import HEADER_OF, OF_LIBRARY
+from motesim.c_program.compiler import OF_LIBRARY
 from motesim.c_program.headers import KNOWN, NO_FILE, meant_by
 from motesim.c_program.refusal import Mistake, Refusal
 from motesim.c_program.tokens import Token, tokens_of, without_end
@@ -233,7 +233,7 @@ def path_in(tokens: Sequence[Token]) -> str | None:
 def check_header(path: str, line: int) -> None:
     """Raises a Refusal for a header of a project, which is in no folder of Contiki, and a Mistake for a misspelt one."""
     folder = path.rpartition('/')[0].partition('/')[0]
-    if folder not in FOLDERS and path not in (*HEADER_OF, *OF_LIBRARY, *OTHERS):
+    if folder not in FOLDERS and path not in (*KNOWN, *OF_LIBRARY, *OTHERS):
         raise Refusal(line, OF_PROJECT % path)
     meant = meant_by(path)
     if meant:

@@ -25,10 +25,13 @@ WORDS_OF_C = {'wait by `yield_until`': 'wait by `PROCESS_WAIT_EVENT_UNTIL(etimer
               '`etimer_set(&et, 10); PROCESS_WAIT_EVENT_UNTIL(etimer_expired(&et));`',
               '`set t 1; yield_until fired(t);`':
               '`etimer_set(&et, 1);` and a wait in a process, or a ctimer in the function for packets',
+              '`autostart`': '`AUTOSTART_PROCESSES`',
               '`yield_until`': '`PROCESS_WAIT_EVENT_UNTIL`', '`wait_until`': '`PROCESS_WAIT_UNTIL`',
               '`wait_while`': '`PROCESS_WAIT_WHILE`', '`yield`': '`PROCESS_YIELD`', '`pause`': '`PROCESS_PAUSE`'}
 NO_TRANSLATION = 'not marked: its line %d may be right in C, but the tool can\'t translate it'
 MISTAKEN = 'its line %d is a mistake in C'
+CALLS_OF_C = ((re.compile(r'`reset (\w+);`'), r'`etimer_reset(&\1);`'),
+              (re.compile(r'`expired\((\w+)\)`'), r'`etimer_expired(&\1)`'))
 # A process with its name and its text. And a word of a program in the notation, or a comment.
 PROCESS, WORD = re.compile(r'\bPROCESS\s*\(\s*(\w+)\s*,\s*"(\w+)"'), re.compile(r'//[^\n]*|[a-z]\w*')
 UNLINKED = 'gcc can\'t link it'
@@ -144,6 +147,8 @@ def in_words_of_c(message: str) -> str:
     """A message about a translated program, for the author of the program in C."""
     for word, its in WORDS_OF_C.items():
         message = message.replace(word, its)
+    for call, its in CALLS_OF_C:
+        message = call.sub(its, message)
     return message
 
 
