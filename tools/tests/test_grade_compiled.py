@@ -780,10 +780,11 @@ PROCESS_THREAD(q, ev, data) {
 
     def test_a_difference_names_a_remark(self) -> None:
         body = '  broadcast_open(&bc, 129 + node_id, &calls); while(1) { PROCESS_WAIT_EVENT(); }'
-        its = self.in_c(in_process(body, RADIO, '  ' + TIMER))
+        # (a remark on a header is none on a difference)
+        its = self.in_c(in_process(body, '#include "dev/foo.h"\n' + RADIO, '  ' + TIMER))
         report = b'mote 0 p\n3 recv 1 0 3\n3 recv 1 1 3\n3 print p 3\nmote 1 p\nmote 2 other\nmedium\nleft 0\n'
         found = self.compiled.difference(its, 'p', report)
-        line = next(it.line for it in its.translation.remarks if it.is_mistake)
+        line = next(it.line for it in its.translation.remarks if it.is_mistake and it.is_seen)
         assert found
         self.assertTrue(found.words.endswith(OF_REMARK % line), found.words)
 

@@ -206,7 +206,8 @@ class Compiled:
             return Difference(DEFINES % twice[1]) if twice else None
         except Crash as crash:
             return Difference(str(crash))
-        mistaken = next((one.line for one in it.translation.remarks if one.is_mistake or one.text == OF_ZEROS), 0)
+        mistaken = next((one.line for one in it.translation.remarks
+                         if one.is_mistake and one.is_seen or one.text == OF_ZEROS), 0)
         return Difference(words + (OF_REMARK % mistaken if mistaken else ON_NODE), False, theirs)
 
     def variants(self, it: InC, program: str, report: bytes) -> tuple[tuple[Remark, str], ...]:
