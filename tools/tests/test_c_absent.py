@@ -23,7 +23,7 @@ ADVICE = (
     ('x = light_sensor.value(0);', '`20 + (clock_seconds() + node_id) % 13`'),
     ('energest_init();', 'There is no energy model'), ('powertrace_start(10);', 'count the packets'),
     ('node_id_restore();', 'The motes are numbered from 0'), ('linkaddr_set_node_addr(&a);', 'numbered from 0'),
-    ('x = rimeaddr_node_addr.u16;', '`linkaddr_node_addr.u8[0]`'), ('x = RTIMER_NOW();', '`clock_time()`'),
+    ('x = rimeaddr_node_addr.u16;', '`rimeaddr_node_addr.u8[0]`'), ('x = RTIMER_NOW();', '`clock_time()`'),
     ('x = packetbuf_attr(PACKETBUF_ATTR_RSSI);', 'the same strength'), ('x = packetbuf_hdrlen();', 'without a header'),
     ('x = etimer_expiration_time(&et);', 'Note the time in a variable'), ('ctimer_init();', 'leave this line out'),
     ('x = timer_remaining(&et.timer);', 'A timer has no fields here'), ('polite_open(&c, 129, &cb);', 'an etimer'),

@@ -165,6 +165,12 @@ static int sum(int *a, int b[5]) { int at, s = 0; for(at = 0; at < sizeof(a) / s
                 'PROCESS_WAIT_EVENT();' % fills)
         self.assertEqual(self.difference(in_process(body, above, '  ' + TIMER)), '')
 
+    def test_a_packet_may_be_the_first_byte_of_the_address(self) -> None:
+        above = RADIO.replace('*(int *)', '*(uint8_t *)')
+        body = ('  broadcast_open(&bc, 129, &calls); packetbuf_copyfrom(&rimeaddr_node_addr.u8[0], 1);'
+                ' broadcast_send(&bc); PROCESS_WAIT_EVENT();')
+        self.assertEqual(self.difference(in_process(body, above, '  ' + TIMER)), '')
+
     def test_constants_have_the_values_of_a_node(self) -> None:
         for constant, value in (('200 * 200 / 200', -127), ('200 * 200 > 0', 0), ('200L * 200 / 200', 200),
                                 ('200u * 200 / 200', 200), ('(uint16_t)200 * 200 / 200', 200), ('300 * 300 / 300', 81),

@@ -81,5 +81,7 @@ def advice_for(name: str) -> str:
 
 
 def absent(name: str) -> str:
-    """The message about a name that motesim doesn't have."""
-    return ' '.join(filter(None, (NO_NAME % name, advice_for(name))))
+    """The message about a name that motesim doesn't have. Contiki 2.x has `rimeaddr` for the later `linkaddr`."""
+    advice = advice_for(name)
+    its = advice.replace('linkaddr', 'rimeaddr') if name.startswith('rimeaddr') else advice
+    return ' '.join(filter(None, (NO_NAME % name, its)))

@@ -10,7 +10,9 @@ from motesim.c_program.absent import WHOLE
 from motesim.c_program.base import OF_LONG, joined_limits
 from motesim.c_program.constants import EVENT_NUMBERS, NUMBERS, OPERATIONS, SECOND, constant_of
 from motesim.c_program.events import Events
-from motesim.c_program.places import ADDRESSES, NO_MOTE, OF_ADDRESS, OF_CHANGE, SELF, TEXTS, Place, has_effects
+from motesim.c_program.places import (
+    ADDRESSES, NO_MOTE, OF_ADDRESS, OF_CHANGE, SELF, TEXTS, Place, has_effects, is_own_number,
+)
 from motesim.c_program.refusal import Mistake, Refusal
 from motesim.c_program.tree import Expression
 from motesim.c_program.types import INT, UNSIGNED, Type, size_of
@@ -783,14 +785,6 @@ class Expressions(Events):
     def is_size(self, it: Expression) -> bool:
         """Returns whether all variables of an expression are in a `sizeof`."""
         return it.kind in ('sizeof', 'number') or it.kind == 'binary' and all(self.is_size(one) for one in it.parts)
-
-
-def is_own_number(it: Expression) -> bool:
-    """Returns whether an expression is the number of the mote: `node_id`, or the first byte of its address."""
-    if it.kind == 'index' and it.parts[0].kind == 'member' and constant_of(it.parts[1]) == 0:
-        owner = it.parts[0].parts[0]
-        return owner.variable is None and owner.kind == 'name' and owner.text.endswith('_node_addr')
-    return it.kind == 'name' and it.variable is None and it.text == 'node_id'
 
 
 def factors_of(it: Expression) -> list[Expression]:

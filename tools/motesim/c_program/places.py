@@ -5,6 +5,7 @@ from typing import NamedTuple
 
 from motesim.c_program.absent import absent, advice_for
 from motesim.c_program.base import Base, joined_limits
+from motesim.c_program.constants import constant_of
 from motesim.c_program.parse_file import NO_SIGN
 from motesim.c_program.refusal import Mistake
 from motesim.c_program.tree import Expression, Variable
@@ -307,6 +308,9 @@ class Places(Base):
         """The pointer to what an expression names."""
         if it.kind == 'name' and it.variable is None:
             return self.named_pointer(it)
+        if is_own_number(it):
+            # (a byte of the address of this mote)
+            return Pointer('address', value=converted(self.evaluate(it), BYTE))
         if it.kind not in ('name', 'index', 'member', 'arrow', 'unary', 'cast'):
             raise self.refuse(it.line, 'Behind the sign `&` for an address, there is a variable.')
         its = self.type_of(it)
@@ -571,6 +575,14 @@ def owner_of(it: Expression) -> Expression:
 def has_effects(it: Expression) -> bool:
     """Returns whether an expression may change something, without the expressions in it."""
     return it.kind in ('call', 'assign', 'postfix') or it.kind == 'unary' and it.text in ('++', '--')
+
+
+def is_own_number(it: Expression) -> bool:
+    """Returns whether an expression is the number of the mote: `node_id`, or the first byte of its address."""
+    if it.kind == 'index' and it.parts[0].kind == 'member' and constant_of(it.parts[1]) == 0:
+        owner = it.parts[0].parts[0]
+        return owner.variable is None and owner.kind == 'name' and owner.text.endswith('_node_addr')
+    return it.kind == 'name' and it.variable is None and it.text == 'node_id'
 
 
 def shown_type(its: Type) -> str:
