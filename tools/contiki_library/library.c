@@ -173,12 +173,19 @@ number_drawing(void)
   return count;
 }
 
-/* The generators of the current process; NULL if it never draws. */
+/* The process that calls the callback if packets wait in the queue of events. */
+static struct process queued;
+
+/* The generators of the current process; NULL if it never draws. A callback has those of its program. */
 static struct chance *
 chance_here(void)
 {
-  const struct process *p = PROCESS_CURRENT() == &radio_process ? library_receiver_of_packets : PROCESS_CURRENT();
+  const struct process *p = PROCESS_CURRENT();
   int i;
+
+  if(p == &radio_process || p == &queued) {
+    p = library_receiver_of_packets;
+  }
 
   for(i = 0; i < MOST_DRAWING && library_drawing[i] != NULL; i++) {
     if(library_drawing[i] == p) {

@@ -118,7 +118,8 @@ int library_copyto(void *to, size_t room);
 
 /*
  * Operations with the results of a node. The kind of an operand is 0 if it has more than 16 bits,
- * 1 if it has 16 bits or less, and 2 if it is also an unsigned `int` on a node.
+ * 1 if it has 16 bits or less, and 2 if it is also an unsigned `int` on a node. (A comma turns a
+ * bit field into a value, which `__auto_type` needs.)
  */
 #define LIBRARY_TYPE(x)                                                                             \
   _Generic((x), unsigned short: 2, short: 1, char: 1, signed char: 1, unsigned char: 1, _Bool: 1, default: 0)
@@ -129,24 +130,24 @@ int library_copyto(void *to, size_t room);
   __builtin_choose_expr((kind) == 0, plain, __builtin_choose_expr((kind) == 1, with_short, with_unsigned))
 
 #define LIBRARY_BINARY(sign, kind, other, left, right)                                              \
-  ({ __auto_type library_left = (left); __auto_type library_right = (right);                        \
+  ({ __auto_type library_left = (0, (left)); __auto_type library_right = (0, (right));              \
      LIBRARY_BY_KIND(LIBRARY_KIND(kind(library_left), other(library_right)),                        \
                      library_left sign library_right,                                               \
                      (short)((short)library_left sign (short)library_right),                        \
                      (unsigned short)((unsigned short)library_left sign (unsigned short)library_right)); })
 #define LIBRARY_COMPARE(sign, kind, other, left, right)                                             \
-  ({ __auto_type library_left = (left); __auto_type library_right = (right);                        \
+  ({ __auto_type library_left = (0, (left)); __auto_type library_right = (0, (right));              \
      LIBRARY_BY_KIND(LIBRARY_KIND(kind(library_left), other(library_right)),                        \
                      library_left sign library_right,                                               \
                      (short)library_left sign (short)library_right,                                 \
                      (unsigned short)library_left sign (unsigned short)library_right); })
 #define LIBRARY_SHIFT(sign, kind, other, left, right)                                               \
-  ({ __auto_type library_left = (left); __auto_type library_right = (right);                        \
+  ({ __auto_type library_left = (0, (left)); __auto_type library_right = (0, (right));              \
      LIBRARY_BY_KIND(kind(library_left), library_left sign library_right,                           \
                      (short)((short)library_left sign library_right),                               \
                      (unsigned short)((unsigned short)library_left sign library_right)); })
 #define LIBRARY_UNARY(sign, kind, value)                                                            \
-  ({ __auto_type library_value = (value);                                                           \
+  ({ __auto_type library_value = (0, (value));                                                      \
      LIBRARY_BY_KIND(kind(library_value), sign library_value, (short)(sign (short)library_value),   \
                      (unsigned short)(sign (unsigned short)library_value)); })
 #define LIBRARY_CHOICE(kind, other, test, one, another)                                             \

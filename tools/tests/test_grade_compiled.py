@@ -1,4 +1,5 @@
 """tools/grade compares a program in C, compiled by gcc, with its translation."""
+import re
 import shutil
 import tempfile
 import unittest
@@ -18,11 +19,11 @@ from motesim.grading.by_gcc import (
     untranslated,
 )
 from motesim.grading.compiled import (
-    CRASHES, DEFINES, DIVIDES, NEVER_ENDS, OF_COPY, OF_INDEX, OF_NULL, OF_REMARK, OF_UNSET,
-    ON_NODE, Compiled, Crash, Difference, InC, NoComparison, deeds_in, first_meeting,
+    CRASHES, DEFINES, DIVIDES, NEVER_ENDS, NO_START, OF_COPY, OF_INDEX, OF_NULL, OF_REMARK, OF_UNSET,
+    ON_NODE, PLAIN, WITH_QUEUE, Compiled, Crash, Difference, InC, NoComparison, deeds_in, first_meeting,
 )
 from motesim.grading.entries import Entry
-from motesim.grading.in_c import COMPILED, CRASHED, UNLINKED, in_words_of_c, on_node
+from motesim.grading.in_c import COMPILED, CRASHED, IN_ORDER, UNLINKED, in_words_of_c, on_node
 from motesim.grading.marking import Task
 from motesim.grading.marks import InNet, Mark, Marks, number_held
 from motesim.grading.nets import Net
@@ -300,7 +301,9 @@ static int sum(int *a, int b[5]) { int at, s = 0; for(at = 0; at < sizeof(a) / s
                              (fills + 'printf("%s %u", b, n);', [5]), (fills + 'printf("%s 3\\n", b);', [1]),
                              ('printf("%s", "7");', [7]), ('printf("%-5s: 100%%\\n", "at 7");', [1]),
                              ('printf("%s\\n", "");', []), ('printf("%s", n);', [1]), ('puts("%d 5");', [5]),
-                             ('printf("%s\\n", n > 4 ? "yes" : "no");', [1])):
+                             ('printf("%s\\n", n > 4 ? "yes" : "no");', [1]),
+                             ('printf("%s\\n", n > 4 ? "1" : "0");', [1]), ('printf("%s", n++ < 5 ? "on" : "0");', [0]),
+                             ('printf("at %s of %s", n > 5 ? "7" : "9", n ? "it" : "6");', [9])):
             source = in_process('  { %s }' % ('n = 5; ' + body), RADIO, '  ' + TIMER)
             report = self.compiled.report(self.in_c(source, in_process('', RADIO)), 'p')
             self.assertEqual([it.value for it in deeds_in(report)[0]], values, body)
@@ -334,11 +337,19 @@ static int sum(int *a, int b[5]) { int at, s = 0; for(at = 0; at < sizeof(a) / s
         for above, within in (('static clock_time_t d = CLOCK_SECOND / 2;', ''),
                               ('', 'static clock_time_t d = (int)2 + CLOCK_SECOND, f = CLOCK_SECOND - 1;'),
                               ('static int a[3]; static int *last = a + 2, size = sizeof(a);', ''),
+                              ('', 'switch(n) { case CLOCK_SECOND / 2: n = 3; }'),
                               ('static const struct { long t; } its[] = {{CLOCK_SECOND * 2}, {-CLOCK_SECOND}};', '')):
             body = '  { %s n = 30000; n = n + 30000 < 0; printf("%%d", n); }' % within
             source = in_process(body, RADIO + '\n' + above, '  ' + TIMER)
             report = self.compiled.report(self.in_c(source, in_process('', RADIO)), 'p')
             self.assertEqual([it.value for it in deeds_in(report)[0]], [1], above + within)
+
+    def test_members_of_bits_hide_no_operations(self) -> None:
+        above = 'static struct { unsigned a : 3; signed b : 4; } f;'
+        body = '  f.a = 5; f.b = -3; n = 30000; n = (n + 30000 < 0) + f.a * 2 - f.b + (f.a > 4); printf("%d", n);'
+        source = in_process(body, RADIO + '\n' + above, '  ' + TIMER)
+        report = self.compiled.report(self.in_c(source, in_process('', RADIO)), 'p')
+        self.assertEqual([it.value for it in deeds_in(report)[0]], [15])
 
     def test_unsigned_constants_have_16_bits(self) -> None:
         for test, value in (('s < 100U', 1), ('s / 2U == -2', 1), ('s > 0x10u', 0), ('s < sizeof(int)', 1),
@@ -587,6 +598,12 @@ static int sum(int *a, int b[5]) { int at, s = 0; for(at = 0; at < sizeof(a) / s
             self.assertEqual(self.difference(source), words, calls)
         self.assertEqual(on_node([Remark(0, OF_NULL, True)]), CRASHED)
 
+    def test_a_program_that_starts_no_process_is_not_linked(self) -> None:
+        source = in_process('  printf("3");', RADIO, '  ' + TIMER)
+        lacks = re.sub('AUTOSTART_PROCESSES.*;', '', source)
+        self.assertNotEqual(lacks, source)
+        self.assertEqual(self.difference(lacks), NO_START)
+
     def test_variables_have_the_memory_of_a_node(self) -> None:
         above = 'static int all[%d], more[%d];'
         its = [self.in_c(in_process('  printf("%d", 1);', above % (it, it)), in_process('')) for it in (4, 2_600)]
@@ -807,6 +824,38 @@ PROCESS_THREAD(q, ev, data) {
             assert found
             self.assertEqual(found.may_differ, may_differ, found.words)
             self.assertEqual('have the same moment' in found.words, may_differ, found.words)
+
+    def test_a_mark_that_depends_on_the_order_of_a_moment_has_a_sign(self) -> None:
+        # (the packet arrives at 20, when the timer of mote 1 is due)
+        body = """  broadcast_open(&bc, 129, &calls);
+  if(node_id == 0) {
+    etimer_set(&et, 19); PROCESS_WAIT_EVENT_UNTIL(etimer_expired(&et)); packetbuf_copyfrom(&n, 2); broadcast_send(&bc);
+  } else {
+    etimer_set(&to, 40); etimer_set(&et, 20); PROCESS_WAIT_EVENT_UNTIL(n || ev == PROCESS_EVENT_TIMER);
+    etimer_set(&et, 30); PROCESS_WAIT_EVENT_UNTIL(ev == PROCESS_EVENT_TIMER); printf("%u", (unsigned)clock_time());
+  }"""
+        above = '#include "sys/node-id.h"\nstatic int n;\n' + RADIO.replace(
+            'printf("%d", *(int *)packetbuf_dataptr());', 'n = 1; process_poll(&p);')
+        for sentence, held, other in (('mote 1 prints p 20', 1, 0), ('mote 1 prints p 40', 0, 1),
+                                      ('no mote halts', 1, 1)):
+            part = parts_of('expect = ["%s"]' % sentence, 'task')[0]
+            net = Net('n', Scenario.parse(SCENARIO % 'process p; autostart p; code p { body { pause; } }'), 'p')
+            with tempfile.TemporaryDirectory() as folder:
+                path = Path(folder) / 'a.c'
+                path.write_text(in_process(body, above, '  static struct etimer et, to;'))
+                marks = Task(part, (net,), Limits(), compiled=self.compiled).of((1, Entry('a.c', path)))
+            self.assertEqual((marks.held, marks.by_gcc), (held, ()), sentence)
+            self.assertEqual(on_node(marks.of_c), IN_ORDER % (other, 1) if held != other else '', sentence)
+
+    def test_a_callback_draws_the_same_numbers_if_packets_wait_in_the_queue(self) -> None:
+        above = RADIO.replace('*(int *)packetbuf_dataptr()', 'random_rand() % 1000')
+        body = ('  broadcast_open(&bc, 129, &calls); n = random_rand(); packetbuf_copyfrom(&n, 2); broadcast_send(&bc);'
+                ' PROCESS_WAIT_EVENT();')
+        its = self.in_c(in_process(body, '#include "lib/random.h"\n' + above, '  ' + TIMER))
+        drawn = [[one.value for one in deeds_in(self.compiled.report(its, 'p', way))[0] if one.kind == 'print']
+                 for way in (PLAIN, WITH_QUEUE)]
+        self.assertEqual(drawn[0], drawn[1])
+        self.assertGreater(sum(drawn[0]), 0)
 
     def test_a_program_that_leaves_an_array_crashes(self) -> None:
         source = in_process('  n = 9; printf("%d", a[n]);', inside='  static int a[3], n;')

@@ -644,11 +644,13 @@ class Calls(Chance):
             self.remark(it.line, OF_TEXT)
         if len(kinds) > len(it.parts) - 1:
             raise self.refuse(it.line, 'The text of this `printf` needs more values, %d in all.' % len(kinds))
+        chosen = chosen_number(it.parts) if all(kind in 'sp' for kind in kinds) else None
         for kind, part, label in zip(kinds, it.parts[1:], labels):
             if kind in 'sp':
                 if kind == 's' and part.kind in NUMBERS and self.type_of(part).is_number:
                     self.remark_mistake(it.line, OF_TEXT_NEEDED, is_seen=False)
-                self.skip_text(part)
+                if not chosen or part.kind != 'choice':
+                    self.skip_text(part)
                 continue
             if kind in 'feg':
                 raise self.refuse(it.line, WHOLE)
@@ -657,7 +659,9 @@ class Calls(Chance):
             self.check_bits(one, part, at + 1 == len(found))
         for part in it.parts[len(kinds) + 1:]:
             self.effect(part)
-        if all(kind in 'sp' for kind in kinds):
+        if chosen:
+            self.printed(chosen, False, label_of(it.parts[0].text))
+        elif all(kind in 'sp' for kind in kinds):
             self.print_text(it)
 
     def check_bits(self, conversion: re.Match[str], it: Expression, is_last: bool) -> None:
@@ -680,7 +684,7 @@ class Calls(Chance):
     def print_text(self, it: Expression) -> None:
         """A text without a value is the number in it, or 1; one without a letter and a digit is nothing."""
         text = text_printed(it.parts) if it.parts and it.parts[0].kind == 'text' else '1'
-        if not re.search(r'[^\W_]', re.sub(r'\\[a-z]', '', text)):
+        if not is_printed(text):
             return
         self.remark(it.line, OF_TEXT)
         self.emit('print %d;%s' % (number_in(text), comment_of(label_of(text))))
@@ -787,6 +791,23 @@ def text_printed(values: Sequence[Expression]) -> str:
         return value.text if value and value.kind == 'text' else conversion[0]
 
     return CONVERSION.sub(filled, values[0].text)
+
+
+def chosen_number(values: Sequence[Expression]) -> Expression | None:
+    """The number in the text of a `printf` with one of two texts, which a test chooses; None if it is always the same."""
+    at = next((at for at, it in enumerate(values) if it.kind == 'choice' and all(
+        one.kind == 'text' for one in it.parts[1:])), None)
+    if at is None:
+        return None
+    texts = [text_printed([*values[:at], one, *values[at + 1:]]) for one in values[at].parts[1:]]
+    numbers = [Expression('number', '', line=values[at].line, number=number_in(it), type=UNSIGNED) for it in texts]
+    differ = numbers[0].number != numbers[1].number and all(map(is_printed, texts))
+    return values[at]._replace(parts=(values[at].parts[0], *numbers)) if differ else None
+
+
+def is_printed(text: str) -> bool:
+    """Returns whether a text has a letter or a digit."""
+    return re.search(r'[^\W_]', re.sub(r'\\[a-z]', '', text)) is not None
 
 
 def number_in(text: str) -> int:

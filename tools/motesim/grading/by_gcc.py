@@ -9,7 +9,7 @@ from typing import NamedTuple, TypeVar
 from motesim.c_program.remark import Remark
 from motesim.faults import Fault, tried
 from motesim.grading.compiled import Compiled, Crash, Difference, InC, NoComparison
-from motesim.grading.in_c import COMPILED, remarks_of
+from motesim.grading.in_c import COMPILED, IN_ORDER, remarks_of
 from motesim.grading.marks import InNet, Mark, Marks, number_held, over_nets, spread
 from motesim.grading.nets import Net
 from motesim.grading.untranslated import outline_of
@@ -89,6 +89,17 @@ def by_gcc_in(found: Sequence[InNet], required: int) -> tuple[Mark, ...]:
     if not differ or not all(it.by_gcc for it in differ):
         return ()
     return over_nets([it._replace(marks=it.by_gcc) if it in differ else it for it in found], required)
+
+
+def order_in(found: Sequence[InNet], required: int) -> list[Remark]:
+    """The remark on a mark that depends on the order of packets and events of one moment. Only that of the compiled
+    program differs."""
+    if any(it.differs and it.differs.is_certain for it in found):
+        return []
+    marks = over_nets(found, required)
+    others = over_nets([it._replace(marks=it.by_gcc) if it.by_gcc else it for it in found], required)
+    is_same = [it.holds for it in marks] == [it.holds for it in others]
+    return [] if is_same else [Remark(0, IN_ORDER % (number_held(others), len(others)), True)]
 
 
 def marks_of(report: bytes, scenario: Scenario, program: str, sentences: Sequence[tuple[str, Sentence]]

@@ -60,6 +60,7 @@ NEVER_ENDS = HANGS + ': it has a loop without a wait, in which no time passes he
 # The bytes of memory of the Tmote Sky.
 MEMORY = 10_240
 NO_MEMORY = UNLINKED + ': its variables need {:,} bytes, and all memory of the Tmote Sky has {:,}'
+NO_START = UNLINKED + ': it lacks `AUTOSTART_PROCESSES`, which names the processes that start at boot'
 DEFINES = UNLINKED + ': it defines `%s`, and so does Contiki'
 TWICE = re.compile('multiple definition of `(\\w+)\'')
 # The signals that end a program because of a mistake.
@@ -137,6 +138,8 @@ class Compiled:
 
     def report(self, it: InC, program: str, way: Way = PLAIN) -> bytes:
         """The report of a scenario in which a program is the one in C. Raises NoComparison and Crash."""
+        if not any(token.text == 'AUTOSTART_PROCESSES' for token in tokens_in(it.source)):
+            raise Crash(NO_START)
         scenario = Scenario.parse(it.scenario)
         if way.places:
             scenario.queue[program] = way.places
@@ -195,11 +198,13 @@ class Compiled:
             at, words = found
             if self.can_fill and first(it, program, self.report(it, program, WITH_ZEROS), report) != found:
                 return Difference(words + OF_UNSET, False, theirs)
-            meeting = first_meeting(report, program)
-            if meeting is not None and meeting <= at:
+            # (if a packet sets a timer again just before its event, only the other report has the event)
+            meetings = [moment for one in (report, theirs) if (moment := first_meeting(one, program)) is not None]
+            if meetings and min(meetings) <= at:
                 in_order = first(it, program, self.report(it, program, WITH_QUEUE), report)
                 if in_order is None:
-                    return Difference(words + MEETING % meeting, True, theirs, self.variants(it, program, theirs))
+                    return Difference(words + MEETING % min(meetings), True, theirs,
+                                      self.variants(it, program, theirs))
                 words = in_order[1]
         except NoComparison as fault:
             twice = TWICE.search(str(fault))

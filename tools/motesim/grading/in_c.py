@@ -38,6 +38,7 @@ UNLINKED = 'gcc can\'t link it'
 CRASHED, HANGS = 'compiled by gcc, it crashes', 'compiled by gcc, it never ends here'
 DIFFERS = 'compiled by gcc, it does something else'
 COMPILED = 'marked as compiled by gcc'
+IN_ORDER = 'with another order of the events of a moment, it gets %d of %d'
 # (a time has 16 bits here)
 WRAPS = '; clock_time() and clock_seconds() begin again at 0 after %d seconds, which they don\'t do on a node'
 
@@ -167,7 +168,8 @@ def on_node(remarks: Sequence[Remark], mark: str = '') -> str:
     lines = ['%d' % it for it in others]
     listed = ' and '.join(filter(None, [', '.join(lines[:-1]), *lines[-1:]]))
     compiled = [it.text.partition(':')[0] if it.text.startswith((CRASHED, HANGS, UNLINKED)) else
-                it.text if it.text.startswith(COMPILED) else DIFFERS + ' (%s)' % mark * bool(mark)
+                it.text if it.text.startswith((COMPILED, IN_ORDER.partition('%')[0])) else
+                DIFFERS + ' (%s)' % mark * bool(mark)
                 for it in mistakes if not it.line]
     return '; '.join([*compiled,
                       *['gcc refuses line %d, because an #include is missing' % it for it in lacking],

@@ -14,7 +14,7 @@ from motesim.explain.within import busiest
 from motesim.faults import Fault, tried
 from motesim.files import replace_whole
 from motesim.grading.by_gcc import (
-    Untranslated, as_compiled, by_gcc_in, by_gcc_words, difference_in, differences_in, marks_of, remarks_in,
+    Untranslated, as_compiled, by_gcc_in, by_gcc_words, difference_in, differences_in, marks_of, order_in, remarks_in,
     untranslated, without_fault,
 )
 from motesim.grading.compiled import NEVER_ENDS as RUN_NEVER_ENDS, Compiled, Difference, InC
@@ -175,8 +175,8 @@ class Task:
         marks = replace(self.together(entry.name, found), unused=unused)
         if entry.path.suffix == '.c':
             marks = replace(marks, warned=tuple(in_lines_of_c(it, *its, origin_of(in_c)) for it in marks.warned),
-                            of_c=(*difference_in(found), *remarks_on(in_c, self.connections),
-                                  *remarks_in(found, in_c)),
+                            of_c=(*difference_in(found), *order_in(found, self.part.required),
+                                  *remarks_on(in_c, self.connections), *remarks_in(found, in_c)),
                             by_gcc=by_gcc_in(found, self.part.required),
                             hidden=next(iter(differences_in(found)), (False, False, ''))[2])
             if self.by_gcc and marks.by_gcc:

@@ -9,7 +9,8 @@ The macros find out by the types of the operands whether a node calculates with 
 from __future__ import annotations
 
 import re
-from collections.abc import Callable, Sequence
+from collections.abc import Callable, Iterator, Sequence
+from contextlib import contextmanager
 
 from motesim.c_program.constants import NotConstant, constant_of
 from motesim.c_program.parse_declarations import Declared
@@ -46,7 +47,7 @@ class Operations(FileReader):
         self.plain = [constant_text(it) for it in tokens]
         self.texts = [*self.plain]
         self.seen = set[int]()
-        # Whether a variable that is declared keeps its value, and whether an initial value of such a variable is read.
+        # Whether a variable that is declared keeps its value, and whether C needs a constant at this place.
         self.is_kept = self.is_constant = False
 
     def read(self) -> File:
@@ -95,12 +96,25 @@ class Operations(FileReader):
         return its, qualifiers
 
     def initial(self, its: Type) -> tuple[Expression, Type]:
-        """The initial value of a variable; if this keeps its value, C needs a constant, which no macro is."""
-        is_kept = self.is_constant = self.is_kept
+        """The initial value of a variable; if this keeps its value, C needs a constant."""
+        is_kept = self.is_kept
+        with self.without_macros(is_kept):
+            found = super().initial(its)
+        self.is_kept = is_kept
+        return found
+
+    def _case(self) -> Statement:
+        with self.without_macros():
+            return super()._case()
+
+    @contextmanager
+    def without_macros(self, is_constant: bool = True) -> Iterator[None]:
+        """Reads an expression; if C needs a constant there, it has no macros."""
+        self.is_constant = is_constant
         try:
-            return super().initial(its)
+            yield
         finally:
-            self.is_kept, self.is_constant = is_kept, False
+            self.is_constant = False
 
     def assignment(self) -> Expression:
         """An assignment. The other ones with an operation, such as `+=`, have the same result as on a node."""
