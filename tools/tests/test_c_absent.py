@@ -153,8 +153,8 @@ class Absent(unittest.TestCase):
         with self.assertRaisesRegex(Mistake, equal + ' So this test is always false.'):
             translated(in_process('  if(node_id = 0) { n = 1; }', above))
         self.assertRefused(in_process('  node_id = 3;', above), 9, '`node_id` is the number of the mote')
-        for test, wanted in (('n = 3', equal + ' So this test is always true.'),
-                             ('n = 0', equal + ' So this test is always false.'), ('n = a.u8[0]', ''), ('n == 3', '')):
+        for test, wanted in (('n = 3', equal + ' So this test is always true.'), ('n = a.u8[0]', equal),
+                             ('n = 0', equal + ' So this test is always false.'), ('n = abs(n)', ''), ('n == 3', '')):
             text, notes = translation(in_process('  if(%s) { n = 1; }' % test, above))
             self.assertIsNotNone(text)
             self.assertEqual(equal in notes, bool(wanted))

@@ -87,6 +87,8 @@ class Expressions(Events):
             if is_own_number(it.parts[0]):
                 raise Mistake(it.line, text)
             self.remark(it.line, text)
+        elif it.text == '=' and it.parts[1].kind in ('name', 'member', 'arrow', 'index'):
+            self.remark(it.line, OF_EQUAL)
         try:
             return self.evaluate(it)
         except Refusal as fault:

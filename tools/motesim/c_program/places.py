@@ -51,9 +51,9 @@ NOWHERE, EVERYWHERE = (MOST + 1, -1), (0, MOST)
 OF_INDEX = ('A packet is one number of 16 bits, so it has at most two bytes, `%s[0]` and `%s[1]`: send a packet for '
             'each value.')
 ONLY_BYTE = 'A packet to one mote has one byte here: use `broadcast_send` for two bytes.'
-TO_FILL = ('A packet is filled by a copy of a variable here: write the value into a variable `x`, and then '
+TO_FILL = ('A packet is filled by a copy of a variable here: write the values into a variable `x`, and then '
            '`packetbuf_copyfrom(&x, sizeof(x));`.')
-NO_CHANGE = 'A packet that has arrived can\'t be changed: use a variable.'
+NO_CHANGE = 'The data of an event can\'t be changed: use a variable.'
 NO_PACKET = ('The packet and its sender are known only in the function that is called for packets: keep their values '
              'in variables.')
 OF_ADDRESS = 'An address is one number: the motes are numbered from 0, in the order of the scenario.'
@@ -481,8 +481,7 @@ class Places(Base):
     def write(self, place: Place, value: Value, line: int) -> None:
         """Writes a value to a place."""
         if place.source != 'variable':
-            is_own = place.source == 'packet' and not self.unit.is_callback
-            raise self.refuse(line, TO_FILL if is_own else NO_CHANGE)
+            raise self.refuse(line, TO_FILL if place.source == 'packet' else NO_CHANGE)
         if place.type.name == 'char' and (value.low < 0 or value.high > 127):
             self.remark(line, OF_CHARACTER)
         if place.chosen is None:
