@@ -978,6 +978,9 @@ class Remarks(unittest.TestCase):
         loop = 'for(i = 0; i < 3; i++) { if(a[i]) break; }'
         self.assertNotIn('members 0 to 2', self.remarks(loop + ' if(i < 3 && a[i]) { n = 1; }'))
         self.assertIn(wanted, self.remarks(loop + ' if(i < 4 && a[i]) { n = 1; }'))
+        for test in 'i == 3', '3 == i', '!(i != 3)':
+            self.assertNotIn('members 0 to 2', self.remarks(loop + ' if(%s) { PROCESS_EXIT(); } a[i] = 1;' % test))
+        self.assertIn(wanted, self.remarks(loop + ' if(i == 2) { PROCESS_EXIT(); } a[i] = 1;'))
         above = '''struct item { int used; };
 static struct item table[8];
 static struct item *unused(void) {

@@ -748,8 +748,10 @@ class Expressions(Events):
             low = max(low, limits[0] + (sign == '>'))
         if sign in ('<', '<=', '=='):
             high = min(high, limits[1] - (sign == '<'))
-        if sign == '!=' and limits == (0, 0):
-            low = 1 if low == 0 else low
+        if sign == '!=' and limits[0] == limits[1] and low < high:
+            low, high = low + (low == limits[0]), high - (high == limits[0])
+        elif sign == '!=' and limits == (0, 0) and low == 0:
+            low = 1
         # (if no value is possible, this place isn't reached, as far as is known yet)
         self.known[name] = (low, high) if low <= high else (high, high) if sign in ('<', '<=') else (low, low)
 
