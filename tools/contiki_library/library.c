@@ -605,12 +605,52 @@ call(const struct opened *it, uint16_t value)
   memset(&from, UNSET, sizeof(from));
 }
 
-/* A packet from a program in the notation is for the connection that was opened last. */
+/* Each kind of callbacks begins with that for packets. */
+static int
+has_callback(const struct opened *it)
+{
+  const struct abc_callbacks *calls = it->calls;
+
+  return calls != NULL && calls->recv != NULL;
+}
+
+static const struct opened *
+connection_of(enum kind kind, uint16_t channel)
+{
+  int i;
+
+  for(i = opened_count - 1; i >= 0 && (opened[i].kind != kind || opened[i].channel != channel); i--);
+  return i >= 0 ? &opened[i] : NULL;
+}
+
+/*
+ * The connection for a packet from a program in the notation, which names none: it is for one mote if
+ * its upper byte is the number of this mote, otherwise for all. If there is no such connection, it is
+ * for another one. If several may be meant, the report is useless.
+ */
+static const struct opened *
+connection_for(uint16_t value)
+{
+  const struct opened *found = NULL, *other = NULL;
+  int is_to_one = value > 255 && value >> 8 == mote_number(), i;
+
+  for(i = 0; i < opened_count; i++) {
+    if((opened[i].kind == UNICAST) != is_to_one) {
+      other = &opened[i];
+    } else if(found == NULL || !has_callback(found)) {
+      found = &opened[i];
+    } else if(has_callback(&opened[i]) && opened[i].channel != found->channel) {
+      exit(EXIT_FAILURE);
+    }
+  }
+  return found != NULL ? found : other;
+}
+
 static void
 deliver(int from, uint16_t value)
 {
   const struct sent_packet *packet = sent_by(from, value);
-  int i;
+  const struct opened *its = packet != NULL ? connection_of(packet->kind, packet->channel) : connection_for(value);
 
   packetbuf_clear();
   memset(buffer, 0, sizeof(buffer));
@@ -627,15 +667,12 @@ deliver(int from, uint16_t value)
   /* (the upper byte of the value is the mote; a packet from a program in the notation has one byte) */
   if(packet != NULL && packet->kind == UNICAST) {
     contents[1] = length > 1 ? packet->second : UNSET;
-  } else if(packet == NULL && opened_count > 0 && opened[opened_count - 1].kind == UNICAST) {
+  } else if(packet == NULL && its != NULL && its->kind == UNICAST) {
     length = 1;
     contents[1] = UNSET;
   }
-  for(i = opened_count - 1; i >= 0; i--) {
-    if(packet == NULL || (opened[i].kind == packet->kind && opened[i].channel == packet->channel)) {
-      call(&opened[i], value);
-      return;
-    }
+  if(its != NULL) {
+    call(its, value);
   }
 }
 /*---------------------------------------------------------------------------*/

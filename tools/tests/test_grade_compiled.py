@@ -324,6 +324,34 @@ static int sum(int *a, int b[5]) { int at, s = 0; for(at = 0; at < sizeof(a) / s
             found = deeds_in(self.compiled.report(its, 'p'))[1]
             self.assertEqual([it.value for it in found if it.kind == 'print'], [value])
 
+    def test_a_packet_in_the_notation_is_for_one_mote_or_for_all(self) -> None:
+        above = RADIO + """
+static void recv_one(struct unicast_conn *c, const rimeaddr_t *r) { printf("%d", *(uint8_t *)packetbuf_dataptr()); }
+static const struct unicast_callbacks unicast_calls = {recv_one};
+static struct unicast_conn uc;"""
+        above = above.replace('*(int *)packetbuf_dataptr()', '1000 + *(uint8_t *)packetbuf_dataptr()')
+        both = 'broadcast_open(&bc, 129, &calls); unicast_open(&uc, 146, &unicast_calls);'
+        for opens in both, 'unicast_open(&uc, 146, &unicast_calls); broadcast_open(&bc, 129, &calls);':
+            source = in_process('  %s PROCESS_WAIT_EVENT();' % opens, above, '  ' + TIMER)
+            its = self.in_c(source, in_process('', RADIO))
+            for sent, value in ('7', 1007), ('263', 7), ('519', 1007):
+                scenario = its.scenario.replace('yield_until is(packet); print data; send (data + 1);',
+                                                'set t 5; yield_until fired(t); send %s;' % sent)
+                scenario = scenario.replace('process b;\ncode b {', 'process b;\nautostart b;\ncode b { etimer t;')
+                found = deeds_in(self.compiled.report(its._replace(scenario=scenario), 'p'))[1]
+                self.assertEqual([it.value for it in found if it.kind == 'print'], [value], (opens, sent))
+        more = ' static struct broadcast_conn more; static const struct broadcast_callbacks none;'
+        for calls in 'none', 'calls':
+            body = '  %s broadcast_open(&more, 130, &%s); PROCESS_WAIT_EVENT();' % (both, calls)
+            its = self.in_c(in_process(body, above + more, '  ' + TIMER), in_process('', RADIO))
+            its = its._replace(scenario=scenario)
+            if calls == 'none':
+                found = deeds_in(self.compiled.report(its, 'p'))[1]
+                self.assertEqual([it.value for it in found if it.kind == 'print'], [1007])
+            else:
+                with self.assertRaises(NoComparison):
+                    self.compiled.report(its, 'p')
+
     def test_what_cannot_be_read_hides_no_operations_of_other_parts(self) -> None:
         for above, body in (('', 'goto end; end: ;'), ('union { int a; uint8_t b; } u;', 'u.a = 3;'),
                             ('struct { unsigned a : 3; } f;', 'f.a = 1;'), ('static int (*g)(int);', 'if(g) { g(2); }'),
