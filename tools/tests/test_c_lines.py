@@ -1,15 +1,22 @@
 """The lines in C from which the lines of a translation come."""
+import tempfile
 import unittest
+from pathlib import Path
 
 import here  # noqa: F401
 from motesim.c_program.origin import Origin
 from motesim.c_program.program import translated
 from motesim.explain.whole import with_comment
+from motesim.grading.entries import Entry
 from motesim.grading.in_c import in_words_of_c, notation_of, origin_of
+from motesim.grading.marking import Task
+from motesim.grading.nets import Net
 from motesim.grading.warned import in_lines_of_c
+from motesim.judge.expectations import parts_of
 from motesim.judge.judge import Judge
 from motesim.judge.sentences import read_sentence
 from motesim.report import Report
+from motesim.runner import Limits
 from motesim.runner.run import Run, run_program
 from motesim.scenario import Scenario
 from motesim.timeline.note import Line, Note, note_of
@@ -205,6 +212,21 @@ class Lines(unittest.TestCase):
         self.assertIn('mote 0: a has waited at line 28 of a.c: `PROCESS_WAIT_EVENT_UNTIL(is_done || '
                       'etimer_expired(&et));` since 30, and nothing has called it since; line 23 of a.c: '
                       '`etimer_set(&et, 20);`, which sets the timer, was last reached at 10', lines)
+
+    def test_reasons_of_one_solution_have_the_nearest_lines(self) -> None:
+        need_program(self)
+        scenario = Scenario.parse(NET.replace('x = 5', 'x = 50') % 'process a; autostart a; code a { body { pause; } }')
+        part = parts_of('expect = ["no mote halts", "mote 0 prints a 4", "mote 1 sends 7"]', 'task')[0]
+        waits = 'a has waited at line 28 of a.c'
+        with tempfile.TemporaryDirectory() as folder:
+            path = Path(folder) / 'a.c'
+            path.write_text(ONCE)
+            for is_asked, is_hidden in (True, False), (False, False), (True, True):
+                task = Task(part, (Net('n', scenario, 'p', is_hidden=is_hidden),), Limits(), has_nearest=is_asked)
+                marks = task.of((1, Entry('a.c', path))).marks
+                has_waits = [waits in ' '.join(it.more) for it in marks]
+                self.assertEqual(has_waits, [False, is_asked and not is_hidden, False])
+                self.assertNotIn(waits, ' '.join(marks[1].shown))
 
     def test_a_note_names_a_line_in_c_once(self) -> None:
         lines = self.note_lines(self.ran(), 'mote 0 prints a 999')

@@ -75,7 +75,7 @@ def task_of(asked: argparse.Namespace, pictures: Path | None) -> Task:
         raise Fault('%s: %s' % (name, fault)) from None
     limits = Limits(asked.seconds * PATIENCE, asked.memory * MEGABYTE, asked.report * MEGABYTE, asked.seconds)
     return Task(part, tuple(nets), limits, pictures, connections=tuple(map(connection_of, asked.connection)),
-                by_gcc=asked.compiled)
+                by_gcc=asked.compiled, has_nearest=asked.why is not None)
 
 
 def compiled_for(entries: Sequence[Entry], folder: Path) -> Compiled | None:

@@ -43,7 +43,7 @@ from motesim.scenario.faults import find_fault
 from motesim.scenario import encodings
 from motesim.scenario.kinds import begins_as_c, begins_as_program, begins_as_scenario
 from motesim.timeline.html import write_page
-from motesim.timeline.note import note_of
+from motesim.timeline.note import Note, note_of
 from motesim.toml import MARK
 
 # Reports longer than this have no timeline.
@@ -85,8 +85,8 @@ def without_own(broken: Sequence[Broken | None], sentences: Sequence[str]) -> li
 @dataclass(frozen=True)
 class Task:
     """The parts that all solutions have in common: the sentences, the nets (if there are none, each solution has its
-    own), the limits, the connections that programs in C have to open, and whether their marks are those of the compiled
-    programs."""
+    own), the limits, the connections that programs in C have to open, whether their marks are those of the compiled
+    programs, and whether the reason of the first broken sentence has the lines that are nearest to the wanted one."""
     part: Part
     nets: tuple[Net, ...]
     limits: Limits
@@ -94,6 +94,7 @@ class Task:
     compiled: Compiled | None = None
     connections: tuple[Connection, ...] = ()
     by_gcc: bool = False
+    has_nearest: bool = False
 
     def names_in(self, entry: Entry, data: bytes) -> dict[str, str]:
         """The names that sentences have for the processes of a program in C."""
@@ -190,6 +191,7 @@ class Task:
         if net and net.run and net.run.scenario:
             marks = replace(marks, warned=(*marks.warned, *net_warned(net.run.scenario, net.run.report, not self.nets)))
         picture, no_page = self.picture(number, marks, place, net) if net else ('', '')
+        marks = with_nearest(marks, place, net) if self.has_nearest and net else marks
         return replace(marks, picture=picture, pictured=place if picture else None, no_page=no_page)
 
     def has_c(self, data: bytes, name: str) -> bool:
@@ -321,13 +323,29 @@ class Task:
             return '', ''
         if its.run is None:
             return '', TOO_LONG.format(its.bytes, MOST_SHOWN) if its.bytes > MOST_SHOWN else ''
-        mark = its.marks[place]
-        note = note_of(its.run, mark.sentence, its.broken[place] if place < len(its.broken) else None, mark.more)
-        note = note.in_words(in_words_of_c) if its.run.origin else note
         name = page_name(number, marks.name, its.net)
         run = its.run._replace(name=marks.name + (' in %s' % its.net if its.net else ''))
-        write_page(self.pictures / name, '%s: %s' % (marks.name, mark.sentence), [run], note=note, write=replace_whole)
+        write_page(self.pictures / name, '%s: %s' % (marks.name, its.marks[place].sentence), [run],
+                   note=note_in(its.run, its, place), write=replace_whole)
         return name, ''
+
+
+def note_in(run: Run, its: InNet, place: int) -> Note:
+    """The note about a sentence that fails in the run of a net."""
+    mark = its.marks[place]
+    note = note_of(run, mark.sentence, its.broken[place] if place < len(its.broken) else None, mark.more)
+    return note.in_words(in_words_of_c) if run.origin else note
+
+
+def with_nearest(marks: Marks, place: int, its: InNet) -> Marks:
+    """The marks, with the lines nearest to the one that a broken sentence wants, if no line breaks it."""
+    mark, broken = marks.marks[place], its.broken[place] if place < len(its.broken) else None
+    if its.run is None or broken is None or broken.row or mark.nets[:1] not in ((), (its.net,)):
+        return marks
+    run = its.run
+    lines = tried(lambda: tuple(it.text for it in note_in(run, its, place).lines), lambda words: ())
+    longer = mark._replace(more=(*mark.more, *(it for it in lines if it not in mark.more)))
+    return replace(marks, marks=(*marks.marks[:place], longer, *marks.marks[place + 1:]))
 
 
 def first_shown(marks: Marks, found: Sequence[InNet]) -> tuple[int, InNet | None]:
