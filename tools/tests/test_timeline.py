@@ -411,6 +411,18 @@ class Pages(unittest.TestCase):
         self.value('document.querySelector("#note button").click()')
         self.assertEqual(self.selected(), '19 send 1 40')
 
+    def test_a_note_has_further_sentences(self) -> None:
+        others = tuple(Note('mote %d sends 7' % it, 'mote %d has 0 such lines' % it, (Line('10 recv 0 2 30', 22),))
+                       for it in (1, 2))
+        self.open(small_network(), note=Note('mote 1 sends 41', '', (Line('19 send 1 40', 38),), others=others))
+        said = self.value('document.getElementById("note").innerText')
+        self.assertIn('Also broken: mote 2 sends 7', said)
+        self.assertNotIn('mote 2 has 0 such lines', said)
+        self.value('document.querySelector("#note details:last-child summary").click()')
+        self.assertIn('mote 2 has 0 such lines', self.value('document.getElementById("note").innerText'))
+        self.value('document.querySelector("#note details:last-child button").click()')
+        self.assertEqual(self.selected(), '10 recv 0 2 30')
+
     def test_a_note_without_a_line_leads_to_the_last_one_before_its_moment(self) -> None:
         self.open(small_network(), note=Note('mote 0 prints 3', 'mote 0 has 0 such lines', (), 9, 0))
         self.assertEqual(self.selected(), '8 leave sender')

@@ -46,6 +46,8 @@ from motesim.timeline.html import write_page
 from motesim.timeline.note import Note, note_of
 from motesim.toml import MARK
 
+# The most broken sentences of which a page has the reasons, besides the first one.
+MOST_OTHERS = 3
 # Reports longer than this have no timeline.
 MOST_SHOWN = 4_000_000
 TOO_LONG = ('no page of this run: its report has {:,} bytes, and a page shows at most {:,}; with a smaller `end` in '
@@ -325,8 +327,10 @@ class Task:
             return '', TOO_LONG.format(its.bytes, MOST_SHOWN) if its.bytes > MOST_SHOWN else ''
         name = page_name(number, marks.name, its.net)
         run = its.run._replace(name=marks.name + (' in %s' % its.net if its.net else ''))
-        write_page(self.pictures / name, '%s: %s' % (marks.name, its.marks[place].sentence), [run],
-                   note=note_in(its.run, its, place), write=replace_whole)
+        others = [at for at, it in enumerate(its.marks) if not it.holds and at != place][:MOST_OTHERS]
+        note = note_in(its.run, its, place)._replace(others=tuple(note_in(its.run, its, at) for at in others))
+        write_page(self.pictures / name, '%s: %s' % (marks.name, its.marks[place].sentence), [run], note=note,
+                   write=replace_whole)
         return name, ''
 
 

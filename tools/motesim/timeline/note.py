@@ -28,12 +28,14 @@ class Line(NamedTuple):
 
 class Note(NamedTuple):
     """A sentence that doesn't hold, the reason, and the lines about it. The page opens at the first line that has a
-    row, or at the last line of a mote up to the moment `at`; without both, on the whole run."""
+    row, or at the last line of a mote up to the moment `at`; without both, on the whole run. `others`: the notes about
+    other sentences, which the page shows if one opens them."""
     title: str
     why: str
     lines: tuple[Line, ...] = ()
     at: int = 0
     mote: int | None = None
+    others: tuple[Note, ...] = ()
 
     def in_words(self, changed: Callable[[str], str]) -> Note:
         """This note with its reason and its lines in other words."""
@@ -41,7 +43,8 @@ class Note(NamedTuple):
         return self._replace(why=changed(self.why), lines=tuple(lines))
 
     def as_json(self) -> dict[str, Any]:
-        return {**self._asdict(), 'lines': [it._asdict() for it in self.lines]}
+        return {**self._asdict(), 'lines': [it._asdict() for it in self.lines],
+                'others': [it.as_json() for it in self.others]}
 
 
 def note_of(run: Run, sentence: str, broken: Broken | None, more: tuple[str, ...] = ()) -> Note:

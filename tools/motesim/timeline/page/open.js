@@ -46,13 +46,26 @@ function openAt({start, mote, note}) {
   if (mote !== null) chooseAt(start, mote);
 }
 
+/** The reason of a note, and the lines about it. */
+function partsOf({why, lines}, pane) {
+  return [...(why ? [element('p', why)] : []),
+    list('ul', lines.map(({text, row}) => !row ? element('span', text) :
+      lineButton(`line ${row} of the report`, text, '', false, () => chooseRow(pane, row))))];
+}
+
+/** A note about a further sentence, closed. */
+function further(note, pane) {
+  const box = element('details');
+  box.append(element('summary', `Also broken: ${note.title}`), ...partsOf(note, pane));
+  return box;
+}
+
 /** Shows a note, and its first line that the report has; or the last line of the mote before a missing one. */
 function openAtNote(note) {
   const box = byId('note'), [pane] = panes;
   box.hidden = false;
-  box.append(element('h2', `Broken: ${note.title}`), ...(note.why ? [element('p', note.why)] : []),
-    list('ul', note.lines.map(({text, row}) => !row ? element('span', text) :
-      lineButton(`line ${row} of the report`, text, '', false, () => chooseRow(pane, row)))));
+  box.append(element('h2', `Broken: ${note.title}`), ...partsOf(note, pane),
+    ...note.others.map(it => further(it, pane)));
   const first = note.lines.find(it => it.row);
   if (first) {
     chooseRow(pane, first.row);
