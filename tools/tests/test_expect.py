@@ -235,6 +235,7 @@ class Sentences(unittest.TestCase):
 
     def test_a_sentence_of_another_form_is_shown_whole(self) -> None:
         for sentence, meant in (('mote 0 prints 9', 'mote 0 prints p 9'),
+                                ('mote 0 prints 20 values', 'mote 0 prints p exactly 20 times'),
                                 ('mote 0 prints p 1010, 2020', 'mote 0 prints just p 1010, 2020'),
                                 ('mote 0 collides', 'some copy collides at mote 0')):
             names = Names(('etimer', 'ctimer', 'radio', 'p'), 3)

@@ -127,6 +127,8 @@ def other_form(sentence: str, place: int, wanted: Sequence[str]) -> str | None:
     names = processes_in(wanted)
     if names and re.search(r'\bprints? $', before) and re.match(r'\d+\b(?! times)', rest):
         just = 'just ' if 'just' in wanted and re.match(r'\d+' + SEVERAL, rest) else ''
+        # (so many lines are meant, not a value)
+        rest = re.sub(r'^(\d+) (?:values|lines)\b', r'exactly \1 times', rest)
         return '%s%s%s %s' % (before, just, names[-1], rest)
     of_values = re.fullmatch(r'(.*\bprints? )(\w+ \d+)( ?)', before)
     if of_values and re.fullmatch(SEVERAL, rest):
