@@ -395,9 +395,9 @@ library_copyto(void *to, size_t room)
   return (int)size;
 }
 /*---------------------------------------------------------------------------*/
-/* A connection that is open. */
+/* A connection that is open, or was open. */
 enum kind { ABC, BROADCAST, UNICAST };
-struct opened { enum kind kind; uint16_t channel; void *connection; const void *calls; };
+struct opened { enum kind kind; uint16_t channel; void *connection; const void *calls; int is_open; };
 #define MOST_OPENED 8
 static struct opened opened[MOST_OPENED];
 static int opened_count;
@@ -429,7 +429,7 @@ opened_as(const void *connection)
   int i;
 
   for(i = 0; i < opened_count && opened[i].connection != connection; i++);
-  return &opened[i];
+  return i < opened_count ? &opened[i] : NULL;
 }
 
 static void
@@ -437,20 +437,21 @@ close_connection(void *connection)
 {
   struct opened *it = opened_as(connection);
 
-  if(it < opened + opened_count) {
-    memmove(it, it + 1, (size_t)(opened + --opened_count - it) * sizeof(*it));
+  if(it != NULL) {
+    it->is_open = 0;
   }
 }
 
 static void
 open_connection(enum kind kind, uint16_t channel, void *connection, const void *calls)
 {
-  close_connection((void *)needed(connection));
-  if(opened_count < MOST_OPENED - 1) {
-    opened[opened_count].kind = kind;
-    opened[opened_count].channel = channel;
-    opened[opened_count].connection = connection;
-    opened[opened_count++].calls = calls;
+  struct opened its = { kind, channel, connection, calls, 1 }, *it = opened_as(needed(connection));
+
+  if(it != NULL) {
+    memmove(it, it + 1, (size_t)(opened + --opened_count - it) * sizeof(*it));
+  }
+  if(opened_count < MOST_OPENED) {
+    opened[opened_count++] = its;
   }
 }
 /*---------------------------------------------------------------------------*/
@@ -493,13 +494,18 @@ check_length(void)
   }
 }
 
+/* Contiki can't send by a connection that was never opened. One that is closed still has its channel. */
 static const void *
 send(const void *connection, uint16_t value)
 {
   const struct opened *from = opened_as(needed(connection));
-  struct sent_packet *it = &sent_packets[sent_count++ % SENT_PACKETS];
+  struct sent_packet *it;
 
   check_length();
+  if(from == NULL) {
+    return NULL;
+  }
+  it = &sent_packets[sent_count++ % SENT_PACKETS];
   it->mote = mote_number();
   it->value = value;
   it->length = length;
@@ -508,7 +514,7 @@ send(const void *connection, uint16_t value)
   it->kind = from->kind;
   it->channel = from->channel;
   motesim_send(value);
-  return from < opened + opened_count ? with_callbacks(from->calls) : NULL;
+  return from->is_open ? with_callbacks(from->calls) : NULL;
 }
 /*---------------------------------------------------------------------------*/
 static uint16_t
@@ -619,8 +625,12 @@ connection_of(enum kind kind, uint16_t channel)
 {
   int i;
 
-  for(i = opened_count - 1; i >= 0 && (opened[i].kind != kind || opened[i].channel != channel); i--);
-  return i >= 0 ? &opened[i] : NULL;
+  for(i = opened_count - 1; i >= 0; i--) {
+    if(opened[i].is_open && opened[i].kind == kind && opened[i].channel == channel) {
+      return &opened[i];
+    }
+  }
+  return NULL;
 }
 
 /*
@@ -635,6 +645,9 @@ connection_for(uint16_t value)
   int is_to_one = value > 255 && value >> 8 == mote_number(), i;
 
   for(i = 0; i < opened_count; i++) {
+    if(!opened[i].is_open) {
+      continue;
+    }
     if((opened[i].kind == UNICAST) != is_to_one) {
       other = &opened[i];
     } else if(found == NULL || !has_callback(found)) {

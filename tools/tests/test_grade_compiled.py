@@ -9,6 +9,7 @@ from unittest import mock
 from motesim.c_program.base import OF_LONG
 from motesim.c_program.calls import OF_BELOW
 from motesim.c_program.compiler import NO_RETURN, check
+from motesim.c_program.parse_expressions import NO_SEMICOLON
 from motesim.c_program.program import translated
 from motesim.c_program.refusal import Mistake, Refusal
 from motesim.c_program.remark import Remark
@@ -23,7 +24,9 @@ from motesim.grading.compiled import (
     ON_NODE, PLAIN, WITH_QUEUE, Compiled, Crash, Difference, InC, NoComparison, deeds_in, first_meeting,
 )
 from motesim.grading.entries import Entry
-from motesim.grading.in_c import COMPILED, CRASHED, IN_ORDER, UNLINKED, in_words_of_c, on_node
+from motesim.grading.in_c import (
+    COMPILED, CRASHED, IN_ORDER, UNLINKED, NotTranslated, in_words_of_c, made_of, on_node,
+)
 from motesim.grading.marking import Task
 from motesim.grading.marks import InNet, Mark, Marks, number_held
 from motesim.grading.nets import Net
@@ -874,6 +877,23 @@ PROCESS_THREAD(q, ev, data) {
                 marks = Task(part, (net,), Limits(), compiled=self.compiled).of((1, Entry('a.c', path)))
             self.assertEqual((marks.held, marks.by_gcc), (held, ()), sentence)
             self.assertEqual(on_node(marks.of_c), IN_ORDER % (other, 1) if held != other else '', sentence)
+
+    def test_a_connection_that_was_never_opened_sends_nothing(self) -> None:
+        for opens, sent in (('', []), ('broadcast_open(&bc, 129, &calls);', [7]),
+                            ('broadcast_open(&bc, 129, &calls); broadcast_close(&bc);', [7])):
+            body = '  %s n = 7; packetbuf_copyfrom(&n, 2); broadcast_send(&bc); PROCESS_WAIT_EVENT();' % opens
+            its = self.in_c(in_process(body, RADIO, '  ' + TIMER))
+            found = self.compiled.report(its, 'p')
+            self.assertEqual([it.value for it in deeds_in(found)[0] if it.kind == 'send'], sent, opens)
+        self.assertNotEqual(self.difference(in_process(body.replace(opens, ''), RADIO, '  ' + TIMER)), '')
+
+    def test_a_line_that_lacks_its_end_is_named_not_the_one_below_it(self) -> None:
+        source = in_process('  printf("3");', RADIO, '  static int n')
+        line = source[:source.index('  static int n')].count('\n') + 1
+        with self.assertRaises(NotTranslated) as caught:
+            made_of(source)
+        self.assertEqual(caught.exception.lines, ('line %d: static int n' % line, NO_SEMICOLON))
+        self.assertEqual((caught.exception.may_be_right, caught.exception.is_compiled), (False, False))
 
     def test_a_callback_draws_the_same_numbers_if_packets_wait_in_the_queue(self) -> None:
         above = RADIO.replace('*(int *)packetbuf_dataptr()', 'random_rand() % 1000')

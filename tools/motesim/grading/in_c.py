@@ -10,6 +10,7 @@ from motesim.c_program.constants import SECOND
 from motesim.c_program.headers import REFUSED
 from motesim.c_program.names import is_changed, similar
 from motesim.c_program.origin import Origin
+from motesim.c_program.parse_expressions import NO_SEMICOLON
 from motesim.c_program.parse_file import tokens_in
 from motesim.c_program.program import Translation
 from motesim.c_program.refusal import Misspelt, Mistake, Refusal
@@ -52,12 +53,14 @@ class NotTranslated(Fault):
         if isinstance(refusal, Misspelt):
             is_mistake = compiler.is_unknown(source, refusal.name)
         error = None if is_mistake else compiler.certain_error(source)
-        line, reason = error or (refusal.line, refusal.reason)
+        self.is_compiled = error is None or not error[1].startswith(compiler.REFUSES)
+        # (gcc names the line below the one that lacks a `;`)
+        lacks_end = error is not None and refusal.reason == NO_SEMICOLON and refusal.line < error[0]
+        line, reason = error if error and not lacks_end else (refusal.line, refusal.reason)
         self.may_be_right, self.as_mistake = not is_mistake and error is None, MISTAKEN % line
         super().__init__(NO_TRANSLATION % line if self.may_be_right else self.as_mistake)
         row = one_line(line_at(source, line))
-        self.is_compiled = not reason.startswith(compiler.REFUSES)
-        own = [refusal.reason] if error and line == refusal.line else []
+        own = [refusal.reason] if line == refusal.line and reason != refusal.reason else []
         self.lines = ('line %d:%s' % (line, ' ' + row if row else ''), reason, *own)
 
 
