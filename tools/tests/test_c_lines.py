@@ -20,6 +20,7 @@ from motesim.runner import Limits
 from motesim.runner.run import Run, run_program
 from motesim.scenario import Scenario
 from motesim.timeline.note import Line, Note, note_of
+from motesim.why.callers import NO_POLL
 from motesim.why.chain import Explainer
 from motesim.why.pages import source_of
 from skips import need_program
@@ -212,6 +213,17 @@ class Lines(unittest.TestCase):
         self.assertIn('mote 0: a has waited at line 28 of a.c: `PROCESS_WAIT_EVENT_UNTIL(is_done || '
                       'etimer_expired(&et));` since 30, and nothing has called it since; line 23 of a.c: '
                       '`etimer_set(&et, 20);`, which sets the timer, was last reached at 10', lines)
+
+    def test_a_note_names_a_poll_that_is_missing(self) -> None:
+        words = 'since 12, and nothing has called it since' + NO_POLL
+        for wait, polls, is_lacking in (
+                ('PROCESS_WAIT_EVENT_UNTIL(is_done == 1)', '', True), ('PROCESS_WAIT_WHILE(is_done < 2)', '', True),
+                ('PROCESS_WAIT_EVENT_UNTIL(is_done == 9)', 'process_poll(&a);', False),
+                ('PROCESS_WAIT_EVENT_UNTIL(is_done == 9 || etimer_expired(&et))', '', False)):
+            program = ONCE.replace('PROCESS_WAIT_EVENT_UNTIL(is_done || etimer_expired(&et))', wait)
+            program = program.replace('is_done = 1;', 'is_done++; ' + polls).replace('etimer_set(&et, 20);', '')
+            said = ' '.join(self.note_lines(self.ran(program), 'mote 0 prints a 4'))
+            self.assertEqual(words in said, is_lacking, (wait, said))
 
     def test_reasons_of_one_solution_have_the_nearest_lines(self) -> None:
         need_program(self)

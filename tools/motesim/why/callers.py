@@ -23,6 +23,9 @@ NEVER, LAST = 'was never %s, the last time at %d', 'was not %s the last time, at
 ELSEWHERE = '; timer %s was due at %d: its event was taken while %s waited at %s'
 # The statement in front of one that runs the callback of a program in C.
 BEFORE_CALLBACK = re.compile(r'(?:while|if|yield_until) is\(packet\)')
+# A wait of a program in C for a condition; and the words if only a poll could end it.
+OF_CONDITION = re.compile(r'_(?:UNTIL|WHILE)\s*\(')
+NO_POLL = '; a callback that changes a variable doesn\'t call the process: only `process_poll` does, and no line has it'
 # Events that only the kernel makes, never a statement.
 OF_KERNEL = ('packet', 'timer', 'exited', 'exit', 'init', 'continue')
 
@@ -121,7 +124,7 @@ class Callers:
         `since`."""
         it, name = self.program.statement(waits), self.program.processes[process].name
         events, timers = (list(dict.fromkeys(form.findall(it.text))) for form in (OF_EVENT, OF_TIMER))
-        said, found = '', list[list[int]]()
+        said, found = NO_POLL if self.lacks_poll(waits, events) else '', list[list[int]]()
         if it.kind == 'acquire':
             found += [self.numbered(('signal',), second(it)), self.numbered(SENDS, name)]
         elif not events and not timers:
@@ -138,6 +141,13 @@ class Callers:
                     'polls' if event == 'poll' else 'posts the event %s to' % event, name)
         return said + ''.join(self.sentence([one for one in its if one != waits and not any(
             here.at > since for here in self.reached(one))], 0) for its in found)
+
+    def lacks_poll(self, waits: int, events: Sequence[str]) -> bool:
+        """Returns whether a process in C waits for a variable, and nothing but packets calls it."""
+        it = self.program.statement(waits)
+        return (OF_CONDITION.search(self.program.rows_in_c[waits - 1]) is not None and not {*events} - {'packet'}
+                and not OF_TIMER.search(it.text) and not OF_EXPIRED.search(it.text)
+                and not self.numbered(SENDS, self.program.processes[it.process].name))
 
     def last_set(self, timer: str, process: int) -> list[int]:
         """The statement that was the last one to set a timer; all that set it if none of them was reached."""
