@@ -636,25 +636,29 @@ connection_of(enum kind kind, uint16_t channel)
 /*
  * The connection for a packet from a program in the notation, which names none: it is for one mote if
  * its upper byte is the number of this mote, otherwise for all. If there is no such connection, it is
- * for another one. If several may be meant, the report is useless.
+ * for another one. If several may be meant, the report is useless: the upper byte is also 0 for all.
  */
 static const struct opened *
 connection_for(uint16_t value)
 {
   const struct opened *found = NULL, *other = NULL;
   int is_to_one = value > 255 && value >> 8 == mote_number(), i;
+  int is_unknown = value <= 255 && mote_number() == 0;
 
   for(i = 0; i < opened_count; i++) {
     if(!opened[i].is_open) {
       continue;
     }
     if((opened[i].kind == UNICAST) != is_to_one) {
-      other = &opened[i];
+      other = other == NULL || has_callback(&opened[i]) ? &opened[i] : other;
     } else if(found == NULL || !has_callback(found)) {
       found = &opened[i];
     } else if(has_callback(&opened[i]) && opened[i].channel != found->channel) {
       exit(EXIT_FAILURE);
     }
+  }
+  if(is_unknown && found != NULL && other != NULL && has_callback(found) && has_callback(other)) {
+    exit(EXIT_FAILURE);
   }
   return found != NULL ? found : other;
 }

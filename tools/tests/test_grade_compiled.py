@@ -343,6 +343,13 @@ static struct unicast_conn uc;"""
                 scenario = scenario.replace('process b;\ncode b {', 'process b;\nautostart b;\ncode b { etimer t;')
                 found = deeds_in(self.compiled.report(its._replace(scenario=scenario), 'p'))[1]
                 self.assertEqual([it.value for it in found if it.kind == 'print'], [value], (opens, sent))
+        # (mote 0 hears a small value, which may be for it or for all)
+        its = self.in_c(in_process('  %s PROCESS_WAIT_EVENT();' % both, above, '  ' + TIMER), in_process('', RADIO))
+        heard = scenario.replace('{ x = 5, y = 5', '{ x = 0, y = 5').replace('send 519', 'send %d')
+        found = deeds_in(self.compiled.report(its._replace(scenario=heard % 263), 'p'))[0]
+        self.assertEqual([it.value for it in found if it.kind == 'print'], [1007])
+        with self.assertRaises(NoComparison):
+            self.compiled.report(its._replace(scenario=heard % 7), 'p')
         more = ' static struct broadcast_conn more; static const struct broadcast_callbacks none;'
         for calls in 'none', 'calls':
             body = '  %s broadcast_open(&more, 130, &%s); PROCESS_WAIT_EVENT();' % (both, calls)
