@@ -93,7 +93,8 @@ class Checks(unittest.TestCase):
                              ('done = battery_sensor.value;', False),
                              ('static struct etimer et; etimer_set(et, 3);', True), ('etimer_set(3);', True),
                              ('switch(x) { case 1: x = 2; break; case 1: break; }', True), ('to = 3;', True),
-                             ('static int a[2]; a = 3;', True), ('x();', True), ('x[1] = 2;', True)):
+                             ('static int a[2]; a = 3;', True), ('x();', True), ('x[1] = 2;', True),
+                             ('\n<<<<<<< HEAD\n', True)):
             self.assertEqual(certain_error(HEAD + PROGRAM % line) is not None, wanted, line)
         found = NotTranslated(Refusal(3, ''), HEAD + PROGRAM % 'done = 1 +;'), NotTranslated(Refusal(3, ''), HEAD)
         self.assertEqual([it.may_be_right for it in found], [False, True])

@@ -3,7 +3,7 @@ import unittest
 
 from motesim.c_program.remark import Remark
 from motesim.faults import Fault
-from motesim.grading.connections import LACKS, Connection, connection_of, connections_in, remarks_on, unusual
+from motesim.grading.connections import LACKS, MORE, Connection, connection_of, connections_in, remarks_on, unusual
 from motesim.grading.in_c import on_node
 from translated_c import in_process
 
@@ -32,9 +32,12 @@ class Connections(unittest.TestCase):
         line = source[:source.index('  broadcast_open')].count('\n') + 1
         self.assertEqual(found, [Remark(line, LACKS % (UNICAST, BROADCAST), True)])
         self.assertEqual(on_node(found), 'on a node, line %d may do something else' % line)
+        both = 'broadcast_open(&bc, 129, NULL); unicast_open(&uc, 146, NULL);'
+        self.assertEqual(remarks_on(opening(both), [UNICAST]), [Remark(line, MORE % (UNICAST, BROADCAST), True)])
         for body, wanted in (('broadcast_open(&bc, 129, NULL);', [BROADCAST]), (';', [UNICAST]),
-                             ('broadcast_open(&bc, 129, NULL); unicast_open(&uc, 146, NULL);', [UNICAST])):
+                             (both, [UNICAST, BROADCAST])):
             self.assertEqual(remarks_on(opening(body), wanted), [])
+        self.assertEqual(remarks_on(opening(both), []), [])
 
     def test_programs_that_open_other_connections_than_most_are_named(self) -> None:
         usual, other, nothing = frozenset([UNICAST]), frozenset([BROADCAST]), frozenset[Connection]()

@@ -241,7 +241,7 @@ PROCESS_THREAD(a, ev, data) {
         self.grade('--net', 'task.toml', '--write', 'scenarios')
         written = (self.folder.parent / 'scenarios' / 'lea.c_in_task.toml').read_text()
         self.assertIn('// Translated from C', written)
-        self.assertEqual(self.rows()['lea.c'], '0 of 3  a program needs a net: name one with --net')
+        self.assertEqual(self.rows(status=1)['lea.c'], '- of 3  a program needs a net: name one with --net')
 
     def test_a_process_in_c_has_the_name_or_the_text_that_sentences_use(self) -> None:
         program = IN_C % 'printf("%d", 3);'
@@ -466,7 +466,7 @@ class Nets(Folder):
     def test_a_program_alone_is_a_solution(self) -> None:
         self.hand_in('ben.mote', PROGRAM % 4)
         self.assertEqual(self.rows('--net', 'task.toml')['ben.mote'], '1 of 3  broken: 1, 2')
-        self.assertEqual(self.rows()['ben.mote'], '0 of 3  a program needs a net: name one with --net')
+        self.assertEqual(self.rows(status=1)['ben.mote'], '- of 3  a program needs a net: name one with --net')
 
     def test_a_byte_order_mark_costs_no_mark(self) -> None:
         for name, text in ('ben.mote', PROGRAM % 3), ('cem.toml', net(PROGRAM % 3)):

@@ -62,7 +62,7 @@ CERTAIN = ('expected ', 'stray ', 'missing terminating', 'unterminated', 'unmatc
            'too few arguments', 'too many arguments', 'invalid type argument', 'request for member', 'lvalue required',
            'invalid operands', 'void value', 'assignment of read-only', 'redefinition of', 'conflicting types',
            'initializer element is not constant', 'multiple storage classes', 'incompatible types when',
-           'invalid initializer', 'duplicate case value', 'case label not within', 'break statement not within',
+           'invalid initializer', 'version control conflict marker', 'duplicate case value', 'case label not within', 'break statement not within',
            'continue statement not within', 'called object', 'subscripted value is neither', 'wrong type argument',
            'assignment to expression with array type', 'variable-sized object', 'label ', 'used struct type',
            'no macro name given', '#else without', '#elif without', '#endif without', 'invalid preprocessing directive',

@@ -16,6 +16,8 @@ KINDS = ('broadcast', 'unicast', 'abc')
 # (the row of a program names the line of a remark that begins so)
 OF_CONNECTION = 'The task asks for the connection '
 LACKS = OF_CONNECTION + '%s, but this program opens %s. On a node, it gets no packet of the other motes.'
+MORE = (OF_CONNECTION + '%s, but this program also opens %s. On a node, its packets by this connection reach no mote '
+        'that has only the other one.')
 UNUSUAL = ('connections have no channels here, so a mark doesn\'t depend on them; most programs in C open %s, but %s. '
            'With --connection %s, the rows of these programs have a sign')
 MOST_NAMED = 3
@@ -59,7 +61,9 @@ def remarks_on(source: str, wanted: Sequence[Connection]) -> list[Remark]:
     """The remarks on a program that opens other connections than the task asks for."""
     opened = connections_in(source) if wanted else {}
     names = ' and '.join(map(str, opened))
-    return [Remark(min(opened.values()), LACKS % (it, names), True) for it in wanted if opened and it not in opened]
+    lacks = [Remark(min(opened.values()), LACKS % (it, names), True) for it in wanted if opened and it not in opened]
+    asked = ' and '.join(map(str, wanted))
+    return lacks or [Remark(line, MORE % (asked, its), True) for its, line in opened.items() if its not in wanted]
 
 
 def unusual(opened: Sequence[tuple[str, frozenset[Connection]]]) -> list[str]:

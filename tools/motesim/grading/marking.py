@@ -111,7 +111,7 @@ class Task:
         if entry.why:
             return Marks(entry.name, why=entry.why, is_solution=entry.is_solution)
         if entry.path.suffix in ('.mote', '.c') and not self.nets:
-            return Marks(entry.name, why='a program needs a net: name one with --net')
+            return Marks(entry.name, why='a program needs a net: name one with --net', is_open=True)
         try:
             data = data_of(entry)
         except Fault as fault:
