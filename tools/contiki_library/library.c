@@ -11,6 +11,14 @@
 #undef printf
 #undef puts
 
+/* Ends a run whose report would be useless, and says why. */
+static void
+end_useless(const char *reason)
+{
+  fprintf(stderr, "useless: %s\n", reason);
+  exit(EXIT_FAILURE);
+}
+
 /*
  * Printing: each value is a line. A text without a value is a line, too: the only number in it,
  * or 1. A text without a letter and a digit is none.
@@ -489,7 +497,7 @@ check_length(void)
 
   for(i = BYTES; i < length && library_is_alone; i++) {
     if(contents[i] != 0) {
-      exit(EXIT_FAILURE);
+      end_useless("it sends packets of more than 2 bytes");
     }
   }
 }
@@ -633,6 +641,8 @@ connection_of(enum kind kind, uint16_t channel)
   return NULL;
 }
 
+#define SEVERAL "it has callbacks for several connections, and packets from a program in the notation name none"
+
 /*
  * The connection for a packet from a program in the notation, which names none: it is for one mote if
  * its upper byte is the number of this mote, otherwise for all. If there is no such connection, it is
@@ -654,11 +664,11 @@ connection_for(uint16_t value)
     } else if(found == NULL || !has_callback(found)) {
       found = &opened[i];
     } else if(has_callback(&opened[i]) && opened[i].channel != found->channel) {
-      exit(EXIT_FAILURE);
+      end_useless(SEVERAL);
     }
   }
   if(is_unknown && found != NULL && other != NULL && has_callback(found) && has_callback(other)) {
-    exit(EXIT_FAILURE);
+    end_useless(SEVERAL);
   }
   return found != NULL ? found : other;
 }

@@ -16,8 +16,8 @@ from motesim.c_program.remark import Remark
 from motesim.explain.moments import Burst
 from motesim.faults import Fault
 from motesim.grading.by_gcc import (
-    BY_GCC, OF_HIDDEN_RUN, OF_OTHER_RUN, by_gcc_in, by_gcc_words, difference_in, differences_in, marks_of, remarks_in,
-    untranslated,
+    BY_GCC, OF_HIDDEN_RUN, OF_OTHER_RUN, OF_USELESS, by_gcc_in, by_gcc_words, difference_in, differences_in, marks_of,
+    remarks_in, untranslated,
 )
 from motesim.grading.compiled import (
     CRASHES, DEFINES, DIVIDES, NEVER_ENDS, NO_START, OF_COPY, OF_INDEX, OF_NULL, OF_REMARK, OF_UNSET,
@@ -359,7 +359,7 @@ static struct unicast_conn uc;"""
                 found = deeds_in(self.compiled.report(its, 'p'))[1]
                 self.assertEqual([it.value for it in found if it.kind == 'print'], [1007])
             else:
-                with self.assertRaises(NoComparison):
+                with self.assertRaisesRegex(NoComparison, 'useless: it has callbacks for several connections'):
                     self.compiled.report(its, 'p')
 
     def test_what_cannot_be_read_hides_no_operations_of_other_parts(self) -> None:
@@ -776,7 +776,8 @@ PROCESS_THREAD(q, ev, data) {
             sends = 'broadcast_open(&bc, 9, &none); packetbuf_copyfrom(%s); broadcast_send(&bc);' % filled
             whole = source.replace('LIST(items);', above + '\nLIST(items);')
             self.assertEqual(words_of(whole.replace('%s', sends)), mark, filled)
-            self.assertEqual(words_of(whole.replace('%s', 'm.c = 1; ' + sends)), mark * ('m' not in filled))
+            self.assertEqual(words_of(whole.replace('%s', 'm.c = 1; ' + sends)), mark if 'm' not in filled else
+                             OF_USELESS + 'it sends packets of more than 2 bytes')
 
     def test_a_loop_that_only_pauses_has_the_mark_of_the_compiled_program(self) -> None:
         part = parts_of('expect = ["mote 0 prints p 3"]', 'task')[0]

@@ -27,6 +27,8 @@ NO_RUN = 'no page of the run: the mark is that of the compiled program, and a pa
 NOT_MARKED = re.compile(r'^not marked[^:]*: ')
 ITS_TRANSLATION = 'its translation gets %d of %d'
 BY_GCC = 'compiled by gcc, it gets %d of %d'
+# The reason for which a run of the compiled program says nothing about a mark.
+OF_USELESS, USELESS = 'compiled by gcc, it can\'t be marked: ', re.compile(r'^useless: (.*)$', re.M)
 
 
 def by_gcc_words(marks: Sequence[Mark]) -> str:
@@ -123,8 +125,8 @@ def mark_of(words: str, sentence: Sentence, judges: Sequence[Judge]) -> Mark:
 
 
 class Untranslated(NamedTuple):
-    """The marks of a compiled program that can't be translated, if it has some; the words about a mistake that ends it; and
-    the remarks about variants of a node."""
+    """The marks of a compiled program that can't be translated, if it has some; the words about a mistake that ends it,
+    or about the reason why it has no marks; and the remarks about variants of a node."""
     marks: tuple[Mark, ...] = ()
     crash: str = ''
     remarks: Sequence[Remark] = ()
@@ -139,8 +141,9 @@ def untranslated(source: str, names: Mapping[str, str], compiled: Compiled | Non
     try:
         found = [in_net(InC(source, outline, net.with_program(outline.text), names, True), compiled, part, net)
                  for net in nets]
-    except NoComparison:
-        return Untranslated()
+    except NoComparison as fault:
+        reason = USELESS.search(str(fault))
+        return Untranslated(crash=OF_USELESS + reason[1] if reason else '')
     except Crash as crash:
         return Untranslated(crash=str(crash))
     if not all(it.marks for it in found):
