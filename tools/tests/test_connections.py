@@ -5,6 +5,9 @@ from motesim.c_program.remark import Remark
 from motesim.faults import Fault
 from motesim.grading.connections import LACKS, MORE, Connection, connection_of, connections_in, remarks_on, unusual
 from motesim.grading.in_c import on_node
+from motesim.grading.lengths import OF_LENGTH, lengths_on
+from motesim.grading.nets import Net
+from motesim.scenario import Scenario
 from translated_c import in_process
 
 ABOVE = """#include "net/rime.h"
@@ -38,6 +41,23 @@ class Connections(unittest.TestCase):
                              (both, [UNICAST, BROADCAST])):
             self.assertEqual(remarks_on(opening(body), wanted), [])
         self.assertEqual(remarks_on(opening(both), []), [])
+
+    def test_a_program_that_asks_for_the_length_of_another_programs_packets_has_a_remark(self) -> None:
+        text = """version = 2
+end = 9
+medium = { range = 5, base = 1, per = 100, collide = false }
+mote = [{ x = 0, y = 0, program = "p" }, { x = 5, y = 0, program = "sink" }]
+[programs]
+p = 'process p; code p { body { send 1; } }'
+sink = 'process sink; code sink { body { %s; } }'
+"""
+        nets = [[Net('n', Scenario.parse(text % does), 'p')] for does in ('send 3', 'pause')]
+        asks = opening('n = packetbuf_datalen() == 1;')
+        line = asks[:asks.index('packetbuf_datalen')].count('\n') + 1
+        self.assertEqual(lengths_on(asks, nets[0]), [Remark(line, OF_LENGTH % 'packetbuf_datalen()', True, False)])
+        for source, of_task in (asks, nets[1]), (opening('n = 1;'), nets[0]), ('"', nets[0]):
+            self.assertEqual(lengths_on(source, of_task), [])
+        self.assertEqual(lengths_on(asks, []), [])
 
     def test_programs_that_open_other_connections_than_most_are_named(self) -> None:
         usual, other, nothing = frozenset([UNICAST]), frozenset([BROADCAST]), frozenset[Connection]()

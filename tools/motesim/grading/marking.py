@@ -23,6 +23,7 @@ from motesim.grading.entries import Entry, data_of, without_program
 from motesim.grading.in_c import (
     NotTranslated, in_words_of_c, lacks_of, made_of, names_in, origin_of, remarks_of, with_first_names,
 )
+from motesim.grading.lengths import lengths_on
 from motesim.grading.marks import LONGEST_WHY, OTHER_PROCESS, InNet, Mark, Marks, over_nets, spread, unmarked
 from motesim.grading.nets import NOT_UTF8, Net, NoProgram, program_of, unused_of
 from motesim.grading.warned import in_lines_of_c, net_warned, seen_of, warned_of
@@ -179,7 +180,8 @@ class Task:
         if entry.path.suffix == '.c':
             marks = replace(marks, warned=tuple(in_lines_of_c(it, *its, origin_of(in_c)) for it in marks.warned),
                             of_c=(*difference_in(found), *order_in(found, self.part.required),
-                                  *remarks_on(in_c, self.connections), *remarks_in(found, in_c)),
+                                  *remarks_on(in_c, self.connections), *lengths_on(in_c, self.nets),
+                                  *remarks_in(found, in_c)),
                             by_gcc=by_gcc_in(found, self.part.required),
                             hidden=next(iter(differences_in(found)), (False, False, ''))[2])
             if self.by_gcc and marks.by_gcc:
@@ -290,7 +292,8 @@ class Task:
         found = found or Untranslated()
         why = '; '.join(filter(None, (row.why, found.crash, by_gcc_words(found.marks))))
         row = replace(row, why=why, by_gcc=found.marks,
-                      of_c=(*found.remarks, *lacks_of(source), *remarks_on(source, self.connections)))
+                      of_c=(*found.remarks, *lacks_of(source), *remarks_on(source, self.connections),
+                            *lengths_on(source, self.nets)))
         return as_compiled(row) if self.by_gcc else row
 
     def answer(self, scenario: bytes) -> Answer:
