@@ -3,7 +3,9 @@ import unittest
 
 from motesim.c_program.remark import Remark
 from motesim.faults import Fault
-from motesim.grading.connections import LACKS, MORE, Connection, connection_of, connections_in, remarks_on, unusual
+from motesim.grading.connections import (
+    LACKS, MORE, UNKNOWN, Connection, connection_of, connections_in, remarks_on, unusual,
+)
 from motesim.grading.in_c import on_node
 from motesim.grading.lengths import OF_LENGTH, lengths_on
 from motesim.grading.nets import Net
@@ -35,6 +37,12 @@ class Connections(unittest.TestCase):
         line = source[:source.index('  broadcast_open')].count('\n') + 1
         self.assertEqual(found, [Remark(line, LACKS % (UNICAST, BROADCAST), True)])
         self.assertEqual(on_node(found), 'on a node, line %d may do something else' % line)
+        for body, remark in (('static const uint16_t ch = 146; unicast_open(&uc, ch, NULL);', ''),
+                             ('static const int8_t ch = 146; unicast_open(&uc, ch, NULL);',
+                              LACKS % (UNICAST, 'unicast:65426')),
+                             ('static uint16_t ch = 146; unicast_open(&uc, ch, NULL);', UNKNOWN % str(UNICAST)),
+                             ('unicast_open(&uc, 146 + node_id, NULL);', UNKNOWN % str(UNICAST))):
+            self.assertEqual([it.text for it in remarks_on(opening(body), [UNICAST])], [remark] * bool(remark), body)
         both = 'broadcast_open(&bc, 129, NULL); unicast_open(&uc, 146, NULL);'
         self.assertEqual(remarks_on(opening(both), [UNICAST]), [Remark(line, MORE % (UNICAST, BROADCAST), True)])
         for body, wanted in (('broadcast_open(&bc, 129, NULL);', [BROADCAST]), (';', [UNICAST]),
