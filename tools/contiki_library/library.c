@@ -667,8 +667,11 @@ connection_for(uint16_t value)
       end_useless(SEVERAL);
     }
   }
-  if(is_unknown && found != NULL && other != NULL && has_callback(found) && has_callback(other)) {
-    end_useless(SEVERAL);
+  if(is_unknown && found != NULL && other != NULL && has_callback(other)) {
+    if(has_callback(found)) {
+      end_useless(SEVERAL);
+    }
+    return other;
   }
   return found != NULL ? found : other;
 }

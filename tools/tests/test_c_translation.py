@@ -60,6 +60,8 @@ VALUES = (
      '1 0 1'), ('uint16_t u = 9; int n = -1; printf("%d %d", (1 ? n : u) < 0, (0 ? u : n) > 5);', '0 1'),
     ('int q[4] = {1, 2, 3, 4}; memmove(&q[1], q, 6); printf("%d %d %d %d", q[0], q[1], q[2], q[3]);'
      ' memmove(q, q + 2, 4); printf("%d %d %d %d", q[0], q[1], q[2], q[3]);', '1 1 2 3 2 3 2 3'),
+    ('static struct { uint8_t a, b; } m = {5, 6}, k; uint8_t v[2]; memcpy(v, &m, sizeof(m)); memcpy(&k, v, 2); '
+     'memcpy(&v[0], &k.b, 1); printf("%d %d %d %d", v[0], v[1], k.a, k.b);', '6 6 5 6'),
     ('int q[3] = {1, 2, 3}, r[3]; memcpy(r, q, 4); memset(&q[1], 0, 4); memset(&q[0], 0xff, sizeof(int));'
      ' printf("%d %d %d %d", q[0], q[2], r[1], r[2]);', '65535 0 2 0'),
     ('static linkaddr_t none; static const rimeaddr_t all[2] = {{{3, 0}}, {{0, 0}}}; rimeaddr_t one = {{5, 0}};'

@@ -350,6 +350,11 @@ static struct unicast_conn uc;"""
         self.assertEqual([it.value for it in found if it.kind == 'print'], [1007])
         with self.assertRaises(NoComparison):
             self.compiled.report(its._replace(scenario=heard % 7), 'p')
+        only_one = its._replace(source=its.source.replace('&calls', '&none').replace(
+            'static struct unicast_conn uc;',
+            'static struct unicast_conn uc; static const struct broadcast_callbacks none;'))
+        found = deeds_in(self.compiled.report(only_one._replace(scenario=heard % 7), 'p'))[0]
+        self.assertEqual([it.value for it in found if it.kind == 'print'], [7])
         more = ' static struct broadcast_conn more; static const struct broadcast_callbacks none;'
         for calls in 'none', 'calls':
             body = '  %s broadcast_open(&more, 130, &%s); PROCESS_WAIT_EVENT();' % (both, calls)

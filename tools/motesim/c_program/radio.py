@@ -345,8 +345,9 @@ class Radio(Calls):
         if [size_of(one.type) for one in parts] != [size_of(one.type) for one in others]:
             raise self.refuse(it.line, OF_TYPES)
         pairs = [*zip(parts, others)]
-        # (if the bytes move up, the last one moves first)
-        for one, other in pairs[::-1] if parts[0].paths > others[0].paths else pairs:
+        # (if the bytes of a variable move up in it, the last one moves first)
+        moves_up = parts[0].variable == others[0].variable and parts[0].paths > others[0].paths
+        for one, other in pairs[::-1] if moves_up else pairs:
             self.write(one, self.read(other, it.line), it.line)
 
     def call_memmove(self, it: Expression) -> None:
