@@ -1222,6 +1222,11 @@ class Cluster:
         self.is_closed = True
 
 
+def done_at_once(job: Job) -> Result:
+    """The result of a job that does nothing, in this process or in another one."""
+    return Result(job.place, {}, '', '', '')
+
+
 class JobsAhead(unittest.TestCase):
     """The number of jobs that a sweep makes before they run."""
 
@@ -1232,7 +1237,7 @@ class JobsAhead(unittest.TestCase):
 
     def setUp(self) -> None:
         self.made = 0
-        done = mock.patch.object(runs, 'run_job', lambda job: Result(job.place, {}, '', '', ''))
+        done = mock.patch.object(runs, 'run_job', done_at_once)
         done.start()
         self.addCleanup(done.stop)
 
