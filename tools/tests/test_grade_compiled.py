@@ -20,7 +20,7 @@ from motesim.grading.by_gcc import (
     remarks_in, untranslated,
 )
 from motesim.grading.compiled import (
-    CRASHES, DEFINES, DIVIDES, NEVER_ENDS, NO_START, OF_COPY, OF_INDEX, OF_NULL, OF_REMARK, OF_UNSET,
+    CRASHES, DEFINES, DIVIDES, NEVER_ENDS, NEVER_QUIET, NO_START, OF_COPY, OF_INDEX, OF_NULL, OF_REMARK, OF_UNSET,
     ON_NODE, PLAIN, WITH_QUEUE, Compiled, Crash, Difference, InC, NoComparison, deeds_in, first_meeting,
 )
 from motesim.grading.entries import Entry
@@ -675,6 +675,14 @@ static struct unicast_conn uc;"""
     def test_a_loop_that_never_ends_on_a_node_is_named(self) -> None:
         body = '  { static int i; for(i = 0; i < 40000; i += 10000) { n++; } printf("%d", n); }'
         self.assertEqual(self.difference(in_process(body, 'static uint8_t n;')), NEVER_ENDS)
+
+    def test_a_program_that_prints_without_end_is_ended(self) -> None:
+        body = ('  while(1) { for(n = 0; n < 10000; n++) { printf("%d", n); } etimer_set(&et, 1);'
+                ' PROCESS_WAIT_EVENT_UNTIL(etimer_expired(&et)); }')
+        its = self.in_c(in_process(body, RADIO, '  ' + TIMER))
+        with self.assertRaises(Crash) as caught:
+            self.compiled.report(its, 'p')
+        self.assertEqual(str(caught.exception), NEVER_QUIET)
 
     def test_the_second_byte_of_an_address_is_0(self) -> None:
         above = ('#include "net/rime.h"\nstatic struct unicast_conn uc; static rimeaddr_t to; static uint8_t v;'

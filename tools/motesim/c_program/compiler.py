@@ -15,7 +15,7 @@ import shutil
 import subprocess
 from collections.abc import Iterable, Sequence
 from pathlib import Path
-from typing import NamedTuple
+from typing import IO, NamedTuple
 
 from motesim.c_program.absent import advice_for
 from motesim.c_program.refusal import Mistake
@@ -51,8 +51,9 @@ GCC = ('gcc', '-x', 'c', '-std=gnu99', '-S', '-o', '/dev/null', '-I%s' % HEADERS
        '-DCONTIKI_TARGET_SKY=1', '-D__MSP430__=1', '-ftrack-macro-expansion=0', '-fno-diagnostics-show-caret',
        '-fdiagnostics-color=never',
        *('-W' + it for it in WARNINGS), *('-Wno-error=' + it for it in PERMITTED))
-# (a program may be made to keep a compiler busy, and a compiled one runs for as long as it likes)
-LIMITED = 'ulimit -v 2000000; ulimit -S -t 10; ulimit -f 200000; exec "$0" "$@"'
+# (a program may be made to keep a compiler busy, and a compiled one runs and prints for as long as it likes; a file has
+# at most so many blocks of 512 bytes)
+LIMITED = 'ulimit -v 2000000; ulimit -S -t 10; ulimit -f 65536; exec "$0" "$@"'
 # (on a busy machine, the limit of processor time is met late)
 SECONDS = 300
 NO_SUCH_FILE = 'No such file or directory'
@@ -213,8 +214,9 @@ def complaints_of(source: str) -> list[Complaint]:
     return [] if any(NO_SUCH_FILE in it.words for it in found) else found
 
 
-def limited(command: Sequence[str], data: bytes = b'',
-            folder: Path | None = None) -> subprocess.CompletedProcess[bytes]:
-    """Runs a command in a folder within limits. Its messages are in English."""
-    return subprocess.run(['sh', '-c', LIMITED, *command], input=data, cwd=folder, capture_output=True, timeout=SECONDS,
-                          env={**os.environ, 'LC_ALL': 'C'})
+def limited(command: Sequence[str], data: bytes = b'', folder: Path | None = None,
+            output: IO[bytes] | int = subprocess.PIPE) -> subprocess.CompletedProcess[bytes]:
+    """Runs a command in a folder within limits. Its messages are in English. If its output is a file, its length is
+    limited, too."""
+    return subprocess.run(['sh', '-c', LIMITED, *command], input=data, cwd=folder, stdout=output,
+                          stderr=subprocess.PIPE, timeout=SECONDS, env={**os.environ, 'LC_ALL': 'C'})

@@ -56,6 +56,7 @@ OF_INDEX = CRASHED + ': in line %d, it uses the index %s of an array with %s mem
 INDEX = re.compile(r"^solution\.c:(\d+):\d+: runtime error: index (-?\d+) out of bounds for type '.*\[(\d+)\]'",
                    re.M)
 DIVIDES = CRASHED + ': it divides by 0, which is 0 in the translation'
+NEVER_QUIET = HANGS + ': its report has more than 32 MB, so it prints, sends or posts without end'
 NEVER_ENDS = HANGS + ': it has a loop without a wait, in which no time passes here'
 # The bytes of memory of the Tmote Sky.
 MEMORY = 10_240
@@ -65,7 +66,7 @@ DEFINES = UNLINKED + ': it defines `%s`, and so does Contiki'
 TWICE = re.compile('multiple definition of `(\\w+)\'')
 # The signals that end a program because of a mistake.
 ENDS = {-it: CRASHES for it in (signal.SIGSEGV, signal.SIGBUS, signal.SIGILL, signal.SIGABRT)} | {
-    -signal.SIGFPE: DIVIDES, -signal.SIGXCPU: NEVER_ENDS}
+    -signal.SIGFPE: DIVIDES, -signal.SIGXCPU: NEVER_ENDS, -signal.SIGXFSZ: NEVER_QUIET}
 MEETING = '; at %d, a packet and another event have the same moment, and their order may differ on a node'
 ON_NODE = '; a node probably does the same as the compiled program'
 OF_UNSET = ('; a local variable, or a part of it, has no value there: the program assigns none before, or it isn\'t '
@@ -305,17 +306,20 @@ def words_of(deed: Deed | None, kind: str) -> str:
 
 def called(command: Sequence[str], folder: Path) -> bytes:
     """The output of a command within limits. Raises NoComparison if it fails."""
-    try:
-        done = limited(command, folder=folder)
-    except (subprocess.TimeoutExpired, OSError):
-        raise NoComparison from None
+    with tempfile.TemporaryFile(dir=folder) as output:
+        try:
+            done = limited(command, folder=folder, output=output)
+        except (subprocess.TimeoutExpired, OSError):
+            raise NoComparison from None
+        output.seek(0)
+        found = b'' if done.returncode else output.read()
     if done.returncode in ENDS:
         said = done.stderr.decode(errors='replace')
         copies = COPIES.search(said)
         raise Crash(OF_COPY % copies.groups() if copies else OF_NULL if NO_CALLBACKS in said else ENDS[done.returncode])
     if done.returncode:
         raise NoComparison(done.stderr.decode(errors='replace'))
-    return done.stdout
+    return found
 
 
 def is_possible(command: Sequence[str], folder: Path) -> bool:
