@@ -803,6 +803,17 @@ PROCESS_THREAD(q, ev, data) {
         self.assertTrue(marks.why.endswith(BY_GCC % (1, 1)))
         self.assertFalse(marks.has_mark)
 
+    def test_an_error_of_the_tool_leaves_the_mark_of_the_compiled_program(self) -> None:
+        part = parts_of('expect = ["mote 0 prints p 3"]', 'task')[0]
+        net = Net('n', Scenario.parse(SCENARIO % 'process p; autostart p; code p { body { pause; } }'), 'p')
+        with tempfile.TemporaryDirectory() as folder, \
+                mock.patch('motesim.grading.marking.program_of', side_effect=TypeError('no')):
+            path = Path(folder) / 'a.c'
+            path.write_text(in_process('  printf("%d", 3);'))
+            marks = Task(part, (net,), Limits(), compiled=self.compiled).of((1, Entry('a.c', path)))
+        self.assertRegex(marks.why, '^not marked: an error in the tool itself: TypeError: no .*; ' + BY_GCC % (1, 1))
+        self.assertTrue(marks.is_open)
+
     def test_a_loop_that_never_ends_is_a_mistake_if_a_mote_gets_into_it(self) -> None:
         part = parts_of('expect = ["mote 0 prints p 3"]', 'task')[0]
         net = Net('n', Scenario.parse(SCENARIO % 'process p; autostart p; code p { body { pause; } }'), 'p')

@@ -117,7 +117,12 @@ class Task:
             data = data_of(entry)
         except Fault as fault:
             return Marks(entry.name, why=str(fault))
-        return self.of_data(number, entry, data)
+        return tried(lambda: self.of_data(number, entry, data), lambda words: self.after_error(entry, data, words))
+
+    def after_error(self, entry: Entry, data: bytes, words: str) -> Marks:
+        """The row of a solution at which the tool itself fails: that of the compiled program, if it is one in C."""
+        row = Marks(entry.name, why='not marked: ' + words, is_open=True)
+        return self.with_gcc_alone(row, data, self.names_in(entry, data)) if entry.path.suffix == '.c' else row
 
     def of_data(self, number: int, entry: Entry, data: bytes) -> Marks:
         """The marks of an entry that has these bytes."""
