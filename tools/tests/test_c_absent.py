@@ -39,6 +39,7 @@ ADVICE = (
     ('exit(1);', '`PROCESS_EXIT();`'), ('etimer_rest(&et);', 'Do you mean `etimer_reset`?'),
     ('proces_poll(&p);', 'Do you mean `process_poll`?'), ('process_start(&p, &x);', 'process_post(&p, '),
     ('goto out;', 'use a `while` with a flag'), ('sleep(1);', 'Let the process wait for an etimer.'),
+    ('x = from->u8[0];', '`from` isn\'t declared above this line.'),
     ('cnt++;', '`cnt` isn\'t declared above this line.'), ('y = 1;', 'isn\'t declared'),
     ('PROCESS_WAIT_EVENT_UNTIL(ev = PROCESS_EVENT_TIMER);', 'write `ev == ..` for a comparison'),
 )

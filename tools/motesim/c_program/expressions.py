@@ -7,7 +7,7 @@ from collections.abc import Sequence
 
 from motesim.c_program import bits
 from motesim.c_program.absent import WHOLE
-from motesim.c_program.base import OF_LONG, joined_limits
+from motesim.c_program.base import CONSTANTS, OF_LONG, joined_limits
 from motesim.c_program.constants import EVENT_NUMBERS, NUMBERS, OPERATIONS, SECOND, constant_of
 from motesim.c_program.events import Events
 from motesim.c_program.places import (
@@ -172,6 +172,8 @@ class Expressions(Events):
         base, index = it.parts[0].parts[0], self.evaluate(it.parts[1])
         is_pointer = self.type_of(base).kind in ('pointer', 'array')
         if is_pointer != (it.parts[0].kind == 'arrow') and base.kind == 'name':
+            if base.kind == 'name' and base.variable is None and base.text not in CONSTANTS:
+                raise self.absent_variable(base.text, it.line)
             raise self.refuse(it.line, (OF_ARROW if is_pointer else OF_DOT) % ((base.text, it.parts[0].text) * 2))
         found = self.address(base)
         if found.text == 'self':
