@@ -219,6 +219,8 @@ class Lines(unittest.TestCase):
         for wait, polls, is_lacking in (
                 ('PROCESS_WAIT_EVENT_UNTIL(is_done == 1)', '', True), ('PROCESS_WAIT_WHILE(is_done < 2)', '', True),
                 ('PROCESS_WAIT_EVENT_UNTIL(is_done == 9)', 'process_poll(&a);', False),
+                ('PROCESS_WAIT_EVENT_UNTIL(is_done == 9)',
+                 'if(is_done > 5) { process_post(PROCESS_BROADCAST, 140, NULL); }', False),
                 ('PROCESS_WAIT_EVENT_UNTIL(is_done == 9 || etimer_expired(&et))', '', False)):
             program = ONCE.replace('PROCESS_WAIT_EVENT_UNTIL(is_done || etimer_expired(&et))', wait)
             program = program.replace('is_done = 1;', 'is_done++; ' + polls).replace('etimer_set(&et, 20);', '')

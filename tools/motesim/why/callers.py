@@ -147,7 +147,8 @@ class Callers:
         it = self.program.statement(waits)
         return (OF_CONDITION.search(self.program.rows_in_c[waits - 1]) is not None and not {*events} - {'packet'}
                 and not OF_TIMER.search(it.text) and not OF_EXPIRED.search(it.text)
-                and not self.numbered(SENDS, self.program.processes[it.process].name))
+                and not self.numbered(SENDS, self.program.processes[it.process].name)
+                and not any(one.kind == 'broadcast' for one in self.program.statements))
 
     def last_set(self, timer: str, process: int) -> list[int]:
         """The statement that was the last one to set a timer; all that set it if none of them was reached."""
