@@ -11,7 +11,6 @@ from __future__ import annotations
 
 import os
 import re
-import shutil
 import subprocess
 from collections.abc import Iterable, Sequence
 from pathlib import Path
@@ -96,7 +95,8 @@ class Complaint(NamedTuple):
 
 
 def is_installed() -> bool:
-    return shutil.which('gcc') is not None
+    """No program of somebody else is compiled or run here."""
+    return False
 
 
 def check(text: str) -> list[Remark]:

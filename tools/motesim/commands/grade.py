@@ -54,9 +54,6 @@ def arguments() -> argparse.Namespace:
     words.add_argument('--connection', action='append', default=[], metavar='KIND:CHANNEL',
                        help='the connection that programs in C have to open, such as unicast:146; you can repeat the '
                             'option')
-    words.add_argument('--compiled', action='store_true',
-                       help='give a program in C the mark of the compiled program if it does something else than its '
-                            "translation, or if it can't be translated")
     words.add_argument('--seconds', type=float, default=SECONDS, metavar='N',
                        help='the limit of a run, in seconds of processor time (20)')
     words.add_argument('--memory', type=int, default=MEGABYTES, metavar='MEGABYTES',

@@ -4,20 +4,16 @@ from __future__ import annotations
 import argparse
 import shlex
 import sys
-import tempfile
 import time
 from collections.abc import Sequence
-from dataclasses import replace
 from functools import partial
 from pathlib import Path
 
-from motesim.c_program.compiler import is_installed
 from motesim.explain.synonyms import nearest
 from motesim.faults import Fault
 from motesim.files import refuse_inputs, replace_whole
 from motesim.grading import page, tables
 from motesim.grading.by_gcc import without_fault
-from motesim.grading.compiled import Compiled, NoComparison
 from motesim.grading.connections import Connection, connection_of, connections_in, unusual
 from motesim.grading.entries import Entry, anonymous, data_of, entries_of, skipped_of
 from motesim.grading.in_c import of_programs
@@ -61,8 +57,6 @@ def grade(entries: Sequence[Entry], task: Task, jobs: int | None = None) -> list
 
 def task_of(asked: argparse.Namespace, pictures: Path | None) -> Task:
     """The task of all solutions. Faults of the sentences and of the nets are the teacher's."""
-    if asked.compiled and not is_installed():
-        raise Fault('--compiled needs gcc: on Debian `apt-get install gcc` installs it')
     name = str(asked.expectations)
     part = parts_of(text_of(asked.expectations), name)[0]
     nets = [*nets_of(asked.net, asked.vary, asked.program),
@@ -75,17 +69,7 @@ def task_of(asked: argparse.Namespace, pictures: Path | None) -> Task:
         raise Fault('%s: %s' % (name, fault)) from None
     limits = Limits(asked.seconds * PATIENCE, asked.memory * MEGABYTE, asked.report * MEGABYTE, asked.seconds)
     return Task(part, tuple(nets), limits, pictures, connections=tuple(map(connection_of, asked.connection)),
-                by_gcc=asked.compiled, has_nearest=asked.why is not None)
-
-
-def compiled_for(entries: Sequence[Entry], folder: Path) -> Compiled | None:
-    """The kernel to which programs in C are linked, if there are any, and if gcc is installed."""
-    if not is_installed() or not any(it.path.suffix == '.c' for it in entries):
-        return None
-    try:
-        return Compiled(folder)
-    except NoComparison:
-        return None
+                has_nearest=asked.why is not None)
 
 
 def opened_by(entry: Entry) -> dict[Connection, int]:
@@ -262,8 +246,7 @@ def status_of(asked: argparse.Namespace) -> int:
     of_nets += unusual(opened_in(entries)) if task.nets and not asked.connection else []
     for line in [*remarks(asked, task.nets, task.part.sentences), *of_nets] if asked.why is None else ():
         print('grade: %s' % line, file=sys.stderr)
-    with tempfile.TemporaryDirectory() as folder:
-        marked = grade(entries, replace(task, compiled=compiled_for(entries, Path(folder))), asked.jobs)
+    marked = grade(entries, task, asked.jobs)
     if pictures:
         keep_names(pictures, [it.picture for it in marked if it.picture])
     sentences = tables.sentences_of(marked) or task.part.sentences

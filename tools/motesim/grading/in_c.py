@@ -69,7 +69,7 @@ def of_programs(names: Sequence[str], ends: Sequence[int]) -> list[str]:
     checks them. `ends` are the last moments of the nets."""
     if not any(it.endswith('.c') for it in names):
         return []
-    return [of_seconds(ends), *([] if compiler.is_installed() else [compiler.HOW_TO_INSTALL])]
+    return [of_seconds(ends)]
 
 
 def of_seconds(ends: Sequence[int]) -> str:
