@@ -6,7 +6,7 @@ from pathlib import Path
 import here  # noqa: F401
 from motesim.c_program.origin import Origin
 from motesim.c_program.program import translated
-from motesim.explain.whole import with_comment
+from motesim.grading.in_c import with_comment
 from motesim.grading.entries import Entry
 from motesim.grading.in_c import in_words_of_c, notation_of, origin_of
 from motesim.grading.marking import Task

@@ -325,7 +325,7 @@ class Hints(unittest.TestCase):
         for text in '#include "contiki.h"\nPROCESS(a, "A");', '/*\n * A\n */\n\nstatic int n;', 'PROCESS(a, "A");':
             with self.subTest(text):
                 shown = ' '.join(explain.explanation('hans.c', text.encode(), 'motesim: scenario fault 1'))
-                self.assertIn('hans.c is a program in C, not a scenario.', shown)
+                self.assertIn('hans.c is in C', shown)
                 self.assertIn('docs/use/FROM_CONTIKI.md', shown)
         scenario_below = b'#include "a"\nend = 1\n'
         self.assertNotIn('in C', ' '.join(explain.explanation('a.toml', scenario_below, 'motesim: scenario fault 2')))

@@ -6,13 +6,11 @@ import textwrap
 from collections.abc import Callable
 from typing import Any
 
-from motesim.explain import hints, missing, synonyms, whole
+from motesim.explain import hints, missing, synonyms
 from motesim.explain.advice import advice
 from motesim.explain.repair import Repair, repair
 from motesim.faults import Fault, tried
 from motesim.notation import faults as program_faults
-from motesim.c_program.program import Translation
-from motesim.c_program.refusal import Refusal
 from motesim.scenario import encodings
 from motesim.scenario import faults as scenario_faults
 from motesim.explain.lint import Warned, warnings
@@ -21,11 +19,13 @@ from motesim.report import Report
 from motesim.runner.run import Answer, NoReport, answer, is_report, read_file
 from motesim.scenario import Scenario
 from motesim.scenario.faults import Place, ScenarioError
-from motesim.scenario.kinds import begins_as_c, begins_as_scenario, is_program_file, is_program_in_c
+from motesim.scenario.kinds import is_c_file, is_program_file, is_program_in_c
 from motesim.terminal import one_line
 from motesim.toml import MARK, NoToml, read_toml
 
 WIDTH = 112
+# The name of a text that is in no file, but in the studio.
+TEXT = 'the text'
 # (characters that a terminal would mistake for a command)
 CONTROL = re.compile(r'[\x00-\x08\x0b-\x1f\x7f-\x9f]')
 OF_REPORT = 'This is a report, not a scenario: tools/summary, tools/compare and tools/timeline read it.'
@@ -104,10 +104,6 @@ def place_of_fault(data: bytes, line: str) -> Place | None:
     if not fault.program:
         return place_of_scenario(text, fault)
     program = str(fault.path[1])
-    source = whole.in_c(text, program)
-    made = whole.translation_of(source) if source is not None else None
-    if isinstance(made, Refusal):
-        return whole.place_of_line(text, program, made.line)
     found = place_of_token(text, program, fault.program.token)
     return found or scenario_faults.place_of(text, fault.path)
 
@@ -126,61 +122,14 @@ def wrapped(text: str) -> list[str]:
 
 def of_program(name: str, text: str, program: str, its: program_faults.ProgramError) -> list[str]:
     """The lines about a fault in a program's text, with its place."""
-    return tried(lambda: in_c(name, text, program), failed) or of_notation(name, text, program, its)
-
-
-def of_notation(name: str, text: str, program: str, its: program_faults.ProgramError) -> list[str]:
-    """The lines about a fault in a program that isn't a whole program in C."""
     source: str = tables_of(text)['programs'][program]
+    if is_program_in_c(source):
+        return wrapped(hints.OF_C % ('program %s' % one_line(program)))
     return shown_program(name, text, program, its.token) + rule_and_advice(source, its, offset_of(text, program))
-
-
-def in_c(name: str, text: str, program: str) -> list[str]:
-    """The lines about a program of a scenario that is in C: the program in the notation, or the line that can't be
-    translated. Nothing if it isn't in C."""
-    source, what = whole.in_c(text, program), 'program %s' % one_line(program)
-    if source is None:
-        return []
-    made = whole.translation_of(source)
-    if isinstance(made, Translation):
-        return translation(what, name, made)
-    place = whole.place_of_line(text, program, made.line)
-    row = 'line %d, which is ' % place.line if place else ''
-    return refusal(what, '%s, %sline %d of %s:' % (one_line(name), row, made.line, what), source, made)
-
-
-def in_c_file(name: str, source: str) -> list[str]:
-    """The lines about a file with a whole program in C. Nothing if it has another text."""
-    if not is_program_in_c(source):
-        return []
-    made = whole.translation_of(source)
-    if isinstance(made, Translation):
-        return translation(one_line(name), name, made)
-    return refusal(one_line(name), '%s, line %d:' % (one_line(name), made.line), source, made)
-
-
-def is_file_in_c(text: str) -> bool:
-    """Returns whether a file has a whole program in C, not a scenario with such a program."""
-    return is_program_in_c(text) and tables_or_none(text) is None and not begins_as_scenario(text.encode())
-
-
-def translation(what: str, name: str, made: Translation) -> list[str]:
-    """The lines that show a program in the notation, below them what differs from C."""
-    return whole.shown(what, one_line(name), made) + [
-        line for it in whole.remarks_of(what, made) for line in wrapped(it)]
-
-
-def refusal(what: str, where: str, source: str, made: Refusal) -> list[str]:
-    """The lines about a line of C that isn't translated."""
-    line = CONTROL.sub('\ufffd', whole.line_at(source, made.line))
-    return [where, '  ' + line, *wrapped(whole.refused(what, made)), *wrapped(whole.INSTEAD)]
 
 
 def of_program_file(name: str, source: str, its: program_faults.ProgramError) -> list[str]:
     """The lines about a fault in a file that has only a program."""
-    found = tried(lambda: in_c_file(name, source), failed)
-    if found:
-        return found
     line = source.split('\n')[its.token.line - 1].rstrip('\r')
     where = '%s, line %d:' % (one_line(name), its.token.line)
     return [where, *marked(line, its.token.column, len(its.token.text)), *rule_and_advice(source, its, 0)]
@@ -253,10 +202,8 @@ def whole_explanation(name: str, data: bytes, line: str) -> list[str]:
     if is_program_file(name, data):
         return program_instead(name, data)
     text = data.decode('utf-8', 'replace')
-    if is_file_in_c(text):
-        return tried(lambda: in_c_file(name, text.removeprefix(MARK)), failed)
-    if begins_as_c(data) and tables_or_none(text) is None:
-        return ['%s is a program in C, not a scenario.' % one_line(name), *hinted(hints.OF_C)]
+    if is_in_c(name, data):
+        return wrapped(hints.OF_C % one_line(name))
     if fault.program:
         return of_program(name, text, str(fault.path[1]), fault.program)
     encoding = encodings.encoding_of(data) if fault.line else None
@@ -322,14 +269,18 @@ def is_plan(tables: dict[str, Any] | None) -> bool:
     return tables is not None and 'places' in tables and 'mote' not in tables and 'version' not in tables
 
 
+def is_in_c(name: str, data: bytes) -> bool:
+    """Returns whether a file has a program in C."""
+    is_other = is_program_file(name, data) or tables_or_none(data.decode('utf-8', 'replace')) is not None
+    return is_c_file(name, data) and not is_other
+
+
 def program_instead(name: str, data: bytes) -> list[str]:
     """The lines about a file with a program instead of a scenario: how to write it into a scenario, and its error."""
     source = data.decode('utf-8', 'replace').removeprefix(MARK)
     parameter = PARAMETER.search(source)
     # (a number for each parameter of a plan, as long as its name, so that places in the program stay)
     its = program_faults.find_fault(PARAMETER.sub(lambda it: '1'.ljust(len(it[0])), source))
-    if is_program_in_c(source) and its:
-        return of_program_file(name, source, its)
     lines = ['%s is the text of a program, not a scenario.' % one_line(name), *hinted(hints.OF_PROGRAM)]
     if its is None:
         numbers = hints.WITH_NUMBERS % parameter[0] if parameter else ''
@@ -346,7 +297,10 @@ def refused(name: str, data: bytes, fault: NoReport) -> Fault:
 def explain(name: str, run: Callable[[bytes], Answer] | None = None) -> int:
     """Prints the explanation of a file, as tools/explain does; returns the status. `run` runs the scenario."""
     data = read_file(name)
-    if is_program_file(name, data) or is_file_in_c(data.decode('utf-8', 'replace')):
+    if is_in_c(name, data):
+        print('\n'.join(wrapped(hints.OF_C % one_line(name))))
+        return 1
+    if is_program_file(name, data):
         print('\n'.join(program_instead(name, data)))
         return 1
     return shown_explanation(name, data, run or answer)

@@ -85,9 +85,8 @@ OF_ARGUMENTS = 'A `spawn` passes nothing, `spawn t;`: set a variable of the proc
 OF_PROGRAM = ('In a scenario this text is under `[programs]`, between three quotes: `p = """ .. """`. Or a plan names '
               'the file of the program, and tools/scenario makes a scenario from the plan.')
 WITH_NUMBERS = ', if parameters of a plan such as `%s` are numbers'
-OF_C = ('A scenario is a TOML document, with the text of its programs under `[programs]`. `tools/explain NAME.c '
-        '--apply NAME.toml` translates this program, and writes a scenario with it. docs/use/FROM_CONTIKI.md lists the '
-        'forms of Contiki and C with their counterparts.')
+OF_C = ('motesim runs programs in its own notation, and %s is in C: docs/use/FROM_CONTIKI.md shows how to write in the '
+        'notation what Contiki has in C.')
 NO_LOSS = ('`every` is at least 1, and `every = 1` loses every packet. If the link must not lose packets, leave out '
            'the whole table of this loss.')
 OF_PLAN = '%s is a plan, not a scenario: tools/scenario %s -o NAME.toml makes a scenario of it.'

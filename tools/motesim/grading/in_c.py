@@ -3,6 +3,7 @@ from __future__ import annotations
 
 import re
 from collections.abc import Collection, Mapping, Sequence
+from functools import lru_cache
 from types import MappingProxyType
 
 from motesim.c_program import compiler
@@ -12,11 +13,11 @@ from motesim.c_program.names import is_changed, similar
 from motesim.c_program.origin import Origin
 from motesim.c_program.parse_expressions import NO_SEMICOLON
 from motesim.c_program.parse_file import tokens_in
-from motesim.c_program.program import Translation
+from motesim.c_program.program import Translation, translated
 from motesim.c_program.refusal import Misspelt, Mistake, Refusal
 from motesim.c_program.remark import Remark
 from motesim.c_program.values import MOST
-from motesim.explain.whole import line_at, translation_of, with_comment
+from motesim.explain.lint import TRANSLATED
 from motesim.faults import Fault
 from motesim.terminal import one_line
 
@@ -42,6 +43,26 @@ COMPILED = 'marked as compiled by gcc'
 IN_ORDER = 'with another order of the events of a moment, it gets %d of %d'
 # (a time has 16 bits here)
 WRAPS = '; clock_time() and clock_seconds() begin again at 0 after %d seconds, which they don\'t do on a node'
+
+
+@lru_cache(maxsize=4)
+def translation_of(source: str, second: int = SECOND) -> Translation | Refusal:
+    """A program in C in the notation, or the line that isn't translated. `second`: the moments of a second."""
+    try:
+        found = translated(source, second)
+        return found.with_remarks(compiler.check(source))
+    except Refusal as refusal:
+        return refusal
+
+
+def with_comment(found: Translation, language: str) -> Translation:
+    """A translation with a comment that says so: then its values below 0 are no surprise."""
+    return found._replace(text='%s%s\n%s' % (TRANSLATED, language, found.text), lines=(0, *found.lines))
+
+
+def line_at(text: str, number: int) -> str:
+    """A line of a text without the blanks around it; nothing if the text has fewer lines."""
+    return ''.join(text.split('\n')[number - 1:number]).strip()
 
 
 class NotTranslated(Fault):

@@ -8,9 +8,8 @@ from motesim.c_program.origin import Origin
 from motesim.explain.lint import (
     ZERO_GIVEN, Program, by_cause, of_moments, of_net, of_program, of_run, of_seeds, of_start, programs_of,
 )
-from motesim.explain.whole import line_at
 from motesim.faults import tried
-from motesim.grading.in_c import in_words_of_c
+from motesim.grading.in_c import in_words_of_c, line_at
 from motesim.report import Report
 from motesim.scenario import Scenario
 from motesim.terminal import cut, one_line

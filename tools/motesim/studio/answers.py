@@ -8,10 +8,9 @@ from typing import Any, NamedTuple
 
 from motesim.comparison.columns import MEDIUM
 from motesim.comparison.reports import Difference, compared, differences, lists_of, origin, packet_of, row_of
-from motesim.explain.explanation import explanation, place_of_fault, place_of_token
-from motesim.explain.applied import corrected
+from motesim.explain.explanation import TEXT, explanation, place_of_fault, place_of_token
+from motesim.explain.followed import followed
 from motesim.explain.lint import warnings
-from motesim.explain.whole import TEXT
 from motesim.faults import Fault
 from motesim.judge import expectations
 from motesim.judge.judge import Judge
@@ -20,7 +19,7 @@ from motesim.judge.sentences import names_of
 from motesim.report import Report
 from motesim.runner.run import Run
 from motesim.scenario import Scenario
-from motesim.scenario.faults import Place, find_fault, place_of
+from motesim.scenario.faults import Place, place_of
 from motesim.summary.counts import LINK_NAMES, summary
 
 NOTE = re.compile(r'//[^\n]*')
@@ -74,7 +73,7 @@ def fault(text: str, line: str) -> dict[str, Any]:
     """An error in the words of tools/explain, with its place in the text and the corrected text if they are known."""
     data = text.encode('utf-8')
     place, message = place_of_fault(data, line), explanation(TEXT, data, line)
-    return {'line': line, 'words': unwrapped(message), 'corrected': corrected(text, find_fault(data), message),
+    return {'line': line, 'words': unwrapped(message), 'corrected': followed(text, message),
             'place': stretch16(text, place) if place else None}
 
 
