@@ -16,6 +16,7 @@
 
 The packages in this folder are for the commands in tools/. docs/use/TOOLS.md shows scripts.
 """
+import importlib
 import sys
 from typing import TYPE_CHECKING
 
@@ -24,17 +25,27 @@ if sys.version_info < (3, 11):
     sys.exit(2)
 
 if TYPE_CHECKING:
-    from motesim.api import Comparison, Fault, Kept, Limits, Plan, Report, Run, Scenario, compare, expect, run
+    from motesim.api import Comparison, Kept, compare, expect, run
+    from motesim.faults import Fault
+    from motesim.plan.plan import Plan
+    from motesim.report import Report
+    from motesim.runner import Limits
+    from motesim.runner.run import Run
+    from motesim.scenario import Scenario
 
 __all__ = ['Comparison', 'Fault', 'Kept', 'Limits', 'Plan', 'Report', 'Run', 'Scenario', 'compare', 'expect', 'run']
+
+
+# The modules of the names that aren't in `motesim.api`.
+HOMES = {'Fault': 'faults', 'Limits': 'runner', 'Plan': 'plan.plan', 'Report': 'report', 'Run': 'runner.run',
+         'Scenario': 'scenario'}
 
 
 def __getattr__(name: str) -> object:
     # (most commands need only some of these names, and must start quickly)
     if name not in __all__:
         raise AttributeError('module %r has no attribute %r' % (__name__, name))
-    from motesim import api
-    return getattr(api, name)
+    return getattr(importlib.import_module('motesim.' + HOMES.get(name, 'api')), name)
 
 
 def __dir__() -> list[str]:

@@ -1,23 +1,24 @@
-"""The public functions and classes: `import motesim` provides all of them. docs/use/TOOLS.md has examples."""
+"""The public functions: `import motesim` provides them, and the public classes. docs/use/TOOLS.md has examples."""
 from __future__ import annotations
 
 from collections.abc import Mapping, Sequence
 from dataclasses import dataclass
 from pathlib import Path
+from typing import TYPE_CHECKING
 
 from motesim.comparison.reports import compared
 from motesim.faults import Fault
 from motesim.judge.expectations import read_all
 from motesim.judge.judge import Judge
 from motesim.judge.sentences import names_of
-from motesim.plan.plan import Plan
-from motesim.plan.tables import Value
 from motesim.report import Report
 from motesim.runner import Limits, Runner
 from motesim.runner.run import Run, read_run
 from motesim.scenario import Scenario
 
-__all__ = ['Comparison', 'Fault', 'Kept', 'Limits', 'Plan', 'Report', 'Run', 'Scenario', 'compare', 'expect', 'run']
+if TYPE_CHECKING:
+    from motesim.plan.plan import Plan
+    from motesim.plan.tables import Value
 
 MOST_ROWS = 20
 
@@ -62,16 +63,18 @@ def run(scenario: str | Path | bytes | Plan, parameters: Mapping[str, Value] | N
     refused, if the run reaches a limit, or if there is no `motesim`. If the file has a report, nothing runs, and
     `scenario` is None.
     """
-    if parameters is not None and isinstance(scenario, str | Path):
-        scenario = Plan.read(scenario)
-    if isinstance(scenario, Plan):
-        name, data = 'plan', scenario.scenario(dict(parameters or {})).encode()
-    elif parameters is not None:
+    if isinstance(scenario, bytes) and parameters is not None:
         raise Fault("parameters are for plans: motesim.run('NAME.plan.toml', {'seed': 7})")
-    elif isinstance(scenario, bytes):
+    if isinstance(scenario, str | Path):
+        if parameters is None:
+            return read_run(scenario, limits=limits, program=program)
+        # (most scripts need no plans, and must start quickly)
+        from motesim.plan.plan import Plan
+        scenario = Plan.read(scenario)
+    if isinstance(scenario, bytes):
         name, data = 'scenario', scenario
     else:
-        return read_run(scenario, limits=limits, program=program)
+        name, data = 'plan', scenario.scenario(dict(parameters or {})).encode()
     found = Scenario.parse(data)
     return Run(name, Report.parse(Runner(program, limits).report(data)), found)
 

@@ -13,7 +13,7 @@ from unittest import mock
 
 from here import TOOLS
 from motesim.commands import expect as command
-from motesim.judge import expectations
+from motesim.judge import expectations, remarks
 from motesim.judge.expectations import UnknownSentence, expect, parts_of, read_all
 from motesim.judge.judge import Judge
 from motesim.report import Report
@@ -22,7 +22,7 @@ from motesim.runner.run import answer
 from motesim.scenario import Scenario
 from motesim.search.quick_judge import Hops
 from motesim.judge.sentences import (
-    Copies, Count, Does, Names, Refused, Sentence, SentenceFault, Value, names_of, read_sentence,
+    EXAMPLES, Copies, Count, Does, Names, Refused, Sentence, SentenceFault, Value, names_of, read_sentence,
 )
 
 # Four motes in a row, each in range of its neighbours; mote 2 loses all that mote 3 sends.
@@ -212,49 +212,12 @@ class Sentences(unittest.TestCase):
                 assert broken is not None
                 self.assertEqual(broken.row, row, broken.why)
 
-    def test_another_process_that_prints_the_values_is_named(self) -> None:
-        for sentence, more in (('mote 3 prints just hears 1, 2', '; process flood prints exactly these values'),
-                               ('mote 3 prints just hears 2, 1', ''), ('mote 3 prints just hears 1 to 3', ''),
-                               ('mote 3 prints just hears 2, 1 in any order',
-                                '; process flood prints exactly these values'),
-                               ('mote 3 prints hears 2', '; process flood prints this value'),
-                               ('mote 3 finally prints hears 2', '; process flood prints this value'),
-                               ('mote 3 prints hears 2 by 50', ''), ('mote 3 prints hears', ''),
-                               ('mote 1 prints hears 2', '; it prints hears 1 at moment 43, and 1 other')):
-            broken = self.judge.broken(read_sentence(sentence, self.names))
-            with self.subTest(sentence):
-                assert broken is not None
-                self.assertEqual(''.join(broken.why.partition(';')[1:]).removeprefix('; wanted: at least 1'), more)
-
     def test_the_greatest_mote_number_is_that_of_the_net(self) -> None:
         for motes in 3, 4:
             lines = REPORT.replace('46 print hears 2', '46 print hears %d' % (motes - 1))
             its = Judge(Report.parse(lines), Scenario.parse(SCENARIO))
             broken = its.broken(read_sentence('mote 2 finally prints hears the greatest mote number', self.names))
             self.assertEqual(broken is None, motes == 4, broken)
-
-    def test_a_sentence_of_another_form_is_shown_whole(self) -> None:
-        for sentence, meant in (('mote 0 prints 9', 'mote 0 prints p 9'),
-                                ('mote 0 prints 20 values', 'mote 0 prints p exactly 20 times'),
-                                ('mote 0 prints p 1010, 2020', 'mote 0 prints just p 1010, 2020'),
-                                ('mote 0 collides', 'some copy collides at mote 0')):
-            names = Names(('etimer', 'ctimer', 'radio', 'p'), 3)
-            with self.assertRaisesRegex(SentenceFault, 'Did you mean: %s$' % meant):
-                read_sentence(sentence, names)
-            read_sentence(meant, names)
-        with self.assertRaises(SentenceFault) as caught:
-            read_sentence('mote 0 prints 9 times', Names(('p',), 3))
-        self.assertNotIn('prints p 9 times', str(caught.exception))
-
-    def test_a_process_may_have_its_name_in_c(self) -> None:
-        names = Names(('etimer', 'ctimer', 'radio', 'hell_worl_proc', 'helloprocess', 'my_timer'), 3)
-        for in_c, its in (('hello_world_process', 'hell_worl_proc'), ('HelloProcess', 'helloprocess'),
-                          ('timer', 'my_timer')):
-            for sentence in 'mote 0 prints %s 3', 'every mote prints %s its number', 'mote 0 never starts %s':
-                for known in names, Names():
-                    self.assertEqual(read_sentence(sentence % in_c, known), read_sentence(sentence % its, known))
-        with self.assertRaises(SentenceFault):
-            read_sentence('mote 0 prints hello_moon_process 3', names)
 
     def test_a_count_behind_prints_is_no_process(self) -> None:
         for words in 'exactly 2 times', 'exactly 2 times from 1 to 4', 'once', 'at most 2 times', 'by 4':
@@ -263,61 +226,46 @@ class Sentences(unittest.TestCase):
         named, plain = (read_sentence('mote 0 prints %sonce' % it, Names()) for it in ('p ', ''))
         self.assertNotEqual(named, plain)
 
-    def test_an_unknown_process_has_a_hint_with_the_processes_of_the_programs(self) -> None:
-        names = Names(('etimer', 'ctimer', 'radio', 'node', 'clock'), 3)
-        hint = 'Hint: no program has a process `%s`; there are: node, clock.'
-        for sentence, last in (('every mote prints sink', hint % 'sink'), ('mote 0 prints source 4', hint % 'source'),
-                               ('mote 0 starts sink', hint % 'sink'), ('mote 0 prints p 1', hint % 'p'),
-                               ('mote 0 prints nod', 'Did you mean: node'), ('mote 0 prints clok 1', 'Did you mean: '),
-                               ('mote 0 prints betwen 1 and 2', 'Did you mean: '),
-                               ('mote 0 prints then mote 1 sends', 'Hint: two events are put in order by')):
-            with self.assertRaises(SentenceFault) as caught:
-                read_sentence(sentence, names)
-            lines = str(caught.exception).splitlines()
-            self.assertIn(last, lines[-1] if 'Hint: two' not in last else lines[-2] + lines[-1])
-            self.assertNotIn('mean: in', str(caught.exception))
+    def test_remarks_on_sentences_that_say_nothing(self) -> None:
+        whole, free = Scenario.parse(SCENARIO), Scenario.parse(SCENARIO.partition('[[loss]]')[0])
+        apart = Scenario.parse(SCENARIO.replace('collide = true', 'collide = false'))
+        early = Scenario.parse(SCENARIO.replace('end = 100', 'end = 20'))
+        for sentence, scenario, remark in (
+                ('mote 0 never sends from 101 on', whole, remarks.AFTER_THE_END % (100, 101)),
+                ('no copy collides after 100', whole, remarks.AFTER_THE_END % (100, 101)),
+                ('no packet is sent at 105', whole, remarks.AFTER_THE_END % (100, 105)),
+                ('mote 0 sends at most 7 in each 10 from 200 to 240', whole, remarks.AFTER_THE_END % (100, 200)),
+                ('no mote sends after mote 2 halts', whole, remarks.NO_EVENT % 'mote 2 halts'),
+                ('mote 0 sends at most 9 within 5 of receiving 7', whole, remarks.NO_EVENT % 'receiving 7'),
+                ('motes 0 to 3 together never send after motes 0 to 2 together halt', whole,
+                 remarks.NO_EVENT % 'motes 0 to 2 together halt'),
+                ('no mote sends after mote 3 halts', whole, ''), ('no mote sends 9 after receiving 1', whole, ''),
+                ('no copy collides at mote 2', apart, remarks.NO_COLLISIONS),
+                ('no copy is lost at mote 1', free, remarks.NO_LOSSES),
+                ('some copy is lost at mote 1', free, remarks.NO_LOSSES),
+                ('every copy arrives at mote 0', early, remarks.NO_COPIES),
+                ('no copy is lost at mote 1', whole, ''), ('every copy arrives at mote 0', whole, ''),
+                ('every mote but 0 to 3 sends', whole, remarks.OF_NO_MOTE % 'true'),
+                ('some mote but 0 to 3 sends', whole, remarks.OF_NO_MOTE % 'false'),
+                ('no mote halts twice', whole, ''), ('mote 0 sends by 500', whole, '')):
+            with self.subTest(sentence):
+                judge, meant = Judge(Report.parse(REPORT), scenario), read_sentence(sentence, self.names)
+                self.assertEqual(remarks.remark_of(meant, judge, judge.broken(meant) is None), remark)
 
-    def test_words_for_but_for_at_most_once_and_for_each_sender(self) -> None:
-        for sentence, hint in (
-                ('every mote except 0 sends', 'Did you mean: every mote but 0 sends'),
-                ('mote 1 prints flood 1 to 6 in order', 'Did you mean: mote 1 prints just flood 1 to 6'),
-                ('mote 1 prints just flood 1 to 6 in order', 'Did you mean: mote 1 prints just flood 1 to 6'),
-                ('mote 1 prints flood 1, 2 in this order', 'Did you mean: mote 1 prints just flood 1, 2'),
-                ('mote 1 sends 0 or 1 times', 'Did you mean: mote 1 sends at most once'),
-                ('mote 1 prints flood 0 or 1', "Hint: write `at most once` for 0 or 1 times; for one of two values, "),
-                ('mote 1 prints flood 0 or 1', 'Did you mean: mote 1 prints flood any of 0 or 1'),
-                ('mote 1 sends 1 to 9 by 60', 'Did you mean: mote 1 sends any of 1 to 9 by 60'),
-                ('mote 1 prints flood 1 to 9 by 60', 'Did you mean: mote 1 prints flood any of 1 to 9 by 60'),
-                ('mote 1 prints flood within 0 of receiving 3 at least 2 times',
-                 'Did you mean: mote 1 prints flood at least 2 times within 0 of receiving 3'),
-                ('mote 1 sends after mote 2 sends 7 twice', 'Did you mean: mote 1 sends twice after mote 2 sends 7'),
-                ('mote 0 receives 1 from all motes', 'Hint: a packet has one sender, so write a sentence for each: ')):
-            with self.assertRaises(SentenceFault) as caught:
-                read_sentence(sentence, Names(('flood',), 3))
-            self.assertIn(hint, str(caught.exception))
+    def test_each_example_of_an_error_can_be_read(self) -> None:
+        for sentence in EXAMPLES:
+            read_sentence(sentence, Names(('flood',), 25))
 
-    def test_a_range_of_counts_is_two_sentences(self) -> None:
-        for words in 'between 3 and 7 times', '3 to 7 times', 'from 3 to 7 packets', '3-7 times':
-            with self.assertRaisesRegex(SentenceFault, 'Did you mean: two sentences, `mote 1 sends at least 3 times '
-                                        'by 60` and `mote 1 sends at most 7 times by 60`'):
-                read_sentence('mote 1 sends %s by 60' % words)
-        # (of two sentences one could hold for one mote, and the other for another mote)
-        for motes in 'no mote', 'some mote', 'at least 2 motes':
-            with self.assertRaises(SentenceFault) as caught:
-                read_sentence(motes + ' sends between 3 and 7 times')
-            self.assertNotIn('two sentences', str(caught.exception))
-        read_sentence('mote 1 sends between 3 and 7')
-
-    def test_just_and_finally_have_neither_order_nor_count(self) -> None:
-        for words, seen in (
-                ('finally prints a 1 after mote 0 sends 1', 'no order: .* `mote 3 prints a 1 after mote 0 sends 1`'),
-                ('finally prints a 1 within 10 of receiving 1', '`mote 3 prints a 1 within 10 of mote 0 sends 1`'),
-                ('prints just a 1, 2 before it sends', '`just` is about all lines .* has no order'),
-                ('finally prints a 1 twice', 'has no count'), ('prints just a 1 at least 2 times', 'has no count')):
-            with self.assertRaisesRegex(SentenceFault, '(?s)Hint: .*' + seen.replace(' ', r'\s+')):
-                read_sentence('mote 3 ' + words)
-        for words in 'finally prints a 1 after 10', 'prints just a 1, 2 before 9', 'finally prints a 1 at 7':
-            read_sentence('mote 3 ' + words)
+    def test_the_nearest_word_and_an_example_are_named(self) -> None:
+        for sentence, like, shown in (
+                ('mote 0 sends twise', 'twice', 'no mote sends more than twice'),
+                ('evry mote halts', 'every', 'every mote but 0'), ('mote 0 prnts flood 1', 'prints', 'mote 6 prints'),
+                ('mote 1 prints flod', 'flood', 'mote 6 prints'), ('no copy colides', 'collides', 'no copy collides'),
+                ('mote 1 prints zzz', '', 'mote 6 prints'), ('5 %', '', 'at least 90 %')):
+            with self.subTest(sentence), self.assertRaises(SentenceFault) as caught:
+                read_sentence(sentence, self.names)
+            self.assertEqual(caught.exception.like, like)
+            self.assertIn('  Example: ' + shown, caught.exception.explained.splitlines()[-1])
 
     def test_what_may_stand_is_told(self) -> None:
         for sentence, word, wanted in FAULTS:
@@ -432,71 +380,6 @@ class Files(unittest.TestCase):
         said = self.said('expect = ["mote 0 sends twice"]', str(self.expected))
         self.assertEqual(said, ('holds   mote 0 sends twice\n1 passed, 0 failed\n', '', 0))
 
-    def test_remarks_on_sentences_that_hold(self) -> None:
-        program = 'process flood, hears; code flood { body { print 1; } } code hears { body { yield; } }'
-        self.scenario.write_text(re.sub("(?m)^p = .*$", "p = '%s'" % program, SCENARIO))
-        end = 'the run ends at 100, before the period of this sentence, which begins at '
-        for sentence, remark in (
-                ('mote 0 never sends from 101 on', end + '101'),
-                ('no copy collides after 100', end + '101'),
-                ('no packet is sent at 105', end + '105'),
-                ('mote 0 sends at most 7 in each 10 from 200 to 240', end + '200'),
-                ('mote 0 never prints hears 3', 'process `hears` has no `print`, so this sentence holds in every run'),
-                ('no mote prints hears 77', 'process `hears` has no `print`, so this sentence holds in every run'),
-                ('mote 1 never sends 77', 'the program of mote 1 has no `send`, so this sentence holds in every run'),
-                ('no mote but 0 sends 77', 'the programs of these motes have no `send`, so this sentence holds in '
-                 'every run'),
-                ('no mote but motes 1 to 3 sends once', 'mote 0 has 2 such lines: this sentence is only about the '
-                 'exact number, `once`. To include greater numbers, write: no mote but motes 1 to 3 sends at least once'),
-                ('no mote prints flood 1 twice', ''),
-                ('at most 1 mote sends exactly 1 time by 40', ''),
-                ('mote 0 never prints flood 77', ''), ('no copy collides by 40', ''), ('mote 0 sends by 500', ''),
-                ('no mote halts twice', '')):
-            with self.subTest(sentence):
-                out = self.said('expect = ["%s"]' % sentence)[0]
-                self.assertEqual(out.splitlines(), ['holds   ' + sentence, *['          ' + remark] * bool(remark),
-                                                    '1 passed, 0 failed'])
-        self.scenario.write_text(self.scenario.read_text().replace('print 1;', 'send 1;'))
-        self.assertEqual(len(self.said('expect = ["mote 0 never sends 77"]')[0].splitlines()), 2)
-
-    def test_remarks_on_the_order_of_an_event_that_does_not_occur(self) -> None:
-        program = 'process flood, hears; code flood { body { send 1; print 1; } } code hears { body { print 2; } }'
-        self.scenario.write_text(re.sub("(?m)^p = .*$", "p = '%s'" % program, SCENARIO))
-        seen = '          `%s` doesn\'t occur in this run, so this sentence checks no order'
-        for sentence, event in (
-                ('no mote sends after mote 2 halts', 'mote 2 halts'),
-                ('mote 1 never sends after mote 2 halts', 'mote 2 halts'),
-                ('mote 0 sends at most 9 within 5 of receiving 7', 'receiving 7'),
-                ('mote 1 prints flood 1 before mote 2 halts', 'mote 2 halts'),
-                ('motes 0 to 3 together never send after motes 0 to 2 together halt', 'motes 0 to 2 together halt'),
-                ('no mote sends after mote 3 halts', None), ('mote 1 never sends after mote 3 halts', None),
-                ('mote 1 prints flood 1 before mote 3 halts', None),
-                ('no mote sends within 1 of receiving 2', 'receiving 2'), ('no mote sends 9 after receiving 1', None)):
-            with self.subTest(sentence):
-                out = self.said('expect = ["%s"]' % sentence)[0].splitlines()
-                self.assertEqual(out, ['holds   ' + sentence, *([seen % event] if event else []),
-                                       '1 passed, 0 failed'])
-
-    def test_remarks_on_copies_that_cannot_have_an_outcome(self) -> None:
-        text = re.sub("(?m)^p = .*$", "p = 'process flood, hears;'", SCENARIO)
-        collisions = 'the scenario has no `collide = true`, so no copy collides in any run'
-        for scenario, sentence, remark in (
-                (text, 'no copy collides at mote 2', ''),
-                (text.replace('collide = true', 'collide = false'), 'no copy collides at mote 2', collisions),
-                (text.replace('version = 2', 'version = 1').replace('collide = true\n', ''),
-                 'at most 5 copies collide', collisions),
-                (text, 'no copy is lost at mote 1', ''),
-                (text.partition('[[loss]]')[0], 'no copy is lost at mote 1',
-                 'no link of the scenario loses a packet, so no copy is lost in any run'),
-                (text, 'every copy arrives at mote 0', ''),
-                (text.replace('end = 100', 'end = 20  # not end = 100'), 'every copy arrives at mote 0',
-                 'no copy was due in this run, so this sentence checks nothing')):
-            with self.subTest(sentence):
-                self.scenario.write_text(scenario)
-                out = self.said('expect = ["%s"]' % sentence)[0].splitlines()
-                self.assertEqual(out, ['holds   ' + sentence, *['          ' + remark] * bool(remark),
-                                       '1 passed, 0 failed'])
-
     def test_a_run_that_meets_a_limit_is_told_of_the_scenario(self) -> None:
         with mock.patch.object(Runner, 'answer', side_effect=LimitMet('report', Limits())):
             out, err, code = self.said('expect = ["no mote halts"]')
@@ -517,12 +400,6 @@ class Files(unittest.TestCase):
         self.assertEqual(code, 1)
         # (tools/explain would run the unchanged scenario)
         self.assertNotIn('explain', out)
-
-    def test_a_program_in_c_has_to_be_translated(self) -> None:
-        self.scenario.write_text('#include "contiki.h"\nPROCESS(p, "p");\n')
-        out, _, code = self.said('expect = ["no mote halts"]')
-        self.assertIn('\ntools/explain %s --apply NEW.toml writes a scenario' % self.scenario, out)
-        self.assertEqual(code, 1)
 
     def test_where_the_scenario_is_refused_tools_explain_is_named(self) -> None:
         self.scenario.write_text(self.scenario.read_text().replace('end = 100', 'end = 2000000'))
@@ -548,45 +425,6 @@ class Files(unittest.TestCase):
             self.scenario.with_name('other.expect.toml'), self.scenario)
         self.assertEqual(self.said('expect = ["mote 0 sends"]'), ('', seen, 2))
 
-    def test_remarks_on_numbers_of_motes_that_are_always_right_or_never(self) -> None:
-        about = 'this sentence is about 4 motes, so `%s` is %s true'
-        for sentence, remark in (
-                ('at least 110 % of motes send', about % ('at least 110 %', 'never')),
-                ('exactly 9 motes send', about % ('exactly 9', 'never')),
-                ('at most 4 motes send', about % ('at most 4', 'always')),
-                ('more than 2 motes but motes 0 and 1 send',
-                 'this sentence is about 2 motes, so `more than 2` is never true'),
-                ('exactly 30 % of motes send', about % ('exactly 30 %', 'never')),
-                ('at most 100 % of copies arrive', 'a share is 0 to 100 %, so `at most 100 %` is always true'),
-                ('at least 101 % of copies arrive', 'a share is 0 to 100 %, so `at least 101 %` is never true')):
-            with self.subTest(sentence):
-                self.assertIn('          ' + remark, self.said('expect = ["%s"]' % sentence)[0].splitlines())
-        for sentence in 'at most 3 motes send', 'exactly 25 % of motes send', 'at least 100 % of copies arrive':
-            with self.subTest(sentence):
-                self.assertNotIn('so `', self.said('expect = ["%s"]' % sentence)[0])
-
-    def test_remarks_on_sentences_about_no_mote(self) -> None:
-        about = ('          this sentence is about no mote, because `but` leaves out all of its motes, '
-                 'so it is %s in every run')
-        for sentence, result in (('every mote but 0 to 3 sends', 'true'), ('no mote but 0 to 3 sends', 'true'),
-                                 ('some mote but 0 to 3 sends', 'false')):
-            with self.subTest(sentence):
-                self.assertIn(about % result, self.said('expect = ["%s"]' % sentence)[0].splitlines())
-        self.assertNotIn('about no mote', self.said('expect = ["every mote but 0 to 2 sends"]')[0])
-
-    def test_a_missing_process_is_one_of_the_mote(self) -> None:
-        names = Names(('etimer', 'client', 'server'), 3, (('client',), ('server', 'client'), ()))
-        for mote, meant in (0, 'client'), (1, 'client'), (2, 'server'), (3, None):
-            with self.subTest(mote), self.assertRaises(SentenceFault) as raised:
-                read_sentence('mote %d prints 48 once' % mote, names)
-            line = 'Did you mean: mote %d prints %s 48 once' % (mote, meant)
-            self.assertEqual(line in str(raised.exception), meant is not None, raised.exception)
-        text = SCENARIO.replace('[programs]', "[programs]\nlast = 'process z; code z { body { } }'", 1)
-        names = names_of(Scenario.parse(text))
-        assert names.processes
-        self.assertEqual((len(names.own), any('z' in it for it in names.own), 'z' in names.processes),
-                         (names.motes, False, True))
-
     def test_faults_have_status_2(self) -> None:
         change = 'expect = ["mote 0 sends"]\n[[change]]\nexpect = ["mote 0 sends"]\n'
         for text, seen in [
@@ -594,20 +432,6 @@ class Files(unittest.TestCase):
             ('expect = ["mote 0 prnts x 1"]', 'Did you mean: prints\n'),
             ('expect = ["evry mote halts"]', 'Did you mean: every\n'),
             ('expect = ["mote 0 sends twise"]', 'Did you mean: twice\n'), ('expect = [', 'is not TOML'),
-            ('expect = ["mote 0 sends 1 time"]', 'Did you mean: mote 0 sends exactly 1 time\n'),
-            ('expect = ["mote 0 prints flood 1 time"]', 'Did you mean: mote 0 prints flood exactly 1 time\n'),
-            ('expect = ["mote 0 sends at leats 2 times"]', 'Did you mean: mote 0 sends at least 2 times\n'),
-            ('expect = ["mote 0 sends at mosst once"]', 'Did you mean: mote 0 sends at most once\n'),
-            ('expect = ["mote 0 sends at 3 tmes"]', 'Allowed here'),
-            ('expect = ["mote 0 prints flood ${n} by 60"]',
-             'Hint: a sentence has no parameters, so `${n}` isn\'t replaced by a value: write the value itself.'),
-            ('expect = ["motes 1-3 send"]', 'Did you mean: motes 1 to 3 send\n'),
-            ('expect = ["motes 1..3 send"]', 'Did you mean: motes 1 to 3 send\n'),
-            ('expect = ["mote 0 prints flood -1"]', 'Did you mean: mote 0 prints flood 65535\n'),
-            ('expect = ["mote 0 sends -2 by 60"]', 'Did you mean: mote 0 sends 65534 by 60\n'),
-            ('expect = ["the report has 100 lines"]', 'Did you mean: the report has exactly 100 lines\n'),
-            ('expect = ["6 packets are sent"]', 'Did you mean: exactly 6 packets are sent\n'),
-            ('expect = ["1 copy is lost"]', 'Did you mean: exactly 1 copy is lost\n'),
             ('', 'expects nothing: write sentences, such as `expect = ["mote 0 sends twice", "no mote halts"]`'),
             ('no mote halts', 'each sentence is in quotes, with commas between them: `expect = ["mote 0 sends'),
             ('expect = "x"', 'is not an array'), ('wanted = []', 'has a key wanted'),
@@ -643,7 +467,7 @@ class Files(unittest.TestCase):
         err = self.said(text)[1].splitlines()
         self.assertRegex(err[0], '^expect: /.*/a.expect.toml: sentence 1 is not known$')
         self.assertIn('sentence 3 is not known', err)
-        self.assertEqual(err[-1].strip(), 'Did you mean: twice')
+        self.assertIn('  Did you mean: twice', err)
         with self.assertRaises(UnknownSentence) as raised:
             read_all(['mote 0 hops', 'mote 0 sends', 'mote 0 jumps'], Names())
         self.assertEqual(raised.exception.which, 'sentences 1, 3 are not known')

@@ -225,13 +225,6 @@ SENTENCES: list[tuple[str, str | None, int | None]] = [
      'the motes together print 1, which is not in the list', 14),
 ]
 REFUSED = [
-    ('any mote sends', 'Hint: write `every mote` or `some mote`.'),
-    ('nobody halts', 'Hint: write `no mote`.'),
-    ('mote 1 always sends', 'Hint: write what must not happen'),
-    ('node 1 sends', 'Hint: write `mote`.'),
-    ('mote 1 should send', 'Hint: write only the verb'),
-    ('mote 1 sends when mote 2 prints', 'Hint: two events are put in order by'),
-    ('mote 1 sends until 30', 'Hint: two events are put in order by'),
     ('mote 1 sends within 10', 'of'),
     ('mote 1 sends at least 3 times within 10 of each time it receives', 'the end'),
     ('mote 1 sends at 10 plus 3 for each hop from mote 0 within 10 of each time it receives', 'the end'),
@@ -240,7 +233,6 @@ REFUSED = [
     ('all motes never finally print a 1', 'print, without `just` or `finally`'),
     ('mote 1 sends exactly 2 times as often as mote 2 prints just a 1', 'prints, without `just` or `finally`'),
     ('mote 1 sends after printing just a 1', 'printing, without `just` or `finally`'),
-    ('mote 1 sends twice as often as mote 0 in each 10 from 0 to 99', 'Hint: write `in each` in front of the'),
     ('at least 50 % of packets are sent', 'copies'),
     ('mote 1 sends at least 50 %', 'as often as'),
 ]
@@ -292,120 +284,6 @@ class Sentences(unittest.TestCase):
                 'receives exactly %d before sending', 1):
             self.assertIsNone(judge.broken(read_sentence('mote 0 ' + sentence % number, names)))
         self.assertLess(time.process_time() - begun, 3)
-
-    def test_what_is_nearly_right(self) -> None:
-        names = names_of(self.scenario)
-        for sentence, like in (
-                ('mote 1 prints a 1 at moment 13', 'mote 1 prints a 1 at 13'),
-                ('mote 1 prints a 1 after 12 moments', 'mote 1 prints a 1 after 12'),
-                ('mote 1 prints a 1 between moment 3 and moment 20', 'mote 1 prints a 1 between 3 and 20'),
-                ("mote 1 doesn't halt", 'mote 1 never halts'), ("motes 1 and 2 don't halt", 'motes 1 and 2 never halt'),
-                ('mote 1 must send 1', 'mote 1 sends 1'), ('mote 1 hears mote 0', 'mote 1 can hear mote 0'),
-                ("mote 1 prints a '1'", 'mote 1 prints a 1'), ('mote 1 gets 1', 'mote 1 receives 1'),
-                ('mote 1 recieves 1', 'mote 1 receives 1'), ('mote 1 receives a packet', 'mote 1 receives'),
-                ('mote 1 sends 2 packets', 'mote 1 sends exactly 2 times'),
-                ('every mote sends one packet', 'every mote sends exactly once'),
-                ('no mote sends more than 3 packets', 'no mote sends more than 3 times'),
-                ('mote 1 at most once sends 1', 'mote 1 sends 1 at most once'),
-                ('at most twice mote 1 sends after 5', 'mote 1 sends at most twice after 5'),
-                ('never mote 1 sends', 'mote 1 never sends'), ('mote 1 never sent', 'mote 1 never sends'),
-                ('mote 1 sends atleast 3 times', 'mote 1 sends at least 3 times'),
-                ('mote 1 sends at mots 3', 'mote 1 sends at most 3'),
-                ('mote 1 sends less than 3 times', 'mote 1 sends fewer than 3 times'),
-                ('mote 1 sends 1 not more than 3 times', 'mote 1 sends 1 at most 3 times'),
-                ('mote 1 prints a 1 3 times', 'mote 1 prints a 1 exactly 3 times'),
-                ('mote 1 sends within 3 moments after recieving 1', 'mote 1 sends within 3 of receiving 1'),
-                ('mote 1 sends withing 3 of receving', 'mote 1 sends within 3 of receiving'),
-                ('mote 1 prnts a 1 befor 13', 'mote 1 prints a 1 before 13'),
-                ('mote 1 prints a 1 until 13', 'mote 1 prints a 1 by 13'),
-                ('mote 1 sends once every 10 from 0 to 99', 'mote 1 sends once in each 10 from 0 to 99'),
-                ('exactly 3 packets is sent', 'exactly 3 packets are sent'), ('mote 1 sends befor 13', 'before'),
-                ('mote 1 prints a its number of hops from mote 0', 'mote 1 prints a its distance from mote 0'),
-                ('mote 1 prints a the distance to mote 0', 'mote 1 prints a its distance from mote 0'),
-                ('mote 1 prints a its hop count from 0', 'mote 1 prints a its distance from mote 0'),
-                ('every mote finally prints a the number of hops to mote 2',
-                 'every mote finally prints a its distance from mote 2'),
-                ('all motes halt never', 'all motes never halt'), ('no packets collide', 'no copy collides'),
-                ('there are no collisions', 'no copy collides'),
-                ('node 1 doesn\'t receive a packet before moment 5', 'mote 1 never receives before 5'),
-                ('report has 9 lines', 'the report has exactly 9 lines'),
-                ('mote 1 sends just once', 'mote 1 sends exactly once'),
-                ('mote 1 sends only after receiving 1', 'mote 1 sends after receiving 1'),
-                ('mote 1 prints a value 1', 'mote 1 prints a 1'), ('mote 1 sends packets', 'mote 1 sends'),
-                ('mote 1 receives packets from mote 0', 'mote 1 receives from mote 0'),
-                ('mote 1 receives at least one packet', 'mote 1 receives at least once'),
-                ('mote 1 sends 7 to mote 0', 'mote 0 receives 7 from mote 1'),
-                ('mote 1 sends to mote 0', 'mote 0 receives from mote 1'),
-                ('mote 1 only prints a 1, 2', 'mote 1 prints just a 1, 2'),
-                ('mote 1 prints a exactly 1, 2', 'mote 1 prints just a 1, 2'),
-                ('mote 1 prints a just 1', 'mote 1 prints just a 1'),
-                ('mote 1 prints a 1..3', 'mote 1 prints just a 1 to 3'),
-                ('mote 1 prints a 1-3', 'mote 1 prints just a 1 to 3'),
-                ('mote one sends', 'mote 1 sends'), ('mote 1 prints a one', 'mote 1 prints a 1'),
-                ('the mote 1 sends', 'mote 1 sends'), ('mote 1 sends, by 60', 'mote 1 sends by 60'),
-                ('mote 1 sends by 60 (3 points)', 'mote 1 sends by 60'),
-                ('mote1 sends', 'mote 1 sends'), ('mote 1 and mote 2 send 1', 'motes 1 and 2 send 1'),
-                ('mote 1 outputs a 1', 'mote 1 prints a 1'), ('no mote crashes', 'no mote halts'),
-                ('every mote runs a', 'every mote starts a'), ('mote 1 prints "a 1" by 20', 'mote 1 prints a 1 by 20'),
-                ('mote 1 prints a=1', 'mote 1 prints a 1'), ('mote 1 prints a: 1', 'mote 1 prints a 1'),
-                ('mote 1 sends exactly one time', 'mote 1 sends exactly once'),
-                ('mote 1 sends two times', 'mote 1 sends twice'),
-                ('mote 1 sends three times', 'mote 1 sends exactly 3 times'),
-                ('mote 1 sends minimum 3 packets', 'mote 1 sends at least 3 times'),
-                ('mote 1 sends max. 3 times', 'mote 1 sends at most 3 times'),
-                ('mote 1 sends up to 3 times', 'mote 1 sends at most 3 times'),
-                ('half of the motes send', 'at least 50 % of motes send'),
-                ('most motes send', 'more than 50 % of motes send'), ('all packets arrive', 'every copy arrives'),
-                ('total of 3 packets sent', 'exactly 3 packets are sent'),
-                ('mote 1 sends nothing', 'mote 1 never sends'),
-                ('mote 1 never prints nothing', 'mote 1 never prints'),
-                ("mote 1 doesn't print anything", 'mote 1 never prints'),
-                ('mote 1 hears from mote 0', 'mote 1 receives from mote 0'),
-                ('mote 1 gets message 1 by 60', 'mote 1 receives 1 by 60'),
-                ('mote 1 receives 1 from 0', 'mote 1 receives 1 from mote 0'),
-                ('mote 1 receives at least 3 from mote 0', 'mote 1 receives from mote 0 at least 3 times'),
-                ('mote 1 receives 2 packets from mote 0', 'mote 1 receives from mote 0 exactly 2 times'),
-                ('mote 1 prints a 1 at most 6 moments after mote 0 sends',
-                 'mote 1 prints a 1 within 6 of mote 0 sends'),
-                ('mote 1 prints a 1 not before 46', 'mote 1 never prints a 1 before 46'),
-                ('mote 1 prints a 1 no earlier than 46', 'mote 1 never prints a 1 before 46'),
-                ('mote 1 prints a 1 not later than 46', 'mote 1 prints a 1 by 46'),
-                ('mote 1 prints a 1 in 10 moments', 'mote 1 prints a 1 by 10'),
-                ('mote 1 sends between moments 4 and 5', 'mote 1 sends between 4 and 5'),
-                ('mote 1 prints only a 1, 2', 'mote 1 prints just a 1, 2'),
-                ('mote 1 prints a 1 and 2', 'mote 1 prints just a 1, 2'),
-                ('mote 1 prints a 1, then a 2 and a 3', 'mote 1 prints just a 1, 2, 3'),
-                ('mote 1 last prints a 1', 'mote 1 finally prints a 1'),
-                ('mote 1 prints a 1 at the end', 'mote 1 finally prints a 1'),
-                ('mote 1 ends with a 1', 'mote 1 finally prints a 1'),
-                ('mote 1 sends as often as mote 2', 'mote 1 sends exactly 1 times as often as mote 2'),
-                ('mote 1 sends more packets than mote 2', 'mote 1 sends more than 1 times as often as mote 2'),
-                ('fewer packets than 8 are sent', 'fewer than 8 packets are sent'),
-                ('mote 1 has printed a 1', 'mote 1 prints a 1')):
-            with self.subTest(sentence):
-                with self.assertRaises(SentenceFault) as caught:
-                    read_sentence(sentence, names)
-                self.assertIn('  Did you mean: %s' % like, caught.exception.explained.splitlines())
-                if like != 'before':
-                    read_sentence(like, names)
-
-    def test_advice_on_a_word_is_better_than_a_word_that_looks_like_it(self) -> None:
-        names = names_of(self.scenario)
-        for sentence, advice in (('at least 3 motes out of 5 send', 'a share of motes is in per cent, as in'),
-                                 ('mote 1 has sends 1', 'write only the verb'),
-                                 ('mote 1 receives from motes 0 and 2', 'a packet has one sender'),
-                                 ('mote 1 sends packet 1', 'a packet is named by its value'),
-                                 ('mote 1 sends by 0.5', 'numbers are whole'),
-                                 ('mote 1 sends and mote 2 halts', 'write two sentences'),
-                                 ('mote 1 sends by 60; no mote halts', 'write two sentences'),
-                                 ('mote 1 sends by 60s', 'a program translated from C has 128 moments in a second'),
-                                 ('mote 1 sends by 60 ms', 'write the number of a moment'),
-                                 ('mote 1 prints a 1 then mote 2 sends', 'two events are put in order by')):
-            with self.assertRaises(SentenceFault) as caught:
-                read_sentence(sentence, names)
-            said = caught.exception.explained
-            self.assertTrue(advice in said or 'Did you mean: mote 1 sends 1' in said, said)
-            self.assertNotRegex(said, r'Did you mean: \w+$')
 
     def test_what_is_refused(self) -> None:
         for sentence, seen in REFUSED:

@@ -12,7 +12,6 @@ from motesim.faults import Fault
 from motesim.files import refuse_inputs
 from motesim.report import FIELDS, KINDS, Line, Packet, Report
 from motesim.runner.run import Run, read_run
-from motesim.timeline.html import write_page
 
 LETTERS = 'AB'
 PACKETS_BEFORE, EVENTS_BEFORE = 3, 4
@@ -285,6 +284,7 @@ def compared(a: Run, b: Run, most: int) -> tuple[list[str], Difference | None, b
 
 def write_html(path: str, a: Run, b: Run, first: Difference | None) -> None:
     """Writes both timelines, one above the other, from the first difference on."""
+    from motesim.timeline.html import write_page
     mote = first.mote if first else None
     if first and first.mote == MEDIUM:
         mote = packet_of((a.report, b.report), first).sender

@@ -21,7 +21,8 @@ from types import ModuleType
 from typing import Any
 
 from motesim.experiments.ignored import RECEIVED, of_ignored
-from motesim.explain.synonyms import known, nearest
+from motesim.explain.synonyms import known
+from motesim.text import nearest
 from motesim.judge import judge as judges
 from motesim.summary import counts as summary
 from motesim.faults import Fault
@@ -29,14 +30,13 @@ from motesim.summary.flows import NAMES as FLOW_NAMES
 from motesim.summary.flows import FlowFault, flow_rows, read_flow, same_value, same_value_in_flow
 from motesim.summary.shares import share
 from motesim.judge.judge import Event, Judge
+from motesim.plan.parameters import PARAMETER
 from motesim.plan.tables import Value
 from motesim.report import Line
 from motesim.runner.run import Run
 from motesim.scenario import Scenario
 from motesim.scenario.scenario import hops_over
-from motesim.judge.sentences import (
-    PARAMETER, Copies, Does, Motes, Names, Packets, Refused, Sentence, SentenceFault, read_sentence,
-)
+from motesim.judge.sentences import Copies, Does, Motes, Names, Packets, Refused, Sentence, read_sentence
 
 Cell = int | float | str | None
 
@@ -61,7 +61,6 @@ OF_COUNT = re.compile(r'(?:%s)(?:\s+of\s+mote\s+[0-9]+)?|(?:count|motes|moment|l
 # The texts of measures of packets or messages that arrive.
 OF_DELIVERY = re.compile(r'(?:ratio|received)(?:\s+of\s+mote\s+[0-9]+)?|(?:delivery|flow\s+[a-z]+)\s*:.*', re.S)
 # `just` and the process whose values follow, in a sentence that is suggested.
-JUST = re.compile(r'\bjust (\w+) (?=\d)')
 OF_PYTHON = re.compile(r'python\s*:\s*([^:]+?)\s*:\s*([A-Za-z_]\w*)')
 
 # The beginnings of the warnings about a mote that has to receive its own messages, and about a line of both sentences.
@@ -283,24 +282,12 @@ def _guarded(work: Callable[[Judge], Cell]) -> Callable[[Bench], Cell]:
     return of
 
 
-def _read(kind: str, sentence: str, names: Names) -> Sentence:
-    """Reads the sentence of a measure. `just` is only suggested to `holds`: the other measures are about single
-    lines."""
-    try:
-        return read_sentence(sentence, names)
-    except SentenceFault as fault:
-        like = JUST.sub(r'\1 any of ', fault.like)
-        if kind == 'holds' or like == fault.like:
-            raise
-        raise SentenceFault(sentence, fault.place, fault.wanted, fault.hint, like) from None
-
-
 def _of_sentence(kind: str, words: str, names: Names) -> Callable[[Bench], Cell]:
     parts = [part.strip() for part in words.split('->')]
     if len(parts) != (2 if kind in OF_TWO else 1):
         raise MeasureFault('%s need two sentences, `A -> B`%s' % (
             ' and '.join(OF_TWO), '; other measures need one' if '->' in words else ''))
-    sentences = [_read(kind, part, names) for part in parts]
+    sentences = [read_sentence(part, names) for part in parts]
     first = sentences[0]
     if isinstance(first, Refused):
         raise MeasureFault('nothing can be measured in a run that has no report')

@@ -7,7 +7,7 @@ from typing import NamedTuple
 from motesim.analysis.points import SEPARATES, Wish
 from motesim.experiments.selected import texts_of
 from motesim.experiments.wishes import WHERE, check_by, wishes_of
-from motesim.explain.synonyms import nearest
+from motesim.text import nearest
 from motesim.faults import Fault
 from motesim.plan.plan import Plan
 

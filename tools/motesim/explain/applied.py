@@ -11,7 +11,8 @@ from collections.abc import Callable, Iterator, Sequence
 from pathlib import Path
 from typing import NamedTuple
 
-from motesim.explain.explanation import CONTROL, explanation, is_in_c, shown_explanation, wrapped
+from motesim.explain.explanation import explanation, is_in_c, shown_explanation
+from motesim.text import CONTROL, wrapped
 from motesim.explain.followed import followed
 from motesim.explain.hints import OF_C
 from motesim.faults import Fault

@@ -2,7 +2,6 @@
 from __future__ import annotations
 
 import re
-import textwrap
 from collections.abc import Callable
 from typing import Any
 
@@ -21,13 +20,11 @@ from motesim.scenario import Scenario
 from motesim.scenario.faults import Place, ScenarioError
 from motesim.scenario.kinds import is_c_file, is_program_file, is_program_in_c
 from motesim.terminal import one_line
+from motesim.text import marked, shown_place, wrapped
 from motesim.toml import MARK, NoToml, read_toml
 
-WIDTH = 112
 # The name of a text that is in no file, but in the studio.
 TEXT = 'the text'
-# (characters that a terminal would mistake for a command)
-CONTROL = re.compile(r'[\x00-\x08\x0b-\x1f\x7f-\x9f]')
 OF_REPORT = 'This is a report, not a scenario: tools/summary, tools/compare and tools/timeline read it.'
 PROGRAM = re.compile(r'program (\S+) fault (\d+) line (\d+)')
 
@@ -37,21 +34,6 @@ def error_line(got: Answer) -> str | None:
     if got.status == 0:
         return None
     return got.fault.decode('utf-8', 'backslashreplace').rstrip('\n') or 'motesim: status %d' % got.status
-
-
-def marked(line: str, column: int, length: int) -> list[str]:
-    """A line with a mark under a part of it; for a long line, only the surroundings of that part."""
-    begin = max(0, column - WIDTH // 2) if len(line) > WIDTH else 0
-    shown, before = CONTROL.sub('\ufffd', line[begin:begin + WIDTH]), column - begin
-    blank = re.sub(r'[^\t]', ' ', shown[:before])
-    return ['  ' + shown, '  ' + blank + '^' * max(1, min(length, len(shown) - before))]
-
-
-def shown_place(name: str, text: str, place: Place) -> list[str]:
-    """The lines that show a place of the scenario."""
-    lines = text.split('\n')
-    line = lines[place.line - 1].rstrip('\r') if place.line <= len(lines) else ''
-    return ['%s, line %d:' % (one_line(name), place.line), *marked(line, place.column, place.length)]
 
 
 def program_line(text: str, program: str, token: program_faults.Token) -> str:
@@ -114,10 +96,6 @@ def shown_program(name: str, text: str, program: str, token: program_faults.Toke
     row = 'line %d, which is ' % found.line if found else ''
     where = '%s, %sline %d of program %s:' % (one_line(name), row, token.line, one_line(program))
     return [where, *marked(program_line(text, program, token), token.column, len(token.text))]
-
-
-def wrapped(text: str) -> list[str]:
-    return textwrap.wrap(text, WIDTH, subsequent_indent='  ', break_long_words=False, break_on_hyphens=False)
 
 
 def of_program(name: str, text: str, program: str, its: program_faults.ProgramError) -> list[str]:

@@ -11,7 +11,8 @@ import re
 from motesim.from_c.declarations import NO_CONSTANTS
 from motesim.from_c.expressions import TOO_LARGE
 from motesim.explain import characters, quotes
-from motesim.explain.synonyms import at, is_about_chance, like_of_missing, nearest
+from motesim.explain.synonyms import at, is_about_chance, like_of_missing
+from motesim.text import nearest
 from motesim.notation.keywords import RESERVED
 from motesim.notation.parentheses import written
 from motesim.notation.faults import OPERATORS, STATEMENTS, ProgramError, Token, tokens_of

@@ -1,10 +1,10 @@
 """Keys that people who know other formats write, and the keys of a scenario that they mean."""
 from __future__ import annotations
 
-import difflib
 from collections.abc import Iterable, Sequence
 
 from motesim.scenario.faults import LOSS, MEDIUM, MOTE, TOP, ScenarioError
+from motesim.text import nearest as nearest
 
 # For each key, its names in other tools.
 SYNONYMS = {
@@ -41,12 +41,6 @@ def at(tables: object, path: tuple[str | int, ...]) -> object:
         except (KeyError, IndexError, TypeError):
             return None
     return tables
-
-
-def nearest(word: str, known: Iterable[str], least: float = 0.6) -> str | None:
-    """The known word that is most similar to this one, if one is similar: with at least this ratio of difflib."""
-    found = difflib.get_close_matches(word.lower(), list(known), 1, least)
-    return found[0] if found and found[0] != word else None
 
 
 def known(name: str, names: Sequence[str], others: Sequence[str] = ()) -> str:

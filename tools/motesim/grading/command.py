@@ -9,7 +9,7 @@ from collections.abc import Sequence
 from functools import partial
 from pathlib import Path
 
-from motesim.explain.synonyms import nearest
+from motesim.text import nearest
 from motesim.faults import Fault
 from motesim.files import refuse_inputs, replace_whole
 from motesim.grading import page, tables

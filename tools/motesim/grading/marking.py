@@ -371,7 +371,7 @@ def first_shown(marks: Marks, found: Sequence[InNet]) -> tuple[int, InNet | None
 
 def remark_or_none(text: str, sentence: Sentence, judge: Judge, holds: bool) -> str:
     """The remark on a sentence. A mark doesn't depend on it, so an error in it leaves it out."""
-    return tried(lambda: remark_of(text, sentence, judge, holds), lambda words: '')
+    return tried(lambda: remark_of(sentence, judge, holds), lambda words: '')
 
 
 def halt_of(report: Report) -> str:

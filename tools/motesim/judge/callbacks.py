@@ -10,13 +10,12 @@ import re
 from collections.abc import Iterator, Sequence
 from typing import NamedTuple
 
-from motesim.explain.lint import TRANSLATED
 from motesim.judge.judge import Broken, Judge
 from motesim.judge.sentences import Sentence
 from motesim.report import Report
 from motesim.scenario import Scenario
 
-EVENTS = 'post', 'take'
+EVENTS, TRANSLATED = ('post', 'take'), '// Translated from '
 # The process of Contiki in which the callback runs.
 OF_RADIO = 'radio'
 OF_CALLBACK = 'the callback for packets prints this, and counts for %s: in C, a callback belongs to no process'

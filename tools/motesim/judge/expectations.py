@@ -11,7 +11,7 @@ from pathlib import Path
 from typing import Any, NamedTuple
 
 from motesim.faults import Fault
-from motesim.explain.synonyms import nearest
+from motesim.text import nearest
 from motesim.judge.callbacks import of_callbacks
 from motesim.judge.judge import Broken, Judge
 from motesim.judge.remarks import remark_of
@@ -193,7 +193,7 @@ def of_report(part: Part, sentences: list[Sentence], judge: Judge) -> list[Verdi
         if at in by_callback:
             found.append(Verdict(text, True, [], remark=by_callback[at]))
             continue
-        remark = remark_of(text, sentence, judge, broken is None)
+        remark = remark_of(sentence, judge, broken is None)
         found.append(Verdict(text, broken is None, more_of(broken, judge.rows) if broken else [], remark=remark))
     return found + ([same_report(judge.rows, part.report)] if part.report is not None else [])
 

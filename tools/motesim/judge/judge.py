@@ -293,7 +293,7 @@ class Judge:
                 return None
             is_event = it.relation is not None and it.relation.kind == 'each'
             is_shown = broken.row is not None or events or it.than or is_event
-            more = '' if is_shown else self.other_value(it, motes) or self.other_process(it, motes)
+            more = '' if is_shown else self.other_value(it, motes)
             more = '; ' + more if more else ''
             return Broken(broken.why + more + remark_on(it.deed, motes, self.values), broken.row)
         except Apart as apart:
@@ -339,34 +339,6 @@ class Judge:
         sender = ' from mote %s' % line.sender if line.kind == 'recv' else ''
         more = ', and %d other%s' % (len(inside) - 1, '' if len(inside) == 2 else 's') if len(inside) > 1 else ''
         return '%s %s %s%s at moment %d%s' % (who, what, line.value, sender, line.at, more)
-
-    def other_process(self, it: Does, motes: tuple[int, ...]) -> str:
-        """The process that prints the wanted values instead of the process of the sentence, and what it prints, in
-        words; empty if there is none, or if the sentence names no process."""
-        pattern, deed = it.deed.patterns[0], it.deed
-        if len(deed.patterns) > 1 or pattern[0] != 'print' or len(pattern) < 2 or pattern[1] is None:
-            return ''
-        found = [event for mote in motes for event in self.matches(('print', None, None), mote)]
-        printed: dict[str, list[int]] = {}
-        for event in sorted(self.within(found, it.window, motes), key=lambda it: (it.line.at, it.row)):
-            if event.line.process and event.line.process != pattern[1] and event.line.value is not None:
-                printed.setdefault(event.line.process, []).append(event.line.value)
-        return next(('process %s prints %s' % (name, 'exactly these values' if deed.way in ('just', 'set') else
-                                               'this value') for name, values in printed.items()
-                     if self.is_wanted(it, values, motes[0])), '')
-
-    def is_wanted(self, it: Does, values: list[int], mote: int) -> bool:
-        """Returns whether printed values are those that a sentence wants."""
-        deed, wanted = it.deed, it.deed.patterns[0][-1]
-        if deed.way == 'set':
-            return sorted(values) == sorted(deed.values)
-        if deed.way == 'just':
-            listed = self.listed(deed, mote)
-            return len(values) == len(listed) and all(value in one for value, one in zip(values, listed))
-        if deed.way == 'finally':
-            return deed.value is not None and values[-1] in self.values(deed.value, mote)
-        return isinstance(wanted, Value) and it.count.least > 0 and any(
-            value in self.values(wanted, mote) for value in values)
 
     def chosen(self, motes: Motes) -> tuple[int, ...]:
         numbers = range(len(self.report.motes)) if motes.numbers is None else sorted(motes.numbers)

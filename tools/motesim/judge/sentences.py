@@ -8,24 +8,18 @@ from __future__ import annotations
 
 import operator
 import re
-import textwrap
 from collections.abc import Callable, Sequence
 from dataclasses import dataclass
 
-from motesim.c_program.names import similar
 from motesim.faults import Fault
-from motesim.explain.synonyms import nearest
-from motesim.judge.nearly import rewritten
 from motesim.notation.keywords import SYSTEM
 from motesim.report import FIELDS, MOST_MOMENT, MOST_WORD
 from motesim.scenario import Scenario
+from motesim.text import nearest, wrapped
 
-WIDTH = 110
-# The beginning of the list of processes among the allowed words; and the least ratio, as difflib computes it, of a word
-# and another word that is surely meant, even if the word may be the name of a process.
-OF_PROCESSES, LIKELY = 'a process (', 0.75
+# The beginning of the list of processes among the allowed words.
+OF_PROCESSES = 'a process ('
 LONGEST_NUMBER, MOST, MOST_MOTES = 9, 999_999_999, 1_000
-NAME_IN_C = re.compile(r'[A-Za-z_]\w*', re.A)
 NAME = re.compile('[a-z][a-z0-9_]*')
 # The words behind a deed, which are no names if the names aren't known.
 BEHIND_DEED = ('at', 'by', 'before', 'after', 'between', 'in', 'from', 'exactly', 'more', 'fewer', 'once', 'twice',
@@ -35,111 +29,32 @@ COMPARES = {
     'at least': operator.ge, 'at most': operator.le, 'exactly': operator.eq, 'more than': operator.gt,
     'fewer than': operator.lt,
 }
-# A range of counts, which sentences don't have.
-COUNT_RANGE = re.compile(r'\b(?:between |from )?(?P<least>\d+)(?: and | to | ?- ?)(?P<most>\d+) '
-                         r'(?:times|packets|messages)\b', re.I)
-# The greatest number of times that a sentence is read, each time with one more word respelled.
-MOST_READINGS = 4
 VERBS = ('print', 'send', 'receive', 'start', 'leave', 'halt', 'write')
 
 
-def meant(rest: str, wanted: list[str]) -> str | None:
-    """The allowed word that was most likely meant by the first word of `rest`."""
+# Sentences of all kinds; an error shows the one that has the most words in common with the sentence.
+EXAMPLES = (
+    'mote 6 prints flood 1 by 60', 'every mote but 0 prints flood its distance from mote 0',
+    'mote 3 prints just flood 1, 2, 3', 'every mote finally prints flood 7', 'no mote sends more than twice',
+    'motes 3 to 7 together send at most 2 times between 40 and 160', 'at least 90 % of motes receive 1 from mote 0',
+    'mote 3 never halts', 'mote 6 sends 1 within 10 of receiving 1', 'mote 6 prints flood 1 after mote 0 sends 1',
+    'exactly 1 mote sends in each 120 from 0 to 1199', 'mote 1 sends at least 80 % as often as mote 0',
+    "mote 1 writes 'post 0 flood'", 'at least 90 % of copies arrive', 'no copy collides at mote 3',
+    'exactly 75 packets are sent', 'the report has at most 2000 lines', 'mote 1 can hear mote 0',
+)
+
+
+def meant(rest: str, wanted: Sequence[str]) -> str | None:
+    """The allowed word that is nearest to the first word of `rest`."""
     word = re.match(r'[A-Za-z_]\w{2,}', rest)
     names = [name for it in wanted for name in re.findall(r'\w+', it.partition('(')[2] or it.split()[0])]
-    if not word:
-        return None
-    processes = processes_in(wanted)
-    return nearest(word[0], names, LIKELY) or nearest(word[0], processes or names)
+    return nearest(word[0], names) if word else None
 
 
-def processes_in(wanted: Sequence[str]) -> list[str]:
-    """The processes that are allowed at a place."""
-    found = next((it for it in wanted if it.startswith(OF_PROCESSES)), '')
-    return found.removeprefix(OF_PROCESSES).rstrip(')').split(', ') if found else []
-
-
-def unknown_process(rest: str, wanted: Sequence[str]) -> str | None:
-    """The hint on the name of a process that no program has, if processes of programs are allowed here."""
-    word = re.match(r'[A-Za-z_]\w*', rest)
-    its = [it for it in processes_in(wanted) if it not in SYSTEM]
-    return 'no program has a process `%s`; there are: %s.' % (word[0], ', '.join(its)) if word and its else None
-
-
-# Words that sentences don't have, each with advice on what to write instead.
-REDIRECTS = {
-    'any': 'write `every mote` or `some mote`.', 'everybody': 'write `every mote`.', 'everyone': 'write `every mote`.',
-    'everything': 'write `every mote`.', 'nobody': 'write `no mote`.', 'nothing': 'write `no mote`.',
-    'somebody': 'write `some mote`.', 'someone': 'write `some mote`.',
-    'node': 'write `mote`.', 'nodes': 'write `motes`.',
-    'always': 'write what must not happen, `mote 3 never halts`, or `in each 120 from 0 to 1199`.',
-    'eventually': 'leave it out: a sentence without TIMES and WHEN says that it happens at least once.',
-    'or': 'write `at most once` for 0 or 1 times; for one of two values, `prints a any of 0 or 1`.',
-    'only': '`prints just P 1, 2, 3` says that these are all of the values.',
-    'last': '`finally prints P VALUE` is about the last line.',
-    'message': 'write `packet`, or `copy` of each receiver.',
-    'messages': 'write `packets`, or `copies` of each receiver.',
-    'not': 'write `mote 3 never prints ..`, or `no mote ..`.',
-    'out': 'a share of motes is in per cent, as in `at least 60 % of motes`.',
-}
-REDIRECTS.update(dict.fromkeys(('s', 'sec', 'second', 'seconds', 'ms', 'milliseconds', 'minutes', 'ticks'), (
-    'write the number of a moment; a program translated from C has 128 moments in a second.')))
-REDIRECTS.update(dict.fromkeys(('packet', 'packets'), (
-    'a packet is named by its value, as in `sends 1`, or packets are counted, as in `sends twice`.')))
-REDIRECTS['.'] = 'numbers are whole.'
-REDIRECTS.update(dict.fromkeys(('and', ';'), 'write two sentences, each in its own quotes.'))
-REDIRECTS.update(dict.fromkeys(('average', 'mean', 'median'), 'a sweep measures it (docs/use/EXPERIMENTS.md).'))
-REDIRECTS.update(dict.fromkeys(('first', 'then', 'until', 'while', 'when', 'whenever', 'if'),
-                               'two events are put in order by `after`, `before` and `within 10 of`, as in '
-                               '`mote 3 sends after mote 2`.'))
-REDIRECTS.update(dict.fromkeys(('must', 'should', 'shall', 'does', 'do', 'will', 'can', 'has', 'have'),
-                               'write only the verb, `mote 3 prints a 1`.'))
-
-
-# The first words of TIMES, except `at`, after which a WHEN may follow.
-COUNTS = 'exactly', 'more', 'fewer', 'once', 'twice'
-ORDERED = ('`%s` is about all lines of a mote together, so a sentence with it has no order: write two sentences, one '
-           'with it, and one without it for the order, as in `mote 3 prints a 1 %s mote 0 sends 1`.')
-COUNTED = ('`%s` is about all lines of a mote together, so a sentence with it has no count: write two sentences, one '
-           'with it, and one without it for the count, as in `mote 3 prints a twice`.')
-
-
-FROM_EACH = 'a packet has one sender, so write a sentence for each: `mote 3 receives from mote 1`.'
-
-
-def redirected(sentence: str, place: int) -> str | None:
-    """Advice on what to write instead of the word at a place, if sentences don't have it there."""
-    word = re.match(r'[A-Za-z]+|;|[.](?=\d)', sentence[place:])
-    if word and word[0] in ('all', 'each', 'every', 'motes') and sentence[:place].endswith('from '):
-        return FROM_EACH
-    return REDIRECTS.get(word[0].lower()) if word else None
-
-
-# Several values, behind the first; and words that `just` means.
-SEVERAL = r'((, *| ?to )\d+)+'
-IN_ORDER = re.compile(r' in (this |the )?order$')
-
-
-def other_form(sentence: str, place: int, wanted: Sequence[str]) -> str | None:
-    """The sentence that was most likely meant, if it has another form: with a process, with `just`, or about a
-    copy."""
-    before, rest = sentence[:place], IN_ORDER.sub('', sentence[place:])
-    names = processes_in(wanted)
-    if names and re.search(r'\bprints? $', before) and re.match(r'\d+\b(?! times)', rest):
-        just = 'just ' if 'just' in wanted and re.match(r'\d+' + SEVERAL, rest) else ''
-        # (so many lines are meant, not a value)
-        rest = re.sub(r'^(\d+) (?:values|lines)\b', r'exactly \1 times', rest)
-        return '%s%s%s %s' % (before, just, names[-1], rest)
-    of_values = re.fullmatch(r'(.*\bprints? )(\w+ \d+)( ?)', before)
-    if of_values and re.fullmatch(SEVERAL, rest):
-        return '%sjust %s%s%s' % (*of_values.groups(), rest)
-    of_any = re.fullmatch(r'(.*\b(?:prints? \w+|sends?|receives?) )(\d+ )', before)
-    if of_any and re.match(r'(to|or) \d+', rest):
-        return '%sany of %s%s' % (*of_any.groups(), rest)
-    if before.endswith(' in ') and re.fullmatch('(this |the )?order', rest) and ' just ' in before:
-        return before.removesuffix(' in ')
-    mote = re.fullmatch(r'(mote \d+) ', before)
-    return 'some copy collides at %s' % mote[1] if mote and rest == 'collides' else None
+def example(sentence: str) -> str:
+    """The example that has the most words in common with a sentence."""
+    words = set(sentence.lower().split())
+    return max(EXAMPLES, key=lambda it: len(words.intersection(it.split())))
 
 
 def gerund(many: str) -> str:
@@ -147,28 +62,17 @@ def gerund(many: str) -> str:
     return many.removesuffix('e') + 'ing'
 
 
-# A parameter of a plan, as programs and plans write it, and the hint on it.
-PARAMETER = re.compile(r'\$\{\w*\}')
-OF_PARAMETER = 'a sentence has no parameters, so `%s` isn\'t replaced by a value: write the value itself.'
-
-
 class SentenceFault(Fault):
     """A sentence that can't be read: the place of the first word that isn't allowed, and the allowed ones."""
 
-    def __init__(self, sentence: str, place: int, wanted: list[str], hint: str = '', like: str | None = None):
-        self.sentence, self.place, self.wanted, self.hint = sentence, place, wanted, hint
+    def __init__(self, sentence: str, place: int, wanted: list[str]):
+        self.sentence, self.place, self.wanted = sentence, place, wanted
         shown = ['"%s"' % it if it.startswith(',') else it.replace(' ,', ',') for it in wanted]
-        may = textwrap.wrap('Allowed here: ' + ', '.join(shown), WIDTH, break_on_hyphens=False)
-        advice = redirected(sentence, place)
-        like = like or other_form(sentence, place, wanted) or (None if advice else meant(sentence[place:], wanted))
-        self.like = like or ''
-        lines = [sentence, ' ' * place + '^', *may]
-        lines += ['Did you mean: %s' % like] if like else []
-        hints = textwrap.wrap('Hint: %s' % hint, WIDTH, break_on_hyphens=False) if hint else []
-        more = advice or (None if like else unknown_process(sentence[place:], wanted))
-        lines += hints or ['Hint: %s' % it for it in [more] if it]
+        self.like = meant(sentence[place:], wanted) or ''
+        lines = [sentence, ' ' * place + '^', *wrapped('Allowed here: ' + ', '.join(shown))]
+        lines += ['Did you mean: ' + self.like] if self.like else []
         # (the sentence with a mark under the word, and the allowed words)
-        self.explained = '  ' + '\n  '.join(lines)
+        self.explained = '  ' + '\n  '.join([*lines, 'Example: ' + example('%s %s' % (sentence, self.like))])
         super().__init__('a sentence that is not known\n' + self.explained)
 
 
@@ -540,9 +444,6 @@ class _Reader:
     def process(self) -> str | None:
         """A process, if one is next."""
         known, word = self.names.processes, self.word()
-        if NAME_IN_C.fullmatch(word) and word not in (known or ()):
-            # (a translation from C has names that the notation can have)
-            word = similar(word)
         if word in known if known is not None else NAME.fullmatch(word) and word not in BEHIND_DEED:
             self.at += 1
             return word
@@ -654,8 +555,6 @@ class _Reader:
         never = motes.kind in ('each', 'together') and self.accept('never')
         deed = self.plain_deed() if never else self.deed()
         window, count, than = self.window(), None, None
-        if deed.way != 'any':
-            self.refuse_after(deed)
         if deed.way == 'any' and not never:
             count = self.count()
         if count:
@@ -679,16 +578,6 @@ class _Reader:
         is_counted = bool(never) or count is not None
         count = Count('at most', 0) if never else count or Count('at least', 1)
         return Does(motes, deed, count, window or Window(), than, relation, is_counted)
-
-    def refuse_after(self, deed: Deed) -> None:
-        """Refuses ORDER and TIMES after `finally` and `just`, which are about all lines together; the error explains
-        it."""
-        word = 'finally' if deed.way == 'finally' else 'just'
-        if self.word() in ('after', 'before', 'within'):
-            raise SentenceFault(self.sentence, self.places[self.at], ['the end'], ORDERED % (
-                word, 'within 10 of' if self.word() == 'within' else self.word()))
-        if self.word() in ('at', *COUNTS):
-            raise SentenceFault(self.sentence, self.places[self.at], ['the end'], COUNTED % word)
 
     def relation(self, same: Deed) -> Relation | None:
         """The position of the lines relative to other lines, if the sentence has one."""
@@ -734,8 +623,7 @@ class _Reader:
         begin = self.places[self.at]
         window = self.window() or Window()
         if window.every:
-            raise SentenceFault(self.sentence, begin, ['at', 'by', 'before', 'after', 'between', 'from'],
-                                'write `in each` in front of the comparison.')
+            raise SentenceFault(self.sentence, begin, ['at', 'by', 'before', 'after', 'between', 'from'])
         return Than(motes, deed, window)
 
     def others(self) -> Motes | None:
@@ -803,73 +691,7 @@ class _Reader:
 
 
 def read_sentence(sentence: str, names: Names = Names()) -> Sentence:
-    """Returns the meaning of a sentence. If a sentence is nearly right, its error shows the correct form."""
-    try:
-        return _read(sentence, names)
-    except SentenceFault as fault:
-        if parameter := PARAMETER.search(sentence):
-            raise SentenceFault(sentence, fault.place, fault.wanted, OF_PARAMETER % parameter[0]) from None
-        like = (next((it for it in rewritten(sentence) if _is_read(it, names)), None) or _in_two(sentence, names)
-                or _with_own_process(sentence, fault.place, names) or _respelled(sentence, names))
-        raise SentenceFault(sentence, fault.place, fault.wanted, fault.hint, like) if like else fault from None
-
-
-def _with_own_process(sentence: str, place: int, names: Names) -> str | None:
-    """The sentence `mote 0 prints p 7` for `mote 0 prints 7`, in which p is the last process of this mote."""
-    before, rest = sentence[:place], sentence[place:]
-    mote = re.search(r'\bmote (\d+) prints? $', before)
-    number = int(mote[1]) if mote else -1
-    if not 0 <= number < len(names.own) or not names.own[number] or not re.match(r'\d+\b(?! times)', rest):
-        return None
-    like = '%s%s %s' % (before, names.own[number][-1], rest)
-    return like if _is_read(like, names) else None
-
-
-def _in_two(sentence: str, names: Names) -> str | None:
-    """Two sentences that mean a range of counts, such as `between 3 and 7 times`. None if the sentence has none, or if
-    the two sentences could hold for different motes."""
-    found = COUNT_RANGE.search(sentence)
-    if not found:
-        return None
-    both = [''.join((sentence[:found.start()], bound, ' times', sentence[found.end():]))
-            for bound in ('at least ' + found['least'], 'at most ' + found['most'])]
-    for it in both:
-        if not _is_read(it, names):
-            return None
-        its = _read(it, names)
-        if not isinstance(its, Does) or its.motes.kind not in ('each', 'together'):
-            return None
-    return 'two sentences, `%s` and `%s`' % tuple(both)
-
-
-def _respelled(sentence: str, names: Names) -> str | None:
-    """A sentence that can be read: this sentence, or another form of it, with the nearest allowed words instead of
-    those that can't be read. None if there is no such sentence, or if only one word has to be replaced."""
-    for form in reversed([sentence, *rewritten(sentence)]):
-        text = form
-        for count in range(MOST_READINGS):
-            try:
-                _read(text, names)
-                # (for a single word the message names that word)
-                return text if count > 1 or form != sentence else None
-            except SentenceFault as fault:
-                word = re.match(r'\w+', text[fault.place:])
-                like = meant(text[fault.place:], fault.wanted)
-                if not (word and like):
-                    break
-                text = text[:fault.place] + like + text[fault.place + len(word[0]):]
-    return None
-
-
-def _is_read(sentence: str, names: Names) -> bool:
-    try:
-        _read(sentence, names)
-        return True
-    except SentenceFault:
-        return False
-
-
-def _read(sentence: str, names: Names) -> Sentence:
+    """Returns the meaning of a sentence. Raises a `SentenceFault` if it can't be read."""
     reader = _Reader(sentence, names)
     found = reader.sentence_here()
     reader.end()

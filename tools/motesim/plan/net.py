@@ -7,7 +7,6 @@ from collections.abc import Iterator, Mapping, Sequence
 from pathlib import PurePath
 from typing import Any
 
-from motesim.explain.explanation import of_program_file, wrapped
 from motesim.notation import faults as program_faults
 from motesim.plan import places, primes
 from motesim.plan.chance import Chance
@@ -24,6 +23,7 @@ from motesim.plan.text import Mote, Net, scenario_text
 from motesim.scenario.encodings import decoded
 from motesim.scenario.faults import Path, Place
 from motesim.scenario.kinds import begins_as_scenario
+from motesim.text import wrapped
 from motesim.toml import MARK
 
 OF_SCENARIO = 'This file begins as a scenario: a plan needs one with the text of a program only.'
@@ -141,6 +141,8 @@ class Builder:
                                   self.tables.names())) from None
         fault_there = program_faults.find_fault(text)
         if fault_there:
+            # (most plans have no such error, and must be read quickly)
+            from motesim.explain.explanation import of_program_file
             name = file if text == source else '%s, with its parameters' % file
             lines = of_program_file(name, text, fault_there)
             if begins_as_scenario(source.encode()):

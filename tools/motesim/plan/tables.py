@@ -12,7 +12,7 @@ from copy import copy
 from dataclasses import dataclass
 from typing import Any, NoReturn
 
-from motesim.explain.explanation import shown_place, wrapped
+from motesim.text import shown_place, wrapped
 from motesim.faults import Fault
 from motesim.plan.hints import of_chance, of_parameter
 from motesim.plan.parameters import PARAMETER

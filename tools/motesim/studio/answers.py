@@ -173,7 +173,7 @@ def marks(part: expectations.Part, done: Finished) -> list[dict[str, Any]]:
         found.append({'sentence': words, 'holds': broken is None, 'required': len(found) < part.required,
                       'row': broken.row if broken else None,
                       'more': expectations.more_of(broken, judge.rows) if broken else [],
-                      'remark': remark_of(words, sentence, judge, broken is None)})
+                      'remark': remark_of(sentence, judge, broken is None)})
     if part.report is not None:
         whole = expectations.same_report(judge.rows, part.report)
         row = next((row for row, (ours, wanted) in enumerate(zip_longest(judge.rows, part.report.splitlines()), 1)

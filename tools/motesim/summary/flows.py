@@ -15,7 +15,7 @@ from statistics import median
 from typing import NamedTuple, Union
 
 from motesim.faults import Fault
-from motesim.explain.synonyms import nearest
+from motesim.text import nearest
 from motesim.notation.keywords import SYSTEM
 from motesim.report import MOST_WORD, Line, Report
 from motesim.scenario import Scenario

@@ -10,7 +10,7 @@ import json
 import re
 from typing import Any, NamedTuple
 
-from motesim.explain.synonyms import nearest
+from motesim.text import nearest
 from motesim.faults import Fault
 from motesim.notation.faults import Token, tokens_of
 from motesim.runner.run import NoReport, run_program

@@ -1,0 +1,79 @@
+"""Links of pages, and the docs of the crates' public items."""
+from __future__ import annotations
+
+import re
+import unittest
+from collections.abc import Iterator
+from pathlib import Path
+
+from here import TOP
+
+PAGES = ('*.md', 'docs/**/*.md', 'bench/*.md', 'examples/**/*.md', 'tests/**/*.md', 'tools/**/*.md', 'log/*.md')
+PUBLIC = re.compile(r' *pub (fn|struct|enum|trait|const) (\w+)')
+# A clause without a name, or with a name that states no fact.
+WEAK_CLAUSE = re.compile(r'^ *(requires|ensures)\*? ((here|there|some|few|early|whole) )?\{', re.M)
+
+
+def files(*patterns: str) -> list[Path]:
+    found = {path for pattern in patterns for path in TOP.glob(pattern) if path.is_file()}
+    return sorted(it for it in found if not {'out', '__pycache__', 'node_modules'} & set(it.relative_to(TOP).parts))
+
+
+def place(path: Path, line: int) -> str:
+    return '%s:%d' % (path.relative_to(TOP), line)
+
+
+def anchors(path: Path) -> set[str]:
+    """The anchors of a page's headings."""
+    heads = re.findall(r'(?m)^#+ (.*)$', path.read_text('utf-8'))
+    return {re.sub(r'[^\w\- ]', '', re.sub(r'\[([^]]*)\]\([^)]*\)', r'\1', it).lower()).strip().replace(' ', '-')
+            for it in heads}
+
+
+def broken_links() -> Iterator[str]:
+    """Links of pages to files or headings that aren't there."""
+    for path in files(*PAGES):
+        for number, line in enumerate(path.read_text('utf-8').splitlines(), 1):
+            for target in re.findall(r'\]\(([^)\s]+)\)', line):
+                name, _, anchor = target.partition('#')
+                file = (path.parent / name).resolve() if name else path
+                if not name.startswith(('http:', 'https:', 'mailto:')) and not (
+                        file.exists() and (not anchor or file.suffix != '.md' or anchor in anchors(file))):
+                    yield '%s: %s' % (place(path, number), target)
+
+
+def faults_of_docs() -> Iterator[str]:
+    """Public items without a doc comment, and functions that return a result but have no section on errors."""
+    for path in files('crates/*/src/**/*.rt'):
+        lines, doc = path.read_text('utf-8').splitlines(), list[str]()
+        for number, line in enumerate(lines, 1):
+            bare = line.strip()
+            if bare.startswith('///'):
+                doc.append(bare[3:].strip())
+            elif not (doc and bare.startswith(('#[', 'ghost '))):
+                head = ' '.join([line, *([] if line.endswith(';') else lines[number:number + 15])]).partition('{')[0]
+                if PUBLIC.match(line) and (not doc or '-> Result<' in head and '# Errors' not in doc):
+                    yield place(path, number)
+                doc = []
+
+
+def weak_clauses() -> Iterator[str]:
+    for path in files('crates/*/src/**/*.rt'):
+        text = path.read_text('utf-8')
+        if 'tests' not in path.parts:
+            yield from (place(path, text[:it.start()].count('\n') + 1) for it in WEAK_CLAUSE.finditer(text))
+
+
+class LinksAndDocs(unittest.TestCase):
+    def test_no_link_is_broken(self) -> None:
+        self.assertEqual([*broken_links()], [])
+
+    def test_public_items_have_docs(self) -> None:
+        self.assertEqual([*faults_of_docs()], [])
+
+    def test_clauses_have_names(self) -> None:
+        self.assertEqual([*weak_clauses()], [])
+
+
+if __name__ == '__main__':
+    unittest.main()
