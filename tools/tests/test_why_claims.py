@@ -257,7 +257,7 @@ class Claims(unittest.TestCase):
         scenario = Scenario.parse(data)
         judge = Judge(Report.parse(answer(data).report), scenario)
         text = 'some copy collides'
-        self.assertEqual(remark_of(text, read_sentence(text), judge, False),
+        self.assertEqual(remark_of(read_sentence(text), judge, False),
                          'the scenario has no `collide = true`, so no copy collides in any run')
 
 
@@ -312,18 +312,6 @@ class Claims(unittest.TestCase):
         assert isinstance(missing, Missing)
         # (mote 2 received all packets of its only neighbour)
         self.assertEqual(rows(missing, misses(asker, missing))[-2:], ['Near misses at mote 2:', '  none was found'])
-
-    def test_a_number_of_lines_that_looks_like_a_value(self) -> None:
-        data = line_of_motes(SENDER)
-        scenario = Scenario.parse(data)
-        judge = Judge(Report.parse(answer(data).report), scenario)
-        for text, is_unclear in (('mote 0 prints p at least 6', True), ('mote 0 prints p exactly 2', True),
-                                 ('mote 0 prints p at least 2 times', False), ('mote 0 prints p 5 at least 1', False),
-                                 ('mote 0 receives at least 2', False), ('mote 0 prints p at least once', False)):
-            sentence = read_sentence(text)
-            remark = remark_of(text, sentence, judge, judge.broken(sentence) is None)
-            self.assertEqual('is the number of lines, and not their value' in remark, is_unclear, text)
-
 
 if __name__ == '__main__':
     unittest.main()

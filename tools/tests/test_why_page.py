@@ -64,14 +64,6 @@ class Notes(unittest.TestCase):
         note = self.note('mote 1 prints just h 8, 9 in any order')
         self.assertEqual((note.why, note.mote), ('mote 1 never prints 9. The nearest:', 1))
 
-    def test_another_process_that_prints_the_values_is_named(self) -> None:
-        for sentence in 'mote 0 prints just a 7, 3, 2', 'mote 0 prints just a 2, 3, 7 in any order':
-            note = self.note(sentence)
-            self.assertEqual(note.lines[0], Line('mote 0: its process c prints exactly these values', 11))
-        self.assertEqual(self.note('mote 0 prints a 3').lines[0], Line('mote 0: its process c prints this value', 11))
-        for sentence in 'mote 0 prints just a 7, 3', 'mote 0 prints just b 7, 3, 2', 'mote 0 prints a 4':
-            self.assertNotIn('its process c', str(self.note(sentence)))
-
     def test_a_page_on_values_opens_at_no_lost_copy_with_another_value(self) -> None:
         run = read_run(str(TOP / 'examples/small_network.toml'))
         assert run.scenario

@@ -10,11 +10,10 @@ from collections.abc import Iterator, Set
 from typing import Any, NamedTuple
 
 from motesim.judge.hearing import unheard
-from motesim.judge.judge import Judge, Span, span_in_words
+from motesim.judge.judge import Span, span_in_words
 from motesim.judge.numbers import either, in_list
 from motesim.judge.remarks import NO_COLLISIONS
 from motesim.judge.sentences import Does, Pattern, Value
-from motesim.report import Report
 from motesim.why.callers import Callers, times
 from motesim.why.chain import chain, count, in_words, used_up
 from motesim.why.consumed import (
@@ -82,7 +81,6 @@ class _Misses:
         moved = list(self.outside())
         yield from moved
         yield from self.of_sender()
-        yield from self.other_process()
         yield from self.past_the_end()
         others = [] if moved else list(self.other_values())
         absent = self.absent()
@@ -164,18 +162,6 @@ class _Misses:
         words, row = unsent(self.source.traces, self.sender, self.values(), self.end)
         if words:
             yield Miss('unsent', words, row)
-
-    def other_process(self) -> Iterator[Miss]:
-        """The wanted values, printed by another process, if this process never prints."""
-        prints = [(words[2], place) for place, words in enumerate(it.split(' ') for it in self.lines)
-                  if words[1] == 'print']
-        if self.kind != 'print' or len(self.pattern) < 2 or not prints or self.pattern[1] in dict(prints):
-            return
-        judge = Judge(Report.parse(self.source.traces.data), self.source.scenario)
-        words = judge.other_process(self.sentence, (self.mote,))
-        place = next((place for process, place in prints if words.startswith('process %s prints' % process)), None)
-        if place is not None:
-            yield Miss('printer', 'its ' + words, self.source.traces.row(At(self.mote, place)), True)
 
     def which(self, number: int) -> str:
         """Which of several values are shown, if not all are: those near the end of the sentence's time."""
