@@ -24,7 +24,8 @@ from motesim.why.series import Series
 from motesim.why.source import At, Source, Traces
 
 PAGES = [TOOLS / 'motesim/timeline/page', TOOLS / 'motesim/studio/page']
-TESTS = sorted((TOOLS / 'tests/page').glob('*.test.js'))
+# (test_web_modules.py has the data of the other)
+TESTS = sorted(set((TOOLS / 'tests/page').glob('*.test.js')) - {TOOLS / 'tests/page/alone.test.js'})
 CASES = 'ring_overflows', 'nine_copies_collide', 'runaway_beside_another', 'copy_past_the_end'
 # Lines whose chains are compared: mote and place in its trace.
 CHAINS = [(0, 12), (0, 9), (0, 17), (0, 15), (1, 7), (1, 4)]

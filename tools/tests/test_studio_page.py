@@ -197,7 +197,7 @@ class Page(unittest.TestCase):
         if has_editor(CODEMIRROR):
             row = self.value('document.querySelector(".fault-line .CodeMirror-linenumber").textContent')
             self.assertEqual(row, '18')
-            self.assertEqual(self.value('document.querySelector(".fault-mark").textContent.trim()'), 'prin')
+        self.assertEqual(self.value('document.querySelector(".fault-mark").textContent.trim()'), 'prin')
         self.value('m.editor().replace("; prin 2", "")')
         self.wait('document.getElementById("fault").hidden && !document.body.classList.contains("stale")')
         self.assertEqual(self.value('document.querySelectorAll(".fault-mark, .fault-line").length'), 0)
@@ -263,6 +263,117 @@ class Page(unittest.TestCase):
                 self.assertLess(bottom, 359)
                 self.assertTrue(top < line < bottom, (top, line, bottom))
                 self.stop()
+
+    def test_lanes_are_as_high_as_their_box_after_each_edit(self) -> None:
+        self.open()
+        for width, height in (1366, 768), (1280, 800), (1920, 1080):
+            self.browser.size(width, height)
+            for number in range(10):
+                self.value('m.editor().replace(text, text.replace(/send 5\\d*;/, "send 5%d;"))' % number)
+                self.wait('Array.from(run.w).includes(%d) && m.studio.judged === m.studio.number' % (50 + number))
+                self.browser.settle()
+                canvas, box = self.value('[pane.canvas, document.getElementById("panes")].map('
+                                         'it => it.getBoundingClientRect().bottom)')
+                self.assertLessEqual(canvas, box + 0.5, (width, number))
+
+    def test_a_change_on_the_map_is_undone_wherever_the_keyboard_is(self) -> None:
+        self.open()
+        x, y = self.on_map(1)
+        self.browser.drag(x, y, x + 60, y + 40)
+        self.wait('!text.includes("x = 8\\n") && m.studio.judged === m.studio.number')
+        self.value('(document.activeElement.blur(), document.getElementById("words").value = "print")')
+        self.browser.call('Input.dispatchKeyEvent', type='rawKeyDown', key='z', code='KeyZ', modifiers=2,
+                          windowsVirtualKeyCode=90)
+        self.assertEqual(self.value('[text, document.getElementById("words").value]'), [NET, 'print'])
+
+    def test_a_long_run_can_be_stopped(self) -> None:
+        self.open(Limits(seconds=30))
+        self.value('m.editor().replace("# Two", "# never_ends Two")')
+        self.wait('!document.getElementById("stop").hidden')
+        self.value('document.getElementById("stop").click()')
+        self.wait('!document.getElementById("notice").hidden')
+        self.assertIn('You stopped the run.', self.shown('notice'))
+        self.assertTrue(self.value('document.getElementById("stop").hidden'))
+        self.assertIsNone(self.server.session.runs.running)
+
+    def test_a_page_without_a_run_offers_none(self) -> None:
+        self.file.write_text('# never_ends\n' + NET)
+        self.open(Limits(seconds=5))
+        ids = '["pin", "export", "play"].map(id => document.getElementById(id).disabled)'
+        self.assertEqual(self.value(ids), [True, True, True])
+        self.value('m.editor().replace("never_ends", "ends")')
+        self.wait('m.panes.length')
+        self.assertEqual(self.value(ids), [False, False, False])
+
+    def test_a_selected_link_is_in_view(self) -> None:
+        self.open()
+        self.browser.size(1366, 560)
+        (x, y), (to_x, to_y) = self.on_map(0), self.on_map(1)
+        self.browser.click((x + to_x) / 2, (y + to_y) / 2)
+        bottom, end = self.value('[document.getElementById("way"), document.querySelector("aside")].map('
+                                 'it => it.getBoundingClientRect().bottom)')
+        self.assertLessEqual(bottom, end + 1)
+
+    def test_typing_releases_the_run_that_was_pinned_for_a_fault(self) -> None:
+        self.open()
+        self.value('document.getElementById("faults-search").click()')
+        self.wait('m.faults.found')
+        self.value('document.querySelector("#faults-found td button").click()')
+        self.wait('m.differs.first && m.studio.pinned')
+        self.type_behind('print 1;', ' print 7;')
+        self.assertEqual(self.value('m.studio.pinned'), 0)
+        self.assertIn(' run', self.value('document.getElementById("faults-state").textContent'))
+        self.choose_file('example flooding.toml')
+        self.wait('document.getElementById("question").open')
+        self.value('document.querySelector(\'#question button[value^="Open"]\').click()')
+        self.wait('m.studio.document.name === "flooding.toml"')
+        self.assertEqual(self.value('document.getElementById("faults-state").textContent'), '')
+
+    def choose_file(self, value: str, key: str = '') -> None:
+        """Chooses a file in the list; after a key, as a walk along it does."""
+        self.value('(it => { if (%s) it.dispatchEvent(new KeyboardEvent("keydown", {key: %s})); it.value = %s; '
+                   'it.dispatchEvent(new Event("change")); })(document.getElementById("open"))'
+                   % (json.dumps(bool(key)), json.dumps(key), json.dumps(value)))
+
+    def test_arrow_keys_open_no_file(self) -> None:
+        self.open()
+        self.choose_file('example flooding.toml', 'ArrowDown')
+        self.choose_file('example trickle.toml', 'ArrowDown')
+        self.browser.settle()
+        self.assertEqual(self.value('m.studio.document.name'), 'net.toml')
+        self.value('document.getElementById("open").dispatchEvent(new KeyboardEvent("keydown", {key: "Enter"}))')
+        self.wait('m.studio.document.name === "trickle.toml"')
+
+    def test_a_finger_scrolls_past_the_pictures(self) -> None:
+        self.open()
+        self.assertEqual(self.value('[pane.canvas, m.maps[0].canvas].map(it => getComputedStyle(it).touchAction)'),
+                         ['pan-y', 'pan-y'])
+
+    def test_the_label_of_a_loss_is_beside_its_link(self) -> None:
+        self.file.write_text(NET.replace('x = 8\ny = 0', 'x = 0\ny = 9').replace('x = 100\ny = 50', 'x = 30\ny = 4')
+                             + '[[loss]]\nfrom = 0\nto = 1\nevery = 1\n')
+        self.open()
+        [share], x, y = self.value('[m.maps[0].shares, m.maps[0].x(0), (m.maps[0].y(0) + m.maps[0].y(1)) / 2]')
+        self.assertGreater(abs(share['x'] - x), share['wide'] / 2 + 4)
+        self.assertLess(abs(share['y'] - 6 - y), 20)
+
+    def test_a_tip_names_what_is_under_the_pointer(self) -> None:
+        self.open()
+        x, y = self.on_map(1)
+        self.browser.move(x, y)
+        self.assertEqual(self.shown('tip'), 'mote 1 runs talk and hears 1 mote')
+        self.value('(m.find("print"), m.drawAll())')
+        x, y, line = self.value('(([x, y, line], box) => [box.x + x, box.y + y, line])(pane.hits.slice(0, 3), '
+                                'pane.canvas.getBoundingClientRect())')
+        self.browser.move(x, y)
+        self.assertIn('mote 0, moment 0: ', self.shown('tip'))
+
+    def test_a_mote_snaps_to_the_rows_of_the_others(self) -> None:
+        self.open()
+        x, y = self.on_map(1)
+        self.browser.drag(x, y, x + 40, y + 4)
+        self.wait('!text.includes("x = 8\\n")')
+        self.assertEqual(self.value('run.places[1][1]'), 0)
 
     def test_faults_are_searched_shown_and_shrunk(self) -> None:
         self.open()
@@ -622,6 +733,7 @@ class Page(unittest.TestCase):
         self.type_behind('print 1;', ' print 7;')
         self.wait('!document.getElementById("notice").hidden')
         self.assertIn('The connection to tools/studio is lost', self.shown('notice'))
+        self.assertIn('Download the text', self.shown('notice'))
         self.serve(Server(session, CODEMIRROR, port, token))
         self.wait('document.getElementById("notice").hidden && Array.from(run.w).includes(7)')
 
@@ -737,7 +849,8 @@ class Page(unittest.TestCase):
             cut = self.value('''Array.from(document.querySelectorAll(
               "#search button, .tools button, header button, #tabs button")).filter(it => {
                 const box = it.getBoundingClientRect();
-                return !box.width || box.left < 0 || box.right > innerWidth || it.scrollWidth > it.clientWidth;
+                return !it.hidden && (!box.width || box.left < 0 || box.right > innerWidth ||
+                  it.scrollWidth > it.clientWidth);
               }).map(it => it.id || it.textContent)''')
             self.assertEqual(cut, [], width)
         unnamed = self.value('''Array.from(document.querySelectorAll("button, input, select, canvas, textarea"))

@@ -64,18 +64,21 @@ def answer_within(name: str, data: bytes, limits: Limits) -> Answer:
             name, met, busiest(data), OPTIONS[met.limit])) from None
 
 
-def busiest(data: bytes, file_lines: bool = True) -> str:
+def busiest(data: bytes, file_lines: bool = True, goes_on: Callable[[], bool] = lambda: True) -> str:
     """A sentence about the process that prints or pauses most, or the mote that sends or posts most, in a run that ends
     earlier; an empty text if none does so often.
 
     file_lines  whether the sentence has lines of the scenario; otherwise it has lines of the program's text, or none if
                 this text is translated
+    goes_on     whether to try a further run; if not, the sentence is empty
     """
     written = END.search(data)
     if written is None:
         return ''
     low, high, found = 0, 0, None
     for high in ENDS:
+        if not goes_on():
+            return ''
         got = report_until(data, high) if high < int(written[2]) else None
         if got is None:
             break
@@ -85,6 +88,8 @@ def busiest(data: bytes, file_lines: bool = True) -> str:
         return does
     # (it does nothing so often up to there: maybe it begins later)
     while high - low > 1:
+        if not goes_on():
+            return ''
         got = report_until(data, (low + high) // 2)
         low, high, found = (low, (low + high) // 2, found) if got is None else ((low + high) // 2, high, got)
     moments = {it.at for it in found.lines('print', 'send', 'post')}

@@ -53,7 +53,8 @@ def modules() -> dict[str, bytes]:
 
 @functools.cache
 def style() -> bytes:
-    return (TIMELINE / 'page.css').read_bytes() + (PAGE / 'studio.css').read_bytes()
+    return b''.join((folder / name).read_bytes() for folder, name in (
+        (TIMELINE, 'page.css'), (PAGE, 'text.css'), (PAGE, 'studio.css')))
 
 
 class Handler(BaseHTTPRequestHandler):

@@ -8,6 +8,7 @@ import functools
 import json
 import struct
 import threading
+import time
 from collections import OrderedDict
 from typing import Any, Callable, NamedTuple
 
@@ -69,7 +70,8 @@ class Session:
         self.lock = threading.Lock()
         self.work = threading.Lock()
         self.does: dict[str, Callable[[dict[str, Any]], Answered]] = {
-            'begin': self.begin, 'open': self.open, 'run': self.run, 'judge': self.judge, 'edit': self.edit,
+            'begin': self.begin, 'open': self.open, 'run': self.run, 'stop': self.stop, 'advise': self.advise,
+            'judge': self.judge, 'edit': self.edit,
             'save': self.save, 'export': self.export, 'alive': self.alive, 'search': self.search,
             'searched': self.searched, 'stop-search': self.stop_search, 'counter-example': self.counter_example,
             'shrink': self.shrink}
@@ -154,12 +156,24 @@ class Session:
         except Superseded:
             return framed({'superseded': True}, b'')
         except LimitMet as fault:
-            return framed({'limit': str(fault) + busiest(data)}, b'')
+            return framed({'limit': str(fault), 'number': ticket}, b'')
         except (ReportFault, ScenarioFault) as fault:
             return framed({'limit': 'This run cannot be shown: %s' % fault}, b'')
         self.keep(done, asked.get('pinned'))
         return framed({'number': ticket, 'run': table_of(done.run, columns),
                        'programs': answers.prints_of_programs(done.scenario)}, columns.joined())
+
+    def stop(self, asked: dict[str, Any]) -> Answered:
+        """Stops the run."""
+        self.runs.ask()
+        return as_json({})
+
+    def advise(self, asked: dict[str, Any]) -> Answered:
+        """What a run that was stopped at a limit does so often, unless a newer text arrives meanwhile."""
+        until = time.monotonic() + self.runs.limits.seconds
+        does = busiest(_text(asked, 'text').encode('utf-8'), goes_on=lambda: (
+            self.runs.newest == asked.get('number') and time.monotonic() < until))
+        return as_json({'does': does})
 
     def keep(self, done: answers.Finished, pinned: object) -> None:
         """Keeps the last runs and the pinned run."""

@@ -1,12 +1,12 @@
 // Warnings, the sentences that hold or don't, and the sums of a run.
-import {byId, element, makeButton, table} from '../../timeline/page/dom.js';
-import {showSeries} from '../../timeline/page/plots.js';
+import {byId, element, makeButton} from '../../timeline/page/dom.js';
 import {chooseRow} from '../../timeline/page/rows.js';
 import {panes} from '../../timeline/page/stage.js';
 import {count} from '../../timeline/page/words.js';
 import {reactions} from './running.js';
 import {studio} from './state.js';
 import {labelTab, markEarlier, showTab} from './tabs.js';
+import {fillSums} from './totals.js';
 import {askQuestion} from './whys.js';
 
 /** Shows warnings about what is legal but probably not meant. A click leads to its place. */
@@ -71,27 +71,10 @@ function checkItem(it) {
   return item;
 }
 
-function sumTable([names, ...rows]) {
-  const shown = value => value === null ? '-' : Number.isInteger(value) || typeof value === 'string' ? String(value) :
-    value.toFixed(3);
-  const body = rows.map(row => {
-    const made = element('tr', '', row.map((value, i) => {
-      const cell = element('td', shown(value));
-      if (names[i] === 'program') cell.className = 'name';
-      return cell;
-    }));
-    if (row[0] === 'net') made.className = 'net';
-    return made;
-  });
-  return table(names, body);
-}
-
 function showSums(sums) {
   const box = byId('sums');
   box.classList.remove('earlier');
-  const plots = element('div');
-  if (panes.length) showSeries(panes[0].run, plots);
-  box.replaceChildren(sumTable(sums.motes), plots, sumTable(sums.links));
+  fillSums(box, sums);
   if (sums.more) box.append(element('p', `${count(sums.more, 'link')} more: tools/summary shows them.`));
 }
 

@@ -1,6 +1,7 @@
-// The editor of the text: CodeMirror, if Debian's package is installed, otherwise a plain text area.
+// The editor of the text: CodeMirror, if Debian's package is installed, otherwise a text area with colours behind it.
 import {byId} from '../../timeline/page/dom.js';
 import {defineMode} from './notation.js';
+import {Tint} from './tint.js';
 import {differing, movedOffset, offsetOf, replacements} from './text.js';
 
 // Pixels above and below the line that the reader types.
@@ -15,6 +16,8 @@ export class Editor {
     if (window.CodeMirror) this.begin(changed, words);
     else {
       byId('no-editor').hidden = false;
+      this.tint = new Tint(this.area, byId('tint'), words);
+      this.area.classList.add('tinted');
       this.area.addEventListener('input', () => {
         this.number();
         changed();
@@ -43,6 +46,7 @@ export class Editor {
 
   /** Numbers the lines of the plain text area. */
   number() {
+    this.tint.take();
     const count = this.area.value.split('\n').length, box = byId('numbers');
     if (this.lines === count) return;
     this.lines = count;
@@ -105,6 +109,15 @@ export class Editor {
     if (before) before.focus({preventScroll: true});
   }
 
+  /** Undoes the last change of the text, or makes it again: `name` is undo or redo. */
+  again(name) {
+    if (this.mirror) return void this.mirror[name]();
+    const before = document.activeElement;
+    this.area.focus({preventScroll: true});
+    document.execCommand(name);
+    if (before !== this.area && before) before.focus({preventScroll: true});
+  }
+
   /** Replaces a piece of the text by another one everywhere, and selects the first. */
   replace(old, text) {
     const changes = replacements(this.text, old, text);
@@ -118,7 +131,8 @@ export class Editor {
   mark([line, from, to]) {
     this.clear();
     this.place = [line, from, to];
-    if (!this.mirror || line >= this.mirror.lineCount()) return;
+    if (!this.mirror) return this.tint.mark(this.place);
+    if (line >= this.mirror.lineCount()) return;
     const long = this.mirror.getLine(line).length, begin = Math.min(from, Math.max(0, long - 1));
     const end = Math.max(begin + 1, Math.min(to, long));
     this.marks.push(this.mirror.markText({line, ch: begin}, {line, ch: end}, {className: 'fault-mark'}));
@@ -127,6 +141,7 @@ export class Editor {
 
   clear() {
     this.place = null;
+    if (!this.mirror) return this.tint.mark(null);
     for (const mark of this.marks) mark.clear();
     this.marks = [];
     if (this.marked) this.mirror.removeLineClass(this.marked, 'wrap', 'fault-line');

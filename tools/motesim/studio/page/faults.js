@@ -1,7 +1,7 @@
 // The search for faults that break expectations: it runs while the reader works, and shows its results.
 import {byId, element, makeButton, table} from '../../timeline/page/dom.js';
 import {count} from '../../timeline/page/words.js';
-import {goToDifference} from './difference.js';
+import {goToDifference} from './flag.js';
 import {opening} from './files.js';
 import {ask, attempt} from './link.js';
 import {say, unsay} from './notices.js';
@@ -10,7 +10,7 @@ import {studio} from './state.js';
 import {labelTab, markEarlier} from './tabs.js';
 
 const POLL = 300, SHOWN_SETS = 12;
-export const faults = {number: 0, found: null, isGoing: false, timer: 0, shown: ''};
+export const faults = {number: 0, found: null, isGoing: false, timer: 0, shown: '', hasPinned: false};
 
 /** Offers kinds of faults, and searches from now on. */
 export function beginFaults(kinds) {
@@ -87,12 +87,16 @@ export function stopSearch(why) {
 function forgetFaults() {
   faults.found = null;
   labelTab('faults', 'Faults');
+  byId('faults-state').textContent = '';
   byId('faults-found').classList.remove('earlier');
   byId('faults-found').replaceChildren();
 }
 
-/** Marks what was found as that of an earlier text. */
+/** Marks what was found as that of an earlier text, and releases the run that was pinned to be compared with one of
+    them. */
 export function outdateFaults() {
+  if (faults.hasPinned) unpin();
+  faults.hasPinned = false;
   if (!faults.found) return;
   labelTab('faults', 'Faults');
   markEarlier(byId('faults-found'));
@@ -134,7 +138,10 @@ async function showCounterExample(index) {
   const {faults: words} = faults.found.found[index];
   const {text} = await ask('counter-example', {number: faults.number, index});
   await runNow();
-  if (!studio.pinned) pin();
+  if (!studio.pinned) {
+    pin();
+    faults.hasPinned = true;
+  }
   await showText(text, `This is the run with a fault: ${words.join('; ')}. Your text is unchanged.`);
   goToDifference();
 }
@@ -158,6 +165,7 @@ async function showText(text, words) {
   faults.shown = text;
   await runNow(text);
   say('shown', words, [['Back to the text', () => {
+    faults.hasPinned = false;
     unpin();
     runNow();
   }], ['Replace my text with it', () => {

@@ -1,6 +1,6 @@
 // Files: opening, saving, and the page of the run as one file.
 import {byId, element, handOut} from '../../timeline/page/dom.js';
-import {goToDifference} from './difference.js';
+import {goToDifference} from './flag.js';
 import {ask, attempt} from './link.js';
 import {question, say, showState, unsay} from './notices.js';
 import {pin, runNow, unpin} from './running.js';
@@ -59,8 +59,27 @@ export function fillOpen({examples, files, document: {where, name}}) {
   box.append(group('Examples', sorted.map(it => option('example', it.name, it.title))));
 }
 
+/** Opens the file that is chosen in the list: with the arrow keys alone only once Enter is pressed. */
+export function beginOpen() {
+  const box = byId('open');
+  let isWalking = false;
+  box.addEventListener('keydown', event => {
+    if (event.key === 'Enter' && isWalking) {
+      isWalking = false;
+      event.preventDefault();
+      openChosen();
+    } else isWalking = /^(Arrow|Page|Home|End|\w$)/.test(event.key);
+  });
+  box.addEventListener('pointerdown', () => { isWalking = false; });
+  box.addEventListener('change', () => { if (!isWalking) openChosen(); });
+  box.addEventListener('blur', () => {
+    if (isWalking) nameDocument();
+    isWalking = false;
+  });
+}
+
 /** Opens the chosen file. */
-export async function openChosen() {
+async function openChosen() {
   const [where, ...rest] = byId('open').value.split(' '), name = rest.join(' ');
   if (isDirty()) {
     const words = `Your changes in ${studio.document.name} are not saved.`;

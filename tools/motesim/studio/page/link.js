@@ -2,7 +2,8 @@
 import {say, showState, unsay} from './notices.js';
 
 const BEAT = 2000, BEAT_LOST = 700;
-export const connection = {isLost: false, back: null, beat: 0};
+/** `back` is called when the server answers again, `keep` hands the reader the text while it doesn't. */
+export const connection = {isLost: false, back: null, keep: null, beat: 0};
 
 /** Something that the server refuses to do. The message is for the reader. */
 export class Refused extends Error {}
@@ -36,8 +37,8 @@ export async function ask(what, question) {
 function lose() {
   if (connection.isLost) return;
   connection.isLost = true;
-  say('lost', 'The connection to tools/studio is lost. Your text is kept here, and the page continues when the ' +
-    'studio is there again.');
+  say('lost', 'The connection to tools/studio is lost. If the studio still runs, the page continues when it answers. ' +
+    'If it was ended, download your text: a new studio has another page.', [['Download the text', connection.keep]]);
   showState('bad', 'not connected');
 }
 

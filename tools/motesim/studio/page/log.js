@@ -5,20 +5,19 @@ import {byId, element, lineButton, makeButton} from '../../timeline/page/dom.js'
 import {chosen, overlays, panes, play} from '../../timeline/page/stage.js';
 import {count} from '../../timeline/page/words.js';
 import {orderOf, placesOf} from './chronology.js';
-import {ask, attempt} from './link.js';
-import {studio} from './state.js';
 import {searchesOf} from './stops.js';
 
 const MOST_LOGGED = 200;
-const logged = {run: null, lines: null, first: 0};
+const logged = {run: null, lines: null, first: 0, ofSentence: null};
 
 /** The lines that a filter leaves, in chronological order; null if it is neither a search nor a sentence. */
 async function linesOfLog(run, text) {
   const {order, rank} = orderOf(run);
   if (!text) return order;
-  const [places] = placesOf(run, searchesOf(text));
+  const [places, unknown] = placesOf(run, searchesOf(text));
   if (places) return places.map(place => order[place]);
-  const answer = await ask('lines', {number: studio.number, sentence: text});
+  const answer = await logged.ofSentence(text, unknown);
+  if (!answer) return null;
   if (answer.said) {
     byId('log-counts').textContent = answer.said;
     return null;
@@ -62,11 +61,14 @@ function showLogFrom(first) {
   }));
 }
 
-export function beginLog() {
+/** Shows the log from now on. `ofSentence` has the rows of what is no search, or why there are none; `asks`
+    is an example of a filter. */
+export function beginLog(ofSentence, asks) {
+  logged.ofSentence = ofSentence;
   const form = element('form'), input = element('input');
   form.className = 'bar';
   Object.assign(input, {id: 'log-asked', type: 'text', spellcheck: false, autocomplete: 'off', size: 36,
-    placeholder: 'send mote 3, or a sentence'});
+    placeholder: asks});
   const button = element('button', 'Show');
   button.type = 'submit';
   const move = (name, by, id) => Object.assign(makeButton(name,
@@ -76,7 +78,7 @@ export function beginLog() {
     move('‹ earlier', -1, 'log-earlier'), move('later ›', 1, 'log-later'));
   form.addEventListener('submit', event => {
     event.preventDefault();
-    attempt(showLog);
+    showLog();
   });
   byId('log').append(form, Object.assign(element('p'), {id: 'log-counts'}),
     Object.assign(element('ol'), {id: 'log-lines'}));
@@ -84,7 +86,7 @@ export function beginLog() {
   overlays.push(pane => {
     if (!byId('log').hidden && logged.run !== pane.run) {
       logged.run = pane.run;
-      attempt(showLog);
+      showLog();
     }
   });
 }

@@ -6,34 +6,12 @@ import {colours, path, stroke} from '../../timeline/page/forms.js';
 import {delayOf, findHearers} from '../../timeline/page/index.js';
 import {chosen, mapOverlays, maps, overlays, panes} from '../../timeline/page/stage.js';
 import {count} from '../../timeline/page/words.js';
-import {Lost, Refused, ask} from './link.js';
-import {say} from './notices.js';
-import {reactions, runNow} from './running.js';
-import {studio} from './state.js';
 
-export const ground = {adding: false, way: null, held: null};
-
-/** Asks for a change of the text, and makes it. */
-export async function editText(edit) {
-  const {editor} = studio, {text} = editor;
-  try {
-    const {changes, said} = await ask('edit', {text, edit});
-    if (editor.text !== text) throw new Refused('The text was changed meanwhile. Do it again.');
-    byId('map-said').textContent = said;
-    if (changes.length) {
-      editor.apply(changes);
-      runNow();
-    }
-    return true;
-  } catch (fault) {
-    restoreMotes();
-    if (fault instanceof Refused) say('refused', fault.message); else if (!(fault instanceof Lost)) throw fault;
-    return false;
-  }
-}
+/** `edit` makes a change of the text; the page sets it. */
+export const ground = {adding: false, way: null, held: null, edit: null};
 
 /** Moves the motes back to the places that they have in the run. */
-function restoreMotes() {
+export function restoreMotes() {
   const map = maps[0];
   if (!map) return;
   if (ground.held) map.run.places[ground.held.mote] = ground.held.place;
@@ -50,22 +28,23 @@ const groundEdits = {
     return ground.adding || !map.run.places ? -1 : map.moteNear(x, y);
   },
 
-  /** Moves the mote with the pointer, and shows who hears it there. */
-  drag(mote, x, y) {
+  /** Moves the mote with the pointer, to the rows and columns of the others unless it `isFree`, and shows who hears it
+      there. */
+  drag(mote, x, y, isFree) {
     const map = maps[0], {run} = map;
     if (!ground.held) ground.held = {mote, place: run.places[mote]};
     [map.xs[mote], map.ys[mote]] = map.shownAt(x, y);
-    run.places[mote] = map.placeAt(x, y);
+    run.places[mote] = isFree ? map.placeAt(x, y) : map.snappedAt(x, y, mote);
     if (run.begins.length <= 400) findHearers(run);
     map.still = null;
     byId('map-said').textContent = `Mote ${mote} to ${run.places[mote].join(', ')}`;
     redraw();
   },
 
-  drop(mote, x, y) {
-    this.drag(mote, x, y);
+  drop(mote, x, y, isFree) {
+    this.drag(mote, x, y, isFree);
     const [toX, toY] = maps[0].run.places[mote];
-    editText({what: 'move', mote, x: toX, y: toY});
+    ground.edit({what: 'move', mote, x: toX, y: toY});
   },
 
   /** Reacts to a click: adds a mote if one is wanted, otherwise shows the link between two motes. */
@@ -74,7 +53,7 @@ const groundEdits = {
     if (ground.adding) {
       setAdding(false);
       const [toX, toY] = map.placeAt(x, y);
-      editText({what: 'add', x: toX, y: toY, program: programNear(map, x, y)});
+      ground.edit({what: 'add', x: toX, y: toY, program: programNear(map, x, y)});
       return true;
     }
     if (mote >= 0) return false;
@@ -117,6 +96,7 @@ function showWay(way) {
   close.setAttribute('aria-label', 'Close');
   const head = element('h3', '', [element('span', `Mote ${s} and mote ${r}`), close]);
   box.replaceChildren(head, wayOf(run, s, r), wayOf(run, r, s));
+  box.scrollIntoView({block: 'nearest'});
 }
 
 function wayOf(run, s, r) {
@@ -127,7 +107,7 @@ function wayOf(run, s, r) {
   input.setAttribute('aria-label', `Losses from mote ${s} to mote ${r}: one packet in this number; empty for no loss`);
   input.dataset.way = `${s} ${r}`;
   input.addEventListener('change',
-    () => editText({what: 'lose', from: s, to: r, every: Math.floor(Number(input.value)) || 0}));
+    () => ground.edit({what: 'lose', from: s, to: r, every: Math.floor(Number(input.value)) || 0}));
   box.append(`${s} → ${r}: ${count(delayOf(run, s, r), 'moment')}, `, label);
   if (lost) box.append(element('br'), [['lost', 0], ['collided', 1], ['found no room', 2]].filter(([, i]) => lost[i])
     .map(([name, i]) => `${lost[i]} ${name}`).join(', ') + ' in this run');
@@ -147,7 +127,7 @@ function drawWay(map) {
 }
 
 /** Makes the map of a new run editable, and shows the data of this run for the selected link. */
-function renewMotes() {
+export function renewMotes() {
   const map = maps[0];
   map.edits = map.run.places ? groundEdits : null;
   ground.held = null;
@@ -166,11 +146,11 @@ function nameRemove() {
   if (button.textContent !== name) button.textContent = name;
 }
 
-/** Lets the map change the text from now on. */
-export function beginMotes() {
+/** Lets the map change the text by a function of a wish from now on. */
+export function beginMotes(edit) {
+  ground.edit = edit;
   overlays.push(nameRemove);
   mapOverlays.push(drawWay);
-  reactions.shown.push(renewMotes);
   byId('add').addEventListener('click', () => maps.length && setAdding(!ground.adding));
-  byId('remove').addEventListener('click', () => chosen.pane && editText({what: 'remove', mote: chosen.mote}));
+  byId('remove').addEventListener('click', () => chosen.pane && ground.edit({what: 'remove', mote: chosen.mote}));
 }

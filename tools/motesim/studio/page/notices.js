@@ -28,6 +28,7 @@ function showNotice() {
 export function showState(is, words) {
   const state = byId('state');
   state.dataset.is = is;
+  if (is !== 'busy') byId('stop').hidden = true;
   state.textContent = words;
 }
 

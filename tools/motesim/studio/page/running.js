@@ -14,6 +14,9 @@ import {say, showState, unsay} from './notices.js';
 import {studio} from './state.js';
 import {differing, lineAndColumn} from './text.js';
 
+// The milliseconds after which the page offers to stop a run.
+const LONG = 700;
+
 /** Functions of other modules: `outdated` ones are called when the results that are shown become those of an earlier
     text, because the text was changed or a run begins; the others when a run or its results are shown. */
 export const reactions = {outdated: [], shown: [], judged: []};
@@ -30,6 +33,7 @@ export async function runNow(other) {
   if (!studio.document) return;
   outdate();
   showState('busy', 'running');
+  showStop(asked);
   let got;
   try {
     got = await ask('run', {text, name: studio.document.name, pinned: studio.pinned});
@@ -44,7 +48,7 @@ export async function runNow(other) {
   const answer = JSON.parse(new TextDecoder().decode(new Uint8Array(got, 4, length)));
   if (answer.superseded) return;
   if (answer.fault) return showFault(answer.fault, text);
-  if (answer.limit) return showLimit(answer.limit);
+  if (answer.limit) return showLimit(answer, text, asked);
   const run = new Run(answer.run, got.slice(4 + length));
   await indexRun(run);
   if (asked !== studio.asked) return;
@@ -68,6 +72,7 @@ function showRun(run, answer) {
     showRuns([run]);
     listen();
     whole();
+    for (const id of ['pin', 'export', 'play']) byId(id).disabled = false;
     page.ready = true;
   } else {
     showInstead(panes[0], run);
@@ -136,13 +141,32 @@ function noFault() {
   if (was) studio.editor.refresh();
 }
 
-function showLimit(words) {
+/** Shows that a run was stopped, and then, if the server finds it out, what the run does so often. */
+async function showLimit({limit, number}, text, asked) {
   noFault();
   setStale(true);
-  say('limit', words);
+  say('limit', limit);
   showState('bad', panes.length ? 'stopped: the last run is shown' : 'stopped');
   sayNoRun();
   page.ready = true;
+  if (!number) return;
+  const found = await attempt(() => ask('advise', {text, number}));
+  if (found && found.does && asked === studio.asked) say('limit', limit + found.does);
+}
+
+/** Offers to stop a run that takes long. */
+function showStop(asked) {
+  byId('stop').hidden = true;
+  setTimeout(() => {
+    byId('stop').hidden = asked !== studio.asked || byId('state').dataset.is !== 'busy';
+  }, LONG);
+}
+
+/** Stops the run. */
+export async function stopRun() {
+  const asked = ++studio.asked;
+  await attempt(() => ask('stop', {}));
+  showLimit({limit: 'You stopped the run.', number: 0}, '', asked);
 }
 
 export function unpin() {

@@ -1,19 +1,21 @@
 // The studio: the text is run when no key was pressed for a while, and its run is shown.
-import {byId, file} from '../../timeline/page/dom.js';
+import {byId, file, handOut} from '../../timeline/page/dom.js';
 import {readColours} from '../../timeline/page/forms.js';
 import {refit, room} from '../../timeline/page/main.js';
 import {chosen, page} from '../../timeline/page/stage.js';
 import {beginChecks} from './checks.js';
-import {beginDifferences, differs} from './difference.js';
+import {beginDifferences} from './difference.js';
+import {editText} from './edit.js';
 import {Editor} from './editor.js';
 import {beginFaults, faults, outdateFaults, stopSearch} from './faults.js';
-import {exportPage, fillOpen, lookedAt, nameDocument, openChosen, opening, save, saveAs, take} from './files.js';
+import {beginOpen, exportPage, fillOpen, lookedAt, nameDocument, opening, save, saveAs, take} from './files.js';
+import {differs} from './flag.js';
 import {showGuide} from './guide.js';
-import {ask, beat, connection} from './link.js';
+import {ask, attempt, beat, connection} from './link.js';
 import {beginLog} from './log.js';
-import {beginMotes, ground} from './motes.js';
+import {beginMotes, ground, renewMotes} from './motes.js';
 import {showState} from './notices.js';
-import {correctFault, outdate, pin, runNow} from './running.js';
+import {correctFault, outdate, pin, reactions, runNow, stopRun} from './running.js';
 import {beginSplits} from './split.js';
 import {isDirty, studio} from './state.js';
 import {states} from './states.js';
@@ -51,19 +53,24 @@ function watchChosen() {
 }
 
 function beginButtons() {
-  byId('open').addEventListener('change', openChosen);
+  beginOpen();
   byId('save').addEventListener('click', () => save());
   byId('save-as').addEventListener('click', saveAs);
   byId('export').addEventListener('click', exportPage);
   byId('pin').addEventListener('click', pin);
+  byId('stop').addEventListener('click', stopRun);
   file.goTo = goToLine;
   byId('fault-place').addEventListener('click', () => goToFault());
   byId('fault-correct').addEventListener('click', correctFault);
   document.addEventListener('keydown', event => {
-    if (!(event.ctrlKey || event.metaKey) || event.key !== 's') return;
+    if (!(event.ctrlKey || event.metaKey) || event.altKey) return;
+    const key = event.key.toLowerCase(), isTyping = event.target.closest && event.target.closest('input, textarea');
+    const does = key === 's' ? save : isTyping ? null : key === 'y' || key === 'z' && event.shiftKey ?
+      () => studio.editor.again('redo') : key === 'z' ? () => studio.editor.again('undo') : null;
+    if (!does) return;
     event.preventDefault();
     event.stopPropagation();
-    save();
+    does();
   }, true);
   window.addEventListener('beforeunload', event => { if (studio.asks && isDirty()) event.preventDefault(); });
 }
@@ -90,10 +97,11 @@ async function beginStudio() {
   beginTabs();
   beginSteps();
   beginWhy();
-  beginLog();
+  beginLog(sentence => attempt(() => ask('lines', {number: studio.number, sentence})), 'send mote 3, or a sentence');
   beginDifferences();
   beginChecks();
-  beginMotes();
+  beginMotes(editText);
+  reactions.shown.push(renewMotes);
   beginButtons();
   beginSplits(() => {
     refit();
@@ -101,6 +109,7 @@ async function beginStudio() {
   });
   watchChosen();
   connection.back = () => runNow();
+  connection.keep = () => handOut(studio.document.name, [studio.editor.text], 'text/plain');
   const began = await ask('begin', {});
   studio.editor = new Editor(typed, began.words);
   studio.folder = began.folder;

@@ -36,8 +36,12 @@ export class Run {
     }
     this.count = this.x.length;
     this.packets = this.packetSender.length;
-    this.restoreTraces();
-    this.restorePackets();
+    // (columns that were read from a report in the page are plain numbers)
+    if (!said.plain) {
+      this.restoreTraces();
+      this.restorePackets();
+    }
+    this.numberPackets();
   }
 
   /** Adds up numbers that are packed as differences: moments, and serials and numbers against the expected ones. */
@@ -60,14 +64,16 @@ export class Run {
   }
 
   restorePackets() {
-    const {packetAt, packetSender, copyCount, packets} = this;
+    for (let k = 1; k < this.packets; k++) this.packetAt[k] += this.packetAt[k - 1];
+  }
+
+  /** Numbers the packets of each sender, and finds the copies of each. */
+  numberPackets() {
+    const {packetSender, copyCount, packets} = this;
     this.packetNumber = new Uint32Array(packets);
     this.copyStart = new Uint32Array(packets + 1);
     const sent = new Uint32Array(this.begins.length);
-    let now = 0;
     for (let k = 0; k < packets; k++) {
-      now += packetAt[k];
-      packetAt[k] = now;
       this.packetNumber[k] = sent[packetSender[k]]++;
       this.copyStart[k + 1] = this.copyStart[k] + copyCount[k];
     }

@@ -9,7 +9,7 @@ export const colours = {};
 export function readColours() {
   const style = getComputedStyle(document.documentElement);
   for (const name of ['paper', 'panel', 'ink', 'quiet', 'grid', 'edge', 'band', 'send', 'recv', 'trouble', 'print',
-    'timer', 'run', 'run-ink', 'event', 'mark', 'halo', 'cursor']) {
+    'timer', 'run', 'run-ink', 'event', 'mark', 'halo', 'cursor', 'line']) {
     colours[name] = style.getPropertyValue('--' + name).trim();
   }
 }

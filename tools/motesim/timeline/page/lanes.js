@@ -108,6 +108,9 @@ function drawRuns(pane, mote, from, to, xOf) {
     const right = xOf(end - 1) + Math.min(half * 0.9, 10);
     c.fillStyle = colours.run;
     c.fillRect(left, y - tall / 2, right - left, tall);
+    c.strokeStyle = colours.line;
+    c.lineWidth = 1;
+    c.strokeRect(left + 0.5, y - tall / 2 + 0.5, right - left - 1, tall - 1);
     const name = run.process(run.p[i]);
     if (right - left > name.length * 6.6 + 14 && tall > 10) pane.names.set(i, {name, x: left + 12, y});
   }

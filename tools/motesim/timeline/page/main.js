@@ -1,7 +1,5 @@
 // The page of runs: shows them, and reacts to mouse, keys and buttons.
 import {aim, followMouse} from './aim.js';
-import {arrowNear} from './arrows.js';
-import {lowerBound} from './data.js';
 import {chooseAgain, chooseCopy, chooseLine, chooseMote, chosenInWords, follow, selectNothing, walk, walkLanes
   } from './details.js';
 import {byId, element} from './dom.js';
@@ -9,14 +7,16 @@ import {drawAll, redraw} from './draw.js';
 import {drawLegend, readColours} from './forms.js';
 import {arrivalOf} from './index.js';
 import {forgetForms} from './lanes.js';
-import {AXIS, FULL_LANE, SMALL_LANE, TALL_LANE} from './layout.js';
+import {AXIS, FULL_LANE, TALL_LANE} from './layout.js';
 import {MapView} from './map.js';
+import {itemAt, itemInWords} from './near.js';
 import {Pane} from './pane.js';
 import {fillSpeeds, followNow, setNow, startPlaying, step, stopPlaying} from './play.js';
 import {find, findAgain, goTo} from './search.js';
 import {seriesOf} from './series.js';
 import {chosen, mapOverlays, maps, offers, overlays, page, panes, play, search} from './stage.js';
 import {isWhole, keepTime, leastScale, showTime, time, zoomTime} from './time.js';
+import {offerTips} from './tip.js';
 import {askWhy, closeWhy, drawChain, drawChainOnMap, offerWhy} from './why.js';
 import {count} from './words.js';
 
@@ -152,33 +152,22 @@ function onWheel(pane, event) {
 
 /** Reacts to a click: selects the nearest mark or arrow, or sets the moment. */
 function onClick(pane, x, y) {
-  if (x < pane.gutter) {
-    const mote = pane.moteAt(y);
-    return mote >= 0 && chooseMote(pane, mote, false);
-  }
-  let best = 10, line = -1;
-  for (let i = 0; i < pane.hits.length; i += 3) {
-    const away = Math.hypot(pane.hits[i] - x, pane.hits[i + 1] - y);
-    if (away < best) {
-      best = away;
-      line = pane.hits[i + 2];
-    }
-  }
-  const arrow = arrowNear(pane, x, y, line >= 0 ? Math.min(3, best - 3) : 7);
-  if (arrow) return chooseCopy(pane, arrow.k, arrow.copy, false);
-  if (line >= 0) return chooseLine(pane, line, false);
-  const mote = pane.moteAt(y), moment = Math.floor(pane.moment(x));
-  if (mote >= 0 && pane.lane < SMALL_LANE) {
-    const [from, to] = pane.linesInView(mote), near = lowerBound(pane.run.at, moment, from, to);
-    if (near < to && (pane.run.at[near] - moment) * time.scale < 6) return chooseLine(pane, near, false);
-  }
-  setNow(moment);
+  const item = itemAt(pane, x, y);
+  if (!item) {
+    if (x >= pane.gutter) setNow(Math.floor(pane.moment(x)));
+  } else if (item.mote !== undefined) chooseMote(pane, item.mote, false);
+  else if (item.line !== undefined) chooseLine(pane, item.line, false);
+  else chooseCopy(pane, item.k, item.copy, false);
 }
 
 function listenTo(pane) {
   const {canvas} = pane;
   let held = null;
   followMouse(pane);
+  offerTips(canvas, (x, y) => {
+    const item = itemAt(pane, x, y);
+    return item ? `${itemInWords(pane.run, item)}${item.line !== undefined ? ' (click for more)' : ''}` : '';
+  });
   canvas.addEventListener('wheel', event => onWheel(pane, event), {passive: false});
   canvas.addEventListener('pointerdown', event => {
     if (event.button) return;
@@ -229,7 +218,8 @@ export function listen() {
     setNow(Number(event.target.value) || 0);
     followNow();
   });
-  new ResizeObserver(refit).observe(document.querySelector('main'));
+  const sizes = new ResizeObserver(refit);
+  for (const box of [document.querySelector('main'), byId('panes')]) sizes.observe(box);
   window.addEventListener('resize', refit);
   window.matchMedia('(prefers-color-scheme: dark)').addEventListener('change', recolour);
   window.addEventListener('beforeprint', () => recolour(true));

@@ -4,14 +4,18 @@ import {chooseMote} from './details.js';
 import {redraw} from './draw.js';
 import {FORM, colours, cross, drawArrow, fill, path, star, stroke} from './forms.js';
 import {HANDED, MEDIUM, arrivalOf} from './index.js';
+import {linkInWords, moteInWords} from './near.js';
 import {MapLayout} from './places.js';
 import {chosen, mapOverlays, play} from './stage.js';
+import {offerTips} from './tip.js';
 import {count} from './words.js';
 
 const MOST_LINKS = 12000;
-// The places of a loss's label along its link, and below or above it; of one of two opposite losses, near its receiver.
-const PLACES = [[0.5, -6], [0.5, 18], [0.7, -4], [0.7, 16], [0.6, -4], [0.6, 16]], OF_BOTH = PLACES.slice(2);
-const TALL = 12;
+// The places of a loss's label along its link, and on which side of it; of one of two opposite losses, near its
+// receiver.
+const PLACES = [[0.5, -1], [0.5, 1], [0.7, -1], [0.7, 1], [0.6, -1], [0.6, 1]], OF_BOTH = PLACES.slice(2);
+// The height of a label, and its distance from its link.
+const TALL = 12, APART = 6;
 
 export class MapView extends MapLayout {
   constructor(pane, box, several) {
@@ -19,6 +23,8 @@ export class MapView extends MapLayout {
     this.pane = pane;
     // The studio's actions with the motes on the map: hold, drag, drop and click.
     this.edits = null;
+    // (the element whose height the map has, instead of the one that suits the motes)
+    this.frame = null;
     box.innerHTML = '<h2></h2><canvas></canvas><p></p>';
     box.querySelector('h2').textContent = several ? `Map of ${pane.run.name}` : 'Map';
     this.canvas = box.querySelector('canvas');
@@ -35,7 +41,7 @@ export class MapView extends MapLayout {
   /** Makes the picture as large as the page shows it, so that the mouse finds the motes at their places. */
   resize() {
     const dots = window.devicePixelRatio || 1;
-    this.fitTo(this.canvas.clientWidth || 120);
+    this.fitTo(this.canvas.clientWidth || 120, this.frame && this.frame.clientHeight);
     const border = this.canvas.offsetHeight - this.canvas.clientHeight;
     this.canvas.style.height = this.height + border + 'px';
     this.canvas.width = this.width * dots;
@@ -60,7 +66,7 @@ export class MapView extends MapLayout {
           c.lineTo(this.x(r), this.y(r));
         }
       });
-      stroke(c, colours.edge, this.radius > 4 ? 1.2 : 0.8);
+      stroke(c, colours.line, this.radius > 4 ? 1.2 : 0.8);
     }
     const losses = run.losses.filter(([s, r]) => run.hearers[s] && run.hearers[s].includes(r));
     for (const [s, r] of losses) this.drawLoss(c, s, r);
@@ -93,10 +99,13 @@ export class MapView extends MapLayout {
     this.shares = [];
     for (const [s, r, every] of losses) {
       const dx = this.x(r) - this.x(s), dy = this.y(r) - this.y(s);
-      if (Math.hypot(dx, dy) <= 44) continue;
+      const long = Math.hypot(dx, dy);
+      if (long <= 30) continue;
       const text = every === 1 ? 'all' : `1 in ${every}`, wide = c.measureText(text).width;
-      for (const [way, below] of both.has(`${s} ${r}`) ? OF_BOTH : PLACES) {
-        const x = this.x(s) + dx * way, y = this.y(s) + dy * way + below;
+      for (const [way, side] of both.has(`${s} ${r}`) ? OF_BOTH : PLACES) {
+        // (beside a steep link, above or below a flat one)
+        const x = this.x(s) + dx * way - dy / long * side * (wide / 2 + APART);
+        const y = this.y(s) + dy * way + dx / long * side * (TALL / 2 + APART) + TALL / 2;
         if (!this.hasRoom(x, y, wide)) continue;
         c.fillText(text, x, y);
         this.shares.push({x, y, wide});
@@ -232,12 +241,19 @@ export class MapView extends MapLayout {
     c.fillText(String(this.run.w[prints[low - 1]]), x, y);
   }
 
+  /** The mote or the link at a point, in words. */
+  wordsAt(x, y) {
+    const mote = this.moteNear(x, y), link = mote < 0 && this.linkNear(x, y);
+    return mote >= 0 ? moteInWords(this.run, mote) : link ? linkInWords(this.run, ...link) : '';
+  }
+
   listen() {
     new ResizeObserver(() => {
       if (!this.canvas.clientWidth || this.canvas.clientWidth === this.width) return;
       this.resize();
       redraw();
     }).observe(this.canvas);
+    offerTips(this.canvas, (x, y) => this.wordsAt(x, y));
     this.canvas.setAttribute('role', 'img');
     this.canvas.setAttribute('aria-label',
       'Map of the motes: who hears whom, and the packets on their way at the moment that is played');
@@ -246,6 +262,11 @@ export class MapView extends MapLayout {
       this.zoomAt(Math.exp(-event.deltaY * 0.0015), event.offsetX, event.offsetY);
       this.still = null;
       redraw();
+    }, {passive: false});
+    // (a finger scrolls the page, unless it drags a mote)
+    this.canvas.addEventListener('touchstart', event => {
+      const [finger] = event.touches, box = this.canvas.getBoundingClientRect();
+      if (this.edits && this.edits.hold(finger.clientX - box.x, finger.clientY - box.y) >= 0) event.preventDefault();
     }, {passive: false});
     let held = null;
     this.canvas.addEventListener('pointerdown', event => {
@@ -258,7 +279,7 @@ export class MapView extends MapLayout {
       const dx = event.offsetX - held.x, dy = event.offsetY - held.y;
       if (!held.moved && Math.hypot(dx, dy) < 4) return;
       Object.assign(held, {x: event.offsetX, y: event.offsetY, moved: true});
-      if (held.mote >= 0) return this.edits.drag(held.mote, event.offsetX, event.offsetY);
+      if (held.mote >= 0) return this.edits.drag(held.mote, event.offsetX, event.offsetY, event.altKey);
       this.dx += dx;
       this.dy += dy;
       this.still = null;
@@ -269,7 +290,7 @@ export class MapView extends MapLayout {
         const mote = this.moteNear(event.offsetX, event.offsetY);
         if (!(this.edits && this.edits.click(event.offsetX, event.offsetY, mote)) && mote >= 0)
           chooseMote(this.pane, mote, true);
-      } else if (held && held.mote >= 0) this.edits.drop(held.mote, event.offsetX, event.offsetY);
+      } else if (held && held.mote >= 0) this.edits.drop(held.mote, event.offsetX, event.offsetY, event.altKey);
       held = null;
     });
   }

@@ -1,6 +1,9 @@
 // The places of a run's motes on the map.
 import {lowerBound} from './data.js';
 
+// Pixels from the row or the column of another mote within which a mote is moved there.
+const SNAP = 6;
+
 /** Places along one axis with wide empty stretches shortened; whether any was; and the function from shown places back
     to real ones. */
 export function shortened(values, most) {
@@ -54,12 +57,12 @@ export class MapLayout {
     this.links = this.run.hearers.reduce((sum, list) => sum + list.length, 0) / 2;
   }
 
-  /** Takes a width, and the height that suits the motes. */
-  fitTo(width) {
+  /** Takes a width, and the height that suits the motes unless there is another one. */
+  fitTo(width, height) {
     const ratio = this.spanX > 0 ? Math.min(1, Math.max(0.3, (this.spanY + this.spanX * 0.1) / this.spanX)) : 0.6;
     const room = 26;
     this.width = width;
-    this.height = Math.round(Math.min(440, Math.max(110, width * ratio)));
+    this.height = height || Math.round(Math.min(440, Math.max(110, width * ratio)));
     this.fit = Math.min((width - 2 * room) / (this.spanX || 1), (this.height - 2 * room) / (this.spanY || 1));
     if (!this.spanX && !this.spanY) this.fit = 1;
   }
@@ -89,11 +92,25 @@ export class MapLayout {
     return [Math.round(this.backX(shownX)), Math.round(this.backY(shownY))];
   }
 
+  /** The coordinates of a mote at a point: in the row and the column of others, if these are near. */
+  snappedAt(x, y, mote) {
+    const found = this.placeAt(x, y), best = [SNAP, SNAP];
+    this.run.places.forEach((place, m) => {
+      if (m === mote) return;
+      [Math.abs(this.x(m) - x), Math.abs(this.y(m) - y)].forEach((away, axis) => {
+        if (away >= best[axis]) return;
+        best[axis] = away;
+        found[axis] = place[axis];
+      });
+    });
+    return found;
+  }
+
   /** The radius of a mote: by the room that each has. */
   get radius() {
     const each = Math.sqrt((this.spanX * this.fit + 30) * (this.spanY * this.fit +
       30) / this.run.begins.length) * this.zoom;
-    return Math.max(1.5, Math.min(12, each * 0.22));
+    return Math.max(1.5, Math.min(14, each * 0.22));
   }
 
   /** The mote nearest to a point, or -1 if none is near. */

@@ -1,11 +1,14 @@
 // The moment that the maps show, and playing from moment to moment.
 import {byId, element} from './dom.js';
+import {lowerBound} from './data.js';
 import {redraw} from './draw.js';
 import {panes, play} from './stage.js';
 import {keepTime, time} from './time.js';
 import {count} from './words.js';
 
 const SPEEDS = [0.5, 1, 2, 5, 10, 20, 50, 100, 200, 500, 1000, 5000, 20000];
+// The seconds that playing may show nothing.
+const IDLE = 0.5;
 
 /** Sets the moment that the maps show. */
 export function setNow(moment) {
@@ -16,15 +19,27 @@ export function setNow(moment) {
 }
 
 /** The next moment, or the one before, at which anything happens in a run. */
-function nextBusy(by) {
-  let moment = Math.floor(play.now) + by;
-  while (moment >= 0 && moment <= time.end && !panes.some(pane => pane.run.busy[moment])) moment += by;
+function nextBusy(now, by) {
+  let moment = Math.floor(now) + by;
+  while (moment >= 0 && moment <= time.end && !isBusy(moment)) moment += by;
   return Math.max(0, Math.min(time.end, moment));
+}
+
+const isBusy = moment => panes.some(pane => pane.run.busy[moment]);
+
+/** True if a packet may be on its way. */
+const isFlying = (run, now) => lowerBound(run.packetAt, now - run.longest) < lowerBound(run.packetAt, now + 1e-9);
+
+/** The moment at which playing goes on: just before the next one at which anything happens, if that is far. */
+export function pastIdle(now, far) {
+  if (isBusy(Math.floor(now)) || panes.some(pane => isFlying(pane.run, now))) return now;
+  const next = nextBusy(now, 1);
+  return next - now > far ? next - 1 : now;
 }
 
 export function step(by) {
   stopPlaying();
-  setNow(nextBusy(by));
+  setNow(nextBusy(play.now, by));
   followNow();
 }
 
@@ -39,6 +54,7 @@ export function followNow() {
 
 export function stopPlaying() {
   play.runs = false;
+  play.loop = null;
   byId('play').textContent = 'Play';
 }
 
@@ -52,10 +68,11 @@ export function startPlaying() {
 
 function playOn(now) {
   if (!play.runs) return;
-  const past = Math.min(200, Math.max(0, now - play.last)) / 1000;
+  const past = Math.min(200, Math.max(0, now - play.last)) / 1000, speed = Number(byId('speed').value);
   play.last = now;
   play.before = play.now;
-  play.now = Math.min(time.end, play.now + past * Number(byId('speed').value));
+  play.now = Math.min(time.end, pastIdle(play.now + past * speed, Math.max(2, speed * IDLE)));
+  if (play.loop && play.now >= play.loop[1]) play.now = play.before = play.loop[0];
   byId('now').value = Math.floor(play.now);
   followNow();
   redraw();

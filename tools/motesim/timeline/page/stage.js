@@ -16,8 +16,8 @@ export function choose(it) {
 /** The lines that the search found, for each pane; the place of the present one among all. */
 export const search = {found: [], at: -1, total: 0, words: []};
 
-/** The moment that the maps show, and the one before it. */
-export const play = {now: 0, before: -1, runs: false, last: 0};
+/** The moment that the maps show, and the one before it; and the moments between which playing goes round, or null. */
+export const play = {now: 0, before: -1, runs: false, last: 0, loop: null};
 
 /** Functions of other modules, which draw over the lanes of a pane and over a map. */
 export const overlays = [];

@@ -1,0 +1,26 @@
+// The totals of a run as tables, with small plots over time.
+import {element, table} from '../../timeline/page/dom.js';
+import {showSeries} from '../../timeline/page/plots.js';
+import {panes} from '../../timeline/page/stage.js';
+
+function sumTable([names, ...rows]) {
+  const shown = value => value === null ? '-' : Number.isInteger(value) || typeof value === 'string' ? String(value) :
+    value.toFixed(3);
+  const body = rows.map(row => {
+    const made = element('tr', '', row.map((value, i) => {
+      const cell = element('td', shown(value));
+      if (names[i] === 'program') cell.className = 'name';
+      return cell;
+    }));
+    if (row[0] === 'net') made.className = 'net';
+    return made;
+  });
+  return table(names, body);
+}
+
+/** Shows the totals of the run that is shown. */
+export function fillSums(box, sums) {
+  const plots = element('div');
+  if (panes.length) showSeries(panes[0].run, plots);
+  box.replaceChildren(sumTable(sums.motes), plots, sumTable(sums.links));
+}

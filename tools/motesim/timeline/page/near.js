@@ -1,0 +1,58 @@
+// @ts-check
+// What is near a point of the lanes or of a map, and its words.
+import {arrowNear} from './arrows.js';
+import {lowerBound} from './data.js';
+import {FATE_WORDS, delayOf} from './index.js';
+import {SMALL_LANE} from './layout.js';
+import {time} from './time.js';
+import {count} from './words.js';
+
+/** The item at a point of the lanes: a copy of a packet, a line, or a mote by its name; null if there is none.
+ * @param {any} pane @param {number} x @param {number} y
+ * @returns {{k: number, copy: number}|{line: number}|{mote: number}|null} */
+export function itemAt(pane, x, y) {
+  const mote = pane.moteAt(y);
+  if (x < pane.gutter) return mote >= 0 ? {mote} : null;
+  let best = 10, line = -1;
+  for (let i = 0; i < pane.hits.length; i += 3) {
+    const away = Math.hypot(pane.hits[i] - x, pane.hits[i + 1] - y);
+    if (away < best) {
+      best = away;
+      line = pane.hits[i + 2];
+    }
+  }
+  const arrow = arrowNear(pane, x, y, line >= 0 ? Math.min(3, best - 3) : 7);
+  if (arrow) return {k: arrow.k, copy: arrow.copy};
+  if (line >= 0) return {line};
+  if (mote < 0 || pane.lane >= SMALL_LANE) return null;
+  const moment = Math.floor(pane.moment(x)), [from, to] = pane.linesInView(mote);
+  const near = lowerBound(pane.run.at, moment, from, to);
+  return near < to && (pane.run.at[near] - moment) * time.scale < 6 ? {line: near} : null;
+}
+
+/** An item of the lanes in words.
+ * @param {any} run @param {any} item */
+export function itemInWords(run, item) {
+  if (item.mote !== undefined) return moteInWords(run, item.mote);
+  const {line, k, copy} = item;
+  if (line !== undefined) return `mote ${run.moteOf(line)}, moment ${run.at[line]}: ${run.words(line)}`;
+  return `packet ${run.packetNumber[k]} of mote ${run.packetSender[k]} to mote ${run.copyTo[copy]}, sent at ` +
+    `${run.packetAt[k]}: ${FATE_WORDS[run.copyFate[copy]]}`;
+}
+
+/** A mote in words: its program and the motes that it hears.
+ * @param {any} run @param {number} mote */
+export function moteInWords(run, mote) {
+  const hears = run.hearers[mote].length;
+  return `mote ${mote} runs ${run.programs[run.begins[mote]]} and hears ${hears ? count(hears, 'mote') : 'nobody'}`;
+}
+
+/** A link in words: how long its packets take, and which are lost.
+ * @param {any} run @param {number} s @param {number} r */
+export function linkInWords(run, s, r) {
+  const way = (from, to) => {
+    const every = run.lossOf.get(from * 65536 + to);
+    return every ? `; ${from} to ${to} loses ${every === 1 ? 'all' : `1 in ${every}`}` : '';
+  };
+  return `mote ${s} and mote ${r}, ${count(delayOf(run, s, r), 'moment')} apart${way(s, r)}${way(r, s)}`;
+}

@@ -1,0 +1,37 @@
+// @ts-check
+// A tip at the pointer: what is there, in words.
+import {element} from './dom.js';
+
+const AWAY = 14;
+/** @type {HTMLElement|null} */
+let box = null;
+
+/** Shows words at the pointer, or nothing if there are none.
+ * @param {string} words @param {PointerEvent} event */
+function show(words, event) {
+  if (!box) {
+    box = element('div');
+    box.id = 'tip';
+    box.setAttribute('role', 'tooltip');
+    document.body.append(box);
+  }
+  box.hidden = !words;
+  if (!words) return;
+  box.textContent = words;
+  const {width, height} = box.getBoundingClientRect();
+  const left = Math.min(event.clientX + AWAY, innerWidth - width - 4);
+  const top = event.clientY + AWAY + height > innerHeight ? event.clientY - height - AWAY : event.clientY + AWAY;
+  Object.assign(box.style, {left: `${Math.max(4, left)}px`, top: `${top}px`});
+}
+
+/** Shows tips over a picture. `wordsAt` has the words at a point of it, and '' where nothing is.
+ * @param {HTMLElement} canvas @param {(x: number, y: number) => string} wordsAt */
+export function offerTips(canvas, wordsAt) {
+  canvas.addEventListener('pointermove', event => {
+    const words = event.buttons || event.pointerType === 'touch' ? '' : wordsAt(event.offsetX, event.offsetY);
+    canvas.classList.toggle('points', Boolean(words));
+    show(words, event);
+  });
+  canvas.addEventListener('pointerleave', event => show('', event));
+  canvas.addEventListener('pointerdown', event => show('', event));
+}
