@@ -1,10 +1,10 @@
-"""Writes the lists of definitions into their pages: tools/dev/spec_lists
+"""Writes the list of definitions into its page: tools/dev/spec_lists
 
-docs/dev/SPECS.md lists all files of specs/, in the order of crates.txt. docs/proof/HEADLINE.md lists the files on
-which the theorem rests: the contract of `simulate` (crates/simulation/specs/Simulation*.antt), the files of specs/
-that this contract imports, the files that these import, and so on. The second list is in order from the top down: the
-crates from the last of crates.txt to the first, and within a crate a file before the files that it imports. Both lists
-have the first sentence of each file's first comment. `./test` checks that both pages are up to date.
+docs/proof/HEADLINE.md lists the files on which the theorem rests: the contract of `simulate`
+(crates/simulation/specs/Simulation*.antt), the files of specs/ that this contract imports, the files that these import,
+and so on. The list is in order from the top down: the crates from the last of crates.txt to the first, and within a
+crate a file before the files that it imports. It has the first sentence of each file's first comment. `./test` checks
+that the page is up to date.
 """
 from __future__ import annotations
 
@@ -48,22 +48,6 @@ def about(path: Path) -> str:
 def item(text: str) -> str:
     """One item of a list, in lines of at most 112 characters."""
     return textwrap.fill('- ' + text, 112, subsequent_indent='  ', break_long_words=False, break_on_hyphens=False)
-
-
-# All definitions.
-
-def index(top: Path) -> str:
-    """The list of all definitions."""
-    rows = []
-    for crate in crates_of(top):
-        folder = top / 'crates' / crate / 'specs'
-        # (Lib.antt only names the other files)
-        files = [it for it in sorted(folder.rglob('*.antt')) if it != folder / 'Lib.antt']
-        if files:
-            rows += ['**[%s](../../crates/%s/specs)**' % (crate, crate), '']
-            rows += [item('`%s`: %s' % (it.relative_to(folder).with_suffix('').as_posix(), about(it))) for it in files]
-            rows.append('')
-    return '\n'.join(rows) + '\n'
 
 
 # The definitions of the headline.
@@ -160,7 +144,7 @@ def headline(top: Path) -> str:
 
 # The pages.
 
-LISTS = {'docs/proof/HEADLINE.md': headline, 'docs/dev/SPECS.md': index}
+LISTS = {'docs/proof/HEADLINE.md': headline}
 
 
 def outdated(top: Path) -> dict[Path, str]:

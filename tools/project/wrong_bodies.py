@@ -7,7 +7,7 @@ refusal says little about the contract. Then the mutant is reported as open, and
 rewrites it so that the contract decides. A control comes first: it has to prove the crate without an edit.
 
 The tool uses the libraries in crates/*/out, and first builds those that are missing or outdated. With --built it builds
-none, because rt ci has just built them. Each verdict is noted in log/wrong_bodies.tsv, with a digest of everything on
+none, because rt ci has just built them. Each verdict is noted in docs/proof/wrong_bodies.tsv, with a digest of everything on
 which it depends. As many checks run in parallel as processors and memory allow, or as RT_JOBS says. The last line is
 `N passed, M failed, K skipped`. The status is 1 if a mutant failed, and otherwise 0.
 """

@@ -1,4 +1,4 @@
-"""The lists of definitions: all of them, and those on which the headline rests, in their order."""
+"""The list of definitions on which the headline rests, in its order."""
 from __future__ import annotations
 
 import contextlib
@@ -36,7 +36,6 @@ use Rattle.low.specs.declared.place.TheConstants.{MOST}
     'crates/low/specs/Near.antt': '-- What is near. `near` is in a second sentence.\nuse lib.ListN.{get}\n',
     'crates/low/src/place.rt': '',
     'docs/proof/HEADLINE.md': 'before\n%sbehind\n' % MARKS,
-    'docs/dev/SPECS.md': 'before\n%sbehind\n' % MARKS,
 }
 
 LIST = '''
@@ -90,15 +89,11 @@ class Lists(unittest.TestCase):
     def test_what_is_imported_is_listed_from_the_top_down(self) -> None:
         self.assertEqual(spec_lists.headline(self.top), LIST)
 
-    def test_all_definitions_are_listed(self) -> None:
-        self.assertIn('**[low](../../crates/low/specs)**\n\n- `Near`: What is near.\n- `Ways/Far`: How far it is.\n\n',
-                      spec_lists.index(self.top))
-
-    def test_the_pages_are_written_between_their_marks(self) -> None:
-        pages = [self.top / 'docs/dev/SPECS.md', self.top / 'docs/proof/HEADLINE.md']
-        self.assertEqual(sorted(spec_lists.outdated(self.top)), pages)
-        self.assertEqual(self.run_it().count(': the list was updated'), 2)
-        self.assertEqual(pages[1].read_text('utf-8'),
+    def test_the_page_is_written_between_its_marks(self) -> None:
+        page = self.top / 'docs/proof/HEADLINE.md'
+        self.assertEqual([*spec_lists.outdated(self.top)], [page])
+        self.assertEqual(self.run_it().count(': the list was updated'), 1)
+        self.assertEqual(page.read_text('utf-8'),
                          'before\n%sbehind\n' % MARKS.replace('<!-- end', spec_lists.headline(self.top) + '<!-- end'))
         self.assertEqual((spec_lists.outdated(self.top), self.run_it()), ({}, ''))
 

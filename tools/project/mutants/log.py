@@ -1,4 +1,4 @@
-"""The last verdict on each mutant, with a digest of the texts: log/wrong_bodies.tsv.
+"""The last verdict on each mutant, with a digest of the texts: docs/proof/wrong_bodies.tsv.
 
 A line has the mutant, the day, the verdict, the refused function, the goals or the error for which it was refused, and
 a digest of everything on which the verdict depends: the mutant, its crate, the crates below with their proofs, the
@@ -20,7 +20,7 @@ from project.mutants.checks import OPEN, REFUSED, Verdict
 from project.mutants.edits import Edit
 from motesim.runner.programs import ALL_PARTS, TOP
 
-KEPT = TOP / 'log/wrong_bodies.tsv'
+KEPT = TOP / 'docs/proof/wrong_bodies.tsv'
 HEAD = '# written by tools/dev/wrong_bodies: mutant, day, what it came to, function, goals or error, digest\n'
 # The code that judges.
 JUDGES = 'kit.py', 'mutants/checks.py', 'mutants/edits.py'
