@@ -1,4 +1,3 @@
 pub mod Kept
 pub mod Gravest
-pub mod Reported
 pub mod Tokens

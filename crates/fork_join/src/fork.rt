@@ -4,7 +4,6 @@ ghost use Rattle.std.specs.Prelude.{◌≡◌, ◌+◌, suc, true, length, IfErr
 ghost use Rattle.std.specs.List.{AllZip, AllByRecursion as Each};
 ghost use Rattle.fork_join.specs.Gravest.{is_own_failure};
 ghost use Rattle.fork_join.specs.Kept.{AllKept};
-ghost use Rattle.fork_join.specs.Reported.{IsReported, IsReportedOf};
 ghost use Rattle.fork_join.specs.Tokens.{HasTokens};
 
 use crate::stop::{Flag, Watch};
@@ -39,7 +38,6 @@ impl<W, T> Drop for Promised<W, T> {
 
 impl<T, W: Work<T>, L: Ledger> Promise<Ended<T, L>> for Promised<W, T> {
     ghost kept_by = { λ p ended. IfOk ended.result (W.makes p.work.value p.worker.value)
-        × IfErr ended.result (W.errs p.work.value p.worker.value)
         × (ended.share.parts ≡ 1) × HasTokens ended.result ended.share.amount };
 }
 
@@ -65,7 +63,6 @@ where
     W: Work<T> + Sync,
     requires ready { Each (W.ready work.now) workers.items }
     ensures makes { IfOk result (λ done. AllZip (W.makes work.now) workers.items done.items) }
-    ensures reported { IfErr result (IsReported (W.errs work.now) workers.items) }
     ensures failed { IfErr result (λ e. is_own_failure e ≡ true) }
 {
     let Some(parts) = (workers.len() as u64).checked_add(1) else {
@@ -92,7 +89,6 @@ where
     requires parts { blank.parts ≡ L.parts }
     requires one_more { blank.parts ≡ suc (length workers.items) }
     ensures makes { IfOk result (λ done. AllZip (W.makes work.now) workers.items done.items) }
-    ensures reported { IfErr result (IsReported (W.errs work.now) workers.items) }
     ensures failed { IfErr result (λ e. is_own_failure e ≡ true) }
 {
     let (tokens, all) = blank.open::<L>();
@@ -119,7 +115,6 @@ where
     requires one_more { all.parts ≡ suc (length workers.items) }
     requires none { all.amount ≡ 0 }
     ensures makes { IfOk result (λ done. AllZip (W.makes work.now) workers.items done.items) }
-    ensures reported { IfErr result (IsReported (W.errs work.now) workers.items) }
     ensures failed { IfErr result (λ e. is_own_failure e ≡ true) }
 {
     thread::scope(
@@ -131,7 +126,6 @@ where
             requires one_more { all.parts ≡ suc (length workers.items) }
             requires none { all.amount ≡ 0 }
             ensures makes { IfOk result (λ done. AllZip (W.makes work.entry.now) workers.items done.items) }
-            ensures reported { IfErr result (IsReported (W.errs work.entry.now) workers.items) }
             ensures failed { IfErr result (λ e. is_own_failure e ≡ true) }
         { fork_all(scope, rt, alloc, workers, work, flag, all) },
     )
@@ -154,7 +148,6 @@ where
     requires part { share.parts ≡ 1 }
     requires none { share.amount ≡ 0 }
     ensures makes { IfOk result.result (W.makes work.now worker) }
-    ensures errs { IfErr result.result (W.errs work.now worker) }
     ensures part { result.share.parts ≡ 1 }
     ensures tokens { HasTokens result.result result.share.amount }
 {
@@ -188,7 +181,6 @@ where
     requires one_more { all.parts ≡ suc (length workers.items) }
     requires none { all.amount ≡ 0 }
     ensures makes { IfOk result (λ done. AllZip (W.makes work.now) workers.items done.items) }
-    ensures reported { IfErr result (IsReported (W.errs work.now) workers.items) }
     ensures failed { IfErr result (λ e. is_own_failure e ≡ true) }
 {
     let mut all = all;
@@ -234,7 +226,6 @@ fn join_all<R: Threads, T: Send + Drop, W: Work<T>, L: Ledger + Send>(
     all: &mut Share<L>,
 ) -> Result<Vec<T>, WorkerError>
     ensures kept { IfOk result (λ done. AllKept W.makes started.items done.items) }
-    ensures reported { IfErr result (IsReportedOf W.errs started.items) }
     ensures parts { all.new.parts ≡ all.old.parts + length started.items }
     ensures tokens { all.old.amount ≡ 0 → HasTokens result all.new.amount }
 {

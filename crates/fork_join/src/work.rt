@@ -84,9 +84,6 @@ pub trait Work<T> {
     /// The effect of the work on the record.
     ghost makes: { Self → T → T → Type 0 };
 
-    /// The errors that the work may return instead.
-    ghost errs: { Self → T → WorkerError → Type 0 } = { λ _ _ _. Unit {0} };
-
     /// Works on the record of one worker. Workers that wait for one another read the flag while they wait: the flag is
     /// set if a worker or a start has failed.
     ///
@@ -95,7 +92,6 @@ pub trait Work<T> {
     fn work<L: Ledger>(&self, worker: T, watch: &mut Watch<'_, L>) -> Result<T, WorkerError>
         requires ready { ready self.now worker }
         ensures makes { IfOk result (makes self.now worker) }
-        ensures errs { IfErr result (errs self.now worker) }
         ensures seen { IfErr result (λ e. e ≡ Stopped → watch.new.seen ≡ true) };
 
     /// Returns whether a worker's thread may start. It is called before each start; `false` counts as a failed start.

@@ -117,9 +117,6 @@ impl<R: Wait + RandomSource + AllocGlobal, G: Gate> Work<Worker> for Runner<'_, 
     ghost makes = { λ w old new. RunsWorker
         (net_of w.window.net.now) w.window.owners.now w.window.inboxes.now w.window.until old new };
 
-    // No worker waits for another within a window.
-    ghost errs = { λ _ _ e. e ≢ Stopped };
-
     fn work<L: Ledger>(
         &self,
         worker: Worker,

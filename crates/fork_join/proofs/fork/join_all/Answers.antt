@@ -1,25 +1,14 @@
-use Rattle.std.proofs.Common.{rules, arith, ◌≡◌, refl, sym, subst, ◌∙◌, map-id, length, length-append, vec_len, Option, Some, None, ◌++◌, ◌∷◌, [], inl, inr}
+use Rattle.std.proofs.Common.{rules, arith, ◌≡◌, refl, sym, ◌∙◌, map-id, length, length-append, vec_len, ◌∷◌, []}
 use Rattle.std.proofs.lemmas.Iterator.Adapters.{YieldsList-from_vec}
 use Rattle.std.proofs.lemmas.Iterator.Consumers.{YieldsList-end}
-use Rattle.std.proofs.lemmas.Result.{IfOk-at_ok, IfErr-at_err}
-use Rattle.fork_join.specs.declared.work.WorkerError.{WorkerError}
-use Rattle.fork_join.specs.declared.work.WorkerError.TheVariants.{Memory}
-use Rattle.fork_join.specs.Kept.{Handle}
-use Rattle.fork_join.specs.Reported.{MayEnd, with_end}
+use Rattle.std.proofs.lemmas.Result.{IfOk-at_ok}
 use Rattle.fork_join.proofs.Zips.{push_zip}
-use Rattle.fork_join.proofs.Ends.{Ended, one_more}
 use Rattle.fork_join.proofs.Tokens.{one_without, one_with, tokens_of_ok, tokens_of_err}
-use Rattle.fork_join.proofs.fork.join_all.Given as given
 use Rattle.fork_join.proofs.fork.join_all.Goals as goal
-
--- the possible ends of a thread, by its promise
-abbrev ends_of : {A : Type 0} (g : given.Over) → Handle A g.row.W.Denot g.row.T.Denot → Option WorkerError → Type 0
-ends_of g = λ handle end. MayEnd (g.W.Work.errs handle.promise.work.value handle.promise.worker.value) end
 
 pub loop-handle-init : goal.loop-handle-init
 loop-handle-init g c = record {
   kept = λ none. rw c.new-done.ensures.items tt;
-  ended = ([], tt, refl);
   parts = omega arith;
   tokens = λ none. rw none refl;
 }
@@ -29,9 +18,8 @@ loop-handle-preserved-in_default g c =
     let matches = c.join-result.ensures in
     record {
       kept = λ going. rw c.in_default.ensures.items (push_zip _ c.loop-handle.yielded c.loop-handle.done.items c.in-Some.handle c.in-Ok.worker (c.loop-handle.invariant.kept going) (IfOk-at_ok _ c.in-Ok.is matches.0));
-      ended = one_more (ends_of g) c.loop-handle.yielded c.loop-handle.failed c.in-Some.handle None c.loop-handle.invariant.ended tt;
-      parts = omega (arith, c.merge.ensures.parts, c.loop-handle.invariant.parts, matches.2, length-append c.loop-handle.yielded (c.in-Some.handle ∷ []));
-      tokens = λ none. rw c.merge.ensures.amount (one_without c.loop-handle.failed _ _ (c.loop-handle.invariant.tokens none) (tokens_of_ok c.join-result.result.result c.in-Ok.worker _ c.in-Ok.is matches.3));
+      parts = omega (arith, c.merge.ensures.parts, c.loop-handle.invariant.parts, matches.1, length-append c.loop-handle.yielded (c.in-Some.handle ∷ []));
+      tokens = λ none. rw c.merge.ensures.amount (one_without c.loop-handle.failed _ _ (c.loop-handle.invariant.tokens none) (tokens_of_ok c.join-result.result.result c.in-Ok.worker _ c.in-Ok.is matches.2));
     }
 
 pub loop-handle-preserved-in-Err-push : goal.loop-handle-preserved-in-Err-push
@@ -39,11 +27,7 @@ loop-handle-preserved-in-Err-push g c =
     let matches = c.join-result.ensures in
     record {
       kept = λ none. absurd (cc);
-      ended =
-          let none : c.loop-handle.failed ≡ None = search rules in
-          subst (λ f. Ended (ends_of g) (c.loop-handle.yielded ++ c.in-Some.handle ∷ []) (with_end f (Some Memory))) none
-          (one_more (ends_of g) c.loop-handle.yielded c.loop-handle.failed c.in-Some.handle (Some Memory) c.loop-handle.invariant.ended (inr refl));
-      parts = omega (arith, c.merge.ensures.parts, c.loop-handle.invariant.parts, matches.2, length-append c.loop-handle.yielded (c.in-Some.handle ∷ []));
+      parts = omega (arith, c.merge.ensures.parts, c.loop-handle.invariant.parts, matches.1, length-append c.loop-handle.yielded (c.in-Some.handle ∷ []));
       tokens = λ none. tt;
     }
 
@@ -52,9 +36,8 @@ loop-handle-preserved-else-is_none g c =
     let matches = c.join-result.ensures in
     record {
       kept = λ none. absurd (search rules);
-      ended = one_more (ends_of g) c.loop-handle.yielded c.loop-handle.failed c.in-Some.handle None c.loop-handle.invariant.ended tt;
-      parts = omega (arith, c.merge.ensures.parts, c.loop-handle.invariant.parts, matches.2, length-append c.loop-handle.yielded (c.in-Some.handle ∷ []));
-      tokens = λ none. rw c.merge.ensures.amount (one_without c.loop-handle.failed _ _ (c.loop-handle.invariant.tokens none) (tokens_of_ok c.join-result.result.result c.in-Ok.worker _ c.in-Ok.is matches.3));
+      parts = omega (arith, c.merge.ensures.parts, c.loop-handle.invariant.parts, matches.1, length-append c.loop-handle.yielded (c.in-Some.handle ∷ []));
+      tokens = λ none. rw c.merge.ensures.amount (one_without c.loop-handle.failed _ _ (c.loop-handle.invariant.tokens none) (tokens_of_ok c.join-result.result.result c.in-Ok.worker _ c.in-Ok.is matches.2));
     }
 
 pub loop-handle-preserved : goal.loop-handle-preserved
@@ -62,9 +45,8 @@ loop-handle-preserved g c =
     let matches = c.join-result.ensures in
     record {
       kept = λ none. absurd (cc);
-      ended = rw c.gravest.ensures.value (one_more (ends_of g) c.loop-handle.yielded c.loop-handle.failed c.in-Some.handle (Some c.in-Err.refused) c.loop-handle.invariant.ended (inl (IfErr-at_err _ c.in-Err.is matches.1)));
-      parts = omega (arith, c.merge.ensures.parts, c.loop-handle.invariant.parts, matches.2, length-append c.loop-handle.yielded (c.in-Some.handle ∷ []));
-      tokens = λ none. rw (c.merge.ensures.amount, c.gravest.ensures.value) (one_with c.loop-handle.failed c.in-Err.refused _ _ (c.loop-handle.invariant.tokens none) (tokens_of_err c.join-result.result.result c.in-Err.refused _ c.in-Err.is matches.3));
+      parts = omega (arith, c.merge.ensures.parts, c.loop-handle.invariant.parts, matches.1, length-append c.loop-handle.yielded (c.in-Some.handle ∷ []));
+      tokens = λ none. rw (c.merge.ensures.amount, c.gravest.ensures.value) (one_with c.loop-handle.failed c.in-Err.refused _ _ (c.loop-handle.invariant.tokens none) (tokens_of_err c.join-result.result.result c.in-Err.refused _ c.in-Err.is matches.2));
     }
 
 pub returns-in-None-failed-clause-kept : goal.returns-in-None-failed-clause-kept
