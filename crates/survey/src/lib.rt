@@ -1,0 +1,16 @@
+//! Surveys: the smallest sets of faults that break a claim.
+//!
+//! A survey tries the sets of at most so many faults: the smallest sets first, and those of one size in lexicographic
+//! order. A set needs no run if for each claim a set within it is known to break the claim.
+#![tactic(auto)]
+
+mod batch;
+mod broken;
+pub mod laws;
+mod record;
+mod search;
+mod trial;
+
+pub use broken::{Broken, Survey};
+pub use search::{Limits, survey, survey_with};
+pub use trial::{Trial, try_in_turn};
