@@ -56,8 +56,7 @@ from project.compile import compile_program
 from project.tree import commit, git
 
 # The contents of the archive besides the binary: files, and folders with all files in them that git knows.
-PARTS = ('CHANGES.md', 'CITATION.cff', 'LICENSE', 'docs/use', 'examples', 'tools/contiki_library', 'tools/contiki_host',
-         'tools/motesim')
+PARTS = ('CHANGES.md', 'CITATION.cff', 'LICENSE', 'docs/use', 'examples', 'tools/contiki_host', 'tools/motesim')
 # The page for teachers; the folders of the tools and pages; and files that tools and editors make for their own use.
 PAGE_FOR_TEACHERS, OURS = 'docs/use/TEACH.md', ('docs', 'tools')
 RUBBISH = re.compile(r'(.*/)?(\.|__pycache__/|[^/]*~(/|\Z))', re.S)

@@ -86,25 +86,11 @@ def has_error(file: str) -> bool:
     return False
 
 
-def about_other_kind(file: str) -> str | None:
-    """Returns the message about a file that has something else than a scenario, such as a plan or a program."""
-    from motesim.runner.run import read_file, refuse_c, refuse_others
-    try:
-        data = read_file(file)
-        refuse_others(file, data)
-        refuse_c(file, data)
-    except Fault as fault:
-        return str(fault)
-    return None
-
-
 def say_more(file: str | None) -> None:
     """Prints how to find out why there is no report, if the scenario is the reason."""
     if file:
         if not can_be_read(file):
             say('%s: there is no file %s that can be read' % (NAME, file))
-        elif other := about_other_kind(file):
-            say('%s: %s' % (NAME, other))
         elif has_error(file):
             say('%s: tools/explain %s says more' % (NAME, file))
 

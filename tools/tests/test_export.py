@@ -232,7 +232,7 @@ class ExportTest(unittest.TestCase):
         (self.folder / 'net.plan.toml').write_text('end = 9\n[[places]]\nrule = "line"\n')
         (self.folder / 'net.csv').write_text('period,sent,fault,note,plan,plan_sha256,parameters\n')
         for name, seen in (('net.plan.toml', 'net.plan.toml is a plan, not a scenario: tools/scenario net.plan.toml'),
-                           ('net.csv', 'net.csv has the results of a sweep, not a report: tools/plot net.csv')):
+                           ('net.csv', 'net.csv has results, not a report: tools/plot net.csv')):
             for command in ('export', '--to', 'csv', name), ('summary', name), ('compare', 'a.report', name):
                 done = subprocess.run([sys.executable, '-B', str(TOOLS / command[0]), *command[1:]], cwd=self.folder,
                                       capture_output=True, text=True)

@@ -23,10 +23,8 @@ from unittest import mock
 
 from here import TOOLS
 from motesim.grading.command import remarks, status_of
-from motesim.grading.entries import Entry, anonymous, data_of, entries_of
-from motesim.grading.in_c import notation_of
-from motesim.grading.in_c import names_in
-from motesim.grading.marking import BINARY, OF_CR, Task, page_name
+from motesim.grading.entries import Entry, anonymous, data_of, decoded, entries_of
+from motesim.grading.marking import Task, page_name
 from motesim.grading.marks import Mark, Marks
 from motesim.grading.nets import cut_off, nets_of, program_of
 from motesim.grading.page import page_of
@@ -38,6 +36,7 @@ from motesim.grading.warned import warned_of
 from motesim.grading.tables import table as table_of
 from motesim.faults import Fault
 from motesim.judge.expectations import judged, parts_of
+from motesim.judge.remarks import NO_COLLISIONS
 from motesim.runner import Limits, program_path
 from motesim.runner.run import Answer
 from motesim.scenario import Scenario
@@ -56,37 +55,6 @@ collide = false
 task = '''
 PROGRAM = 'process a;\nautostart a;\ncode a { body { print %d; } }\n'
 EXPECT = 'expect = ["every mote prints a 3", "mote 1 prints a at 6", "no mote halts"]\n'
-IN_C = '''#include "contiki.h"
-PROCESS(a, "a");
-AUTOSTART_PROCESSES(&a);
-PROCESS_THREAD(a, ev, data) {
-  PROCESS_BEGIN();
-  %s
-  PROCESS_END();
-}
-'''
-
-# The callback uses a variable of the process a, but b opens the connection.
-TWO_PROCESSES = '''#include "contiki.h"
-#include "net/rime.h"
-PROCESS(a, "a");
-PROCESS(b, "b");
-AUTOSTART_PROCESSES(&b, &a);
-static int is_heard;
-static void recv(struct broadcast_conn *c, const rimeaddr_t *from) { READS process_poll(&a); }
-static const struct broadcast_callbacks calls = {recv};
-static struct broadcast_conn bc;
-PROCESS_THREAD(a, ev, data) {
-  static uint8_t n = 7;
-  PROCESS_BEGIN();
-  if(node_id == 0) { packetbuf_copyfrom(&n, 1); broadcast_send(&bc); PROCESS_EXIT(); }
-  printf("%d", 2);
-  PROCESS_WAIT_UNTIL(is_heard);
-  printf("%d", 1);
-  PROCESS_END();
-}
-PROCESS_THREAD(b, ev, data) { PROCESS_BEGIN(); broadcast_open(&bc, 129, &calls); PROCESS_YIELD(); PROCESS_END(); }
-'''
 
 
 def net(program: str, motes: int = 2, name: str = 'task') -> str:
@@ -116,8 +84,7 @@ class Folder(unittest.TestCase):
         (self.folder / name).write_text(text)
 
     def grade(self, *words: str, status: int = 0) -> str:
-        # (the stub's reports aren't those of the programs, so gcc isn't on the path)
-        environment = {**os.environ, 'MOTESIM': str(self.stub), 'PATH': ''}
+        environment = {**os.environ, 'MOTESIM': str(self.stub)}
         done = subprocess.run([sys.executable, '-B', str(TOOLS / 'grade'), 'class', 'task.expect.toml', *words],
                               cwd=self.top, env=environment, capture_output=True, text=True, timeout=120)
         self.assertEqual(done.returncode, status, done.stderr)
@@ -148,17 +115,15 @@ class Entries(Folder):
             '  3  3 of 4  no mote halts\n'))
 
     def test_a_remark_on_a_sentence_that_needs_no_evidence(self) -> None:
-        said = 'the programs of these motes have no `send`, so this sentence holds in every run'
-        (self.top / 'task.expect.toml').write_text('expect = ["no mote sends 9", "every mote prints a 3"]\n')
+        (self.top / 'task.expect.toml').write_text('expect = ["no copy collides", "every mote prints a 3"]\n')
         self.hand_in('ben.toml', net(PROGRAM % 4))
         self.hand_in('carla.toml', net('// refuse\n' + PROGRAM % 3))
-        below = self.grade().split('\n\n')[1]
-        self.assertEqual(below, (
-            '  1  2 of 3  no mote sends 9\n     in all solutions and nets, this or a similar remark: %s\n'
-            '  2  1 of 3  every mote prints a 3\n' % said))
-        self.assertIn('holds   no mote sends 9\n          %s\n' % said, self.grade('--why', 'anna'))
-        self.hand_in('dora.toml', net((PROGRAM % 3).replace('print 3;', 'print 3; if (self == 9) { send 9; }')))
-        self.assertNotIn(said, self.grade())
+        self.assertEqual(self.grade().split('\n\n')[1], (
+            '  1  2 of 3  no copy collides\n     in all solutions and nets, this or a similar remark: %s\n'
+            '  2  1 of 3  every mote prints a 3\n' % NO_COLLISIONS))
+        self.assertIn('holds   no copy collides\n          %s\n' % NO_COLLISIONS, self.grade('--why', 'anna'))
+        self.hand_in('dora.toml', net(PROGRAM % 3).replace('collide = false', 'collide = true'))
+        self.assertNotIn(NO_COLLISIONS, self.grade())
 
     def test_whatever_there_is_becomes_a_row_and_none_stops_the_others(self) -> None:
         (self.folder / 'x.toml').mkdir()
@@ -188,178 +153,29 @@ class Entries(Folder):
             'allowed (at line 1, column 85)',
             'key.toml': '0 of 3  the file is not TOML: A key has more than 80 parts: write fewer dots (at line 1, '
             'column 1)',
-            'notes.txt': '- of 3  its name ends neither in .toml nor in .mote nor in .c',
-            'zoe.toml.txt': '- of 3  its name ends neither in .toml nor in .mote nor in .c: remove the ending .txt',
+            'notes.txt': '- of 3  its name ends neither in .toml nor in .mote',
+            'zoe.toml.txt': '- of 3  its name ends neither in .toml nor in .mote: remove the ending .txt',
             'bytes.toml': '0 of 3  the file is not UTF-8 text: save it as UTF-8',
             'large.toml': '0 of 3  the file is longer than 1,048,576 bytes'})
         self.assertEqual(sorted(name for name, row in rows.items() if row == '3 of 3'),
                          ['=1+1.toml', 'anna.toml', 'group/eve.toml', 'new\\nline.toml', 'raw\\xff.toml'])
-
-    def test_a_program_in_c_in_a_scenario(self) -> None:
-        self.hand_in('kira.toml', net('#include "contiki.h"\n// refuse\nPROCESS(a, "a");\n'))
-        wanted = ('0 of 3  its program is in C, not in the notation of mote programs (tools/explain FILE.c --apply '
-                  'NEW.toml translates it)')
-        for words in (), ('--net', 'task.toml'):
-            self.assertEqual(self.rows(*words)['kira.toml'], wanted)
-
-    def test_a_program_in_c_is_translated(self) -> None:
-        in_c = '''#include "contiki.h"
-PROCESS(a, "a");
-AUTOSTART_PROCESSES(&a);
-PROCESS_THREAD(a, ev, data) {
-  PROCESS_BEGIN();
-  printf("%%d", %s);
-  PROCESS_END();
-}
-'''
-        for name, value in ('lea.c', '3'), ('max.c', '4'), ('nina.c', 'strlen("abc")'):
-            self.hand_in(name, in_c % value)
-        self.hand_in('kai.c', '\ufeff' + (in_c % '3').replace('"%d"', '"three %d"'))
-        (self.folder / 'rene.c').write_bytes(('// Ren\u00e9\n' + in_c % '3').encode('latin-1'))
-        (self.folder / 'uma.c').write_bytes((in_c % '3').encode('utf-16-le'))
-        (self.folder / 'vic.c').symlink_to('nowhere.c')
-        rows = self.rows('--net', 'task.toml', status=1)
-        self.assertIn('a second of a program in C has 128 moments, so the nets run for ', self.seen)
-        self.assertEqual({name: rows[name] for name in ('kai.c', 'lea.c', 'max.c', 'nina.c')}, {
-            'kai.c': rows['rene.c'], 'lea.c': self.rows('--net', 'task.toml', status=1)['lea.c'],
-            'max.c': '1 of 3  broken: 1, 2',
-            'nina.c': '- of 3  not marked: its line 6 may be right in C, but the tool can\'t translate it'})
-        self.assertEqual(rows['uma.c'], '0 of 3  the file is not UTF-8 text: save it as UTF-8')
-        self.hand_in('omar.mote', PROGRAM % 3)
-        self.assertEqual(rows['lea.c'], self.rows('--net', 'task.toml', status=1)['omar.mote'])
-        said = self.grade('--net', 'task.toml', '--why', 'nina.c', status=1)
-        self.assertIn('line 6: printf("%d", strlen("abc"));', said)
-        self.assertIn('\nline 6 in C: ', self.grade('--net', 'task.toml', '--why', 'kai.c'))
-        self.assertIn('motesim has no `strlen`', said)
-        (self.folder / 'nina.c').unlink()
-        pauses = 'etimer_set(&et, 5);\n  while(!etimer_expired(&et)) {\n    PROCESS_PAUSE();\n  }\n  printf("%d", 4);'
-        timer = '  static struct etimer et;\n  PROCESS_BEGIN();'
-        self.hand_in('pia.c', (in_c % 4).replace('  PROCESS_BEGIN();', timer).replace('printf("%d", 4);', pauses))
-        self.assertIn('`PROCESS_WAIT_WHILE` and the same test, without a block, lets the mote wait (line 8 of pia.c: '
-                      '`while(!etimer_expired(&et)) {`)', self.grade('--net', 'task.toml', '--why', 'pia.c'))
-        (self.folder / 'pia.c').unlink()
-        self.grade('--net', 'task.toml', '--write', 'scenarios')
-        written = (self.folder.parent / 'scenarios' / 'lea.c_in_task.toml').read_text()
-        self.assertIn('// Translated from C', written)
-        self.assertEqual(self.rows(status=1)['lea.c'], '- of 3  a program needs a net: name one with --net')
-
-    def test_a_process_in_c_has_the_name_or_the_text_that_sentences_use(self) -> None:
-        program = IN_C % 'printf("%d", 3);'
-        for name, process, text in (('ada.c', 'a', 'Task'), ('ben.c', 'a_process', 'a'), ('cem.c', 'b', 'a'),
-                                    ('dan.c', 'b', 'b'), ('eva.c', 'ev', 'a')):
-            named = program.replace('(a,', '(%s,' % process).replace('&a)', '&%s)' % process)
-            self.hand_in(name, named.replace('"a"', '"%s"' % text))
-        rows = self.rows('--net', 'task.toml')
-        self.assertEqual(rows['ben.c'], rows['ada.c'])
-        self.assertEqual(rows['cem.c'], rows['ada.c'])
-        self.assertNotEqual(rows['dan.c'], rows['ada.c'])
-        self.assertEqual(names_in('#define NAME "a"\n#define its b_\nPROCESS(its, NAME);', ['a']), {'b_': 'a'})
-        self.assertEqual(names_in('PROCESS(a_process, "a"); PROCESS(a, "b");', ['a']),
-                         {'a_process': 'a_process', 'a': 'a'})
-        self.assertEqual(names_in('PROCESS(one, "a"); PROCESS(two, "a");', ['a']), {'one': 'a', 'two': 'two'})
-        self.assertEqual(names_in('PROCESS(neighbour_process, "b")', ['a']), {'neighbour_process': 'neighbou_process'})
-        self.assertEqual(names_in('PROCESS(b, "A")', ['a']), {'b': 'a'})
-        for number, above in enumerate(('/* the a */', 'static int a; // a', 'struct a { int a; };',
-                                        'static void a(void) {}')):
-            self.hand_in('o%d.c' % number, program.replace('PROCESS(a,', above + '\nPROCESS(a_process,').replace(
-                '(a,', '(a_process,').replace('&a)', '&a_process)').replace('"Task"', '"a"'))
-            self.assertEqual(self.rows('--net', 'task.toml')['o%d.c' % number], rows['ada.c'], above)
-        named = program.replace('(a,', '(a_process,').replace('&a)', '&a_process)')
-        self.hand_in('hal.c', program.replace('\n', '\r'))
-        self.assertEqual(self.rows('--net', 'task.toml')['hal.c'], '0 of 3  ' + OF_CR)
-        self.hand_in('fay.c', named.replace('  PROCESS_BEGIN();\n', ''))
-        self.assertIn('PROCESS_THREAD(a_process, ev, data) {', self.grade('--net', 'task.toml', '--why', 'fay.c'))
-        self.hand_in('gus.c', named.replace('a_process', 'neighbour_process').replace('"a"', '"neighbours"'))
-        self.assertIn('no process `a` (it has `neighbou_process`, in C `neighbour_process`)',
-                      self.grade('--net', 'task.toml', '--why', 'gus.c'))
-
-    def test_an_option_names_the_connection_of_programs_in_c(self) -> None:
-        opens = 'broadcast_open(&bc, %d, NULL); printf("%%d", 3);'
-        above = '#include "net/rime.h"\nstatic struct broadcast_conn bc;\nPROCESS('
-        for name, channel in ('ada.c', 129), ('ben.c', 129), ('cem.c', 130):
-            self.hand_in(name, (IN_C % opens % channel).replace('PROCESS(', above, 1))
-        rows = self.rows('--net', 'task.toml')
-        self.assertEqual(rows['cem.c'], rows['ada.c'])
-        self.assertIn('most programs in C open broadcast:129, but cem.c opens broadcast:130', self.seen)
-        rows = self.rows('--net', 'task.toml', '--connection', 'broadcast:129')
-        self.assertTrue(rows['cem.c'].endswith('on a node, line 8 may do something else'), rows['cem.c'])
-        self.assertNotIn('on a node', rows['ada.c'])
-        self.assertNotIn('most programs', self.seen)
-        self.grade('--net', 'task.toml', '--connection', 'x', status=2)
-        self.assertIn('needs a kind and a channel', self.seen)
-
-    def test_a_line_in_c_that_is_a_mistake_has_the_mark_0(self) -> None:
-        for name, line in (('lost.c', 'int i; PROCESS_BEGIN(); i = 3; PROCESS_PAUSE(); printf("%d", i);'),
-                           ('index.c', 'static int a[3]; PROCESS_BEGIN(); printf("%d", a[3]);'),
-                           ('busy.c', 'PROCESS_BEGIN(); while(1) { } printf("3");'),
-                           ('switch.c', 'PROCESS_BEGIN(); switch(ev) { default: PROCESS_PAUSE(); } printf("3");')):
-            self.hand_in(name, '''#include "contiki.h"
-PROCESS(a, "a");
-AUTOSTART_PROCESSES(&a);
-PROCESS_THREAD(a, ev, data) {
-  %s
-  PROCESS_END();
-}
-''' % line)
-            with self.subTest(name):
-                self.assertEqual(self.rows('--net', 'task.toml')[name], '0 of 3  its line 5 is a mistake in C')
-
-    def test_lines_in_c_that_may_do_something_else_on_a_node_are_named(self) -> None:
-        in_c = '''#include "contiki.h"
-PROCESS(a, "a");
-AUTOSTART_PROCESSES(&a);
-PROCESS_THREAD(a, ev, data) {
-  static struct etimer et;
-  PROCESS_BEGIN();
-  printf("%d", 3);
-  etimer_set(&et, 5);
-  RESET
-  printf("%ld", 4);
-  PROCESS_END();
-}
-'''
-        self.hand_in('lea.c', in_c.replace('RESET', '').replace('%ld', '%d'))
-        self.hand_in('max.c', in_c.replace('RESET', 'etimer_reset(&et);'))
-        rows = self.rows('--net', 'task.toml')
-        self.assertNotIn('on a node', rows['lea.c'])
-        self.assertTrue(rows['max.c'].endswith('on a node, lines 9 and 10 may do something else'), rows['max.c'])
-        self.grade('--net', 'task.toml', '-o', 'marks.html')
-        page = (self.folder.parent / 'marks.html').read_text()
-        self.assertEqual(page.count('line 9 in C: In Contiki, a timer that is reset before it has expired'), 1)
-        self.grade('--net', 'task.toml', '-o', 'marks.csv', '-o', 'marks.toml')
-        named = 'on a node, lines 9 and 10 may do something else'
-        self.assertIn('"max.c",3,3,"%s",' % named, (self.folder.parent / 'marks.csv').read_text())
-        faults = [it.get('fault') for it in tomllib.loads(self.page('marks.toml'))['solution']]
-        self.assertEqual(faults, [None, None, named])
-
-    def test_the_page_has_the_differences_from_c_of_a_broken_sentence(self) -> None:
-        self.hand_in('noa.c', IN_C % 'printf("Alarm for 3 s");')
-        self.hand_in('ole.c', IN_C % 'printf("Alarm for 4 s");')
-        self.grade('--net', 'task.toml', '-o', 'marks.html')
-        noa, ole = self.page().split('<td>noa.c</td>')[1].split('<td>ole.c</td>')
-        self.assertNotIn('<details>', noa)
-        self.assertIn('<details><summary>Differences from C</summary><pre>line 6 in C: There are no texts', ole)
 
     def test_files_that_are_no_solutions_have_no_mark_and_do_not_count(self) -> None:
         (self.folder / 'Emil_4712_file').mkdir()
         self.hand_in('Emil_4712_file/emil.mote', PROGRAM % 4)
         self.hand_in('Emil_4712_file/notes.txt', 'hello')
         (self.folder / 'Emil_4712_file/work.zip').write_bytes(b'PK\x03\x04\0')
-        in_c = '/* neighbours */\n#include "contiki.h"\nPROCESS(a, "a");\n'
-        self.hand_in('ivan.h', in_c)
-        self.hand_in('jana.mote', in_c)
-        self.hand_in('kim.c', PROGRAM % 3)
-        named = 'its name ends neither in .toml nor in .mote nor in .c'
+        for name in 'ivan.h', 'kim.c':
+            self.hand_in(name, '#include "contiki.h"\nPROCESS(a, "a");\n')
+        named = 'its name ends neither in .toml nor in .mote'
         self.assertEqual(self.rows('--net', 'task.toml'), {
             'Emil_4712_file/emil.mote': '1 of 3  broken: 1, 2', 'Emil_4712_file/notes.txt': '- of 3  ' + named,
             'Emil_4712_file/work.zip': '- of 3  ' + named, 'anna.toml': '3 of 3',
-            'ivan.h': '- of 3  ' + named,
-            'jana.mote': '0 of 3  it is a program in C: a file of such a program is NAME.c',
-            'kim.c': '0 of 3  it is in the notation, not in C: a file of such a program is NAME.mote'})
+            'ivan.h': '- of 3  ' + named, 'kim.c': '- of 3  ' + named})
         self.grade('--net', 'task.toml', '-o', 'marks.csv', '-o', 'marks.html', '-o', 'marks.toml')
         self.assertIn('\n"ivan.h","",3,"%s","","",""\n' % named, self.page('marks.csv'))
         self.assertIn('<td class="number ">- of 3</td>', self.page())
-        self.assertIn('<td class="number">1 of 4</td><td>every mote prints a 3</td>', self.page())
+        self.assertIn('<td class="number">1 of 2</td><td>every mote prints a 3</td>', self.page())
         self.assertNotIn('holds', tomllib.loads(self.page('marks.toml'))['solution'][1])
 
     def test_a_file_without_a_program_says_so(self) -> None:
@@ -372,15 +188,11 @@ PROCESS_THREAD(a, ev, data) {
         self.assertEqual(self.grade('--net', 'task.toml', '--why', 'a'), 'the file is empty: it has no program\n')
 
     def test_a_pipe_that_takes_the_place_of_a_file_is_not_waited_for(self) -> None:
-        entry = next(it for it in entries_of(self.folder) if it.name == 'anna.toml')
+        entry = next(it for it in entries_of(self.folder)[0] if it.name == 'anna.toml')
         (self.folder / 'anna.toml').unlink()
         os.mkfifo(self.folder / 'anna.toml')
         with self.assertRaises(Fault):
             data_of(entry)
-
-    def test_arguments_that_are_swapped(self) -> None:
-        with self.assertRaisesRegex(Fault, r'x\.expect\.toml is not: .* swapped\. Write tools/grade \S+ x\.expect'):
-            status_of(argparse.Namespace(folder=Path('x.expect.toml'), expectations=self.folder))
 
     def test_an_empty_folder_and_none(self) -> None:
         (self.folder / 'anna.toml').unlink()
@@ -401,17 +213,14 @@ PROCESS_THREAD(a, ev, data) {
             self.assertNotRegex(printed, r'[\x00-\x08\x0b-\x1f\x7f-\x9f\u2028]')
             self.assertNotRegex(printed, r'(?m)^ben\.toml')
         rows = self.grade('--csv', '--net', 'task.toml').split('\n')
-        self.assertIn('it has no program `task`, but: `\\nben.toml   3 of 3`, `mine`', rows[3])
+        self.assertIn('it has no program `task`, but `\\nben.toml   3 of 3`, `mine`', rows[3])
 
     def test_names_that_are_not_meant_so_are_remarked_on(self) -> None:
         for name in '.ben.mote', 'x.expect.toml':
             self.hand_in(name, '')
         self.hand_in('GOOD.TOML', '')
-        self.hand_in('cem.toml', '// Task 1.\n' + PROGRAM % 3)
         rows = self.rows('--net', 'task.toml', '--hidden', str(self.top / 'task.toml'))
         self.assertTrue(rows['GOOD.TOML'].endswith(': write the ending in small letters'))
-        self.assertTrue(rows['cem.toml'].endswith('it is the text of a program, not a scenario: a file of such a text '
-                                                  'is NAME.mote'))
         self.assertEqual(self.seen.splitlines(), [
             'grade: these hidden nets equal a shown net, so a page of marks shows them: task.toml',
             'grade: hidden files, expectations and marks have no row: .ben.mote, x.expect.toml'])
@@ -425,8 +234,9 @@ PROCESS_THREAD(a, ev, data) {
         rows = self.rows('--net', 'task.toml')
         self.assertEqual(rows['b' + 'e' * 18 + '..' + 'e' * 13 + 'n.toml'], '1 of 3  broken: 1, 2')
         self.assertEqual(rows['cem.toml'].split('  ')[1],
-                         'it has no program `task`, but: `p0`, `p1`, `p2`, `p3`, `p4` and 996 more')
-        self.assertLess(len(rows['dora.toml']), 110)
+                         'it has no program `task`, but `p0`, `p1`, `p2`, `p3`, `p4`, ..: rename the one that solves the '
+                         'task to `task`, and grade again')
+        self.assertLess(len(rows['dora.toml']), 160)
         self.grade('--net', 'task.toml', '-o', 'marks.html')
         self.assertIn('<td title="%s">be' % name, self.page())
         self.assertIn('\ntd:first-child { white-space: nowrap; }\n', self.page())
@@ -471,7 +281,7 @@ class Nets(Folder):
     def test_a_byte_order_mark_costs_no_mark(self) -> None:
         for name, text in ('ben.mote', PROGRAM % 3), ('cem.toml', net(PROGRAM % 3)):
             (self.folder / name).write_text(text, 'utf-8-sig')
-        self.assertEqual(program_of((self.folder / 'ben.mote').read_bytes(), 'ben.mote', 'task'), PROGRAM % 3)
+        self.assertEqual(program_of(decoded((self.folder / 'ben.mote').read_bytes()), 'ben.mote', 'task'), PROGRAM % 3)
         self.assertEqual(set(self.rows('--net', 'task.toml').values()), {'3 of 3'})
 
     def write_plan(self, name: str, motes: int) -> None:
@@ -510,10 +320,10 @@ class Nets(Folder):
         words = argparse.Namespace(folder=self.folder, vary=['motes=2..4', 'seed=1..2'], vary_hidden=['motes=1..5'])
         with mock.patch('motesim.grading.nets.MOST_NETS', 4):
             self.assertEqual(len(nets_of([self.top / 'net.plan.toml'], ['motes=1..6'], None)), 4)
-            self.assertEqual(remarks(words, []), [
+            self.assertEqual(remarks(words, [], []), [
                 '--vary has 6 combinations of values: only the first 4 have a net, and 2 are left out',
                 '--vary-hidden has 5 combinations of values: only the first 4 have a net, and 1 are left out'])
-        self.assertEqual(remarks(words, []), [])
+        self.assertEqual(remarks(words, [], []), [])
 
     def test_values_need_a_plan(self) -> None:
         self.write_plan('net.plan.toml', motes=2)
@@ -529,12 +339,12 @@ class Nets(Folder):
                 self.assertEqual(self.seen, 'grade: %s\n' % seen)
 
     def test_what_of_a_solution_is_taken(self) -> None:
-        self.assertEqual(program_of(net('x').encode(), 'a.toml', 'task'), 'x')
-        self.assertEqual(program_of(net('x', name='other').encode(), 'a.toml', 'task'), 'x')
-        self.assertEqual(program_of(b'[programs]\na = "1"\ntask = "2"\n', 'a.toml', 'task'), '2')
-        for text, seen in (b'[programs]\na = "1"\nb = "2"\n', 'no program `task`, but: `a`, `b`'), (
-                b'programs = 3\n', 'no table'), (b'[programs]\ntask = 3\n', 'not a text'), (
-                b'end = 5\n[program]\nfile = "p.mote"\n[places]\nrule = "line"\n', 'is a plan, not a scenario'):
+        self.assertEqual(program_of(net('x'), 'a.toml', 'task'), 'x')
+        self.assertEqual(program_of(net('x', name='other'), 'a.toml', 'task'), 'x')
+        self.assertEqual(program_of('[programs]\na = "1"\ntask = "2"\n', 'a.toml', 'task'), '2')
+        for text, seen in ('[programs]\na = "1"\nb = "2"\n', 'no program `task`, but `a`, `b`'), (
+                'programs = 3\n', 'no table'), ('[programs]\ntask = 3\n', 'not a text'), (
+                'end = 5\n[places]\nrule = "line"\n', 'no table'):
             with self.subTest(seen), self.assertRaises(Fault) as raised:
                 program_of(text, 'a.toml', 'task')
             self.assertIn(seen, str(raised.exception))
@@ -574,19 +384,6 @@ class Nets(Folder):
                 self.assertEqual(cut_off(Scenario.parse(four + losses)), motes)
         self.assertEqual(cut_off(Scenario.parse(net(PROGRAM % 9) + loss(1, 0) + loss(0, 1))), [0, 1])
 
-    def test_sets_with_more_than_16_bits_are_remarked_on(self) -> None:
-        (self.top / 'task.expect.toml').write_text(
-            'expect = ["no mote halts", "motes 15 and 16 print a the set of motes that it hears"]')
-        (self.top / 'large.toml').write_text(net(PROGRAM % 9, motes=18))
-        self.grade('--net', 'large.toml')
-        self.assertEqual(self.seen, 'grade: in these nets a sentence wants a set of motes with more than 16 bits, '
-                                    'which no mote can print: large.toml (sentence 2, mote 15)\n')
-        self.assertIn('it prints a 3 at moment 48; no mote can print or send 81920, which has more than 16 bits\n',
-                      self.grade('--net', 'large.toml', '--why', 'anna'))
-        (self.top / 'task.expect.toml').write_text('expect = ["mote 1 prints a the set of motes that it hears"]')
-        self.grade('--net', 'large.toml')
-        self.assertEqual(self.seen, '')
-
     def test_faults_of_the_teacher_end_it(self) -> None:
         for words, seen in ((('--net', 'no.toml'), 'no.toml: No such file'),
                             (('--net', 'task.toml', '--program', 'x'), 'has no program x; it has: task')):
@@ -603,7 +400,6 @@ class Nets(Folder):
         self.assertEqual(self.rows(), {'anna.toml': '1 of 2  broken: 2; no process `c` (it has `a`)'})
         self.assertIn('sentence 2 names something that no solution has (mote 0 prints c): anna.toml has no process `c`',
                       self.seen)
-
 
     def test_a_page_shows_nothing_of_a_hidden_net(self) -> None:
         (self.top / 'secret.toml').write_text(net(PROGRAM % 9, motes=5))
@@ -639,17 +435,16 @@ class Nets(Folder):
                       '<pre>in task.toml\nmote 0 has 0 such lines', self.page())
         self.assertEqual(self.page().count('href='), 1)
 
-    def test_a_binary_file_has_no_correction_and_a_program_in_utf_16_the_command_for_it(self) -> None:
+    def test_a_file_that_is_no_text_in_utf_8_has_no_correction(self) -> None:
         for name in 'word.mote', 'word.toml':
             (self.folder / name).write_bytes(b'PK\x03\x04\0\0\x81process')
         (self.folder / 'zoe.mote').write_bytes((PROGRAM % 3).encode('utf-16'))
         rows = self.rows('--net', 'task.toml')
-        self.assertEqual([rows['word.mote'], rows['word.toml']], ['0 of 3  ' + BINARY] * 2)
-        self.assertIn('--why zoe.mote shows the place', self.grade('--net', 'task.toml'))
+        self.assertEqual([rows[it] for it in ('word.mote', 'word.toml', 'zoe.mote')],
+                         ['0 of 3  the file is not UTF-8 text: save it as UTF-8'] * 3)
         self.grade('--net', 'task.toml', '-o', 'marks.html')
         self.assertNotIn('\ufffd', self.page())
         self.assertNotIn('PK', self.page())
-        self.assertIn('iconv -f UTF-16 -t UTF-8 zoe.mote', ' '.join(self.page().split()))
 
     def test_programs_in_nets_are_written_as_scenarios(self) -> None:
         (self.top / 'secret.toml').write_text(net(PROGRAM % 9, motes=5))
@@ -785,11 +580,11 @@ class Nets(Folder):
         self.hand_in('eva.toml', with_program(net(PROGRAM % 3), 'root', PROGRAM % 4))
         self.hand_in('fay.toml', net(PROGRAM % 4).replace('[[mote]]', "idle = \'\'\'\n%s\'\'\'\n[[mote]]" % PROGRAM, 1))
         (self.top / 'two.toml').write_text(with_program(net(PROGRAM % 9), 'sink', PROGRAM % 8))
-        said = 'its program `root` (of mote 0) isn\'t used'
+        said = 'not used: its program `root`'
         self.assertEqual(self.rows('--net', 'task.toml'), {
             'anna.toml': '3 of 3', 'ben.toml': '1 of 3  broken: 1, 2; ' + said,
-            'cem.toml': '1 of 3  broken: 1, 2; its programs `root` (of mote 0), `far` (of mote 2) aren\'t used',
-            'dan.toml': '1 of 3  broken: 1, 2; its program `sink` (of mote 0) isn\'t used',
+            'cem.toml': '1 of 3  broken: 1, 2; not used: its programs `root`, `far`',
+            'dan.toml': '1 of 3  broken: 1, 2; not used: its program `sink`',
             # (this mark isn't lower because of the other program, and no mote runs the last one)
             'eva.toml': '3 of 3', 'fay.toml': '1 of 3  broken: 1, 2'})
         rows = self.grade('--net', 'task.toml', '--why', 'ben').split('\n')
@@ -799,7 +594,7 @@ class Nets(Folder):
         self.assertNotIn('used', self.rows('--net', 'two.toml', '--program', 'task')['dan.toml'])
         self.assertNotIn('used', self.grade())
         self.grade('--net', 'task.toml', '-o', 'marks.html')
-        self.assertEqual(self.page().count('its program `root` (of mote 0) isn&#x27;t used'), 1)
+        self.assertEqual(self.page().count(said), 1)
 
     def test_a_halt_is_in_the_row(self) -> None:
         need_program(self)
@@ -808,12 +603,6 @@ class Nets(Folder):
         self.assertTrue(self.rows('--net', 'task.toml')['ben.mote'].endswith('; mote 0 halts at 0 in task.toml'))
         self.assertIn('mote 0 halts at 0 in task.toml: it used up its work there, maybe in a loop without a wait',
                       self.grade('--net', 'task.toml', '--why', 'ben'))
-        self.hand_in('pia.c', '''PROCESS(a, "a"); AUTOSTART_PROCESSES(&a);
-PROCESS_THREAD(a, ev, data) { static int i; PROCESS_BEGIN(); for(i = 0; i < 30000; i++) ; PROCESS_END(); }
-''')
-        row = self.rows('--net', 'task.toml')['pia.c']
-        self.assertIn('mote 0 halts at 0 in task.toml (on a node, maybe not)', row)
-        self.assertIn('On a node, it may have enough: each index', self.grade('--net', 'task.toml', '--why', 'pia'))
         (self.top / 'secret.toml').write_text(net(PROGRAM % 9, motes=5))
         self.grade('--net', 'task.toml', '--hidden', 'secret.toml', '-o', 'marks.html')
         self.assertIn('mote 0 halts at 0 in task.toml', self.page())
@@ -836,65 +625,6 @@ PROCESS_THREAD(a, ev, data) { static int i; PROCESS_BEGIN(); for(i = 0; i < 3000
         self.grade('--net', 'task.toml', '-o', 'marks.html')
         for name, place in ('ben.mote', 'ben.mote:3'), ('carla.toml', 'carla.toml:12'):
             self.assertIn('a, line 3 (%s): `print 4`' % place, self.page('marks_runs/%s_in_task.toml.html' % name))
-
-    def test_a_run_page_of_a_program_in_c_names_the_lines_in_c(self) -> None:
-        need_program(self)
-        self.stub = program_path()
-        self.hand_in('ben.c', '''#include "contiki.h"
-PROCESS(a, "a");
-AUTOSTART_PROCESSES(&a);
-PROCESS_THREAD(a, ev, data) {
-  PROCESS_BEGIN();
-  printf("%d", 4);
-  PROCESS_END();
-}
-''')
-        self.grade('--net', 'task.toml', '-o', 'marks.html')
-        page = self.page('marks_runs/ben.c_in_task.toml.html')
-        self.assertIn(json.dumps('a, line 6 of ben.c: `printf("%d", 4);`')[1:-1], page)
-        self.assertNotIn('of the translation', page)
-
-
-    def test_a_callback_of_a_program_in_c_prints_for_the_process_that_a_sentence_names(self) -> None:
-        need_program(self)
-        self.stub = program_path()
-        wanted = 'mote 1 prints just b 7', 'mote 1 prints just a 2, 1', 'mote 0 never prints b', 'mote 1 prints b 8'
-        (self.top / 'task.expect.toml').write_text('expect = %s\n' % json.dumps(wanted))
-        in_c = TWO_PROCESSES.replace('READS', 'is_heard = 1; printf("%d", *(uint8_t *)packetbuf_dataptr());')
-        self.hand_in('ben.c', in_c)
-        self.hand_in('ida.c', in_c.replace('"%d", 1', '"%d", 7').replace('printf("%d", *(u', 'is_heard = (*(u'))
-        rows = self.rows('--net', 'task.toml')
-        self.assertEqual(rows['ben.c'], '3 of 4  broken: 4')
-        self.assertEqual(rows['ida.c'], '1 of 4  broken: 1, 2, 4')
-        self.assertIn('holds   mote 1 prints just b 7\n          the callback for packets prints this, and counts for '
-                      '`b`', self.grade('--net', 'task.toml', '--why', 'ben.c'))
-        part = parts_of('expect = %s' % json.dumps(wanted), 'task.expect.toml')[0]
-        task = Task(part, tuple(nets_of([self.top / 'task.toml'], [], None)), Limits())
-        with mock.patch('motesim.grading.marking.MOST_SHOWN', 20):
-            self.assertEqual(task.of((1, Entry('ben.c', self.folder / 'ben.c'))).held, 3)
-        text = task.nets[0].with_program(notation_of(in_c))
-        self.assertEqual([it.holds for it in judged(text, part)], [True, True, True, False])
-        self.assertIn('counts for `b`', judged(text, part)[0].remark)
-        self.assertFalse(judged(text.replace('// Translated from C', ''), part)[0].holds)
-        both = replace(part, sentences=['mote 1 prints b 7 exactly 1 times as often as mote 1 prints a 7',
-                                        'mote 1 prints b 7 exactly 2 times as often as mote 1 prints a 7'])
-        self.assertEqual([it.holds for it in judged(text, both)], [True, False])
-
-    def test_the_row_of_a_solution_has_the_process_that_prints_the_wanted_values(self) -> None:
-        need_program(self)
-        self.stub = program_path()
-        self.hand_in('ben.mote', 'process a, b; autostart b; code a { body { exit; } } code b { body { print 3; } }\n')
-        self.assertEqual(self.rows('--net', 'task.toml')['ben.mote'],
-                         '1 of 3  broken: 1, 2; process b prints these values')
-
-    def test_a_process_that_prints_values_of_its_own_is_not_named(self) -> None:
-        need_program(self)
-        self.stub = program_path()
-        self.hand_in('ben.mote', 'process a, b; autostart b; code a { body { exit; } } code b { body { print 3; } }\n')
-        for number, wanted in (3, '1 of 2  broken: 1'), (4, '0 of 2  broken: 1, 2; process b prints these values'):
-            wishes = 'mote 0 prints a 3', 'mote 0 finally prints b %d' % number
-            (self.top / 'task.expect.toml').write_text('expect = %s\n' % json.dumps(wishes))
-            self.assertEqual(self.rows('--net', 'task.toml')['ben.mote'], wanted)
 
 
 class Pages(Folder):
@@ -1010,17 +740,6 @@ class LimitsOfRuns(Folder):
         self.assertIn('(line 8 of program task), in each turn of `while !expired(t)` (line 8) within `while 1` '
                       '(line 6): a loop that only pauses', row)
 
-    def test_a_loop_in_c_that_pauses_is_named_in_words_of_c(self) -> None:
-        need_program(self)
-        self.stub = program_path()
-        (self.top / 'task.toml').write_text(net(PROGRAM % 9).replace('60', '20000'))
-        self.hand_in('pia.c', IN_C % 'while(1) { PROCESS_PAUSE(); }')
-        self.assertRegex(self.rows('--net', 'task.toml', '--report', '1', status=1)['pia.c'], (
-            r'^- of 3  not marked .a larger --report may be enough.: the run was ended: .* process a of mote 0 pauses '
-            r'[\d,]+ times: a loop that only '
-            r'pauses repeats many times in each moment, so let the process wait by '
-            r'`PROCESS_WAIT_EVENT_UNTIL\(etimer_expired\(&et\)\)`$'))
-
     def test_a_run_that_waits_for_a_busy_machine_has_no_mark(self) -> None:
         self.hand_in('wait.toml', net('// wait\n' + PROGRAM % 3))
         why = ('not marked, run it again: no answer in 5 seconds, though the program had used less processor time than '
@@ -1121,19 +840,10 @@ class Forms(Folder):
             'every mote prints a 3', 'mote 0 has 0 such lines; wanted: at least 1', 0, 60))
         self.assertNotIn('<script>', page)
 
-    def test_a_program_and_a_scenario_under_the_name_of_the_other(self) -> None:
-        (self.folder / 'bom.toml').write_bytes(b'\xef\xbb\xbf' + (PROGRAM % 3).encode())
-        self.hand_in('ben.mote', '# mine\n' + net(PROGRAM % 3))
-        rows = self.rows('--net', 'task.toml')
-        self.assertIn('it is the text of a program, not a scenario: a file of such a text is NAME.mote',
-                      rows['bom.toml'])
-        self.assertIn('it is a scenario, not the text of a program: a file of a scenario is NAME.toml',
-                      rows['ben.mote'])
-
     def test_a_run_that_is_too_long_for_a_page_says_so_in_its_row(self) -> None:
         self.hand_in('anna.toml', net(PROGRAM % 4))
         task = Task(parts_of(EXPECT, 'task.expect.toml')[0], (), Limits(60), self.top)
-        entry, = entries_of(self.folder)
+        (entry,), _ = entries_of(self.folder)
         with mock.patch.dict(os.environ, {'MOTESIM': str(self.stub)}):
             self.assertEqual(task.of((1, entry)).no_page, '')
             with mock.patch('motesim.grading.marking.MOST_SHOWN', 20):
@@ -1202,13 +912,13 @@ class Forms(Folder):
         self.assertIn('if a process was renamed, rename it back, and grade again', rows[-2])
         # (that no other solution has it isn't known here)
         self.assertEqual(self.seen, '')
-        self.assertEqual(self.grade('--why', 'cem', '--net', 'task.toml').split('\n'), [
-            'it has no program `task`, but: `other`, `mine`',
-            'Hint: rename the program that solves the task to `task`, and grade again', ''])
+        self.assertEqual(self.grade('--why', 'cem', '--net', 'task.toml').split('\n')[0], (
+            'it has no program `task`, but `other`, `mine`: rename the one that solves the task to `task`, and grade '
+            'again'))
         self.assertNotIn('Hint', self.grade('--why', 'anna'))
         self.grade('--why', 'cemm', status=2)
-        self.assertEqual(self.seen, 'grade: class has no solution cemm (did you mean cem?): --why needs the name of '
-                                    'one of its files: anna.toml, ben.toml, cem.toml\n')
+        self.assertEqual(self.seen, 'grade: class has no solution cemm: --why needs the name of one of these: '
+                                    'anna.toml, ben.toml, cem.toml\n')
         for number in range(20):
             self.hand_in('s%d.toml' % number, '')
         self.grade('--why', 'x', status=2)
@@ -1219,35 +929,27 @@ class Forms(Folder):
         self.hand_in('ok.toml', net(PROGRAM % 3))
         words = '--net', 'task.toml', '--why'
         self.grade(*words, 'ok', status=2)
-        self.assertEqual(self.seen, 'grade: class has several solutions ok: --why needs the whole name of one: '
+        self.assertEqual(self.seen, 'grade: class has several solutions ok: --why needs the name of one of these: '
                                     'ok.mote, ok.toml\n')
         self.assertIn('holds', self.grade(*words, 'ok.mote'))
         self.hand_in('ok', '')
         self.assertIn('its name ends neither', self.grade(*words, 'ok'))
-        self.assertEqual(self.seen, 'grade: --why ok shows the entry ok; other entries are ok.mote, ok.toml\n')
 
     def test_why_of_the_beginning_of_a_name(self) -> None:
         self.hand_in('gus_never_ends.mote', PROGRAM % 4)
         words = '--net', 'task.toml', '--why'
         self.assertIn('broken  every mote prints a 3', self.grade(*words, 'gus'))
-        self.assertEqual(self.seen, 'grade: --why gus shows gus_never_ends.mote, the only solution that begins so\n')
-        for notes in 'gus.txt', 'gus_never_ends.zip':
-            self.hand_in(notes, 'notes')
-        for name in 'gus', 'gus_never_ends':
-            self.assertIn('broken  every mote prints a 3', self.grade(*words, name))
+        self.hand_in('gus_never_ends.zip', 'notes')
+        self.assertIn('broken  every mote prints a 3', self.grade(*words, 'gus_never_ends'))
         self.assertIn('its name ends neither', self.grade(*words, 'gus_never_ends.z'))
-        self.assertIn('gus_never_ends.zip, the only file that begins so', self.seen)
-        self.hand_in('gus_again.mote', PROGRAM % 3)
-        self.grade(*words, 'gus', status=2)
-        self.assertEqual(self.seen, 'grade: class has several solutions gus: --why needs the whole name of one: '
-                                    'gus_again.mote, gus_never_ends.mote\n')
-        self.grade(*words, '', status=2)
-        self.assertIn('class has no solution : ', self.seen)
+        for name in 'gus', '':
+            self.grade(*words, name, status=2)
+            self.assertIn('--why needs the name of one of these: ', self.seen)
 
     def test_anonymous_numbers_change_with_each_marking(self) -> None:
         for number in range(8):
             self.hand_in('s%d.toml' % number, net(PROGRAM % 3))
-        entries = entries_of(self.folder)
+        entries, _ = entries_of(self.folder)
         drawn = {tuple(it.path for it in anonymous(entries)) for _ in range(20)}
         self.assertGreater(len(drawn), 1)
         self.assertEqual({frozenset(it) for it in drawn}, {frozenset(it.path for it in entries)})

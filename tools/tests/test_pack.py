@@ -16,7 +16,6 @@ from unittest import mock
 
 from here import TOP
 from motesim.faults import Fault
-from motesim.runner.run import IN_C
 from motesim.version import VERSION
 from project import pack
 from stub import write_stub
@@ -126,22 +125,13 @@ class Pack(unittest.TestCase):
                                   env={'PATH': '/usr/bin:/bin', 'MOTESIM_SEEN': str(top / 'said')})
             self.assertEqual((done.returncode, done.stdout or '', done.stderr), (1, '', 'motesim: a fault\n' + more))
 
-    def test_a_plan_has_the_line_of_the_clone(self) -> None:
+    def test_a_file_of_another_kind_has_the_line_of_the_clone(self) -> None:
         top = self.unpacked()
         (top / 'said').touch()
-        plan = 'end = 5\n[places]\nrule = "line"\n'
-        for text, is_plan in (plan, True), ('version = 1\n' + plan, False), (plan + '[[mote]]\n', False):
-            (top / 'net.toml').write_text(text)
-            line = ('net.toml is a plan, not a scenario: tools/scenario net.toml -o NAME.toml makes a scenario of it'
-                    if is_plan else './tools/explain net.toml says more')
-            self.assertEqual(self.on_terminal(top, 'net.toml'), (1, ['motesim: a fault', 'motesim: ' + line]))
-
-    def test_a_program_in_c_has_the_line_of_the_clone(self) -> None:
-        top = self.unpacked()
-        (top / 'said').touch()
-        (top / 'anna.c').write_text('PROCESS(p, "p");\n')
-        line = 'motesim: ' + IN_C % ('anna.c', 'anna.c')
-        self.assertEqual(self.on_terminal(top, 'anna.c'), (1, ['motesim: a fault', line]))
+        for name in 'net.plan.toml', 'anna.c':
+            (top / name).write_text('[places]\n')
+            self.assertEqual(self.on_terminal(top, name), (1, [
+                'motesim: a fault', 'motesim: ./tools/explain %s says more' % name]))
 
     def test_no_link_of_an_archive_is_dead(self) -> None:
         top = self.unpacked()

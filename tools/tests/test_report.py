@@ -302,7 +302,7 @@ class Runs(unittest.TestCase):
         with self.assertRaisesRegex(ReportFault, 'net.txt: line 1: .* ends with only LF, not as on Windows'):
             read_run(self.write('net.txt', EXAMPLE_REPORT.replace('\n', '\r\n')))
         self.write('net.txt', '').write_bytes(EXAMPLE_REPORT.encode('utf-16'))
-        with self.assertRaisesRegex(Fault, 'net.txt looks like a text in UTF-16, .* as UTF-8: iconv -f UTF-16'):
+        with self.assertRaisesRegex(Fault, 'net.txt is not UTF-8, because of a byte in line 1. Save it as UTF-8'):
             read_run(Path(self.folder.name) / 'net.txt')
         with self.assertRaisesRegex(Fault, 'net.txt is empty: expected a report or a scenario'):
             read_run(self.write('net.txt', '\n'))
@@ -320,10 +320,10 @@ class Runs(unittest.TestCase):
         for name in 'a.toml', 'a.txt':
             with self.assertRaisesRegex(Fault, '%s is a scenario itself' % name):
                 read_run(self.write(name, EXAMPLE), scenario)
-        for name, text in ('blink.c', 'x\n'), ('blink.txt', '/* Two */\n#include "contiki.h"\nPROCESS(b, "b");\n'):
-            with self.assertRaisesRegex(Fault, '%s is a file in C, not a scenario: tools/explain .*%s --apply' % (
-                    name, name)):
-                read_run(self.write(name, text))
+        for name, said in (('a.c', 'is a program in C'), ('a.mote', 'is the text of a program'),
+                           ('a.plan.toml', 'is a plan, not a scenario'), ('a.csv', 'has results, not a report')):
+            with self.assertRaisesRegex(Fault, '%s %s.*: tools/.*%s' % (name, said, name)):
+                read_run(self.write(name, 'x\n'))
         with self.assertRaisesRegex(ReportFault, 'b.report: line 1: expected'):
             read_run(self.write('b.report', 'x\n'))
 

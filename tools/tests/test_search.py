@@ -350,8 +350,6 @@ class Texts(unittest.TestCase):
     def test_scenario_with_a_fault(self) -> None:
         with self.assertRaisesRegex(Fault, 'diamond.toml has no report: motesim: scenario fault 2'):
             base_of('version = 1\n')
-        with self.assertRaisesRegex(Fault, 'diamond.toml is a file in C, not a scenario: tools/explain .* --apply'):
-            base_of('PROCESS(p, "p");\n')
 
 
 # Mote 0 sends packets, and mote 1 answers each of them.

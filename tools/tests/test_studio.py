@@ -175,10 +175,9 @@ class Files(unittest.TestCase):
         self.assertEqual(self.desk.names('folder'), ['net.toml'])
         with self.assertRaisesRegex(Fault, 'ends in .toml: rename it, mv net.toml.txt net.toml$'):
             Desk(self.room / 'net.toml.txt')
-        with self.assertRaisesRegex(Fault, 'blink.c is a file in C, .*: tools/explain .*blink.c --apply NEW.toml '):
-            Desk(self.room / 'blink.c')
-        with self.assertRaisesRegex(Fault, 'net.plan.toml is a plan, .*: tools/scenario makes a scenario of it$'):
-            Desk(self.room / 'net.plan.toml')
+        for name, said in ('blink.c', 'is a program in C'), ('net.plan.toml', 'is a plan, not a scenario'):
+            with self.assertRaisesRegex(Fault, name + ' ' + said):
+                Desk(self.room / name)
         with self.assertRaisesRegex(Fault, 'is a name of a plan, and not of a scenario'):
             self.desk.save_new(self.document(), 'other.plan.toml')
 

@@ -6,9 +6,9 @@
   tools/grade answers task.expect.toml --net task.plan.toml --vary seed=1..5 \\
     --hidden task.plan.toml --vary-hidden seed=77..79
 
-A solution is a scenario NAME.toml. With --net, a solution may also be a program NAME.mote, or a program NAME.c in C for
-Contiki, which the tool translates. Of a scenario, the tool then uses only the text of one program: the program that
---program names, or the only one. So nobody gains by changing the net.
+A solution is a scenario NAME.toml. With --net, a solution may also be a program NAME.mote. Of a scenario, the tool then
+uses only the text of one program: the program that --program names, or the only one. So nobody gains by changing the
+net.
 With several nets, a sentence counts only if it holds in each of them. A net that --hidden names counts like the other
 nets, but a page of marks doesn't show it.
 
@@ -51,9 +51,6 @@ def arguments() -> argparse.Namespace:
     words.add_argument('--vary-hidden', action='append', default=[], metavar='NAME=VALUES',
                        help='for the plans that --hidden names: the values of a parameter, such as seed=77..79')
     words.add_argument('--program', metavar='NAME', help='the program that the students write, if a net has several')
-    words.add_argument('--connection', action='append', default=[], metavar='KIND:CHANNEL',
-                       help='the connection that programs in C have to open, such as unicast:146; you can repeat the '
-                            'option')
     words.add_argument('--seconds', type=float, default=SECONDS, metavar='N',
                        help='the limit of a run, in seconds of processor time (20)')
     words.add_argument('--memory', type=int, default=MEGABYTES, metavar='MEGABYTES',

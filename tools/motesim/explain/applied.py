@@ -18,7 +18,7 @@ from motesim.explain.hints import OF_C
 from motesim.faults import Fault
 from motesim.files import refuse_inputs, write_whole
 from motesim.runner.run import Answer, read_file
-from motesim.scenario.encodings import decoded, refuse_encoding
+from motesim.scenario.encodings import decoded
 from motesim.scenario.faults import find_fault
 from motesim.scenario.kinds import is_program_file
 from motesim.terminal import one_line
@@ -95,7 +95,6 @@ def apply(name: str, output: str, run: Callable[[bytes], Answer]) -> int:
     if output.endswith(('.mote', '.c')):
         raise Fault(OF_SCENARIO % one_line(output))
     data = read_file(name)
-    refuse_encoding(one_line(name), data)
     if is_in_c(name, data):
         raise Fault(OF_C % one_line(name))
     text = decoded(one_line(name), data).removeprefix(MARK)

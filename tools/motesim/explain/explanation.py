@@ -184,12 +184,6 @@ def whole_explanation(name: str, data: bytes, line: str) -> list[str]:
         return wrapped(hints.OF_C % one_line(name))
     if fault.program:
         return of_program(name, text, str(fault.path[1]), fault.program)
-    encoding = encodings.encoding_of(data) if fault.line else None
-    if encoding:
-        return (wrapped(encodings.shown(name, encoding)) + wrapped(rule_of(what))
-                + hinted(encodings.hint(name, encoding)) + allowed('text in UTF-8'))
-    if not encodings.is_text(data):
-        return wrapped('%s isn\'t a text.' % one_line(name)) + wrapped(rule_of(what)) + allowed('text in UTF-8')
     if is_plan(tables_or_none(text)):
         return wrapped(hints.OF_PLAN % (one_line(name), one_line(name)))
     may = allowed(missing.may_stand(fault.lacks) if fault.lacks else fault.may)
@@ -204,7 +198,7 @@ def hints_of(data: bytes, text: str, fault: ScenarioError) -> list[str]:
     if found:
         return repaired(found)
     return hinted(OF_REPORT if is_report(data) else (
-        hints.of_scenario(tables_or_none(text), fault, text) or encodings.hint_of_byte(data)))
+        hints.of_scenario(tables_or_none(text), fault, text) or encodings.hint(data)))
 
 
 def where_told(name: str, text: str, fault: ScenarioError) -> list[str]:
@@ -249,8 +243,7 @@ def is_plan(tables: dict[str, Any] | None) -> bool:
 
 def is_in_c(name: str, data: bytes) -> bool:
     """Returns whether a file has a program in C."""
-    is_other = is_program_file(name, data) or tables_or_none(data.decode('utf-8', 'replace')) is not None
-    return is_c_file(name, data) and not is_other
+    return is_c_file(name)
 
 
 def program_instead(name: str, data: bytes) -> list[str]:

@@ -3,7 +3,8 @@
     entries      the entries of the folder: each is a solution, or has the reason why it isn't
     nets         the nets in which programs run: scenarios, or the scenarios of a plan
     marking      the marks of one solution, within limits
-    callbacks    the values that the callbacks of programs in C print
+    marks        what a table and a page show of these marks
+    warned       the warnings of tools/explain about it
     tables       the marks as text, CSV and TOML
     page         the marks as a page, with a timeline for each first failed sentence
     pages        the pages of these timelines, which the next marking removes

@@ -2,25 +2,19 @@
 from __future__ import annotations
 
 import argparse
-import shlex
 import sys
 import time
 from collections.abc import Sequence
-from functools import partial
 from pathlib import Path
 
-from motesim.text import nearest
 from motesim.faults import Fault
 from motesim.files import refuse_inputs, replace_whole
 from motesim.grading import page, tables
-from motesim.grading.by_gcc import without_fault
-from motesim.grading.connections import Connection, connection_of, connections_in, unusual
-from motesim.grading.entries import Entry, anonymous, data_of, entries_of, skipped_of
-from motesim.grading.in_c import of_programs
+from motesim.grading.entries import Entry, anonymous, data_of, decoded, entries_of
 from motesim.grading.marking import Task, page_name
 from motesim.grading.marks import Marks, unmarked
 from motesim.grading.nets import (
-    Net, files_of, hidden_and_shown, nets_of, nets_with_cut_off, nets_with_wide_sets, program_of, without_nets,
+    Net, files_of, hidden_and_shown, nets_of, nets_with_cut_off, program_of, without_nets,
 )
 from motesim.grading.own import OF_KEY
 from motesim.grading.pages import keep_names, pages_of, remove_earlier
@@ -28,7 +22,6 @@ from motesim.grading.progress import Progress
 from motesim.judge.expectations import parts_of, read_all, text_of
 from motesim.judge.sentences import Names, names_of
 from motesim.runner import Limits, program_path, run_each
-from motesim.scenario.encodings import text_of_c
 from motesim.terminal import one_line
 
 MEGABYTE = 1 << 20
@@ -68,23 +61,7 @@ def task_of(asked: argparse.Namespace, pictures: Path | None) -> Task:
     except Fault as fault:
         raise Fault('%s: %s' % (name, fault)) from None
     limits = Limits(asked.seconds * PATIENCE, asked.memory * MEGABYTE, asked.report * MEGABYTE, asked.seconds)
-    return Task(part, tuple(nets), limits, pictures, connections=tuple(map(connection_of, asked.connection)),
-                has_nearest=asked.why is not None)
-
-
-def opened_by(entry: Entry) -> dict[Connection, int]:
-    """The connections that a program in C opens."""
-    return connections_in(text_of_c(data_of(entry)))
-
-
-def opened_in(entries: Sequence[Entry]) -> list[tuple[str, frozenset[Connection]]]:
-    """The connections that each program in C opens, with its name."""
-    found = []
-    for it in entries:
-        if it.path.suffix == '.c' and not it.why:
-            opened = without_fault(partial(opened_by, it))
-            found.append((it.name, frozenset(opened or ())))
-    return found
+    return Task(part, tuple(nets), limits, pictures, has_nearest=asked.why is not None)
 
 
 def spoken_of_by_none(marked: Sequence[Marks], sentences: Sequence[str]) -> list[str]:
@@ -98,11 +75,6 @@ def spoken_of_by_none(marked: Sequence[Marks], sentences: Sequence[str]) -> list
     return lines
 
 
-def written(path: Path, text: str) -> None:
-    """Writes a file completely or not at all. A symbolic link is replaced."""
-    replace_whole(path, [text.encode('utf-8')])
-
-
 def write(path: Path, marked: Sequence[Marks], sentences: Sequence[str], task: Task, expectations: Path,
           is_for_excel: bool = False) -> None:
     """Writes the marks into a file, in the format that its ending names."""
@@ -113,7 +85,7 @@ def write(path: Path, marked: Sequence[Marks], sentences: Sequence[str], task: T
     else:
         text = page.page_of(marked, sentences, 'Marks: %s' % one_line(expectations.name), pages_of(path).name,
                             time.strftime('%Y-%m-%d at %H:%M'), bool(task.nets))
-    written(path, text)
+    replace_whole(path, [text.encode('utf-8')])
     print(path)
 
 
@@ -138,16 +110,14 @@ def write_scenarios(folder: Path, entries: Sequence[Entry], task: Task) -> None:
             try:
                 if entry.why:
                     raise Fault(entry.why)
-                data = data_of(entry)
-                names = task.names_in(entry, data)
-                text = net.with_program(program_of(data, entry.path.name, net.program, names))
+                text = net.with_program(program_of(decoded(data_of(entry)), entry.path.name, net.program))
             except Fault as fault:
                 print('grade: %s isn\'t written: %s' % (one_line(entry.name), fault), file=sys.stderr)
                 break
             name = page_name(number, entry.name, net.name).removesuffix('.html').removesuffix('.toml')
             # (a file NAME.plan.toml would be a plan)
             path = folder / ('%s.toml' % name.replace('.plan', '_plan'))
-            written(path, text)
+            replace_whole(path, [text.encode('utf-8')])
             count += 1
     print('%s: %d %s' % (one_line(str(folder)), count, 'scenario' if count == 1 else 'scenarios'))
 
@@ -159,57 +129,28 @@ def key_of(entries: Sequence[Entry], folder: Path) -> str:
     return OF_KEY + ''.join(it + '\n' for it in rows)
 
 
-def listed(names: Sequence[str]) -> str:
-    """The first of these names."""
-    return ', '.join([*names[:MOST_NAMES], *(['..'] if len(names) > MOST_NAMES else [])])
-
-
-def meant_by(name: str, entries: Sequence[Entry]) -> list[Entry]:
-    """The entries with this name and an ending or, if there are none, those whose names begin so."""
-    return [it for it in entries if it.name.rpartition('.')[0] == name] or [
-        it for it in entries if name and it.name.startswith(name)]
-
-
 def entry_of(name: str, entries: Sequence[Entry], folder: Path) -> Entry:
-    """The solution that a name means: the whole name, the name without its ending, or the beginning of only one name.
-    Another file, such as notes, is meant only if no solution is. Raises a `Fault` that lists the solutions if there is
-    none or if there are several."""
-    found = next((it for it in entries if it.name == name), None)
-    if found:
-        return found
-    meant = meant_by(name, [it for it in entries if it.is_solution]) or meant_by(name, entries)
-    if len(meant) > 1:
-        raise Fault('%s has several solutions %s: --why needs the whole name of one: %s' % (
-            folder, name, listed([it.name for it in meant])))
-    if meant:
+    """The entry that a name means: its whole name, the name of a solution without its ending, or the beginning of only
+    one name."""
+    meant = ([it for it in entries if it.name == name]
+             or [it for it in entries if it.is_solution and it.name.rpartition('.')[0] == name]
+             or [it for it in entries if name and it.name.startswith(name)])
+    if len(meant) == 1:
         return meant[0]
-    names = [it.name for it in entries]
-    like = nearest(name, [*names, *(it.rpartition('.')[0] for it in names)])
-    raise Fault('%s has no solution %s%s: --why needs the name of one of its files: %s' % (
-        folder, name, ' (did you mean %s?)' % like if like else '', listed(names)))
+    names = [it.name for it in meant or entries]
+    raise Fault('%s has %s %s: --why needs the name of one of these: %s' % (
+        folder, 'several solutions' if meant else 'no solution', name,
+        ', '.join(names[:MOST_NAMES]) + ', ..' * (len(names) > MOST_NAMES)))
 
 
-def others_of(name: str, entry: Entry, entries: Sequence[Entry]) -> list[str]:
-    """A line if a name may mean another solution: if it is only the beginning of the entry's name, or if other
-    solutions have this name with an ending."""
-    if name not in (entry.name, entry.name.rpartition('.')[0]):
-        what = 'solution' if entry.is_solution else 'file'
-        return ['--why %s shows %s, the only %s that begins so' % (shlex.quote(name), entry.name, what)]
-    others = [it.name for it in entries if it.name.rpartition('.')[0] == entry.name]
-    return ['--why %s shows the entry %s; other entries are %s' % (
-        shlex.quote(entry.name), entry.name, ', '.join(others))] if others else []
-
-
-def remarks(asked: argparse.Namespace, nets: Sequence[Net], sentences: Sequence[str] = ()) -> list[str]:
+def remarks(asked: argparse.Namespace, nets: Sequence[Net], skipped: Sequence[str]) -> list[str]:
     """Lines on things that a teacher may not have meant: combinations of values without a net, nets that are hidden
-    and shown, motes that are cut off, values that no mote can print, and files without a row."""
+    and shown, motes that are cut off, and files without a row."""
     lines = [*without_nets(asked.vary), *without_nets(asked.vary_hidden, True)]
     for remark, names in (
             ('these hidden nets equal a shown net, so a page of marks shows them', hidden_and_shown(nets)),
             ('in these nets no packet of the other motes reaches some motes', nets_with_cut_off(nets)),
-            ('in these nets a sentence wants a set of motes with more than 16 bits, which no mote can print',
-             nets_with_wide_sets(nets, read_all(list(sentences), Names()))),
-            ('hidden files, expectations and marks have no row', skipped_of(asked.folder))):
+            ('hidden files, expectations and marks have no row', skipped)):
         if names:
             more = ' and {:,} more'.format(len(names) - MOST_LISTED) if len(names) > MOST_LISTED else ''
             lines.append('%s: %s%s' % (remark, ', '.join(names[:MOST_LISTED]), more))
@@ -218,33 +159,25 @@ def remarks(asked: argparse.Namespace, nets: Sequence[Net], sentences: Sequence[
 
 def status_of(asked: argparse.Namespace) -> int:
     """The work of tools/grade; returns the status."""
-    if asked.expectations.is_dir() and not asked.folder.is_dir():
-        raise Fault('%s is a folder, and %s is not: the arguments look swapped. Write tools/grade %s %s' % (
-            asked.expectations, asked.folder, asked.expectations, asked.folder))
     program_path()
     pages = [path for path in asked.output if path.suffix == '.html']
     pictures = pages_of(pages[0]) if pages else None
     task = task_of(asked, pictures)
-    entries = entries_of(asked.folder)
+    entries, skipped = entries_of(asked.folder)
     refuse_all_inputs(asked, entries)
     if asked.why is not None:
-        entry = entry_of(asked.why, entries, asked.folder)
-        for line in others_of(asked.why, entry, entries):
-            print('grade: %s' % line, file=sys.stderr)
-        entries = [entry]
+        entries = [entry_of(asked.why, entries, asked.folder)]
     elif asked.anonymous:
         entries = anonymous(entries)
         if asked.key:
-            written(asked.key, key_of(entries, asked.folder))
+            replace_whole(asked.key, [key_of(entries, asked.folder).encode('utf-8')])
     if asked.write:
         write_scenarios(asked.write, entries, task)
     if pictures:
         remove_earlier(pictures)
         # (the list has all pages that the marking may write, because the user can end it at any time)
         keep_names(pictures, task.possible_pictures(entries))
-    of_nets = of_programs([it.path.name for it in entries], [it.scenario.end for it in task.nets]) if task.nets else []
-    of_nets += unusual(opened_in(entries)) if task.nets and not asked.connection else []
-    for line in [*remarks(asked, task.nets, task.part.sentences), *of_nets] if asked.why is None else ():
+    for line in remarks(asked, task.nets, skipped) if asked.why is None else ():
         print('grade: %s' % line, file=sys.stderr)
     marked = grade(entries, task, asked.jobs)
     if pictures:

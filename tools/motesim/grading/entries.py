@@ -9,8 +9,8 @@ import os
 import random
 import re
 import stat
-from codecs import BOM_UTF8
 from collections.abc import Iterator, Sequence
+from itertools import islice
 from pathlib import Path
 from typing import NamedTuple
 
@@ -18,8 +18,9 @@ from motesim.faults import Fault
 from motesim.grading.own import own_of
 from motesim.scenario.faults import LONGEST_TEXT
 from motesim.terminal import one_line
+from motesim.toml import MARK
 
-SUFFIXES = ('.toml', '.mote', '.c')
+SUFFIXES = ('.toml', '.mote')
 OF_TEACHER = '.expect.toml'
 MOST_ENTRIES = 10_000
 DEEPEST = 8
@@ -48,7 +49,7 @@ def _kind(mode: int) -> str:
 def _why_by_name(name: str) -> str:
     """The reason why a plain file has no mark, if its name isn't that of a solution. The reason doesn't contain the
     name, because it is shown on anonymous pages too."""
-    why = 'its name ends neither in .toml nor in .mote nor in .c'
+    why = 'its name ends neither in .toml nor in .mote'
     if name.lower().endswith(SUFFIXES):
         return why + ': write the ending in small letters'
     if name.removesuffix('.txt').endswith(SUFFIXES):
@@ -56,8 +57,9 @@ def _why_by_name(name: str) -> str:
     return why
 
 
-def _entries(folder: Path, top: Path, depth: int) -> Iterator[Entry]:
-    """The entries of a folder and of the folders in it. An empty folder is an entry."""
+def _entries(folder: Path, top: Path, depth: int, skipped: list[str]) -> Iterator[Entry]:
+    """The entries of a folder and of the folders in it. An empty folder is an entry. `skipped` gets the names of the
+    files that are none; of the many pages that a marking wrote into a folder of their own, it gets no name."""
     name = one_line(str(folder.relative_to(top)))
     try:
         found = sorted(os.scandir(folder), key=lambda it: os.fsencode(it.name))
@@ -65,44 +67,41 @@ def _entries(folder: Path, top: Path, depth: int) -> Iterator[Entry]:
     except OSError as fault:
         yield Entry(name, folder, 'the folder can\'t be read: %s' % fault.strerror)
         return
-    found = [it for it in found if not it.name.startswith('.')]
-    if not found and depth:
+    if depth and all(it.name.startswith('.') for it in found):
         yield Entry(name, folder, 'an empty folder')
     for it in found:
-        if it.name in own:
-            continue
-        path = Path(it.path)
-        its = one_line(str(path.relative_to(top)))
+        path, its = Path(it.path), one_line(str(Path(it.path).relative_to(top)))
         try:
             mode = it.stat(follow_symlinks=False).st_mode
         except OSError as fault:
             yield Entry(its, path, '%s' % fault.strerror)
             continue
-        if stat.S_ISDIR(mode) and depth < DEEPEST:
-            yield from _entries(path, top, depth + 1)
+        if it.name in own or it.name.startswith('.') or stat.S_ISREG(mode) and it.name.endswith(OF_TEACHER):
+            skipped += [its] * (it.name not in own or depth == 0)
+        elif stat.S_ISDIR(mode) and depth < DEEPEST:
+            yield from _entries(path, top, depth + 1, skipped)
         elif stat.S_ISDIR(mode):
             yield Entry(its, path, 'folders are nested too deeply')
         elif not stat.S_ISREG(mode):
             yield Entry(its, path, _kind(mode))
-        elif not it.name.endswith(SUFFIXES):
-            yield Entry(its, path, _why_by_name(it.name), False)
-        elif not it.name.endswith(OF_TEACHER):
-            yield Entry(its, path)
+        else:
+            is_solution = it.name.endswith(SUFFIXES)
+            yield Entry(its, path, '' if is_solution else _why_by_name(it.name), is_solution)
 
 
-def entries_of(folder: Path) -> list[Entry]:
-    """All entries of a folder, by name. Hidden files, expectations and marks are left out."""
+def entries_of(folder: Path) -> tuple[list[Entry], list[str]]:
+    """All entries of a folder, by name; and the names of the files that have no row: hidden files, expectations and
+    marks."""
     if not folder.is_dir():
         raise Fault('%s is a file: name the folder of the solutions' % folder if folder.exists() else
                     'there is no folder %s' % folder)
-    found: list[Entry] = []
-    for entry in _entries(folder, folder, 0):
-        found.append(entry)
-        if len(found) > MOST_ENTRIES:
-            raise Fault('%s has more than %s entries' % (folder, '{:,}'.format(MOST_ENTRIES)))
+    skipped = list[str]()
+    found = list(islice(_entries(folder, folder, 0, skipped), MOST_ENTRIES + 1))
+    if len(found) > MOST_ENTRIES:
+        raise Fault('{} has more than {:,} entries'.format(folder, MOST_ENTRIES))
     if not found:
-        raise Fault('%s has no solution: a scenario NAME.toml, or a program NAME.mote or NAME.c' % folder)
-    return found
+        raise Fault('%s has no solution: a scenario NAME.toml or a program NAME.mote' % folder)
+    return found, skipped
 
 
 def anonymous(entries: Sequence[Entry], chance: random.Random | None = None) -> list[Entry]:
@@ -113,27 +112,22 @@ def anonymous(entries: Sequence[Entry], chance: random.Random | None = None) -> 
     return [it._replace(name='solution-%d' % number) for number, it in enumerate(mixed, 1)]
 
 
-def skipped_of(folder: Path) -> list[str]:
-    """The names of the files that are not entries, in a folder and in the folders in it."""
-    found: list[str] = []
-    for at, folders, names in os.walk(folder):
-        path = Path(at)
-        hidden = [it for it in folders if it.startswith('.')]
-        folders[:] = sorted(set(folders) - set(hidden)) if len(path.relative_to(folder).parts) < DEEPEST else []
-        # (an earlier marking wrote its many pages into a folder of their own)
-        own = own_of(path) if path == folder else set()
-        found += [one_line(str((path / it).relative_to(folder))) for it in sorted([*names, *hidden])
-                  if it.startswith('.') or it.endswith(OF_TEACHER) or it in own]
-    return found
-
-
-def without_program(entry: Entry, data: bytes) -> str:
+def without_program(entry: Entry, text: str) -> str:
     """The reason why a file has no program: it is empty, or has only comments. Otherwise an empty text."""
-    comment = rb'#[^\n]*' if entry.path.suffix == '.toml' else rb'//[^\n]*'
-    text = data.removeprefix(BOM_UTF8)
-    if len(data) > LONGEST_TEXT or re.sub(comment, b'', text).strip():
+    text = text.removeprefix(MARK).strip()
+    if re.sub('#[^\n]*' if entry.path.suffix == '.toml' else '//[^\n]*', '', text).strip():
         return ''
-    return 'the file has only comments, and no program' if text.strip() else 'the file is empty: it has no program'
+    return 'the file has only comments, and no program' if text else 'the file is empty: it has no program'
+
+
+def decoded(data: bytes) -> str:
+    """The text of a solution. Raises a `Fault` if it is too long or isn't UTF-8."""
+    if len(data) > LONGEST_TEXT:
+        raise Fault('the file is longer than {:,} bytes'.format(LONGEST_TEXT))
+    try:
+        return data.decode('utf-8')
+    except UnicodeDecodeError:
+        raise Fault('the file is not UTF-8 text: save it as UTF-8') from None
 
 
 def data_of(entry: Entry) -> bytes:

@@ -1,13 +1,10 @@
 """The marks of a solution: a mark for each sentence, and what a table and a page show of them."""
 from __future__ import annotations
 
-import re
 from collections.abc import Iterable, Sequence
 from dataclasses import dataclass, replace
 from typing import NamedTuple
 
-from motesim.c_program.remark import Remark
-from motesim.grading.compiled import Difference
 from motesim.judge.expectations import REQUIRED
 from motesim.judge.judge import Broken
 from motesim.runner.run import Run
@@ -17,8 +14,6 @@ LONGEST_WHY = 400
 # The most characters of a solution's name in a table.
 WIDEST_NAME = 40
 OF_HIDDEN = 'in a hidden net'
-# The words of a reason about the process that prints the wanted values instead of the one that a sentence names.
-OTHER_PROCESS = re.compile(r'; (process (\w+) prints) (?:exactly these values|this value)')
 
 
 class Mark(NamedTuple):
@@ -62,9 +57,6 @@ class Marks:
     warned   the warnings about its programs; and in a net that isn't hidden, those about packets of one moment and,
              if a sentence is broken, about losses, ranges and seeds
     unused   its programs that no mote of the nets runs, in words
-    of_c     for a program in C, the remarks about differences between it and its translation
-    by_gcc   for a program in C that does something else than its translation, or can't be translated: the marks of the
-             compiled program; and `hidden`, the first difference in a hidden net, which no page may show
     """
     name: str
     marks: tuple[Mark, ...] = ()
@@ -80,9 +72,6 @@ class Marks:
     shown_halts: str = ''
     warned: tuple[str, ...] = ()
     unused: str = ''
-    of_c: tuple[Remark, ...] = ()
-    by_gcc: tuple[Mark, ...] = ()
-    hidden: str = ''
 
     @property
     def has_mark(self) -> bool:
@@ -91,10 +80,10 @@ class Marks:
     def in_lines(self) -> Marks:
         """These marks, with each text in one line: names in a solution may have characters that would end or change a
         row."""
-        marks, by_gcc = (tuple(it._replace(more=lines_of(it.more), shown=lines_of(it.shown), remark=one_line(it.remark))
-                               for it in its) for its in (self.marks, self.by_gcc))
+        marks = tuple(it._replace(more=lines_of(it.more), shown=lines_of(it.shown), remark=one_line(it.remark))
+                      for it in self.marks)
         lacks = tuple(cut(one_line(it), LONGEST_WHY) for it in self.lacks)
-        return replace(self, marks=marks, by_gcc=by_gcc, why=cut(one_line(self.why), LONGEST_WHY), lacks=lacks,
+        return replace(self, marks=marks, why=cut(one_line(self.why), LONGEST_WHY), lacks=lacks,
                        fix=lines_of(self.fix), unused=cut(one_line(self.unused), LONGEST_WHY))
 
     @property
@@ -105,7 +94,7 @@ class Marks:
     @property
     def held(self) -> int:
         """The mark: how many sentences hold, or 0 if a required one doesn't."""
-        return number_held(self.marks)
+        return sum(it.holds for it in self.marks) if all(it.holds for it in self.marks if it.is_required) else 0
 
     @property
     def fault(self) -> str:
@@ -120,26 +109,19 @@ class Marks:
 
 class InNet(NamedTuple):
     """The marks of a solution in one net, and for each sentence the name that the scenario lacks, and the reason if the
-    sentence is broken. `by_gcc`: the marks of the compiled program, if it does something else."""
+    sentence is broken."""
     marks: Sequence[Mark]
     lacks: list[str]
-    why: str
-    run: Run | None
-    broken: list[Broken | None]
+    why: str = ''
+    run: Run | None = None
+    broken: Sequence[Broken | None] = ()
     is_refused: bool = False
-    differs: Difference | None = None
     net: str = ''
     is_hidden: bool = False
     bytes: int = 0
     halts: str = ''
     warned: tuple[str, ...] = ()
     moments: tuple[str, ...] = ()
-    by_gcc: Sequence[Mark] = ()
-
-
-def number_held(marks: Sequence[Mark]) -> int:
-    """The number of sentences that hold, or 0 if a required one doesn't."""
-    return sum(it.holds for it in marks) if all(it.holds for it in marks if it.is_required) else 0
 
 
 def spread(held: Iterable[Mark], sentences: Sequence[str], lacks: Sequence[str]) -> list[Mark]:

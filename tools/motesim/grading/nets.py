@@ -3,16 +3,12 @@ from __future__ import annotations
 
 import itertools
 import math
-from collections.abc import Iterable, Iterator, Mapping, Sequence
+from collections.abc import Iterator, Sequence
 from dataclasses import dataclass, replace
 from pathlib import Path
-from types import MappingProxyType
 
 from motesim.experiments.asked import values_of
 from motesim.faults import Fault
-from motesim.grading.in_c import notation_of
-from motesim.judge.sentences import Sentence
-from motesim.judge.wide import first_wide
 from motesim.plan.plan import Plan
 from motesim.plan.tables import Value, text_of_value
 from motesim.plan.text import Mote
@@ -20,11 +16,8 @@ from motesim.plan.text import Net as NetOfPlan
 from motesim.plan.text import scenario_text
 from motesim.runner.run import read_file
 from motesim.scenario import Scenario
-from motesim.scenario.encodings import text_of_c
-from motesim.scenario.faults import LONGEST_TEXT, find_fault
-from motesim.scenario.kinds import has_plan
+from motesim.scenario.faults import find_fault
 from motesim.scenario.scenario import hops_over
-from motesim.search.quick_judge import Hops
 from motesim.terminal import cut
 from motesim.toml import MARK, NoToml, read_toml
 
@@ -36,7 +29,6 @@ OPTIONS = ('--vary', '--net'), ('--vary-hidden', '--hidden')
 MOST_MOTES = 8
 # The most names of programs in a message, and the greatest length of each.
 MOST_NAMES, LONGEST_NAME = 5, 40
-NOT_UTF8 = 'the file is not UTF-8 text: save it as UTF-8'
 
 
 @dataclass(frozen=True)
@@ -103,17 +95,6 @@ def _net(name: str, text: str, program: str | None) -> Net:
     return Net(name, scenario, program or names[0])
 
 
-class NoProgram(Fault):
-    """A solution has several programs, none with the wanted name; the message says what to do."""
-
-    def __init__(self, wanted: str, names: Iterable[str]):
-        known = list(names)
-        more = ' and {:,} more'.format(len(known) - MOST_NAMES) if len(known) > MOST_NAMES else ''
-        shown = ', '.join('`%s`' % cut(it, LONGEST_NAME) for it in known[:MOST_NAMES])
-        super().__init__('it has no program `%s`, but: %s%s' % (wanted, shown, more))
-        self.hint = 'Hint: rename the program that solves the task to `%s`, and grade again' % wanted
-
-
 def nets_of(paths: Sequence[Path], vary: Sequence[str], program: str | None, is_hidden: bool = False) -> list[Net]:
     """The nets of these files; a plan has one for each combination of these values of parameters. The plans of hidden
     nets have their own values: with the values of the shown nets, the hidden nets would be the same as the shown
@@ -172,33 +153,10 @@ def nets_with_cut_off(nets: Sequence[Net]) -> list[str]:
     return found
 
 
-def nets_with_wide_sets(nets: Sequence[Net], sentences: Sequence[Sentence]) -> list[str]:
-    """The names of the nets in which a sentence wants a set of motes with more than 16 bits, each with the first such
-    sentence and mote."""
-    found = []
-    for net in nets:
-        values_of = Hops(net.scenario).values
-        first = ((number, first_wide(it, net.scenario.motes, values_of)) for number, it in enumerate(sentences, 1))
-        found += ['%s (sentence %d, mote %d)' % (net.name, number, mote)
-                  for number, mote in first if mote is not None][:1]
-    return found
-
-
-def program_of(data: bytes, name: str, wanted: str, names: Mapping[str, str] = MappingProxyType({})) -> str:
-    """The text of the program that a solution has: the one of this name, or its only one. `names`: for a program in C,
-    the names of its processes in sentences."""
-    if len(data) > LONGEST_TEXT:
-        raise Fault('the file is longer than {:,} bytes'.format(LONGEST_TEXT))
-    try:
-        text = text_of_c(data) if name.endswith('.c') else data.decode('utf-8')
-    except UnicodeDecodeError:
-        raise Fault(NOT_UTF8) from None
+def program_of(text: str, name: str, wanted: str) -> str:
+    """The text of the program that a solution has: the one of this name, or its only one."""
     if name.endswith('.mote'):
         return text.removeprefix(MARK)
-    if name.endswith('.c'):
-        return notation_of(text.removeprefix(MARK), names)
-    if has_plan(data):
-        raise Fault('the file is a plan, not a scenario')
     try:
         programs = read_toml(text).get('programs')
     except NoToml as fault:
@@ -207,30 +165,27 @@ def program_of(data: bytes, name: str, wanted: str, names: Mapping[str, str] = M
         raise Fault('the file has no table `[programs]`')
     found = programs.get(wanted) or (next(iter(programs.values())) if len(programs) == 1 else None)
     if found is None:
-        raise NoProgram(wanted, programs)
+        names = ', '.join('`%s`' % cut(it, LONGEST_NAME) for it in [*programs][:MOST_NAMES])
+        raise Fault('it has no program `%s`, but %s%s: rename the one that solves the task to `%s`, and grade again' % (
+            wanted, names, ', ..' * (len(programs) > MOST_NAMES), wanted))
     if type(found) is not str:
         raise Fault('the program `%s` is not a text' % wanted)
     return found
 
 
-def unused_of(data: bytes, name: str, net: Net) -> str:
+def unused_of(text: str, name: str, net: Net) -> str:
     """The programs that the motes of a solution run, but that a marking in this net doesn't use, in words; an empty
     text if there are none. Programs that the net has too don't count."""
-    if name.endswith(('.mote', '.c')):
+    if name.endswith('.mote'):
         return ''
-    tables = read_toml(data.decode('utf-8'))
+    tables = read_toml(text)
     programs, motes = tables['programs'], tables.get('mote')
     used = net.program if net.program in programs else next(iter(programs))
-    running = [it.get('program') if type(it) is dict else None for it in motes] if type(motes) is list else []
-    found = [(it, [mote for mote, its in enumerate(running) if its == it]) for it, text in programs.items()
-             if it != used and text != net.scenario.programs.get(it)]
-    shown = ['`%s` (of mote%s %s)' % (cut(it, LONGEST_NAME), 's' * (len(its) > 1), _motes(its))
-             for it, its in found if its]
-    more = ' and {:,} more'.format(len(shown) - MOST_NAMES) if len(shown) > MOST_NAMES else ''
-    if not shown:
-        return ''
-    return 'its program%s %s%s %s used' % ('s' * (len(shown) > 1), ', '.join(shown[:MOST_NAMES]), more,
-                                           'aren\'t' if len(shown) > 1 else 'isn\'t')
+    run = {str(it.get('program')) for it in motes if type(it) is dict} if type(motes) is list else set[str]()
+    found = ['`%s`' % cut(it, LONGEST_NAME) for it, source in programs.items()
+             if it in run and it != used and source != net.scenario.programs.get(it)]
+    return 'not used: its program%s %s' % (
+        's' * (len(found) > 1), ', '.join(found[:MOST_NAMES]) + ', ..' * (len(found) > MOST_NAMES)) if found else ''
 
 
 def _motes(motes: Sequence[int]) -> str:

@@ -5,8 +5,6 @@ from collections.abc import Sequence
 from html import escape
 from urllib.parse import quote
 
-from motesim.grading.by_gcc import by_gcc_words
-from motesim.grading.in_c import shown
 from motesim.grading.marks import Marks
 from motesim.grading.own import OF_PAGE
 from motesim.grading.tables import count_of, holds, required_of
@@ -31,9 +29,6 @@ pre { margin: 2px 0 0; font: 12.5px/1.4 ui-monospace, "DejaVu Sans Mono", monosp
 </head>
 <body>
 """
-
-
-BROKEN_BY_GCC = 'For the compiled program, this sentence doesn\'t hold: %s'
 OF_REQUIRED = ' If a required sentence doesn\'t hold, the mark is 0, whatever else holds.'
 
 
@@ -44,18 +39,14 @@ def _colour(marks: Marks, count: int) -> str:
 def _first_failed(marks: Marks, folder: str) -> str:
     """The first sentence that fails, linked to the run that shows it, and why it fails. If this sentence fails only in
     hidden nets, the first sentence that fails in another net is below it, with the link."""
-    mistakes, others = ([shown(it) for it in marks.of_c if it.is_mistake == wanted] for wanted in (True, False))
-    broken = [it for it in marks.by_gcc if not it.holds]
-    mistakes += [by_gcc_words(marks.by_gcc)] * (not marks.why and bool(marks.by_gcc))
-    mistakes += [BROKEN_BY_GCC % broken[0].words, *broken[0].shown] if broken else []
     place = marks.first_failed
     if marks.why or place is None:
-        return escape(marks.why) + _lines(marks.fix) + _lines(mistakes)
-    below = [*marks.warned, *(it for it in (marks.shown_halts, marks.unused, marks.no_page) if it), *mistakes]
+        return escape(marks.why) + _lines(marks.fix)
+    below = [*marks.warned, *(it for it in (marks.shown_halts, marks.unused, marks.no_page) if it)]
     other = marks.pictured if marks.pictured is not None and marks.pictured > place else None
     first = _failed(marks, place, '' if other is not None else folder)
     rest = '' if other is None else '\n' + _failed(marks, other, folder)
-    return first + rest + _lines(below) + _folded('Differences from C', others)
+    return first + rest + _lines(below)
 
 
 def _failed(marks: Marks, place: int, folder: str) -> str:
@@ -69,11 +60,6 @@ def _failed(marks: Marks, place: int, folder: str) -> str:
 
 def _lines(rows: Sequence[str]) -> str:
     return '<pre>%s</pre>' % escape('\n'.join(rows)) if rows else ''
-
-
-def _folded(title: str, rows: Sequence[str]) -> str:
-    """Lines that a reader unfolds by a click."""
-    return '<details><summary>%s</summary>%s</details>' % (escape(title), _lines(rows)) if rows else ''
 
 
 def _row(marks: Marks, count: int, folder: str) -> str:

@@ -3,16 +3,14 @@ from __future__ import annotations
 
 import csv
 import io
-import re
 import shlex
 import unicodedata
 from collections.abc import Sequence
 
-from motesim.grading.by_gcc import OF_HIDDEN_RUN
-from motesim.grading.in_c import on_node, shown
-from motesim.grading.marks import OTHER_PROCESS, Mark, Marks, number_held
+from motesim.grading.marks import Mark, Marks
 from motesim.grading.own import COLUMNS, OF_TOML
 from motesim.judge.expectations import REQUIRED
+from motesim.plan.text import escaped
 from motesim.toml import MARK
 
 # How many nets a line names.
@@ -23,11 +21,7 @@ RENAMED = 'Hint: sentences use the names of the task: if a process was renamed, 
 UNUSED = ('Hint: in a net of --net or --hidden the motes run only one program of a solution. Move the code of the '
           'other motes into this program, below tests such as `if (self == 0)`, and grade again')
 USED_UP = '%s: it used up its work there, maybe in a loop without a wait'
-ONLY_HERE = ' (on a node, maybe not)'
-OF_C = '. On a node, it may have enough: each index and each operation on bits needs more work in a translation'
-BROKEN_BY_GCC = 'For the compiled program, these sentences don\'t hold:'
 SHARED = 'in all solutions and nets, this or a similar remark: %s'
-ESCAPES = {'\\': '\\\\', '"': '\\"', '\n': '\\n', '\t': '\\t', '\r': '\\r'}
 
 
 def sentences_of(marked: Sequence[Marks]) -> list[str]:
@@ -53,23 +47,10 @@ def table(marked: Sequence[Marks], sentences: Sequence[str]) -> list[str]:
         broken = ', '.join('%d%s' % (number, REQUIRED * one.is_required) for number, one in enumerate(it.marks, 1)
                            if not one.holds)
         count = count_of(it, len(sentences))
-        halts = it.halts and it.halts + ONLY_HERE * it.name.endswith('.c')
-        parts = (broken and 'broken: %s' % broken, *printers(it), it.fault, halts, broken and it.unused,
-                 of_node(it))
-        words = fault_of(it) if it.why else '; '.join(one for one in parts if one)
+        parts = broken and 'broken: %s' % broken, it.fault, it.halts, broken and it.unused
+        words = it.fault if it.why else '; '.join(filter(None, parts))
         rows.append(('%s  %s  %s' % (it.short_name.ljust(width), count, words)).rstrip())
     return rows
-
-
-def of_node(marks: Marks) -> str:
-    """The words about a program in C that may do something else on a node."""
-    return on_node(marks.of_c, '%d of %d' % (number_held(marks.by_gcc), len(marks.by_gcc)) if marks.by_gcc else '')
-
-
-def printers(marks: Marks) -> list[str]:
-    """The other processes that print the values of broken sentences, in words."""
-    found = (OTHER_PROCESS.search(row) for it in marks.marks for row in it.more)
-    return list(dict.fromkeys('%s these values' % it[1] for it in found if it))
 
 
 def below(marked: Sequence[Marks], sentences: Sequence[str]) -> list[str]:
@@ -86,9 +67,8 @@ def below(marked: Sequence[Marks], sentences: Sequence[str]) -> list[str]:
 
 def pointer(marked: Sequence[Marks]) -> list[str]:
     """The line about the option that shows the errors of refused solutions."""
-    refused = [it.name for it in marked if any(line.startswith('Hint: ') for line in it.fix)]
-    return ['', '--why %s shows the place of its error, and how to correct it' % shlex.quote(
-        refused[0])] if refused else []
+    refused = [it.name for it in marked if it.fix]
+    return ['', '--why %s shows the place of its error' % shlex.quote(refused[0])] if refused else []
 
 
 def cell(text: str) -> str:
@@ -105,11 +85,6 @@ def without_separators(text: str) -> str:
     return text.replace(';', '\\x3b').replace('\t', '\\x09')
 
 
-def fault_of(marks: Marks) -> str:
-    """The reason why a solution has no mark, or the lines in C that may do something else on a node."""
-    return '; '.join(filter(None, (marks.fault, of_node(marks))))
-
-
 def csv_of(marked: Sequence[Marks], sentences: Sequence[str], is_for_excel: bool = False) -> str:
     """A row for each solution, with 1 for a sentence that holds and otherwise 0; its cells are empty if it isn't
     marked.
@@ -123,7 +98,7 @@ def csv_of(marked: Sequence[Marks], sentences: Sequence[str], is_for_excel: bool
     for it in marked:
         holds: list[object] = [int(one.holds) for one in it.marks]
         missing = 0 if it.has_mark else ''
-        fault = cell(without_separators(fault_of(it).replace('; ', ', ')))
+        fault = cell(without_separators(it.fault.replace('; ', ', ')))
         rows.writerow([cell(without_separators(it.name)), it.held if it.has_mark else missing, len(sentences), fault,
                        *(holds or [missing] * len(sentences))])
     return out.getvalue()
@@ -131,8 +106,7 @@ def csv_of(marked: Sequence[Marks], sentences: Sequence[str], is_for_excel: bool
 
 def quoted(text: str) -> str:
     """A text of TOML."""
-    return '"%s"' % ''.join(ESCAPES.get(sign) or (sign if ord(sign) >= 32 and ord(sign) != 127
-                                                  else '\\u%04X' % ord(sign)) for sign in text)
+    return '"%s"' % escaped(text)
 
 
 def holds(marks: Marks, number: int) -> bool:
@@ -154,7 +128,7 @@ def toml_of(marked: Sequence[Marks], sentences: Sequence[str], expectations: str
             lines.append('holds = %d' % it.held)
             lines.append('broken = [%s]' % ', '.join(map(str, broken)))
         lines.append('of = %d' % len(sentences))
-        lines += ['fault = %s' % quoted(fault_of(it))] if fault_of(it) else []
+        lines += ['fault = %s' % quoted(it.fault)] if it.fault else []
         failed = it.first_failed
         if failed is not None and it.marks[failed].more:
             lines.append('first_failed = %s' % quoted('\n'.join(it.marks[failed].more)))
@@ -172,12 +146,10 @@ def why(marks: Marks) -> list[str]:
     lines = [*([marks.why] if marks.why else []), *marks.fix]
     # (without a report no sentence holds, all for the same reason)
     lines += [row for it in marks.marks if not marks.why for row in rows_of(it)]
-    lines += [USED_UP % marks.halts + OF_C * marks.name.endswith('.c')] if marks.halts else []
+    lines += [USED_UP % marks.halts] if marks.halts else []
     if marks.first_failed is not None:
         lines += [*marks.warned, *([marks.unused, UNUSED] if marks.unused else [])]
-    of_c = [it._replace(text=marks.hidden) if it.text == OF_HIDDEN_RUN else it for it in marks.of_c]
-    by_gcc = [row for it in marks.by_gcc if not it.holds for row in rows_of(it)]
-    return [*lines, *([RENAMED] * any(marks.lacks)), *map(shown, of_c), *([BROKEN_BY_GCC, *by_gcc] if by_gcc else [])]
+    return [*lines, *([RENAMED] * any(marks.lacks))]
 
 
 def rows_of(it: Mark) -> list[str]:

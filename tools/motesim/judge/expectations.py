@@ -12,7 +12,6 @@ from typing import Any, NamedTuple
 
 from motesim.faults import Fault
 from motesim.text import nearest
-from motesim.judge.callbacks import of_callbacks
 from motesim.judge.judge import Broken, Judge
 from motesim.judge.remarks import remark_of
 from motesim.report import Report
@@ -21,7 +20,6 @@ from motesim.runner.run import Answer, answer, read_file, refuse_others
 from motesim.scenario import Scenario, ScenarioFault
 from motesim.scenario.encodings import decoded
 from motesim.scenario.faults import TOP
-from motesim.scenario.kinds import begins_as_c
 from motesim.judge.sentences import Names, Refused, Sentence, SentenceFault, lacking, names_of, read_sentence
 from motesim.toml import NoToml, read_toml
 
@@ -48,7 +46,6 @@ def beside(scenario: Path) -> Path:
 # The remark after a required sentence.
 REQUIRED = ' (required)'
 SHOWS = 'tools/explain %s shows the place of the error, and what you may write there'
-TRANSLATES = 'tools/explain %s --apply NEW.toml writes a scenario with this program in C'
 
 
 def text_of(path: Path) -> str:
@@ -186,13 +183,9 @@ def refused(part: Part, sentences: list[Sentence], got: Answer) -> list[Verdict]
 
 def of_report(part: Part, sentences: list[Sentence], judge: Judge) -> list[Verdict]:
     """The verdicts on a report."""
-    found, every = [], [judge.broken(it) for it in sentences]
-    report = ''.join(row + '\n' for row in judge.rows) if any(every) else ''
-    by_callback = of_callbacks(report, judge.scenario, sentences, every)
-    for at, (text, sentence, broken) in enumerate(zip(part.sentences, sentences, every)):
-        if at in by_callback:
-            found.append(Verdict(text, True, [], remark=by_callback[at]))
-            continue
+    found = []
+    for text, sentence in zip(part.sentences, sentences):
+        broken = judge.broken(sentence)
         remark = remark_of(sentence, judge, broken is None)
         found.append(Verdict(text, broken is None, more_of(broken, judge.rows) if broken else [], remark=remark))
     return found + ([same_report(judge.rows, part.report)] if part.report is not None else [])
@@ -240,7 +233,7 @@ def expect(scenario: Path, expectations: Path, is_quiet: bool = False,
     """Prints which sentences hold, or, if `is_quiet`, those that don't; returns how many hold and how many don't.
     `run` runs the scenario."""
     text = text_of(scenario)
-    refuse_others(scenario, text.encode())
+    refuse_others(scenario)
     passed = failed = 0
     has_fault = False
     name = str(expectations)
@@ -265,5 +258,5 @@ def expect(scenario: Path, expectations: Path, is_quiet: bool = False,
                 print('\n          '.join(['broken  %s' % words, *it.more, *filter(None, [it.remark])]))
         has_fault |= not part.replace and any(it.is_refused and not it.holds for it in verdicts)
     if has_fault:
-        print((TRANSLATES if begins_as_c(text.encode()) else SHOWS) % scenario)
+        print(SHOWS % scenario)
     return passed, failed

@@ -35,10 +35,3 @@ def remark_on(deed: Deed, motes: Iterable[int], values_of: ValuesOf) -> str:
 def chosen_of(motes: Motes, count: int) -> list[int]:
     """The motes of a net that a sentence is about."""
     return [it for it in (range(count) if motes.numbers is None else sorted(motes.numbers)) if it not in motes.but]
-
-
-def first_wide(sentence: Sentence, count: int, values_of: ValuesOf) -> int | None:
-    """The first mote of a net whose wanted set has more than 16 bits."""
-    if not isinstance(sentence, Does) or not sets_of(sentence.deed):
-        return None
-    return next((mote for mote, _ in wide_values(sentence.deed, chosen_of(sentence.motes, count), values_of)), None)

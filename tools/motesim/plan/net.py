@@ -22,11 +22,8 @@ from motesim.plan.tables import Key, NoParameter, PlanFault, Tables, filled, nee
 from motesim.plan.text import Mote, Net, scenario_text
 from motesim.scenario.encodings import decoded
 from motesim.scenario.faults import Path, Place
-from motesim.scenario.kinds import begins_as_scenario
 from motesim.text import wrapped
 from motesim.toml import MARK
-
-OF_SCENARIO = 'This file begins as a scenario: a plan needs one with the text of a program only.'
 
 
 def files_of(tables: Tables, files: Files) -> list[str]:
@@ -145,8 +142,6 @@ class Builder:
             from motesim.explain.explanation import of_program_file
             name = file if text == source else '%s, with its parameters' % file
             lines = of_program_file(name, text, fault_there)
-            if begins_as_scenario(source.encode()):
-                lines += wrapped(OF_SCENARIO)
             raise PlanFault('\n'.join(lines))
         return text
 

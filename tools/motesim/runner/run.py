@@ -24,9 +24,8 @@ import sys
 from pathlib import Path
 from typing import NamedTuple
 
-from motesim.c_program.origin import Origin
 from motesim.report.belongs import check_scenario as check_scenario
-from motesim.scenario.encodings import refuse_encoding
+from motesim.scenario.encodings import decoded
 from motesim.faults import Fault
 from motesim.runner.cache import Answer as Answer
 from motesim.runner.process import Limits, Runner
@@ -36,25 +35,28 @@ from motesim.runner.programs import ProgramFault as ProgramFault
 from motesim.runner.programs import program_path as program_path
 from motesim.report import Report, ReportFault
 from motesim.scenario import Scenario, ScenarioFault
-from motesim.scenario.kinds import begins_as_program, begins_as_results, has_plan, is_c_file
 
 # The beginning of a report; and that of a scenario: a comment, a table or a key.
 OF_REPORT = re.compile(rb'mote 0 ')
 OF_SCENARIO = re.compile(rb'(?:\xef\xbb\xbf)?\s*(?:#|\[|[A-Za-z0-9_"\'-]+\s*=)')
-IN_C = '%s is a file in C, not a scenario: tools/explain %s --apply NEW.toml writes a scenario with this program'
+# The files that users take for a scenario or a report, by the ending of the name.
+OTHERS = {
+    '.plan.toml': '{0} is a plan, not a scenario: tools/scenario {0} -o NAME.toml makes a scenario of it',
+    '.mote': '{0} is the text of a program, not a scenario: tools/explain {0} shows how to put it into one',
+    '.c': '{0} is a program in C, and motesim runs its own notation: tools/explain {0} says more',
+    '.csv': '{0} has results, not a report: tools/plot {0} --measure NAME --against NAME shows those of a sweep',
+}
 
 
 class Run(NamedTuple):
     """The input of a tool: a report, the scenario if it is known, and a name to show.
 
-    file    the file that has the programs, if it is known: its name, without folders, and its text
-    origin  the text in C of its program, if the file has a translation
+    file  the file that has the programs, if it is known: its name, without folders, and its text
     """
     name: str
     report: Report
     scenario: Scenario | None
     file: tuple[str, str] | None = None
-    origin: Origin | None = None
 
 
 def answer(scenario: bytes, *arguments: str, limits: Limits = Limits()) -> Answer:
@@ -87,24 +89,11 @@ def is_scenario(path: str | Path, data: bytes) -> bool:
     return not is_report(data) and (str(path).endswith('.toml') or OF_SCENARIO.match(data) is not None)
 
 
-def refuse_others(path: str | Path, data: bytes) -> None:
-    """Raises a fault if a file has the text of a program, a plan or results instead of a scenario or a report."""
-    if begins_as_results(data):
-        raise Fault('%s has the results of a sweep, not a report: tools/plot %s --measure NAME --against NAME shows '
-                    'them' % (path, path))
-    # (a report may be long)
-    if not is_report(data) and has_plan(data):
-        raise Fault('%s is a plan, not a scenario: tools/scenario %s -o NAME.toml makes a scenario of it' % (
-            path, path))
-    if begins_as_program(data):
-        raise Fault('%s is the text of a program, not a scenario: tools/explain %s shows how to put it into one' % (
-            path, path))
-
-
-def refuse_c(path: str | Path, data: bytes) -> None:
-    """Raises a fault if a file has a program in C instead of a scenario or a report."""
-    if is_c_file(str(path), data) and not is_report(data):
-        raise Fault(IN_C % (path, path))
+def refuse_others(path: str | Path) -> None:
+    """Raises a fault if a file has the name of a program, a plan or results instead of a scenario or a report."""
+    for ending, words in OTHERS.items():
+        if str(path).endswith(ending):
+            raise Fault(words.format(path))
 
 
 def read_run(path: str | Path, scenario: str | Path | None = None, limits: Limits = Limits(),
@@ -114,8 +103,7 @@ def read_run(path: str | Path, scenario: str | Path | None = None, limits: Limit
     A scenario is run; this is a text that begins like a scenario, or a file NAME.toml. The name `-` is standard input.
     """
     data = read_file(path)
-    refuse_others(path, data)
-    refuse_c(path, data)
+    refuse_others(path)
     is_run, at, found, file = is_scenario(path, data), path, None, None
     if is_run and scenario is not None:
         raise Fault('%s is a scenario itself: leave the other one out' % path)
@@ -123,7 +111,7 @@ def read_run(path: str | Path, scenario: str | Path | None = None, limits: Limit
         raise Fault('%s is empty: expected a report or a scenario' % (
             'standard input' if str(path) == '-' else path))
     if not is_run:
-        refuse_encoding(str(path), data)
+        decoded(str(path), data)
     try:
         if is_run:
             found = Scenario.parse(data)

@@ -14,7 +14,7 @@ from typing import Any
 from motesim.faults import Fault
 from motesim.plan.plan import Plan
 from motesim.plan.tables import Value
-from motesim.runner.run import refuse_c, refuse_others
+from motesim.runner.run import refuse_others
 from motesim.scenario.scenario import MotePlace, Scenario
 from motesim.scenario.faults import find_fault, place_of, value_of
 from motesim.search.added import DIES, changed_program
@@ -71,8 +71,7 @@ class Base:
         self.plan, self.others = plan, dict[tuple[tuple[str, Value], ...], Base]()
         fault = None if is_checked else find_fault(source.encode())
         if fault:
-            refuse_others(name, source.encode())
-            refuse_c(name, source.encode())
+            refuse_others(name)
             raise Fault('%s has no report: motesim: %s (tools/explain %s says more)' % (name, fault.message, name))
         self.source, self.name = source, name
         self.scenario_itself = Scenario.parse(source)

@@ -15,7 +15,7 @@ from pathlib import Path
 from motesim.faults import Fault, in_words
 from motesim.judge.expectations import text_of
 from motesim.runner.programs import program_path
-from motesim.runner.run import read_file, refuse_c, refuse_others
+from motesim.runner.run import refuse_others
 from motesim.studio.desk import Desk
 from motesim.studio.runs import Limits, Runs
 from motesim.studio.server import Server
@@ -67,8 +67,7 @@ def serve(server: Server, is_open: bool) -> None:
 
 def pinned(path: str) -> str:
     """The text of the scenario whose run is pinned."""
-    refuse_others(path, read_file(path))
-    refuse_c(path, read_file(path))
+    refuse_others(path)
     return text_of(Path(path))
 
 

@@ -15,7 +15,7 @@ from typing import Any, NamedTuple
 from motesim.faults import Fault, in_words
 from motesim.files import NotWritten, write_whole
 from motesim.runner.programs import TOP
-from motesim.runner.run import IN_C
+from motesim.runner.run import refuse_others
 from motesim.scenario.kinds import is_for_teachers
 
 LONGEST = 1_048_576
@@ -129,10 +129,8 @@ class Desk:
             raise Fault('%s is a folder; give the studio a scenario, NAME.toml' % named)
         if path and not self.folder.is_dir():
             raise Fault('%s: there is no folder %s' % (named, self.folder))
-        if path and path.name.endswith('.plan.toml'):
-            raise Fault('%s is a plan, which the studio doesn\'t run: tools/scenario makes a scenario of it' % named)
-        if path and path.name.endswith('.c'):
-            raise Fault(IN_C % (named, named))
+        if named:
+            refuse_others(named)
         if path and path.name.endswith('.toml.txt'):
             new = path.name.removesuffix('.txt')
             raise Fault('%s: the name of a scenario ends in .toml: rename it, mv %s %s' % (named, path.name, new))

@@ -5,7 +5,6 @@ wanted one.
 """
 from __future__ import annotations
 
-from collections.abc import Callable
 from typing import Any, NamedTuple
 
 from motesim.faults import Fault
@@ -36,11 +35,6 @@ class Note(NamedTuple):
     at: int = 0
     mote: int | None = None
     others: tuple[Note, ...] = ()
-
-    def in_words(self, changed: Callable[[str], str]) -> Note:
-        """This note with its reason and its lines in other words."""
-        lines = (it._replace(text=changed(it.text)) for it in self.lines)
-        return self._replace(why=changed(self.why), lines=tuple(lines))
 
     def as_json(self) -> dict[str, Any]:
         return {**self._asdict(), 'lines': [it._asdict() for it in self.lines],

@@ -21,11 +21,6 @@ DOES = {'start': 'starts it', 'kill': 'kills it', 'spawn': 'runs it', 'restart':
         'signal': 'adds 1 to the semaphore', **dict.fromkeys(SETS, 'sets the timer')}
 NEVER, LAST = 'was never %s, the last time at %d', 'was not %s the last time, at %d'
 ELSEWHERE = '; timer %s was due at %d: its event was taken while %s waited at %s'
-# The statement in front of one that runs the callback of a program in C.
-BEFORE_CALLBACK = re.compile(r'(?:while|if|yield_until) is\(packet\)')
-# A wait of a program in C for a condition; and the words if only a poll could end it.
-OF_CONDITION = re.compile(r'_(?:UNTIL|WHILE)\s*\(')
-NO_POLL = '; a callback that changes a variable doesn\'t call the process: only `process_poll` does, and no line has it'
 # Events that only the kernel makes, never a statement.
 OF_KERNEL = ('packet', 'timer', 'exited', 'exit', 'init', 'continue')
 
@@ -90,8 +85,6 @@ class Callers:
         if kind == 'thread':
             thread = name.partition('_')[2]
             runs = self.numbered(('spawn', 'restart'), thread, it.process)
-            if self.is_of_packets(runs):
-                return ', because no packet came to its callback %s%s' % (thread, until)
             return ', because nothing ran its thread %s%s%s' % (thread, until, self.sentence(runs, depth))
         if kind == 'callback':
             timer = self.program.timers[int(name)].name
@@ -109,11 +102,6 @@ class Callers:
                 process.name, until, '' if is_known else self.starts(process.name, depth))
         return ''
 
-    def is_of_packets(self, runs: Sequence[int]) -> bool:
-        """Returns whether these statements run the callback of a program in C for each packet."""
-        return bool(runs) and all(self.program.line_in_c(it) and BEFORE_CALLBACK.fullmatch(
-            self.program.statement(it - 1).text) for it in runs)
-
     def starts(self, name: str, depth: int = 0) -> str:
         """The statements that would have started a process."""
         found = self.numbered(('start',), name)
@@ -124,7 +112,7 @@ class Callers:
         `since`."""
         it, name = self.program.statement(waits), self.program.processes[process].name
         events, timers = (list(dict.fromkeys(form.findall(it.text))) for form in (OF_EVENT, OF_TIMER))
-        said, found = NO_POLL if self.lacks_poll(waits, events) else '', list[list[int]]()
+        said, found = '', list[list[int]]()
         if it.kind == 'acquire':
             found += [self.numbered(('signal',), second(it)), self.numbered(SENDS, name)]
         elif not events and not timers:
@@ -141,14 +129,6 @@ class Callers:
                     'polls' if event == 'poll' else 'posts the event %s to' % event, name)
         return said + ''.join(self.sentence([one for one in its if one != waits and not any(
             here.at > since for here in self.reached(one))], 0) for its in found)
-
-    def lacks_poll(self, waits: int, events: Sequence[str]) -> bool:
-        """Returns whether a process in C waits for a variable, and nothing but packets calls it."""
-        it = self.program.statement(waits)
-        return (OF_CONDITION.search(self.program.rows_in_c[waits - 1]) is not None and not {*events} - {'packet'}
-                and not OF_TIMER.search(it.text) and not OF_EXPIRED.search(it.text)
-                and not self.numbered(SENDS, self.program.processes[it.process].name)
-                and not any(one.kind == 'broadcast' for one in self.program.statements))
 
     def last_set(self, timer: str, process: int) -> list[int]:
         """The statement that was the last one to set a timer; all that set it if none of them was reached."""

@@ -82,11 +82,9 @@ def others(source: Source, where: At) -> str:
 
 
 def in_words(program: Program, number: int) -> str:
-    """A statement of a program, with its line. One that is translated from C has the text in C, and also its own text if
-    the line in C does something else, too."""
-    it, in_c = program.statement(number), program.rows_in_c[number - 1]
-    more = ' (translated: `%s`)' % shortened(it.text) if in_c and not program.is_main(number) else ''
-    return '%s: `%s`%s' % (program.line(it.line), shortened(in_c or it.text), more)
+    """A statement of a program, with its line."""
+    it = program.statement(number)
+    return '%s: `%s`' % (program.line(it.line), shortened(it.text))
 
 
 def shortened(text: str) -> str:
@@ -113,15 +111,10 @@ def in_rounds(program: Program, found: Endless) -> str:
 
 
 def led_by(program: Program, number: int) -> str:
-    """The `if` that led to a statement: the innermost one around it, with its line. If both come from one line in C,
-    such as that of a macro, this line is known already, and the `if` has the text of the translation."""
+    """The `if` that led to a statement: the innermost one around it, with its line."""
     for around in reversed(program.statement(number).around):
-        it = program.statement(around.number)
-        if it.kind == 'if':
-            in_c = program.line_in_c(number)
-            is_same = in_c and in_c == program.line_in_c(around.number)
-            words = '`%s` there' % shortened(it.text) if is_same else in_words(program, around.number)
-            return ', in %s%s' % ('the `else` of ' if around.is_else else '', words)
+        if program.statement(around.number).kind == 'if':
+            return ', in %s%s' % ('the `else` of ' if around.is_else else '', in_words(program, around.number))
     return ''
 
 

@@ -3,7 +3,6 @@ from __future__ import annotations
 
 from dataclasses import dataclass
 
-from motesim.c_program.origin import Origin
 from motesim.scenario.faults import place_of
 from motesim.toml import NoToml, read_toml
 from motesim.why.translate import ProgramPlace
@@ -11,11 +10,9 @@ from motesim.why.translate import ProgramPlace
 
 @dataclass(frozen=True)
 class ScenarioFile:
-    """A file that has programs (a scenario, `NAME.mote` or `NAME.c`): its name, without folders, and its text. That of
-    `NAME.c` is its translation, and `origin` is the text in C."""
+    """A file that has programs (a scenario or `NAME.mote`): its name, without folders, and its text."""
     name: str
     text: str
-    origin: Origin | None = None
 
     def place(self, name: str, program: str) -> ProgramPlace | None:
         """The place of a program's text in the file, if all of its lines are found there."""
@@ -28,7 +25,7 @@ class ScenarioFile:
         for begin in begins:
             beside = rows[begin:begin + len(lines)]
             if len(beside) == len(lines) and all(line in row for line, row in zip(lines, beside)):
-                return ProgramPlace(self.name, begin, self.origin)
+                return ProgramPlace(self.name, begin)
         return None
 
     def named(self, name: str, program: str) -> str:

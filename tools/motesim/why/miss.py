@@ -437,12 +437,8 @@ class _Misses:
         processes = self.processes(program)
         numbers = [number for number, it in enumerate(program.statements, 1)
                    if it.kind == self.kind and it.process in processes]
-        here = {it.statement for it in self.inside(replay.reached) if it.holds is None}.intersection(numbers)
-        # (several of them may come from one line in C: if one was reached, so was the line)
-        lines = {program.line_in_c(number) for number in here} - {0}
         for number in numbers:
-            if number in here or program.line_in_c(number) not in lines:
-                yield self.statement(program, replay, number)
+            yield self.statement(program, replay, number)
         for process in processes:
             yield from self.waits(program, replay, process)
 

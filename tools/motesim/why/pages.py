@@ -30,7 +30,7 @@ def source_of(run: Run) -> Source:
     """The source for questions about a run; one without a scenario has no programs."""
     if run.scenario is None:
         raise Fault('Without its scenario, a report doesn\'t say what caused its lines.')
-    file = ScenarioFile(*run.file, run.origin) if run.file else None
+    file = ScenarioFile(*run.file) if run.file else None
     return Source(run.name, run.report.text().encode('ascii'), run.scenario, file)
 
 

@@ -10,8 +10,8 @@ from typing import NamedTuple
 from motesim.report.belongs import check_motes, check_scenario
 from motesim.faults import Fault
 from motesim.report import Log, Report, Trace
-from motesim.runner.run import NoReport, is_scenario, read_file, refuse_c, refuse_others, run_program
-from motesim.scenario.encodings import refuse_encoding
+from motesim.runner.run import NoReport, is_scenario, read_file, refuse_others, run_program
+from motesim.scenario.encodings import decoded
 from motesim.scenario.scenario import Scenario
 from motesim.why.endless import Endless, LastRun, endless
 from motesim.why.lines_of_file import ScenarioFile
@@ -270,8 +270,7 @@ class Source:
 def read_traces(path: str | Path, scenario: str | Path | None = None) -> tuple[bytes, Scenario | None]:
     """The bytes of a report, and the scenario if it is known. The file has a scenario, which is run, or a report."""
     data = read_file(path)
-    refuse_others(path, data)
-    refuse_c(path, data)
+    refuse_others(path)
     if is_scenario(path, data):
         if scenario is not None:
             raise Fault('%s: it is itself a scenario, so no other can be given' % path)
@@ -283,7 +282,7 @@ def read_traces(path: str | Path, scenario: str | Path | None = None) -> tuple[b
             raise refused(str(path), data, fault) from None
         except Fault as fault:
             raise Fault('%s: %s' % (path, fault)) from None
-    refuse_encoding(str(path), data)
+    decoded(str(path), data)
     if scenario is None:
         return data, None
     try:

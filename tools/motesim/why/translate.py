@@ -8,10 +8,8 @@ from __future__ import annotations
 
 from collections.abc import Callable
 from dataclasses import dataclass, field
-from functools import cached_property
 from typing import Any, NamedTuple
 
-from motesim.c_program.origin import Origin
 from motesim.faults import Fault
 from motesim.notation.faults import OPERATORS, Token, tokens_of
 from motesim.terminal import one_line
@@ -73,11 +71,9 @@ class Statement(NamedTuple):
 
 
 class ProgramPlace(NamedTuple):
-    """The place of a program's text in a file: the file's name, and the number of its lines above the text. If this
-    text is a translation, `origin` is the program in C."""
+    """The place of a program's text in a file: the file's name, and the number of its lines above the text."""
     file: str
     above: int
-    origin: Origin | None = None
 
 
 @dataclass
@@ -103,39 +99,10 @@ class Program:
 
     def line(self, line: int) -> str:
         """A line of the program in words, with the line of the file, `line 27 (tree.toml:43)`, or with the name of a
-        program that isn't in the file, `line 27 of program sink`. A program in C has the line in C, `line 8 of ben.c`,
-        unless the line comes from none."""
+        program that isn't in the file, `line 27 of program sink`."""
         if self.place is None:
             return 'line %d%s' % (line, ' of program %s' % one_line(self.other) if self.other else '')
-        if self.place.origin is None:
-            return 'line %d (%s:%d)' % (line, self.place.file, self.place.above + line)
-        in_c = self.place.origin.line(line)
-        return 'line %d of %s%s' % (in_c or line, '' if in_c else 'the translation of ', self.place.file)
-
-    def line_in_c(self, number: int) -> int:
-        """The line in C from which a statement comes; 0 if it comes from none, or if the program isn't in C."""
-        return self.place.origin.line(self.statement(number).line) if self.place and self.place.origin else 0
-
-    @cached_property
-    def rows_in_c(self) -> tuple[str, ...]:
-        """For each statement, the text of the line in C from which it comes; an empty text if there is none."""
-        origin = self.place.origin if self.place else None
-        return tuple(one_line(origin.row(it.line)) if origin else '' for it in self.statements)
-
-    @cached_property
-    def kinds_in_c(self) -> dict[int, str]:
-        """For each line in C, the kind of the first statement that comes from it, apart from assignments."""
-        found: dict[int, str] = {}
-        for number, it in enumerate(self.statements, 1):
-            if it.kind != '=':
-                found.setdefault(self.line_in_c(number), it.kind)
-        return found
-
-    def is_main(self, number: int) -> bool:
-        """Returns whether the line in C of a statement shows what the statement does; otherwise the line is translated
-        by several statements, and this one isn't the first of them."""
-        kind = self.statement(number).kind
-        return kind == self.kinds_in_c.get(self.line_in_c(number), kind)
+        return 'line %d (%s:%d)' % (line, self.place.file, self.place.above + line)
 
 
 def divided(a: int, b: int) -> int:
