@@ -1,0 +1,3 @@
+pub mod AnyOf
+pub mod Broken
+pub mod Valid

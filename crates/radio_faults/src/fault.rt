@@ -1,0 +1,35 @@
+//! The faults of a medium.
+
+ghost use Rattle.std.specs.Prelude.{◌≡◌};
+ghost use Rattle.radio_faults.specs.Faults.{breaks, is_broken};
+
+/// A fault of some links. On a link that a fault breaks, the medium loses every packet.
+#[derive(Clone, Copy, Debug, PartialEq, Eq)]
+pub enum Fault {
+    /// The link from one mote to another, in this direction, is broken.
+    Link(u16, u16),
+    /// The links between two motes, in both directions, are broken.
+    BothWays(u16, u16),
+    /// The mote is silent: it hears other motes, but no mote hears it.
+    Silent(u16),
+}
+
+impl Fault {
+    /// Returns `true` if this fault breaks the link from mote s to mote r.
+    pub fn breaks(self, s: u16, r: u16) -> bool
+        ensures value { result ≡ breaks self s r }
+    {
+        match self {
+            Fault::Link(from, to) => from == s && to == r,
+            Fault::BothWays(one, other) => { (one == s && other == r) || (other == s && one == r) }
+            Fault::Silent(mote) => mote == s,
+        }
+    }
+}
+
+/// Returns `true` if one of the faults breaks the link from mote s to mote r.
+pub fn is_broken(faults: &[Fault], s: u16, r: u16) -> bool
+    ensures value { result ≡ is_broken faults.now s r }
+{
+    faults.iter().any(|fault| fault.breaks(s, r))
+}

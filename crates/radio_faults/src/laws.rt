@@ -1,0 +1,13 @@
+//! Laws of media with faults. Each is a theorem, stated as the contract of an empty function.
+
+ghost use Rattle.radio_faults.specs.Laws.{FaultsKeepTheMedium, BrokenLinksLoseAll};
+
+/// Faults make no error in a medium: with faults it is a medium as a scenario can describe it.
+pub fn faults_keep_the_medium()
+    ensures faults_keep_the_medium { FaultsKeepTheMedium }
+{}
+
+/// A broken link loses every packet, and each other link loses the same packets as without the faults.
+pub fn broken_links_lose_all()
+    ensures broken_links_lose_all { BrokenLinksLoseAll }
+{}
