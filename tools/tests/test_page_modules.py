@@ -23,7 +23,8 @@ from motesim.why.pages import causes_of
 from motesim.why.series import Series
 from motesim.why.source import At, Source, Traces
 
-PAGES = [TOOLS / 'motesim/timeline/page', TOOLS / 'motesim/studio/page']
+PAGES = [TOOLS / 'motesim' / name / 'page' for name in ('timeline', 'studio', 'web')]
+ENTRIES = [PAGES[0] / 'open.js', PAGES[1] / 'studio.js', PAGES[2] / 'web.js', PAGES[2] / 'worker.js']
 # (test_web_modules.py has the data of the other)
 TESTS = sorted(set((TOOLS / 'tests/page').glob('*.test.js')) - {TOOLS / 'tests/page/alone.test.js'})
 CASES = 'ring_overflows', 'nine_copies_collide', 'runaway_beside_another', 'copy_past_the_end'
@@ -99,11 +100,11 @@ class Bundles(unittest.TestCase):
                              'main.js has a form that no page may use: %s' % form)
 
     def test_every_module_of_the_pages_is_used(self) -> None:
-        used = set(modules_of(PAGES[0] / 'open.js')) | set(modules_of(PAGES[1] / 'studio.js'))
+        used = {path for entry in ENTRIES for path in modules_of(entry)}
         self.assertEqual({path for folder in PAGES for path in folder.glob('*.js')}, used)
 
     def test_the_pages_parse(self) -> None:
-        for page in PAGES[0] / 'open.js', PAGES[1] / 'studio.js':
+        for page in ENTRIES:
             script = self.room / 'page.cjs'
             script.write_text(bundle(page))
             node(self, '--check', str(script))

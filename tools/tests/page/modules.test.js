@@ -1,8 +1,9 @@
-// Each module of the pages can be imported without a browser, except the two that open a page.
+// Each module of the pages can be imported without a browser, except those that open a page or a worker.
 import {readdirSync} from 'node:fs';
 import {test} from 'node:test';
 
-const FOLDERS = ['../../motesim/timeline/page/', '../../motesim/studio/page/'], OPENING = ['open.js', 'studio.js'];
+const FOLDERS = ['timeline', 'studio', 'web'].map(name => `../../motesim/${name}/page/`);
+const OPENING = ['open.js', 'studio.js', 'web.js', 'worker.js'];
 
 for (const folder of FOLDERS) {
   for (const name of readdirSync(new URL(folder, import.meta.url))) {

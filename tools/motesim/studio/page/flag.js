@@ -53,7 +53,8 @@ function drawDifference(pane) {
 function drawFlag(pane, x, first) {
   if (first.mote >= pane.order.length) return;
   const c = pane.context, words = 'first difference';
-  const y = Math.max(AXIS + 9, Math.min(pane.height - 10, pane.laneTop(first.mote) + Math.min(9, pane.lane / 2)));
+  // (below the head of its island)
+  const y = Math.max(AXIS + 9, Math.min(pane.height - 10, pane.laneTop(first.mote) + 9));
   c.font = 'bold 11px system-ui, "DejaVu Sans", sans-serif';
   c.textBaseline = 'middle';
   c.textAlign = 'left';

@@ -12,19 +12,21 @@ export class Tint {
     this.area = area;
     this.box = box;
     this.tokens = rowTokens(words);
+    // (an error, and a piece that was changed, each as [row, begin, end])
     this.place = /** @type {number[]|null} */ (null);
+    this.lit = /** @type {number[]|null} */ (null);
     // (the state before the first row: another one if the area has a program alone)
     this.first = firstState();
-    this.take();
+    this.rows = /** @type {string[]|null} */ (null);
+    this.states = [this.first];
     area.addEventListener('scroll', () => this.draw());
     new ResizeObserver(() => this.draw()).observe(area);
   }
 
-  /** Takes the text of the area. */
+  /** Takes the text of the area, once before the next picture: a paste may change each of its rows in turn. */
   take() {
-    this.rows = this.area.value.split('\n');
-    this.states = [this.first];
-    this.draw();
+    this.rows = null;
+    requestAnimationFrame(() => this.draw());
   }
 
   /** Marks an error, at [row, begin, end]; null for none.
@@ -49,6 +51,10 @@ export class Tint {
   }
 
   draw() {
+    if (!this.rows) {
+      this.rows = this.area.value.split('\n');
+      this.states = [this.first];
+    }
     const {area, rows, box} = this, high = parseFloat(getComputedStyle(area).lineHeight) || 19.5;
     const first = Math.max(0, Math.floor(area.scrollTop / high) - MORE);
     const end = Math.min(rows.length, Math.ceil((area.scrollTop + area.clientHeight) / high) + MORE);
@@ -60,10 +66,12 @@ export class Tint {
 
   /** @param {number} row @param {any} state */
   rowOf(row, state) {
-    const [line, from, to] = this.place || [-1, 0, 0], pieces = this.tokens(this.rows[row], state);
-    if (row !== line && pieces.length) return element('div', '', pieces.map(coloured));
-    const made = element('div', '', row === line ? markedPieces(pieces, from, Math.max(from + 1, to)) : ['\n']);
-    if (row === line) made.className = 'fault-line';
+    const pieces = this.tokens(this.rows[row], state), place = [this.place, this.lit].find(it => it && it[0] === row);
+    if (!place) return element('div', '', pieces.length ? pieces.map(coloured) : ['\n']);
+    const isFault = place === this.place, [, from, to] = place;
+    const made = element('div', '',
+      markedPieces(pieces, from, Math.max(from + 1, to), isFault ? 'fault-mark' : 'lit-mark'));
+    if (isFault) made.className = 'fault-line';
     return made;
   }
 }
@@ -75,10 +83,10 @@ function coloured([text, colour]) {
 }
 
 /** The pieces of a row, with a mark on its columns from one to another.
- * @param {[string, string|null][]} pieces @param {number} from @param {number} to */
-function markedPieces(pieces, from, to) {
+ * @param {[string, string|null][]} pieces @param {number} from @param {number} to @param {string} name */
+function markedPieces(pieces, from, to, name) {
   const before = [], marked = element('span'), after = [];
-  marked.className = 'fault-mark';
+  marked.className = name;
   let at = 0;
   for (const [text, colour] of pieces) {
     const cut = [from - at, to - at].map(it => Math.max(0, Math.min(text.length, it)));

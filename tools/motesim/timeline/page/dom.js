@@ -1,5 +1,6 @@
 // Elements of the page.
 
+/** @type {(id: string) => any} */
 export const byId = id => document.getElementById(id);
 
 /** A new element with a text and with others inside. */

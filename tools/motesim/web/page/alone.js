@@ -1,0 +1,90 @@
+// @ts-check
+// What the page asks, answered in the page itself: runs in a Worker with the module, and all else from their columns.
+import {Run} from '../../timeline/page/data.js';
+import {indexRun} from '../../timeline/page/index.js';
+import {difference} from './diff.js';
+import {edit} from './edits.js';
+import {lastMoment} from './report.js';
+import {placeOfFault, ruleOf, scenarioOf} from './scenario.js';
+import {sums} from './sums.js';
+
+/** The milliseconds after which a run is ended. */
+const MOST_TIME = 5000, SLOW = 'The run took longer than 5 seconds, so it was stopped.';
+
+/** The answer to a text: a run, an error with its place, a limit, or that a newer text was asked for.
+ * @typedef {{run?: any, took?: number, fault?: {line: string, words: string, place: number[]|null}, limit?: string,
+ *   superseded?: boolean}} Answer */
+
+export class Alone {
+  /** @param {Promise<WebAssembly.Module>} module @param {string} script the worker's
+   * @param {Record<string, string>} rules those that errors break */
+  constructor(module, script, rules) {
+    this.module = module;
+    this.script = URL.createObjectURL(new Blob([script], {type: 'text/javascript'}));
+    this.rules = rules;
+    this.number = 0;
+    this.worker = /** @type {Worker|null} */ (null);
+    this.done = /** @type {((answer: any) => void)|null} */ (null);
+    this.timer = 0;
+  }
+
+  /** What only the studio can. */
+  get can() { return new Set(); }
+
+  /** Runs a text; a run that goes on is ended.
+   * @param {{text: string, name: string}} asked @returns {Promise<Answer>} */
+  async run({text, name}) {
+    const number = ++this.number;
+    this.end({superseded: true});
+    const module = await this.module;
+    if (number !== this.number) return {superseded: true};
+    if (!this.worker) {
+      this.worker = new Worker(this.script);
+      this.worker.postMessage({module});
+    }
+    const {worker} = this, got = await new Promise(done => {
+      this.done = done;
+      worker.onmessage = ({data}) => this.finish(data);
+      worker.onerror = event => this.end({limit: `The run failed in this browser: ${event.message}`});
+      this.timer = window.setTimeout(() => this.end({limit: SLOW}), MOST_TIME);
+      worker.postMessage({number, text});
+    });
+    if (got.superseded || got.limit) return got;
+    const {line} = got;
+    if (line) return {fault: {line, words: ruleOf(this.rules, line), place: placeOfFault(text, line)}};
+    const run = /** @type {any} */ (new Run({name, ...got.table, ...scenarioOf(text)}, got.buffer));
+    run.end = Math.max(run.end, lastMoment(run));
+    await indexRun(run);
+    return number === this.number ? {run, took: got.took} : {superseded: true};
+  }
+
+  /** Ends the run that goes on, with its worker. */
+  stop() {
+    this.number++;
+    this.end({limit: 'You stopped the run.'});
+  }
+
+  /** @param {any} answer */
+  end(answer) {
+    if (!this.done) return;
+    if (this.worker) this.worker.terminate();
+    this.worker = null;
+    this.finish(answer);
+  }
+
+  /** @param {any} answer */
+  finish(answer) {
+    clearTimeout(this.timer);
+    const {done} = this;
+    this.done = null;
+    if (done) done(answer);
+  }
+
+  /** The totals of a run, and its difference from another one.
+   * @param {any} run @param {any} against */
+  judge(run, against) { return {sums: sums(run), difference: against ? difference(against, run) : null}; }
+
+  /** The changes of a text for an edit.
+   * @param {string} text @param {any} wish */
+  edit(text, wish) { return edit(text, wish); }
+}

@@ -1,0 +1,124 @@
+// @ts-check
+// Where a text comes from and goes to: a link, a file, this page saved with it, and the browser's storage.
+import {byId, handOut} from '../../timeline/page/dom.js';
+import {LONGEST_LINK, packed, unpackedText} from './share.js';
+
+const DRAFT = 'motesim draft', STARTED = 'motesim started', LONGEST_FILE = 1 << 20;
+
+/** The page as it was delivered, before anything changed it. */
+const delivered = typeof document === 'undefined' ? '' : `<!DOCTYPE html>\n${document.documentElement.outerHTML}`;
+
+/** The browser's storage, which may refuse. @param {(storage: Storage) => any} work */
+function stored(work) {
+  try {
+    return work(localStorage);
+  } catch {
+    return null;
+  }
+}
+
+/** A number that tells texts apart. @param {string} text */
+const sign = text => [...text].reduce((sum, it) => (sum * 31 + (it.codePointAt(0) || 0)) | 0, text.length);
+
+/** The text that the page was saved with, or null.
+ * @returns {{text: string, name: string}|null} */
+const savedHere = () => JSON.parse(byId('saved').textContent);
+
+/** Keeps the text as the draft of this page. @param {string} text @param {string} name */
+export const keepDraft = (text, name) =>
+  stored(it => it.setItem(DRAFT, JSON.stringify({text, name, of: sign(JSON.stringify(savedHere()))})));
+
+export const forgetDraft = () => stored(it => it.removeItem(DRAFT));
+
+/** Notes that a run of a text begins or has ended, so that a text at which the browser gives up isn't run again.
+ * @param {string|null} text */
+export const noteStart = text =>
+  stored(it => text === null ? it.removeItem(STARTED) : it.setItem(STARTED, String(sign(text))));
+
+/** True if the last run of a text never ended. @param {string} text */
+export const neverEnded = text => stored(it => it.getItem(STARTED) === String(sign(text)));
+
+/** The text to open with, and where it came from; null for the first example.
+ * @returns {Promise<{text: string, name: string, from: 'link'|'page'|'draft'}|null>} */
+export async function textToOpen() {
+  const linked = await unpackedText(location.hash);
+  if (linked !== null) return {text: linked, name: 'shared.toml', from: 'link'};
+  const saved = savedHere(), draft = stored(it => JSON.parse(it.getItem(DRAFT) || 'null'));
+  if (draft && typeof draft.text === 'string' && draft.of === sign(JSON.stringify(saved))) {
+    return {text: draft.text, name: String(draft.name), from: 'draft'};
+  }
+  return saved ? {...saved, from: 'page'} : null;
+}
+
+/** The address of this page with a text; null if it is too long for chats and mails.
+ * @param {string} text @returns {Promise<string|null>} */
+export async function linkTo(text) {
+  const hash = await packed(text);
+  return hash.length > LONGEST_LINK ? null : `${location.href.split('#')[0]}#${hash}`;
+}
+
+/** Writes the text into the address, so that going back and reloading keep it. @param {string} text */
+export async function keepInAddress(text) {
+  const link = await linkTo(text);
+  try {
+    history.replaceState(null, '', link || location.href.split('#')[0]);
+  } catch {
+    // (a browser may refuse this for files)
+  }
+}
+
+/** Hands out this page with a text in it. @param {string} text @param {string} name */
+export function savePage(text, name) {
+  const inside = JSON.stringify({text, name}).replace(/</g, '\\u003c');
+  const begin = '<script id="saved" type="application/json">';
+  const from = delivered.indexOf(begin) + begin.length, to = delivered.indexOf('</' + 'script>', from);
+  handOut(name.replace(/\.toml$/, '.html'), [delivered.slice(0, from), inside, delivered.slice(to)], 'text/html');
+}
+
+/** Shows the ways to share a text. @param {string} text @param {string} name */
+export async function showSharing(text, name) {
+  const link = await linkTo(text), box = byId('sharing');
+  byId('sharing-said').textContent = link ?
+    `The link carries the whole scenario, in ${link.length.toLocaleString('en')} characters.` :
+    'This scenario is too long for a link in a chat or a mail: send the file, or this page saved with it.';
+  byId('link').hidden = byId('copy-link').hidden = !link;
+  byId('link').value = link || '';
+  byId('copy-link').textContent = 'Copy the link';
+  byId('copy-link').onclick = async () => {
+    byId('link').select();
+    try {
+      await navigator.clipboard.writeText(link);
+    } catch {
+      document.execCommand('copy');
+    }
+    byId('copy-link').textContent = 'Copied';
+  };
+  byId('download').onclick = () => handOut(name, [text], 'text/plain');
+  byId('save-page').onclick = () => savePage(text, name);
+  box.showModal();
+}
+
+/** Takes files that are chosen or dropped. `take` gets their texts; `refuse` gets what is wrong with one.
+ * @param {(text: string, name: string) => void} take @param {(words: string) => void} refuse */
+export function beginFiles(take, refuse) {
+  const read = async file => {
+    if (!file) return;
+    if (file.size > LONGEST_FILE) return refuse(`${file.name} is longer than 1,048,576 bytes, the limit.`);
+    take((await file.text()).replace(/^\ufeff/, '').replace(/\r\n/g, '\n'), file.name);
+  };
+  byId('open').addEventListener('click', () => byId('file').click());
+  byId('file').addEventListener('change', () => {
+    read(byId('file').files[0]);
+    byId('file').value = '';
+  });
+  document.addEventListener('dragover', event => {
+    event.preventDefault();
+    document.body.classList.add('dropping');
+  });
+  document.addEventListener('dragleave', () => document.body.classList.remove('dropping'));
+  document.addEventListener('drop', event => {
+    event.preventDefault();
+    document.body.classList.remove('dropping');
+    read(event.dataTransfer && event.dataTransfer.files[0]);
+  });
+}

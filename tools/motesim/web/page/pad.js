@@ -1,0 +1,99 @@
+// @ts-check
+// The text area: it shows the whole text, or one program of it, in colours; and marks an error.
+import {byId} from '../../timeline/page/dom.js';
+import {differing, lineAndColumn, movedOffset} from '../../studio/page/text.js';
+import {Tint} from '../../studio/page/tint.js';
+import {firstState} from '../../studio/page/tokens.js';
+
+export class Pad {
+  /** `changed` is called with the whole text after each change by the reader; `words` are those of the notation.
+   * @param {(text: string) => void} changed @param {any} words */
+  constructor(changed, words) {
+    this.area = /** @type {HTMLTextAreaElement} */ (byId('text'));
+    this.before = this.behind = '';
+    this.tint = new Tint(this.area, byId('tint'), words);
+    this.place = /** @type {number[]|null} */ (null);
+    this.area.classList.add('tinted');
+    this.area.addEventListener('input', () => {
+      this.renew();
+      changed(this.before + this.area.value + this.behind);
+    });
+    this.area.addEventListener('scroll', () => { byId('numbers').scrollTop = this.area.scrollTop; });
+    this.area.addEventListener('keydown', event => this.onKey(event));
+  }
+
+  /** Shows a stretch of a text. Caret and view stay as near as may be, unless it is shown anew.
+   * @param {string} text @param {number} begin @param {number} end @param {boolean} isNew */
+  show(text, begin, end, isNew = false) {
+    const {area} = this, {selectionStart, scrollTop} = area, old = area.value, shown = text.slice(begin, end);
+    this.before = text.slice(0, begin);
+    this.behind = text.slice(end);
+    this.tint.first = {...firstState(), quote: /("""|'''|"|')\r?\n?$/.exec(begin ? this.before : '')?.[1] || ''};
+    if (shown !== old) {
+      const {begin: from, end: to, text: piece} = differing(old, shown);
+      area.value = shown;
+      const caret = isNew ? 0 : movedOffset(selectionStart, from, to, piece.length);
+      area.setSelectionRange(caret, caret);
+    }
+    area.scrollTop = isNew ? 0 : scrollTop;
+    this.renew();
+    this.mark(this.place);
+  }
+
+  renew() {
+    const count = this.area.value.split('\n').length, box = byId('numbers');
+    box.textContent = `${Array.from({length: count}, (_, i) => i + 1).join('\n')}\n\n\n`;
+    box.scrollTop = this.area.scrollTop;
+    this.tint.lit = null;
+    this.tint.take();
+  }
+
+  /** How many rows of the whole text are above those that are shown. */
+  get rowsBefore() { return this.before.split('\n').length - 1; }
+
+  /** Marks a place of the whole text, [row, begin, end]; null for none.
+   * @param {number[]|null} place */
+  mark(place) {
+    this.place = place;
+    const above = this.rowsBefore;
+    this.tint.mark(place && place[0] >= above ? [place[0] - above, place[1], place[2]] : null);
+  }
+
+  /** Brings a stretch of the shown text into view.
+   * @param {number} begin */
+  reveal(begin) {
+    const {area} = this, high = parseFloat(getComputedStyle(area).lineHeight);
+    area.scrollTop = Math.max(0, (area.value.slice(0, begin).split('\n').length - 4) * high);
+  }
+
+  /** Selects a stretch of the shown text.
+   * @param {number} begin @param {number} end */
+  select(begin, end) {
+    this.area.setSelectionRange(begin, end);
+    this.area.focus({preventScroll: true});
+    this.reveal(begin);
+  }
+
+  /** Marks a piece of the shown text as the one that was changed, until the text is changed again.
+   * @param {string} piece */
+  light(piece) {
+    const begin = this.area.value.indexOf(piece), [row, column] = lineAndColumn(this.area.value, Math.max(0, begin));
+    if (begin < 0) return;
+    this.tint.lit = [row, column, column + piece.length];
+    this.reveal(begin);
+  }
+
+  /** Tab writes two blanks, Enter keeps the indentation, Esc leaves the text.
+   * @param {KeyboardEvent} event */
+  onKey(event) {
+    if (event.ctrlKey || event.metaKey || event.altKey) return;
+    const {area} = this, before = area.value.slice(0, area.selectionStart);
+    if (event.key === 'Escape') return area.blur();
+    const isTab = event.key === 'Tab' && !event.shiftKey, row = before.slice(before.lastIndexOf('\n') + 1);
+    if (!isTab && event.key !== 'Enter') return;
+    event.preventDefault();
+    const indent = (/^ */.exec(row) || [''])[0] + (/\{\s*$/.test(row) ? '  ' : '');
+    area.setRangeText(isTab ? '  ' : `\n${indent}`, area.selectionStart, area.selectionEnd, 'end');
+    area.dispatchEvent(new Event('input'));
+  }
+}

@@ -1,0 +1,48 @@
+// @ts-check
+// The worker of the page: runs the module on one scenario at a time, and reads the report into columns. `runModule` is
+// in front of this script.
+import {columnsOf} from './report.js';
+
+/** The longest report that a page shows, in bytes. */
+const MOST_REPORT = 64 << 20;
+/** @type {WebAssembly.Module|null} */
+let module = null;
+
+class TooLong extends Error {}
+
+/** The answer to a scenario: columns, the line of an error, or a limit.
+ * @param {string} text */
+function answerTo(text) {
+  const streams = {1: /** @type {Uint8Array[]} */ ([]), 2: /** @type {Uint8Array[]} */ ([])}, begin = performance.now();
+  let length = 0;
+  const write = (stream, bytes) => {
+    length += bytes.length;
+    if (length > MOST_REPORT) throw new TooLong();
+    streams[stream].push(bytes);
+  };
+  try {
+    const {status} = globalThis.runModule(module, new TextEncoder().encode(text), write);
+    const took = performance.now() - begin;
+    if (status) return {line: textOf(streams[2]).trimEnd()};
+    return {...columnsOf(textOf(streams[1])), took};
+  } catch (fault) {
+    if (fault instanceof TooLong) return {limit: 'The report is longer than 64 megabytes, so the run was stopped.'};
+    if (fault instanceof RangeError) return {limit: 'The text is nested too deep for this browser.'};
+    return {limit: `The run failed in this browser: ${fault instanceof Error ? fault.message : fault}`};
+  }
+}
+
+/** @param {Uint8Array[]} parts */
+function textOf(parts) {
+  const decoder = new TextDecoder();
+  return parts.map(it => decoder.decode(it, {stream: true})).join('') + decoder.decode();
+}
+
+self.onmessage = ({data}) => {
+  if (data.module) {
+    module = data.module;
+    return;
+  }
+  const answer = answerTo(data.text), {buffer} = /** @type {any} */ (answer);
+  /** @type {any} */ (self).postMessage({number: data.number, ...answer}, buffer ? [buffer] : []);
+};

@@ -1,0 +1,401 @@
+"""The page without a server, web/motesim.html, in a headless browser, where there is one: opened as a file and over
+http, by mouse and by keyboard, in windows of several sizes."""
+from __future__ import annotations
+
+import contextlib
+import functools
+import hashlib
+import http.server
+import json
+import math
+import re
+import sys
+import tempfile
+import threading
+import time
+import unittest
+from pathlib import Path
+from typing import Any
+
+from here import TOOLS, TOP
+from browser import Browser
+from project.page import HTML, LONGEST, MODULE, make_page
+
+FLOODING = (TOP / 'examples/flooding.toml').read_text()
+# Mote 0 never waits for time to pass, so each moment has as many lines as there may be.
+ENDLESS = FLOODING.replace('end = 160', 'end = 1000000').replace('if (self', 'while 1 { pause; } if (self', 1)
+SIZES = [(390, 844), (1366, 768), (1920, 1080)]
+
+
+def grid(side: int) -> str:
+    """Flooding on a larger grid."""
+    motes = ''.join('[[mote]]\nx = %d\ny = %d\nprogram = "flood"\n' % (10 * x, 10 * y)
+                    for y in range(side) for x in range(side))
+    return FLOODING[:FLOODING.index('[[mote]]')].replace('end = 160', 'end = 300') + motes
+
+
+def luminance(colour: str) -> float:
+    parts = [int(colour[at:at + 2], 16) / 255 for at in (1, 3, 5)]
+    linear = [it / 12.92 if it <= 0.03928 else math.pow((it + 0.055) / 1.055, 2.4) for it in parts]
+    return sum(map(math.prod, zip((0.2126, 0.7152, 0.0722), linear)))
+
+
+def contrast(one: str, other: str) -> float:
+    low, high = sorted(map(luminance, (one, other)))
+    return (high + 0.05) / (low + 0.05)
+
+
+class Sources(unittest.TestCase):
+    def test_the_committed_page_is_made_from_its_sources(self) -> None:
+        text = make_page(MODULE.read_bytes())
+        self.assertTrue(HTML.read_text('utf-8') == text, 'make web/motesim.html again: tools/project/page.py')
+        self.assertLessEqual(len(text.encode()), LONGEST)
+        self.assertNotRegex(text.partition('<script id="module"')[0], r'(?i)\bproved\b|\bverified\b')
+
+    def test_the_changes_of_the_examples_can_be_made(self) -> None:
+        for card in json.loads((TOOLS / 'motesim/web/examples.json').read_text()):
+            text = (TOP / 'examples' / (card['file'] + '.toml')).read_text()
+            self.assertTrue(card['replace'], card['file'])
+            for old in card['replace']:
+                self.assertEqual(text.count(old), 1, (card['file'], old))
+
+    def test_colours_have_contrast_in_both_schemes(self) -> None:
+        sheets = [(TOOLS / 'motesim' / name).read_text() for name in (
+            'timeline/page/page.css', 'studio/page/text.css')]
+        light, dark = dict[str, str](), dict[str, str]()
+        for sheet in sheets:
+            blocks = re.findall(r':root \{(.*?)\}', sheet, re.S)
+            for found, block in zip((light, dark), blocks):
+                found.update(re.findall(r'--([a-z-]+): (#[0-9a-f]{6})', block))
+        for scheme in light, {**light, **dark}:
+            for ground in 'paper', 'panel', 'band':
+                for text in 'ink', 'quiet', 'send', 'recv', 'trouble', 'print', 'timer', 'good', 'bad':
+                    self.assertGreaterEqual(contrast(scheme[text], scheme[ground]), 4.5, (text, ground))
+                for line in 'line', 'mark':
+                    self.assertGreaterEqual(contrast(scheme[line], scheme[ground]), 3, (line, ground))
+            self.assertGreaterEqual(contrast(scheme['paper'], scheme['mark']), 4.5)
+            self.assertGreaterEqual(contrast(scheme['paper'], scheme['send']), 4.5)
+
+
+class Page(unittest.TestCase):
+    browser: Any
+
+    @classmethod
+    def setUpClass(cls) -> None:
+        cls.browser, why = Browser.start()
+        if cls.browser is None:
+            said = 'the page without a server is not tried: ' + why
+            with contextlib.suppress(OSError):
+                print(said, file=sys.stderr)
+            raise unittest.SkipTest('browser: %s' % said)
+
+    @classmethod
+    def tearDownClass(cls) -> None:
+        if cls.browser is not None:
+            cls.browser.close()
+
+    def setUp(self) -> None:
+        room = tempfile.TemporaryDirectory()
+        self.addCleanup(room.cleanup)
+        self.room = Path(room.name)
+        self.page = self.room / 'motesim.html'
+        self.page.write_text(make_page(MODULE.read_bytes()), 'utf-8')
+        self.browser.faults.clear()
+        self.browser.dark(False)
+
+    def tearDown(self) -> None:
+        self.assertEqual(self.browser.faults, [])
+
+    def open(self, fragment: str = '', keeps: bool = False, size: tuple[int, int] = (1366, 768)) -> None:
+        """Opens the page as a file, without the draft of an earlier test unless it `keeps` it."""
+        self.browser.size(*size)
+        if not keeps:
+            self.browser.open(self.page)
+            self.browser.run('localStorage.clear()')
+        self.browser.open(self.page, fragment)
+        self.browser.settle()
+
+    def value(self, script: str) -> Any:
+        return self.browser.run('(() => { const m = motesim, pane = m.panes[0], run = pane && pane.run, '
+                                'web = m.web, text = web.history.text, by = id => document.getElementById(id); '
+                                'return %s; })()' % script)
+
+    def wait(self, script: str) -> None:
+        self.browser.wait('(() => { const m = motesim, pane = m.panes[0], run = pane && pane.run, web = m.web, '
+                          'text = web.history.text, by = id => document.getElementById(id); return %s; })()' % script)
+
+    def press(self, name: str) -> None:
+        self.value('by(%s).click()' % json.dumps(name))
+
+    def said(self) -> Any:
+        return self.value('by("said").textContent')
+
+    def put(self, text: str) -> None:
+        """Replaces the whole text, as a paste does."""
+        self.press('part-all')
+        self.value('(it => { it.focus(); it.value = %s; it.dispatchEvent(new Event("input")); })(by("text"))'
+                   % json.dumps(text))
+
+    def undo(self, key: str = 'z') -> None:
+        for kind in 'rawKeyDown', 'keyUp':
+            self.browser.call('Input.dispatchKeyEvent', type=kind, key=key, code='Key' + key.upper(), modifiers=2,
+                              windowsVirtualKeyCode=ord(key.upper()))
+        self.browser.settle()
+
+    def test_it_fits_each_window_and_a_wave_runs(self) -> None:
+        for is_dark in False, True:
+            self.browser.dark(is_dark)
+            for width, height in SIZES:
+                self.open(size=(width, height))
+                self.wait('m.play.runs && m.play.loop')
+                self.assertEqual(self.value('run.rows'), 1072)
+                self.assertLessEqual(self.value('document.documentElement.scrollWidth'), width)
+                canvas, box, map_, frame = self.value('[pane.canvas, by("panes"), m.maps[0].canvas, by("maps")].map('
+                                                      'it => it.getBoundingClientRect().bottom)')
+                self.assertLessEqual(canvas, box + 0.5, (width, is_dark))
+                self.assertLessEqual(map_, frame + 0.5, (width, is_dark))
+                cut = self.value('[...document.querySelectorAll("button, select, input, [role=tab]")].filter(it => {'
+                                 'const box = it.getBoundingClientRect(); return box.width && '
+                                 '(box.left < 0 || box.right > innerWidth); }).map(it => it.id || it.textContent)')
+                self.assertEqual(cut, [], width)
+                before = self.value('m.play.now')
+                self.wait('m.play.now !== %r' % before)
+
+    def test_over_http_it_asks_for_nothing_else(self) -> None:
+        asked = []
+
+        class Handler(http.server.SimpleHTTPRequestHandler):
+            def do_GET(self) -> None:
+                asked.append(self.path)
+                super().do_GET()
+
+            def log_message(self, *_: object) -> None:
+                """Prints nothing."""
+
+        with http.server.ThreadingHTTPServer(('127.0.0.1', 0), functools.partial(
+                Handler, directory=str(self.room))) as server:
+            threading.Thread(target=server.serve_forever, kwargs={'poll_interval': 0.05}, daemon=True).start()
+            self.browser.visit('http://127.0.0.1:%d/motesim.html' % server.server_address[1],
+                               'window.motesim && motesim.ready')
+            self.wait('run.rows === 1072')
+            self.press('try')
+            self.wait('m.differs.first')
+            server.shutdown()
+        self.assertEqual(asked, ['/motesim.html'])
+
+    def test_less_motion_is_a_still(self) -> None:
+        still = {'name': 'prefers-reduced-motion', 'value': 'reduce'}
+        self.browser.call('Emulation.setEmulatedMedia', features=[still])
+        self.open()
+        self.assertEqual(self.value('[m.play.runs, m.play.now]'), [False, 52])
+
+    def test_the_effect_of_a_change_is_a_sentence_and_undone(self) -> None:
+        self.open()
+        self.assertIn('each mote that hears it', self.said())
+        self.press('try')
+        self.wait('m.differs.first')
+        self.assertEqual(self.said(), '6,778 packets instead of 75. First different at moment 46, at mote 0.')
+        self.press('show')
+        self.assertEqual(self.value('run.at[m.chosen().line]'), 46)
+        self.press('revert')
+        self.wait('!m.differs.first && run.rows === 1072')
+        self.assertEqual(self.value('text'), FLOODING)
+        self.assertIn('each mote that hears it', self.said())
+
+    def test_all_examples_run(self) -> None:
+        self.open()
+        for place in range(6):
+            self.press('examples')
+            self.value('document.querySelectorAll("#cards button")[%d].click()' % place)
+            self.wait('web.example.title === document.querySelectorAll("#cards strong")[%d].textContent && '
+                      'run.name === web.name' % place)
+            self.press('try')
+            self.wait('m.differs.first || web.history.step.run')
+            self.assertIn('instead of', self.said())
+
+    def test_the_program_alone_is_changed_and_an_error_is_marked_at_its_place(self) -> None:
+        self.open()
+        self.assertEqual(self.value('by("text").value.split("\\n")[0]'), 'process flood;')
+        self.value('(it => { it.focus(); const at = it.value.indexOf("print newest"); it.setSelectionRange(at, at); '
+                   '})(by("text"))')
+        self.browser.type('prin 2; ')
+        self.wait('!by("fault").hidden')
+        self.assertIn('motesim: program flood fault 3 line 22', self.value('by("fault").textContent'))
+        self.assertIn('line 22', self.said())
+        self.assertIn('prin 2', self.value('document.querySelector(".fault-line").textContent'))
+        self.undo()
+        self.wait('by("fault").hidden')
+        self.assertEqual(self.value('text'), FLOODING)
+
+    def test_motes_and_links_are_changed_on_the_map(self) -> None:
+        self.open()
+        at = '(() => { const map = m.maps[0], box = map.canvas.getBoundingClientRect(); return [0, 1, 24].map(' \
+             'it => [box.x + map.x(it), box.y + map.y(it)]); })()'
+        (x, y), (to_x, to_y), (far_x, far_y) = self.value(at)
+        self.browser.click((x + to_x) / 2, (y + to_y) / 2)
+        self.assertIn('0 → 1: 3 moments', self.value('by("way").innerText'))
+        self.value('(it => { it.value = 1; it.dispatchEvent(new Event("change")); })('
+                   'document.querySelector(\'[data-way="0 1"]\'))')
+        self.wait('text.includes("every = 1\\n") && run.losses[0][2] === 1 && m.differs.first')
+        self.browser.drag(far_x, far_y, far_x + 120, far_y)
+        self.wait('run.hearers[24].length === 0')
+        self.assertIn('Mote 24 is at', self.value('by("map-said").textContent'))
+        self.undo()
+        self.undo()
+        self.wait('run.rows === 1072')
+        self.assertEqual(self.value('text'), FLOODING)
+        self.undo('y')
+        self.wait('run.losses[0][2] === 1')
+
+    def test_it_works_by_keyboard_alone(self) -> None:
+        self.open()
+
+        def tab_to(name: str) -> None:
+            for _ in range(60):
+                self.browser.key('Tab', 'Tab', 9)
+                if self.value('document.activeElement.id') == name:
+                    return
+            self.fail('%s is not reached' % name)
+
+        self.value('document.activeElement.blur()')
+        tab_to('try')
+        self.browser.key('Enter', 'Enter', 13, '\r')
+        self.wait('m.differs.first')
+        self.undo()
+        self.wait('run.rows === 1072')
+        tab_to('part-program')
+        self.browser.key('ArrowRight', 'ArrowRight', 39)
+        self.assertFalse(self.value('by("net").hidden'))
+        tab_to('net-mote')
+        self.browser.call('Input.dispatchKeyEvent', type='keyDown', key='a', code='KeyA', modifiers=2,
+                          windowsVirtualKeyCode=65, commands=['selectAll'])
+        self.browser.type('24')
+        tab_to('net-x')
+        self.browser.type('9')
+        self.browser.key('Tab', 'Tab', 9)
+        self.browser.key('Tab', 'Tab', 9)
+        self.browser.key('Enter', 'Enter', 13, '\r')
+        self.wait('run.places[24][0] === 9')
+        tab_to('tab-log')
+
+    def test_an_endless_run_is_stopped(self) -> None:
+        self.open()
+        self.put(ENDLESS)
+        self.wait('!by("stop").hidden')
+        self.press('stop')
+        self.wait('by("stop").hidden')
+        self.assertIn('You stopped the run.', self.said())
+        begin = time.monotonic()
+        self.put(ENDLESS + '\n')
+        self.wait('by("sentence").textContent.includes("was stopped")')
+        self.assertLess(time.monotonic() - begin, 15)
+        self.put(FLOODING)
+        self.wait('run.rows === 1072 && !document.body.classList.contains("stale")')
+
+    def test_four_hundred_motes(self) -> None:
+        self.open()
+        self.put(grid(20))
+        self.wait('run.begins.length === 400')
+        self.value('by("part-program").click()')
+        self.assertLess(self.value('by("text").value.length'), 1200)
+        self.browser.settle()
+        canvas, box = self.value('[pane.canvas, by("panes")].map(it => it.getBoundingClientRect().bottom)')
+        self.assertLessEqual(canvas, box + 0.5)
+
+    def test_a_link_carries_the_text_and_never_markup(self) -> None:
+        mark = '# <img src=x onerror="window.wrong = 1"><script>window.wrong = 1</script>\n'
+        text = mark + FLOODING.replace('flood', 'wave').replace('print newest', 'prin newest')
+        self.open()
+        self.put(text)
+        self.wait('!by("fault").hidden')
+        self.press('share')
+        self.wait('by("link").value')
+        link = self.value('by("link").value')
+        self.assertIn('#t=1.', link)
+        self.browser.run('localStorage.clear()')
+        self.browser.open(self.page, '#' + link.partition('#')[2])
+        self.assertEqual(self.value('text'), text)
+        self.wait('!by("fault").hidden')
+        self.assertIsNone(self.browser.run('window.wrong'))
+        self.browser.open(self.page, '#t=1.broken')
+        self.wait('by("said").textContent.includes("link is broken")')
+        self.browser.run('localStorage.clear()')
+        digits = ''.join('# %s\n' % hashlib.sha256(b'%d' % row).hexdigest() for row in range(400))
+        self.put(FLOODING + digits)
+        self.wait('run.rows === 1072 && text.length > 20000')
+        self.press('share')
+        self.wait('by("sharing").open')
+        self.assertTrue(self.value('by("link").hidden'))
+        self.assertIn('too long', self.value('by("sharing-said").textContent'))
+
+    def test_a_page_is_saved_with_its_text_and_a_draft_is_kept(self) -> None:
+        self.open()
+        self.press('try')
+        self.wait('m.differs.first')
+        text = self.value('text')
+        self.browser.call('Browser.setDownloadBehavior', behavior='allow', downloadPath=str(self.room))
+        self.press('share')
+        self.wait('by("sharing").open')
+        self.press('save-page')
+        saved = self.room / 'flooding.html'
+        for _ in range(200):
+            if saved.exists() and saved.stat().st_size > 100_000:
+                break
+            time.sleep(0.05)
+        time.sleep(1.2)
+        self.browser.open(self.page)
+        self.assertEqual(self.value('text'), text)
+        self.assertIn('of the last time', self.said())
+        self.browser.open(saved)
+        self.assertEqual(self.value('text'), text)
+        self.assertIn('saved with the page', self.said())
+        self.wait('run.packets === 6778')
+
+    def test_a_file_is_opened(self) -> None:
+        self.open()
+        file = self.room / 'mine.toml'
+        file.write_text(FLOODING.replace('end = 160', 'end = 50'))
+        it = self.browser.call('Runtime.evaluate', expression='document.getElementById("file")')['result']['objectId']
+        self.browser.call('DOM.setFileInputFiles', files=[str(file)], objectId=it)
+        self.wait('run.end === 50')
+        self.assertEqual(self.value('web.name'), 'mine.toml')
+
+    def test_a_text_whose_run_never_ended_waits(self) -> None:
+        self.open()
+        self.put(FLOODING.replace('end = 160', 'end = 90'))
+        self.wait('run.end === 90')
+        time.sleep(1.2)
+        sign = self.value('[...text].reduce((sum, it) => (sum * 31 + it.codePointAt(0)) | 0, text.length)')
+        self.browser.run('localStorage.setItem("motesim started", "%d")' % sign)
+        self.open(keeps=True)
+        self.assertEqual(self.value('m.panes.length'), 0)
+        self.press('try')
+        self.wait('run && run.end === 90')
+
+    def test_a_card_shows_why_a_line_is_there(self) -> None:
+        self.open(size=(1920, 1080))
+        self.press('play')
+        x, y = self.value('(() => { m.drawAll(); const box = pane.canvas.getBoundingClientRect(), h = pane.hits; '
+                          'for (let i = 0; i < h.length; i += 3) if (run.text(h[i + 2]) === "64 print flood 1") '
+                          'return [box.x + h[i], box.y + h[i + 1]]; })()')
+        self.browser.click(x, y)
+        self.wait('!by("card").hidden')
+        self.press('ask-why')
+        self.wait('by("why-chain") && by("why-chain").textContent.includes("a timer had come to its end")')
+        box = self.value('(it => [it.top, it.bottom, innerHeight])(by("card").getBoundingClientRect())')
+        self.assertTrue(0 <= box[0] and box[1] <= box[2], box)
+
+    def test_all_has_a_name(self) -> None:
+        self.open()
+        for name in 'part-net', 'tab-log', 'tab-steps', 'tab-sums', 'tab-legend':
+            self.press(name)
+        self.press('examples')
+        unnamed = self.value('Array.from(document.querySelectorAll("button, input, select, canvas, textarea")).filter('
+                             'it => !(it.textContent.trim() && it.matches("button")) && '
+                             '!it.getAttribute("aria-label") && !it.getAttribute("aria-hidden") && '
+                             '!(it.labels && it.labels.length) && !it.closest(".form")).map(it => it.outerHTML)')
+        self.assertEqual(unnamed, [])
+
+
+if __name__ == '__main__':
+    unittest.main()
