@@ -7,10 +7,9 @@ import unittest
 from here import TOOLS
 from motesim.analysis.estimates import MEANS
 from motesim.analysis.points import SHOWS
-from motesim.commands import export, grade, plot, search, shrink, studio, sweep
+from motesim.commands import export, plot, search, shrink, studio, sweep
 from motesim.experiments import asked
 from motesim.export.command import ENDS
-from motesim.runner import FOREIGN
 from motesim.search import one_program
 from motesim.studio import runs
 
@@ -59,7 +58,6 @@ class Commands(unittest.TestCase):
     def test_defaults_are_those_of_the_libraries(self) -> None:
         usual = one_program.Limits()
         self.assertEqual((search.SECONDS, search.BYTES, shrink.SECONDS), (usual.seconds, usual.report, usual.seconds))
-        self.assertEqual((grade.SECONDS, grade.MEGABYTES << 20), (FOREIGN.seconds, FOREIGN.memory))
         self.assertEqual((studio.SECONDS, studio.MEMORY, studio.REPORT), runs.Limits())
         self.assertEqual((sweep.MOST_BYTES, sweep.MOST_SECONDS), (asked.MOST_BYTES, asked.MOST_SECONDS))
         self.assertEqual((plot.SHOWS, plot.MEANS, export.FORMS), (SHOWS, tuple(MEANS), tuple(ENDS)))

@@ -16,7 +16,7 @@ from pathlib import Path
 
 from here import TOOLS
 from motesim.faults import Fault
-from motesim.runner import Cache, LimitMet, Limits, NoReport, ProgramFault, Runner, Stopped, ending, run_each
+from motesim.runner import LimitMet, Limits, NoReport, ProgramFault, Runner, Stopped, ending, run_each
 from motesim.runner.batch import each_part
 
 SCENARIO = '''version = 2
@@ -165,45 +165,12 @@ class Runs(Room):
 
     def test_a_program_that_is_not_there_or_can_not_be_run(self) -> None:
         for path in self.room / 'none', self.room:
-            for cache in None, Cache(1000):
-                with self.assertRaisesRegex(ProgramFault, "can't be run: "):
-                    Runner(path, cache=cache).answer(b'')
+            with self.assertRaisesRegex(ProgramFault, "can't be run: "):
+                Runner(path).answer(b'')
 
     def test_an_argument_with_a_zero_is_refused(self) -> None:
         with self.assertRaisesRegex(ProgramFault, "can't be run: "):
             Runner(self.program('true')).answer(b'', 'a\0b')
-
-
-class Kept(Room):
-    def counting(self) -> Path:
-        """A program whose answers say how often it has run."""
-        return self.program('echo x >> "$0.runs"; cat; wc -l < "$0.runs"; echo "$@"')
-
-    def test_a_scenario_that_was_run_is_not_run_again(self) -> None:
-        runner = Runner(self.counting(), cache=Cache(1000))
-        first = runner.answer(b'a')
-        self.assertEqual(runner.answer(b'a'), first)
-        self.assertEqual(first.report.split(), [b'a1'])
-        self.assertEqual(runner.answer(b'b').report.split(), [b'b2'])
-        self.assertEqual(runner.answer(b'a', '--workers').report.split(), [b'a3', b'--workers'])
-        self.assertEqual(runner.answer(b'a'), first)
-
-    def test_another_program_is_run(self) -> None:
-        runner = Runner(self.counting(), cache=Cache(1000))
-        runner.answer(b'a')
-        self.program('echo other')
-        self.assertEqual(runner.answer(b'a').report, b'other\n')
-
-    def test_the_oldest_goes_first(self) -> None:
-        runner = Runner(self.program('echo x >> "$0.runs"; cat'), cache=Cache(250))
-        for scenario in b'a' * 100, b'b' * 100, b'a' * 100, b'c' * 100, b'a' * 100, b'b' * 100:
-            self.assertEqual(runner.answer(scenario).report, scenario)
-        # (a, b, c and b again: c took the place of b, which was used longer ago than a)
-        self.assertEqual((self.room / 'program.runs').read_text(), 'x\n' * 4)
-
-    def test_what_is_larger_than_the_cache_is_not_kept(self) -> None:
-        runner = Runner(self.counting(), cache=Cache(3))
-        self.assertEqual([runner.answer(b'abc').report.split()[0] for _ in range(2)], [b'abc1', b'abc2'])
 
 
 def squared(item: int) -> int:

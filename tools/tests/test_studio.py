@@ -173,7 +173,7 @@ class Files(unittest.TestCase):
     def test_plans_are_no_scenarios(self) -> None:
         (self.room / 'net.plan.toml').write_text('end = 1\n')
         self.assertEqual(self.desk.names('folder'), ['net.toml'])
-        with self.assertRaisesRegex(Fault, 'ends in .toml: rename it, mv net.toml.txt net.toml$'):
+        with self.assertRaisesRegex(Fault, 'the studio opens scenarios, NAME.toml'):
             Desk(self.room / 'net.toml.txt')
         for name, said in ('blink.c', 'is a program in C'), ('net.plan.toml', 'is a plan, not a scenario'):
             with self.assertRaisesRegex(Fault, name + ' ' + said):
@@ -318,13 +318,13 @@ class Running(unittest.TestCase):
 
     def test_each_limit_stops_a_run_and_says_how_to_raise_it(self) -> None:
         for word, limits, limit, option in [
-                ('never_ends', {'seconds': 1}, 'after 1 second', '--seconds 6'),
-                ('long_report', {'output': 1}, 'after 1 megabyte of report', '--report'),
-                ('much_memory', {'memory': 400}, 'at 400 megabytes of memory', '--memory')]:
+                ('never_ends', {'seconds': 1}, 'no answer in 1 seconds', '--seconds'),
+                ('long_report', {'output': 1}, 'the report is longer than 1,048,576 bytes', '--report'),
+                ('much_memory', {'memory': 400}, 'the run needs more than 400 megabytes of memory', '--memory')]:
             begin = time.monotonic()
             with self.assertRaises(LimitMet, msg=word) as caught:
                 self.run_text('# %s\n%s' % (word, NET), **limits)
-            self.assertIn('%s. Start tools/studio with %s' % (limit, option), str(caught.exception))
+            self.assertIn('%s. Start tools/studio with a larger %s' % (limit, option), str(caught.exception))
             self.assertLess(time.monotonic() - begin, 20)
 
     def test_a_newer_text_stops_the_run_before_and_none_run_at_once(self) -> None:
@@ -517,12 +517,12 @@ class Guides(unittest.TestCase):
         found = guides.guide('flooding.toml', (TOP / 'examples/flooding.toml').read_text())
         self.assertTrue(any(it['kind'] == 'task' and 'broadcast storm' in it['text'] for it in found))
         self.assertTrue(any(it['kind'] == 'look' for it in found))
-        for name in 'flooding', 'tdma', 'broadcast':
-            page = (TOP / 'docs/use/EXAMPLES.md').read_text()
-            row = next(it for it in page.splitlines() if re.match(r'\| \[[^]]*\b%s\b' % name, it))
-            self.assertEqual(guides.title(name + '.toml'), row.rstrip(' |').rpartition(' | ')[2])
-        for path in sorted((TOP / 'examples').glob('*.toml')):
-            self.assertNotIn('|', guides.title(path.name))
+
+    def test_each_example_has_a_title_of_its_own(self) -> None:
+        found = [guides.title(path.read_text()) for path in (TOP / 'examples').glob('*.toml')
+                 if not path.name.endswith('.expect.toml')]
+        self.assertTrue(all(found))
+        self.assertEqual(len(set(found)), len(found))
 
 
 class Command(unittest.TestCase):

@@ -1153,7 +1153,7 @@ class Runs(unittest.TestCase):
                       self.near('small_network.toml', 'mote 1 prints echo 31'))
         self.assertIn('it halted at 0; line 6: `while 1` repeated 4998 times in this call, and nothing in its block '
                       'waited: if the loop waits for something, write a `yield_until` in it; if it calculates, write a '
-                      '`pause` in it (in C, `PROCESS_PAUSE()`), after which it continues at once',
+                      '`pause` in it, after which it continues at once',
                       self.near('runaway.toml', 'mote 0 prints a 9'))
 
     def test_an_event_for_a_process_that_is_not_on_the_process_list(self) -> None:

@@ -34,7 +34,7 @@ from motesim.faults import command
 from motesim.words import words_of
 
 FORMATS = ('.csv', '.toml', '.html')
-# The limits of a run: those of motesim.runner for scenarios of other people.
+# The limits of a run.
 SECONDS, MEGABYTES = 20.0, 1024
 
 

@@ -15,7 +15,7 @@ from motesim.faults import Fault
 from motesim.notation.faults import WAITS, Token
 from motesim.report import Report
 from motesim.runner import LimitMet, Limits, ProgramFault, Runner
-from motesim.runner.cache import Answer
+from motesim.runner.run import Answer
 from motesim.scenario import Scenario
 from motesim.terminal import one_line
 

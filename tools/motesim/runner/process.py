@@ -1,6 +1,6 @@
 """One run of `motesim` within limits of time, memory and bytes.
 
-    got = Runner(limits=FOREIGN).answer(scenario)       # an `Answer`, or a `LimitMet`
+    got = Runner(limits=Limits(20.0)).answer(scenario)  # an `Answer`, or a `LimitMet`
 
 `motesim` gets the scenario on standard input. A run that another thread may stop is a `Running`:
 
@@ -21,7 +21,6 @@ from pathlib import Path
 from typing import IO, Literal, NamedTuple
 
 from motesim.runner import ending
-from motesim.runner.cache import Answer, Cache, key_of
 from motesim.runner.programs import ProgramFault, program_path
 
 MEGABYTE = 1 << 20
@@ -30,6 +29,13 @@ CHUNK = MEGABYTE
 MOST_FAULT = 1 << 16
 # The seconds between two checks of the clock and of the memory of a run.
 TICK = 0.02
+
+class Answer(NamedTuple):
+    """The answer of the binary: its status, its standard output and its standard error."""
+    status: int
+    report: bytes
+    fault: bytes
+
 
 LimitName = Literal['seconds', 'memory', 'report', 'processor']
 
@@ -51,10 +57,6 @@ class Limits(NamedTuple):
     memory: int = _most_memory()
     report: int = 1 << 30
     processor: float = math.inf
-
-
-# Limits for scenarios that other people wrote.
-FOREIGN = Limits(20.0, 1 << 30, 64 << 20)
 
 
 class LimitMet(ProgramFault):
@@ -230,13 +232,10 @@ class Running:
 
 
 class Runner:
-    """Runs one binary within limits; with a cache, a scenario that was run before isn't run again.
+    """Runs a binary within limits; without a path, the binary that all tools run."""
 
-    program  the path of the binary; if None, the binary that all tools run
-    """
-
-    def __init__(self, program: Path | None = None, limits: Limits = Limits(), cache: Cache | None = None):
-        self.program, self.limits, self.cache = program, limits, cache
+    def __init__(self, program: Path | None = None, limits: Limits = Limits()):
+        self.program, self.limits = program, limits
 
     def start(self, scenario: bytes, *arguments: str) -> Running:
         """Begins a run of a scenario."""
@@ -259,14 +258,7 @@ class Runner:
 
     def answer(self, scenario: bytes, *arguments: str) -> Answer:
         """The answer of the binary to a scenario, with these arguments on its command line."""
-        if self.cache is None:
-            return self.start(scenario, *arguments).wait()
-        key = key_of(self.program or program_path(), arguments, scenario)
-        found = self.cache.find(key)
-        if found is None:
-            found = self.start(scenario, *arguments).wait()
-            self.cache.keep(key, found)
-        return found
+        return self.start(scenario, *arguments).wait()
 
     def report(self, scenario: bytes, *arguments: str) -> bytes:
         """The report of a scenario. Raises `NoReport` if the binary refuses it."""

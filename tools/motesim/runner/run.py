@@ -27,12 +27,8 @@ from typing import NamedTuple
 from motesim.report.belongs import check_scenario as check_scenario
 from motesim.scenario.encodings import decoded
 from motesim.faults import Fault
-from motesim.runner.cache import Answer as Answer
-from motesim.runner.process import Limits, Runner
-from motesim.runner.process import NoReport as NoReport
-from motesim.runner.programs import TOP as TOP
-from motesim.runner.programs import ProgramFault as ProgramFault
-from motesim.runner.programs import program_path as program_path
+from motesim.runner.process import Answer as Answer, Limits, NoReport as NoReport, Runner
+from motesim.runner.programs import TOP as TOP, ProgramFault as ProgramFault, program_path as program_path
 from motesim.report import Report, ReportFault
 from motesim.scenario import Scenario, ScenarioFault
 

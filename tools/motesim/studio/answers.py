@@ -2,7 +2,6 @@
 totals."""
 from __future__ import annotations
 
-import re
 from itertools import zip_longest
 from typing import Any, NamedTuple
 
@@ -22,8 +21,6 @@ from motesim.scenario import Scenario
 from motesim.scenario.faults import Place, place_of
 from motesim.summary.counts import LINK_NAMES, summary
 
-NOTE = re.compile(r'//[^\n]*')
-CODE_OR_PRINT = re.compile(r'\bcode\s+([a-z][a-z0-9_]*)|\bprint\s+([^;{}]+);')
 MOST_ROWS, MOST_LINKS, MOST_PARTS, MOST_WARNINGS = 12, 400, 1_000, 20
 
 
@@ -93,21 +90,6 @@ def warned(done: Finished) -> list[dict[str, Any]]:
         elif it.path is not None:
             place = place_of(done.text, it.path)
         found.append({'text': it.text, 'place': stretch16(done.text, place) if place else None})
-    return found
-
-
-def prints_of_programs(scenario: Scenario) -> dict[str, dict[str, list[str]]]:
-    """The expressions that each process of each program prints."""
-    found = {}
-    for name, source in scenario.programs.items():
-        process = ''
-        prints: dict[str, list[str]] = {}
-        for it in CODE_OR_PRINT.finditer(NOTE.sub('', source)):
-            process = it[1] or process
-            expression = ' '.join((it[2] or '').split())
-            if expression and expression not in prints.setdefault(process, []):
-                prints[process].append(expression)
-        found[name] = prints
     return found
 
 

@@ -27,47 +27,8 @@ LONGEST_NAME = 200
 ALLOWED = ('NAME has letters, digits, spaces and _ ( ) \' + , . - only, at most %d bytes, and begins with none of '
            ') , . - or a space' % LONGEST_NAME)
 MARK = '\ufeff'
-FIRST = '''# A scenario: which motes there are, their places, what they run, and how packets travel.
-version = 2
-end = 60
-[medium]
-range = 10
-base = 2
-per = 100
-collide = false
-[programs]
-hello = \'\'\'
-process hello;
-autostart hello;
-receiver hello;
-code hello {
-  etimer t;
-  body {
-    if (self == 0) {
-      set t 10;
-    }
-    while 1 {
-      yield;
-      if fired(t) {
-        send 1;
-        reset t;
-      }
-      if is(packet) {
-        print data;
-      }
-    }
-  }
-}
-\'\'\'
-[[mote]]
-x = 0
-y = 0
-program = "hello"
-[[mote]]
-x = 8
-y = 0
-program = "hello"
-'''
+# The example with whose text a new file begins.
+FIRST = 'two_motes.toml'
 
 
 def is_name(name: str) -> bool:
@@ -131,9 +92,6 @@ class Desk:
             raise Fault('%s: there is no folder %s' % (named, self.folder))
         if named:
             refuse_others(named)
-        if path and path.name.endswith('.toml.txt'):
-            new = path.name.removesuffix('.txt')
-            raise Fault('%s: the name of a scenario ends in .toml: rename it, mv %s %s' % (named, path.name, new))
         if path and not is_name(path.name):
             raise Fault('%s: the studio opens scenarios, NAME.toml: %s' % (named, ALLOWED))
 
@@ -179,7 +137,7 @@ class Desk:
         data = self.data(self.path(where, name))
         if data is None:
             if where == 'folder' and name == self.mine:
-                return Document(where, name, FIRST, '')
+                return self.read('example', FIRST)._replace(where=where, name=name, stamp='')
             raise Fault('%s does not exist' % name)
         return document(where, name, data)
 

@@ -75,35 +75,14 @@ def blocks(rows: list[str]) -> list[dict[str, Any]]:
     return found
 
 
-def shows(page: str, name: str) -> str:
-    """The purpose of an example, from the table of small examples."""
-    found = re.search(r'^\| `%s` \| (.*?) \|$' % re.escape(name), page, re.M)
-    return found[1] if found else ''
-
-
 def guide(name: str, text: str, page: Path = PAGE) -> list[dict[str, Any]]:
     """The guide of an example."""
-    try:
-        source = page.read_text(encoding='utf-8')
-    except OSError:
-        source = ''
-    rows = sections(source).get(name, [])
+    rows = sections(page.read_text('utf-8')).get(name, [])
     own = [{'kind': 'look' if it.startswith('Look at:') else 'text', 'text': it.removeprefix('Look at:').strip()}
            for it in comment_of(text)]
-    of_page = blocks(rows)
-    tasks = [it for it in of_page if it['kind'] == 'task']
-    found = own + tasks + [it for it in of_page if it['kind'] != 'task']
-    line = shows(source, name)
-    return found or ([{'kind': 'text', 'text': line[0].upper() + line[1:] + '.'}] if line else [])
+    return own + sorted(blocks(rows), key=lambda it: it['kind'] != 'task')
 
 
-def title(name: str, page: Path = PAGE) -> str:
-    """A line about an example, for the list."""
-    try:
-        source = page.read_text(encoding='utf-8')
-    except OSError:
-        return ''
-    stem = name.removesuffix('.toml')
-    row = r'^\| \[[^]]*\b%s\b[^]]*\]\([^)]*\)(?: \| [0-9, to]+)+ \| (.*?) \|$'
-    found = re.search(row % re.escape(stem), source, re.M)
-    return found[1] if found else shows(source, name)
+def title(text: str) -> str:
+    """A line about an example, for the list: the first sentence of its comment."""
+    return ' '.join(comment_of(text)).partition('. ')[0].removesuffix('.')

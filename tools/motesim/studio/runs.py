@@ -14,6 +14,7 @@ from motesim.faults import Fault
 from motesim.runner import Answer, Runner, Running
 
 MEGABYTE = 1 << 20
+RAISE = 'The run was stopped: %s. Start tools/studio with a larger --%s.'
 
 
 class Limits(NamedTuple):
@@ -25,9 +26,6 @@ class Limits(NamedTuple):
 
 class Superseded(Fault):
     """A newer text has arrived."""
-
-    def __init__(self) -> None:
-        super().__init__('a newer text came')
 
 
 class LimitMet(Fault):
@@ -70,23 +68,10 @@ class Runs:
             except runner.Stopped:
                 raise Superseded from None
             except runner.LimitMet as met:
-                raise LimitMet(self.in_words(met)) from None
+                raise LimitMet(RAISE % (met, met.limit)) from None
             finally:
                 with self.state:
                     self.running = None
         if got.status < 0:
             raise LimitMet('The run was ended from outside, by signal %d.' % -got.status)
         return got
-
-    def in_words(self, met: runner.LimitMet) -> str:
-        """The limit that a run reached, and how to raise it."""
-        seconds, memory, output = self.limits
-        what, option, more = {
-            'seconds': ('after ' + counted(seconds, 'second'), '--seconds', seconds * 6),
-            'memory': ('at %s of memory' % counted(memory, 'megabyte'), '--memory', memory * 4),
-            'report': ('after %s of report' % counted(output, 'megabyte'), '--report', output * 4)}[met.limit]
-        return 'The run was stopped %s. Start tools/studio with %s %g to raise the limit.' % (what, option, more)
-
-
-def counted(number: float, what: str) -> str:
-    return '%g %s%s' % (number, what, '' if number == 1 else 's')

@@ -99,7 +99,8 @@ class Session:
 
     def begin(self, asked: dict[str, Any]) -> Answered:
         """The content of the page when it opens."""
-        examples = [{'name': name, 'title': guides.title(name)} for name in self.desk.names('example')]
+        examples = [{'name': name, 'title': guides.title(self.desk.read('example', name).text)}
+                    for name in self.desk.names('example')]
         files = [] if self.desk.folder == self.desk.examples else self.desk.names('folder')
         opened = json.loads(self.opened(self.desk.first()).data)
         return as_json({**opened, 'examples': examples, 'files': files, 'folder': str(self.desk.folder),
@@ -160,8 +161,7 @@ class Session:
         except (ReportFault, ScenarioFault) as fault:
             return framed({'limit': 'This run cannot be shown: %s' % fault}, b'')
         self.keep(done, asked.get('pinned'))
-        return framed({'number': ticket, 'run': table_of(done.run, columns),
-                       'programs': answers.prints_of_programs(done.scenario)}, columns.joined())
+        return framed({'number': ticket, 'run': table_of(done.run, columns)}, columns.joined())
 
     def stop(self, asked: dict[str, Any]) -> Answered:
         """Stops the run."""

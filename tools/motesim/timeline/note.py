@@ -76,8 +76,7 @@ def _near(asker: Asker, missing: Missing) -> tuple[Line, ...]:
                  for it in sorted(its, key=lambda it: (not it.is_wanted, has_value and it.is_rest))]
     except Fault:
         return ()
-    # (several statements may come from one line in C)
-    return tuple([*dict.fromkeys(lines)][:MOST_LINES])
+    return tuple(lines[:MOST_LINES])
 
 
 def _text(source: Source, row: int) -> str:

@@ -8,8 +8,8 @@ from motesim.why.replay import Reached, Replay
 from motesim.why.translate import Program
 
 # Advice for a loop in which nothing waits.
-LETS_WAIT = ('if the loop waits for something, write a `yield_until` in it; if it calculates, write a `pause` in it '
-             '(in C, `PROCESS_PAUSE()`), after which it continues at once')
+LETS_WAIT = ('if the loop waits for something, write a `yield_until` in it; if it calculates, write a `pause` in it, '
+             'after which it continues at once')
 # The waits that don't wait if their conditions are right at once, and the results that are right.
 AT_ONCE = {'wait_until': 'true', 'wait_while': 'false'}
 MOST_WAITS = 3

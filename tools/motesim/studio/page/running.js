@@ -66,7 +66,6 @@ function noteLatency(time) {
 }
 
 function showRun(run, answer) {
-  studio.programs = answer.programs;
   studio.number = answer.number;
   if (!panes.length) {
     showRuns([run]);

@@ -4,7 +4,7 @@
     the runs that were asked for, and `judged` is the last run whose results are shown. `fault` has the text with the
     error that is shown, and the corrected text if it is known. */
 export const studio = {document: null, saved: '', maySave: false, folder: '', number: 0, before: 0, pinned: 0,
-  asked: 0, changedAt: 0, programs: {}, knownStamp: '', fresh: true, timer: 0, asks: true, tab: 'guide', latency: [],
+  asked: 0, changedAt: 0, knownStamp: '', fresh: true, timer: 0, asks: true, tab: 'guide', latency: [],
   judged: 0, fault: null, editor: null};
 
 export const isDirty = () => studio.document && studio.editor.text !== studio.saved;

@@ -4,7 +4,6 @@ import {chooseLine, walk} from '../../timeline/page/details.js';
 import {byId, element, makeButton} from '../../timeline/page/dom.js';
 import {chosen, overlays, panes, play} from '../../timeline/page/stage.js';
 import {isCall, nextLine, nextMoment, nextPlace, orderOf, placeOf, placesOf, stateAfter} from './chronology.js';
-import {studio} from './state.js';
 import {beginStates, card, runningItem, showMoteState} from './states.js';
 import {searchesOf} from './stops.js';
 
@@ -59,12 +58,6 @@ function lineOfState(pane) {
   return [mote, end - 1];
 }
 
-/** The expression of a process's `print`, or those of several, as the text has them. */
-function printedName(program, process) {
-  const found = studio.programs[program] && studio.programs[program][process];
-  return found && found.length ? found.join(' or ') : 'a value';
-}
-
 /** What runs after a line, as far as the report shows it: a call that writes no line at its start, such as that of a
     poll, isn't in the report. */
 function runningAt(run, line, state) {
@@ -76,15 +69,14 @@ function runningAt(run, line, state) {
 
 function cardsOf(pane, mote, line) {
   const {run} = pane, state = stateAfter(run, mote, line);
-  const program = run.programs[run.begins[mote]], runs = element('span', '', runningAt(run, line, state));
+  const runs = element('span', '', runningAt(run, line, state));
   // (the line that begins a call names it; after another line the replay knows more than the report)
   runs.id = line === state.running ? 'runs' : 'runs-now';
   const others = state.list.map(it => run.process(it)).join(', ');
   if (!runs.childNodes.length) runs.textContent = 'nothing';
   const cards = [card('Runs now', [[runs], ...(others ? [`started: ${others}`] : [])], 'nothing')];
   cards.push(card('Printed last', [...state.printed].map(([process, i]) =>
-    [element('code', printedName(program, run.process(process))), ` = ${run.w[i]}`,
-      ` (${run.process(process)}, at ${run.at[i]})`]), 'nothing yet'));
+    [element('code', `${run.process(process)} ${run.w[i]}`), ` at ${run.at[i]}`]), 'nothing yet'));
   return cards;
 }
 
