@@ -99,16 +99,6 @@ class PageWhy:
         before, after = sum(at < first for at in moments), sum(at > last for at in moments)
         return before, len(moments) - before - after, after
 
-    def unserved(self, mote: Mote, process: str, last: int) -> list[Line]:
-        """The events for a process that were refused or dropped."""
-        found = []
-        for line in mote.lines[1:]:
-            words = line.words.split(' ')
-            if line.at <= last and (words[0] == 'full' and words[1] in (process, 'all') or
-                                    words[0] == 'drop' and words[2] == process):
-                found.append(line)
-        return found
-
     def copies(self, mote: Mote, last: int) -> Iterator[Copy]:
         """The copies for a mote that were sent up to a moment."""
         for packet in self.run.packets:

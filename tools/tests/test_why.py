@@ -21,15 +21,13 @@ from motesim.contiki.random_scenario import random_scenario
 from motesim.faults import Fault
 from motesim.runner.run import answer
 from motesim.scenario import Scenario
-from motesim.why.callers import Callers
 from motesim.why.chain import MOST_CALLS, Explainer, as_json, cause_of, chain, on_values, path_of, places
 from motesim.why.command import show_chain
 from motesim.why.diverge import diverged
 from motesim.why.fate import after_post, fate_of
 from motesim.why.lines_of_file import ScenarioFile
-from motesim.why import miss
-from motesim.why.miss import _Misses, misses
-from motesim.why.question import Asked, Asker, Missing, Unasked, one_of
+from motesim.why.miss import Miss, _Misses, misses
+from motesim.why.question import Asked, Asker, Missing, Unasked
 from motesim.why.replay import Parted, Reached, Replay
 from motesim.why.source import At, Source
 from motesim.why.translate import translated
@@ -476,8 +474,7 @@ class Questions(unittest.TestCase):
     def test_a_lost_copy_has_the_reason_of_its_loss(self) -> None:
         lossy = source(SCENARIO + '[[loss]]\nfrom = 0\nto = 1\nevery = 3\n',
                        REPORT[:REPORT.index('7 recv')] + 'medium\n4 0 0 8 1@lost\nleft 0\n')
-        for question, begin in (('no copy is lost', 'there is 1 such copy; wanted: at most 0; this is the first beyond '
-                                 'that; '), ('some copy is lost at mote 1', '')):
+        for question, begin in (('no copy is lost', 'there is 1 such copy; wanted: at most 0; '), ('some copy is lost at mote 1', '')):
             found = Asker(lossy).about(question)
             assert isinstance(found, Asked)
             self.assertEqual(found.remark, begin + 'the copy for mote 1: the medium lost it, because it loses one '
@@ -491,10 +488,6 @@ class Questions(unittest.TestCase):
     def test_sentences_about_any_of_several_values(self) -> None:
         self.assertEqual(self.where('mote 1 prints h any of 1 to 65535'), At(1, 7))
         self.assertIsInstance(self.about('mote 1 prints h any of 9 to 511 or 7'), Missing)
-        values = frozenset((7, *range(9, 512)))
-        form = re.compile(one_of(frozenset(map(str, values))))
-        self.assertLess(len(form.pattern), 200)
-        self.assertEqual({it for it in range(20_000) if form.fullmatch(str(it))}, values)
 
     def test_sentences_about_no_line(self) -> None:
         for question in 'no mote halts', 'mote 1 can hear mote 0', 'the report has 9 lines', 'no copy collides':
@@ -502,449 +495,93 @@ class Questions(unittest.TestCase):
                 self.about(question)
 
 
-class Misses(unittest.TestCase):
-    """Near misses of a line that isn't there."""
-
-    def misses(self, question: str, found: Source | None = None) -> list[str]:
-        asker = Asker(found or source())
-        missing = asker.about(question)
-        assert isinstance(missing, Missing)
-        return [it.words for _, its in misses(asker, missing) for it in its]
-
-    def test_a_line_at_another_moment(self) -> None:
-        self.assertEqual(self.misses('mote 1 prints h 8 by 6')[0],
-                         '`print h 8`, at 7: 1 moment too late, because the sentence allows up to 6')
-        self.assertEqual(self.misses('mote 1 prints h 8 after 9')[0], '`print h 8`, at 7: 3 moments too early')
-
-    def test_other_values(self) -> None:
-        self.assertIn('it prints 3 values: 7 at 4, 3 at 4, 2 at 6', self.misses('mote 0 prints c 9'))
-        with patch.object(miss, 'MOST_OTHERS', 1):
-            self.assertIn('it prints 3 values: the last are 2 at 6', self.misses('mote 0 prints c 9'))
-            self.assertIn('it prints 3 values: near that time 2 at 6', self.misses('mote 0 prints c 9 by 60'))
-        self.assertIn('it never prints anything by a', self.misses('mote 0 prints a 9'))
-        self.assertIn('it receives 1 value: 8 at 7', self.misses('mote 1 receives 9'))
-
-    def test_a_process_that_left_or_never_started(self) -> None:
-        self.assertIn('c had left at 4: a, line 13: `kill c`', self.misses('mote 0 prints c 9'))
-        report = REPORT.replace('4 start c', '')
-        self.assertIn('it runs hearer, which has no process b', self.misses('mote 1 prints b 9'))
-        self.assertNotEqual(report, REPORT)
-
-    def test_statements_and_conditions(self) -> None:
-        """`print data` of b is reached once; the first call of b, by the poll, isn't with `msg`."""
-        said = self.misses('mote 0 prints b 9')
-        self.assertIn('line 24: `print data` was reached once, at 4', said)
-        self.assertIn('b has waited at line 23: `yield_until is(msg)` since 4, and nothing has called it since; '
-                      'line 8: `post b '
-                      'msg 5`, which calls it, was last reached at 4', said)
-
-    def test_a_condition_that_never_held(self) -> None:
-        scenario = SCENARIO.replace('    yield_until is(packet);\n    print data;',
-                                    '    while 1 {\n      yield;\n      if (data > 8) {\n        print data;\n      }\n    }')
-        report = REPORT.replace('7 print h 8\n7 leave h\n', '')
-        self.assertIn('line 9: `print data` was never reached, because line 8: `if (data > 8)` was tested once, '
-                      'and was '
-                      'never true, the last time at 7', self.misses('mote 1 prints h 9', source(scenario, report)))
-
-    def test_the_statement_that_would_have_called_and_its_condition(self) -> None:
-        found = source(CALLED, REPORT_OF_CALLED)
-        false = ' was never reached, because line 16: `if (n > 7)` was tested 3 times, and was never true, the last ' \
-                'time at 30'
-        self.assertIn('worker has waited at line 28: `yield_until is(go)` since 0; its condition has been tested '
-                      'once since then, and '
-                      'was never true; line 17: `synch worker go 1`, which calls it,' + false,
-                      self.misses('mote 0 prints worker 1', found))
-        self.assertIn('its process late never started; line 18: `start late`, which starts it,' + false,
-                      self.misses('mote 0 prints late 7', found))
-        self.assertIn('line 9: `print n` was never reached, because nothing ran its thread count_up; line 21: `spawn '
-                      'count_up`, which runs it,' + false.replace('16', '20').replace('n > 7', 'n == 9'),
-                      self.misses('mote 0 prints boss 9', found))
-
-    def test_a_timer_whose_event_went_elsewhere(self) -> None:
-        head = 'version = 2\nend = 40\nmedium = { range = 10, base = 2, per = 100, collide = false }\n' \
-               'mote = [{ x = 0, y = 0, program = "p" }]\n[programs]\np = """\n'
-        lost = head + '''process p; autostart p;
+# Process `late` starts at 30; it left the list of processes at 40. Mote 1 sends 5 at 20; mote 2 never sends.
+LATE = """version = 2
+end = 60
+medium = { range = 10, base = 2, per = 100, collide = false }
+loss = [{ from = 1, to = 2, every = 1 }]
+mote = [{ x = 0, y = 0, program = "p" }, { x = 10, y = 0, program = "p" }, { x = 20, y = 0, program = "p" }]
+[programs]
+p = '''
+process p, late; autostart p; receiver p;
 code p {
-  etimer round;
-  etimer retry;
+  etimer t;
   body {
-    set round 5;
-    set retry 9;
-    yield_until fired(retry);
-    yield_until fired(round);
-    print 9;
+    set t 20; yield_until fired(t);
+    if (self == 1) { send 5; }
+    set t 10; yield_until fired(t); start late;
+    reset t; yield_until fired(t); kill late;
+    while 1 { yield_until is(packet); if (data > 8) { print data; } }
   }
 }
-"""
+code late { body { print 1; yield_until is(msg); print 2; } }
 '''
-        words = self.misses('mote 0 prints p 9', Source('test', answer(lost.encode()).report, Scenario.parse(lost)))
-        self.assertIn('p has waited at line 9: `yield_until fired(round)` since 9, and nothing has called it '
-                      'since; timer round '
-                      'was due at 5: its event was taken while p waited at line 8: `yield_until fired(retry)`', words)
-        ctimer = head + '''process p; autostart p;
-code p {
-  ctimer c { send 1; }
-  body {
-    set c 5;
-    yield_until fired(c);
-    print 9;
-  }
-}
 """
-'''
-        words = self.misses('mote 0 prints p 9', Source('test', answer(ctimer.encode()).report, Scenario.parse(ctimer)))
-        self.assertTrue(any('c is a ctimer: its event goes to the process ctimer, which runs its block, so `fired(c)` '
-                            'is never true here' in it for it in words), words)
-
-    def test_a_statement_that_was_reached_outside_the_time_and_a_wait_for_two_timers(self) -> None:
-        text = '''version = 2
-end = 40
+# Mote 0 uses up its work at 5.
+HALTING = """version = 2
+end = 30
 medium = { range = 10, base = 2, per = 100, collide = false }
 mote = [{ x = 0, y = 0, program = "p" }]
 [programs]
-p = """
-process p; autostart p;
-code p {
-  var n = 0;
-  etimer t;
-  etimer u;
-  body {
-    set t 10;
-    set u 3;
-    while 1 {
-      yield_until (fired(t) || fired(u));
-      if fired(u) { print 5; }
-      n = (n + 1);
-      if (n == 1) { reset t; }
-      if (n > 4) { set u 3; }
-    }
-  }
-}
+p = "process p; autostart p; code p { etimer t; body { set t 5; yield_until fired(t); while 1 { } print 1; } }"
 """
-'''
-        run = Source('test', answer(text.encode()).report, Scenario.parse(text))
-        words = self.misses('mote 0 prints p 5 from 12 on', run)
-        self.assertIn('line 11: `print 5` was never reached from 12 on, because line 11: `if fired(u)` was tested once '
-                      'from 12 on, and was never true, the last time at 20; the statement was reached once before, at '
-                      '3', words)
-        self.assertIn('p has waited at line 10: `yield_until (fired(t) || fired(u))` since 20, and nothing has called '
-                      'it since; line 7: `set t 10`, which sets the timer, was last reached at 0; line 13: `reset t`, '
-                      'which sets the timer, was last reached at 3, because line 13: `if (n == 1)` was tested twice, '
-                      'and was not true the last time, at 20; line 8: `set u 3`, which sets the timer, was last reached '
-                      'at 0; line 14: `set u 3`, which sets the timer, was never reached, because line 14: '
-                      '`if (n > 4)` was tested twice, and was never true, the last time at 20', words)
-        self.assertIn('line 11: `print 5` was never reached from 0 to 1; the statement was reached once later, at 3',
-                      self.misses('mote 0 prints p 5 by 1', run))
-        self.assertIn('line 11: `print 5` was reached once, at 3; line 11: `if fired(u)` was tested twice, and was '
-                      'not true the last time, at 20', self.misses('mote 0 prints p 5 twice', run))
 
-    def test_a_packet_that_another_wait_took(self) -> None:
-        """Mote 0 sends 7, 8 and 9. Mote 1 takes 7 at its first wait, and 8 while it waits for its timer."""
-        text = '''version = 2
-end = 40
-medium = { range = 10, base = 2, per = 100, collide = false }
-mote = [{ x = 0, y = 0, program = "sends" }, { x = 5, y = 0, program = "p" }]
-[programs]
-sends = """process a; autostart a;
-code a { etimer t; body {
-  send 7; set t 4; yield_until fired(t); send 8; set t 20; yield_until fired(t); send 9;
-} }"""
-p = """process p; autostart p; receiver p;
-code p { etimer t; body {
-  yield_until is(packet);
-  set t 10;
-  yield_until fired(t);
-  while 1 {
-    yield_until is(packet);
-    print data;
-  }
-} }"""
-'''
-        run = Source('test', answer(text.encode()).report, Scenario.parse(text))
-        wait = 'the wait at line 5: `yield_until fired(t)`'
-        seven = ('packet 0 of mote 0, with the value 7, was sent at 0: p took it at 2, and the packet ended the wait '
-                 'at line 3: `yield_until is(packet)`')
-        eight = ('packet 1 of mote 0, with the value 8, was sent at 4: p took it at 6, but the packet did not end '
-                 + wait)
-        other = '1 packet%%s did not end %s when p took this packet: packet 1 of mote 0, at 6' % wait
-        for question, wanted in (
-                ('mote 1 prints p 7', [seven, other % ' with another value']),
-                ('mote 1 prints p 8', [eight]),
-                ('mote 1 prints p 8 by 5', []),
-                ('mote 1 prints p 9 at least twice', [other % ' with another value']),
-                ('mote 1 prints p at least twice', [other % '']),
-                ('mote 1 sends 8', []),  # (p has no `send`)
-                ('mote 1 receives 5', [])):
-            asker = Asker(run)
-            missing = asker.about(question)
-            assert isinstance(missing, Missing)
-            with self.subTest(question):
-                found = [it for it in misses(asker, missing)[0][1] if it.kind == 'taken']
-                self.assertEqual([it.words for it in found], wanted)
-                for it in found:
-                    self.assertRegex(run.traces.text(cast(At, run.traces.at_row(it.row))), r'^[0-9]+ take [0-9]+ p$')
 
-    def test_a_value_that_stopped_at_another_hop_has_a_hint(self) -> None:
-        text = '''version = 2
-end = 60
-medium = { range = 10, base = 2, per = 100, collide = false }
-mote = [{ x = 0, y = 0, program = "p" }, { x = 8, y = 0, program = "p" }, { x = 16, y = 0, program = "p" }]
-loss = [{ from = %d, to = %d, every = 1 }]
-[programs]
-p = """process p; autostart p; receiver p; code p { body {
-  if (self == 0) { send 7; }
-  while 1 { yield_until is(packet); if (from < self) { print data; send data; } }
-} }"""
-'''
-        hint = '`tools/log net.toml --value %d` shows all lines with the value %d'
-        for link, value, is_shown in ((0, 1), 7, True), ((1, 2), 7, False), ((0, 1), 8, False):
-            with self.subTest(link=link, value=value), tempfile.TemporaryDirectory() as folder:
-                (Path(folder) / 'net.toml').write_text(text % link)
-                words = [sys.executable, '-B', str(TOOLS / 'why'), 'net.toml', 'mote 2 prints p %d' % value]
-                done = subprocess.run(words, cwd=folder, capture_output=True, text=True)
-                self.assertEqual((done.returncode, hint % (value, value) in done.stdout), (1, is_shown), done)
+class Misses(unittest.TestCase):
+    """Near misses of a line that isn't there."""
 
-    def test_another_mote_that_dropped_the_packet_is_named(self) -> None:
-        text = '''version = 2
-end = 60
-medium = { range = 10, base = 2, per = 100, collide = false }
-mote = [{ x = 0, y = 0, program = "p" }, { x = 8, y = 0, program = "%s" }, { x = 16, y = 0, program = "p" }]
-[programs]
-p = """process p; autostart p; receiver p; code p { etimer t; body {
-  if (self == 0) { set t 9; yield_until fired(t); send 7; }
-  while 1 { yield_until is(packet); print data; }
-} }"""
-ends = "process q; autostart q; receiver q; code q { body { print 1; } }"
-deaf = "process q; autostart q; code q { body { print 1; } }"
-hears = "process q; autostart q; receiver q; code q { body { while 1 { yield_until is(packet); print data; } } }"
-'''
-        packet = '  packet 0 of mote 0, with the value 7, was sent at 9: at mote 1, it'
-        for program, said in (('ends', packet + 's event was dropped at 11, because q was not on the process list ('),
-                              ('deaf', packet + ' was received, but the program has no receiver ('), ('hears', '')):
-            with self.subTest(program), tempfile.TemporaryDirectory() as folder:
-                (Path(folder) / 'net.toml').write_text(text % program)
-                words = [sys.executable, '-B', str(TOOLS / 'why'), 'net.toml', 'mote 2 prints p 7']
-                done = subprocess.run(words, cwd=folder, capture_output=True, text=True)
-                self.assertEqual((done.returncode, 'Dropped at other motes:' in done.stdout), (1, bool(said)), done)
-                self.assertIn(said, done.stdout)
-
-    def taken(self, text: str, question: str) -> list[str]:
-        """The near misses that are about packets which a process took."""
-        run = Source('test', answer(text.encode()).report, Scenario.parse(text))
-        asker = Asker(run)
+    def misses(self, question: str, found: Source | None = None) -> list[Miss]:
+        asker = Asker(found or source())
         missing = asker.about(question)
         assert isinstance(missing, Missing)
-        found = [it for it in misses(asker, missing)[0][1] if it.kind == 'taken']
-        for it in found:
-            self.assertRegex(run.traces.text(cast(At, run.traces.at_row(it.row))), r'^[0-9]+ take [0-9]+ p$')
-        return [it.words for it in found]
+        return [it for _, its in misses(asker, missing) for it in its]
 
-    def test_a_condition_that_kept_a_packet_from_the_statement(self) -> None:
-        """Mote 0 sends 1, 3 and 3. Mote 1 prints 1."""
-        text = '''version = 2
-end = 40
-medium = { range = 10, base = 2, per = 100, collide = false }
-mote = [{ x = 0, y = 0, program = "sends" }, { x = 5, y = 0, program = "p" }]
-[programs]
-sends = """process a; autostart a;
-code a { etimer t; body {
-  send 1; set t 10; yield_until fired(t); send 3; set t 10; yield_until fired(t); send 3;
-} }"""
-p = """process p; autostart p; receiver p;
-code p { var n = 0; etimer t; body { set t 30; while 1 {
-  WAIT;
-  if fired(t) { print n; }
-  BRANCH
-} } }"""
-'''
-        one = 'packet 1 of mote 0, with the value 3, was sent at 10: p took it at 12, '
-        two = 'p took 2 packets with the value 3, the last at 22 (packet 2 of mote 0), '
-        ended = 'and the packet ended the wait at line 3: `%s`'
-        inner = 'if (data == (n + 1)) { n = data; print n; }'
-        false = 'but line 5: `if (data == (n + 1))` was false'
-        for wait, branch, wanted, by_15 in (
-                ('yield', inner, two + false + ' each time', one + false),
-                ('yield_until is(packet)', inner, two + false + ' each time', one + false),
-                ('yield', 'if (data > (n + 1)) { n = 1; } else { n = data; print n; }',
-                 two + 'but line 5: `if (data > (n + 1))` was true each time', None),
-                ('yield', 'if (is(packet) && (n == 0)) { if (data == (n + 1)) { n = data; print n; } }',
-                 two + 'but line 5: `if (is(packet) && (n == 0))` was false each time', None),
-                # (a statement that always prints another number is none of those that could print 3)
-                ('yield', 'if (data == 7) { print 5; } ' + inner, two + false + ' each time', None),
-                ('yield', 'if (n > 7) { print data; } ' + inner, two + false + ' each time and line 5: `if (n > 7)` '
-                 'was false each time', None),
-                # (the condition on the timer is false by nature)
-                ('yield', 'n = 1;', one + ended % 'yield', one + ended % 'yield')):
-            scenario = text.replace('WAIT', wait).replace('BRANCH', branch)
-            with self.subTest(wait=wait, branch=branch):
-                self.assertEqual(self.taken(scenario, 'mote 1 prints p 3')[0], wanted)
-                if by_15:
-                    self.assertEqual(self.taken(scenario, 'mote 1 prints p 3 by 15'), [by_15])
-                self.assertEqual(self.taken(scenario, 'mote 1 prints p 3 by 5'), [])
-        skips = text.replace('WAIT', 'yield').replace('BRANCH', inner)
-        self.assertIn('line 5: `print n` was reached once, at 2; line 5: `if (data == (n + 1))` was tested 3 times '
-                      'from 0 to 25, and was not true the last time, at 22', self.misses(
-                          'mote 1 prints p 3 by 25', Source('test', answer(skips.encode()).report,
-                                                            Scenario.parse(skips))))
+    def test_kinds_and_rows(self) -> None:
+        """Each question with the kinds of its near misses, the nearest first, and with the row of the first one."""
+        skips.need_program(self)
+        late, halting, flooding = (Source('test', answer(it.encode()).report, Scenario.parse(it)) for it in (
+            LATE, HALTING, (TOP / 'examples/flooding.toml').read_text('utf-8')))
+        for run, question, kinds, row in (
+                (source(), 'mote 1 prints h 8 by 6', 'late reached waits', 28),
+                (source(), 'mote 1 prints h 8 after 9', 'early process reached', 28),
+                (source(), 'mote 0 prints c 9', 'process reached reached reached', 13),
+                (source(), 'mote 0 prints b 9', 'reached waits', 0),
+                (source(), 'mote 0 prints a 9', 'statement', 0),
+                (source(), 'mote 1 sends', 'statement', 0),
+                (source(), 'mote 1 prints b 9', 'process', 0),
+                (source(CALLED, REPORT_OF_CALLED), 'mote 0 prints worker 1', 'reached waits', 0),
+                (source(CALLED, REPORT_OF_CALLED), 'mote 0 prints late 7', 'process reached', 0),
+                (late, 'mote 0 prints late 1 by 20', 'late process reached reached', 14),
+                (late, 'mote 0 prints late 2 by 35', 'reached reached waits', 0),
+                (late, 'mote 0 prints late 2 from 45 on', 'process reached reached', 17),
+                (late, 'mote 0 receives 5 by 21', 'late', 8),
+                (late, 'mote 0 receives 6', '', 0),
+                (late, 'mote 2 receives 5 from mote 1', 'unheard', 0),
+                (late, 'mote 2 receives', 'lost', 48),
+                (late, 'mote 0 receives from mote 2', 'unheard', 0),
+                (late, 'mote 2 prints p 5', 'lost reached waits', 48),
+                (halting, 'mote 0 prints p 1', 'halted reached', 8),
+                (halting, 'mote 0 prints p 1 by 4', 'reached waits', 0),
+                (flooding, 'mote 1 prints flood 2 by 85', 'late lost condition waits', 52),
+                (flooding, 'mote 1 receives 2 from mote 0', 'lost', 1022),
+                (flooding, 'mote 12 receives from mote 0', 'unheard', 0)):
+            with self.subTest(question):
+                found = self.misses(question, run)
+                self.assertEqual(' '.join(it.kind for it in found), kinds)
+                self.assertEqual(found[0].row if found else 0, row)
 
-    def test_the_condition_comes_before_copies_with_other_values(self) -> None:
-        """Mote 6 misses message 2, and refuses the four copies of message 3."""
-        text = (TOP / 'examples' / 'flooding.toml').read_text().replace('(data > newest)', '(data == (newest + 1))')
-        text += ''.join('[[loss]]\nfrom = %d\nto = 6\nevery = 2\n' % it for it in (5, 11, 7, 1))
-        said = self.misses('mote 6 prints flood 3', Source('test', answer(text.encode()).report, Scenario.parse(text)))
-        self.assertEqual(said[1], 'flood took 4 packets with the value 3, the last at 132 (packet 2 of mote 11), but '
-                         'line 20: `if (is(packet) && (data == (newest + 1)))` was false each time')
-        self.assertRegex(said[2], r'^4 copies did not reach a process here; ')
-
-    def test_a_reason_that_several_statements_have_is_said_once(self) -> None:
-        text = '''version = 2
-end = 30
-medium = { range = 10, base = 1, per = 100, collide = false }
-mote = [{ x = 0, y = 0, program = "a" }]
-[programs]
-a = """process a; autostart a; code a { ctimer c { set c 5; set c 6; print 1; } body { yield; } }"""
-'''
-        asker = Asker(Source('test', answer(text.encode()).report, Scenario.parse(text)))
-        missing = asker.about('mote 0 prints a 1')
-        assert isinstance(missing, Missing)
-        said = next(it.words for it in misses(asker, missing)[0][1] if '`print 1` was never reached' in it.words)
-        self.assertIn('because its timer c was never due', said)
-        self.assertEqual(len(said.split('; ')), len({*said.split('; ')}), said)
-
-    def test_an_event_of_a_callback_timer_that_ran_no_block(self) -> None:
-        text = '''version = 2
-end = 30
-medium = { range = 10, base = 1, per = 100, collide = false }
-mote = [{ x = 0, y = 0, program = "a" }, { x = 5, y = 0, program = "b" }]
-[programs]
-a = """process a; autostart a; code a { etimer t; body { set t 9; yield_until fired(t); send 7; } }"""
-b = """process b; autostart b; receiver b;
-code b {
-  ctimer c { print 1; }
-  body {
-    set c 10;
-    while 1 { yield_until is(packet); %s }
-  }
-}"""
-'''
-        for statements, wanted in (
-                ('set c 5;', 'ctimer took the event of c at 15, but did not run its block: an older event of c had run '
-                 'it at 10, after line 6: `set c 5`'),
-                ('stop c;', 'ctimer took the event of c at 10, but did not run its block: c was stopped at 10'),
-                ('', None)):
-            report = answer((text % statements).encode()).report
-            asker = Asker(Source('test', report, Scenario.parse(text % statements)))
-            missing = asker.about('mote 1 prints b between 12 and 20')
-            assert isinstance(missing, Missing)
-            found = [it.words for it in misses(asker, missing)[0][1] if it.kind == 'timer']
-            self.assertEqual(found, [wanted] if wanted else [])
-
-    def test_a_timer_whose_event_did_not_end_a_wait_for_a_packet(self) -> None:
-        """The wait tests only packets, and `if fired(t)` after it is reached only with a packet."""
-        text = '''version = 2
-end = 100
-medium = { range = 10, base = 2, per = 100, collide = false }
-mote = [{ x = 0, y = 0, program = "p" }, { x = 5, y = 0, program = "q" }]
-[programs]
-p = """process p; autostart p; receiver p;
-code p { etimer t; etimer u; body {
-  set u 3;
-  set t 20;
-  while 1 {
-    yield_until is(packet);
-    print data;
-    if fired(t) { send 2; reset t; }
-  }
-} }"""
-q = """process q; autostart q; code q { etimer t; body { %s } }"""
-'''
-        for sends, wanted in (
-                ('set t 10; yield_until fired(t); send 7; ', '1 event of timer t did not end the wait at line 6: '
-                 '`yield_until is(packet)` when p took this event, at 20; this wait does not test `fired(t)`'),
-                ('send 7; ', '1 event of timer t did not end the wait at line 6')):
-            report = answer((text % sends).encode()).report
-            run = Source('test', report, Scenario.parse(text % sends))
-            asker = Asker(run)
-            missing = asker.about('mote 0 prints p exactly 3 times')
-            assert isinstance(missing, Missing)
-            found = misses(asker, missing)[0][1]
-            timers = [it for it in found if it.kind == 'timer']
-            # (nothing tests `fired(u)`, so its event is of no use)
-            self.assertEqual(len(timers), 1)
-            self.assertTrue(timers[0].words.startswith(wanted), timers)
-            self.assertEqual(run.traces.text(cast(At, run.traces.at_row(timers[0].row))), '20 take 2 p')
-            self.assertFalse([it for it in found[:found.index(timers[0])] if it.is_rest])
-
-    def test_a_process_that_ran_when_its_mote_halted_does_not_wait(self) -> None:
-        """The call that halts has no end, so the end of the call before it doesn't show where the process waits."""
-        halts = '''version = 2
-end = 30
-medium = { range = 10, base = 2, per = 100, collide = false }
-mote = [{ x = 0, y = 0, program = "p" }, { x = 5, y = 0, program = "p" }]
-[programs]
-p = """
-process idle, p; autostart idle, p; receiver p;
-code idle { body { yield_until is(msg); print 7; } }
-code p {
-  etimer t;
-  body {
-    if (self == 0) { send 1; exit; }
-    yield_until is(packet);
-    set t 5;
-    while !expired(t) { }
-    post idle msg 0;
-    print data;
-  }
-}
-"""
-'''
-        found = Source('test', answer(halts.encode()).report, Scenario.parse(halts))
-        words = self.misses('mote 1 prints p', found)
-        self.assertIn('it halted during a call of p at 2', words)
-        self.assertFalse([it for it in words if it.startswith('p has waited')], words)
-        # (a process that wasn't called waits; the process that would have called it doesn't)
-        self.assertIn('idle has waited at line 2: `yield_until is(msg)` since 0, and nothing has called it since; '
-                      'line 10: `post idle msg 0`, which calls it, was never reached',
-                      self.misses('mote 1 prints idle', found))
-        # (before the halt, p waits)
-        self.assertIn('p waited at line 7: `yield_until is(packet)` from 0 until 1, and nothing called it in this time',
-                      self.misses('mote 1 prints p by 1', found))
-
-    def test_a_wait_that_ends_after_the_time_of_the_sentence(self) -> None:
-        found = Source('test', answer(RELAYED.encode()).report, Scenario.parse(RELAYED))
-        waited = 'p waited at line 9: `yield_until fired(t)` from 12 until 20, and nothing called it in this time'
-        self.assertTrue(any(it.startswith(waited) for it in self.misses('mote 3 prints p 7 by 20', found)))
-        self.assertIn('p has waited at line 9: `yield_until fired(t)` since 12',
-                      [it.partition(';')[0] for it in self.misses('mote 3 prints p 7 by 12', found)])
-
-    def test_a_wait_for_a_semaphore_names_the_statements_that_call_the_process(self) -> None:
-        text = RELAYED[:RELAYED.index('process p;')] + """semaphore items = 0; process p, taker; autostart taker, p;
-code p { body { signal items; poll taker; yield; } }
-code taker { body { while 1 { acquire items; print 7; } } }
-'''
-"""
-        found = Source('test', answer(text.encode()).report, Scenario.parse(text))
-        words = next(it for it in self.misses('mote 0 prints taker exactly 3 times', found) if 'taker has' in it)
-        self.assertIn('`signal items`, which adds 1 to the semaphore, was last reached at 0', words)
-        self.assertIn('`poll taker`, which calls it, was last reached at 0', words)
-
-    def test_a_condition_that_was_false_the_last_time(self) -> None:
-        text = CALLED.replace('if (n == 9)', 'if (n == 2)').replace('print n;', 'if (n == 3) { print n; } n = 0;')
-        called = Callers(source(text, REPORT_OF_CALLED).program(0), cast(Replay, SimpleNamespace(calls=[], reached=[
-            Reached(0, 10, 2, True), Reached(0, 20, 2, False)])), 40)
-        self.assertRegex(called.reason(3), r'^, because line 9: `if \(n == 3\)` was tested twice, and was not true the '
-                                           r'last time, at 20$')
-
-    def test_a_process_that_nothing_starts(self) -> None:
-        found = source(CALLED.replace('start late;', 'n = 8;'), REPORT_OF_CALLED)
-        self.assertIn('its process late never started: no statement starts it, and `autostart` doesn\'t name it',
-                      self.misses('mote 0 prints late 7', found))
-
-    def test_silent_neighbours(self) -> None:
-        self.assertIn('the only mote that it hears, 1, never sends', self.misses('mote 0 receives 9'))
-        alone = source(SCENARIO.replace('x = 10', 'x = 11'), REPORT[:REPORT.index('7 recv')] +
-                       'medium\n4 0 0 8\nleft 0\n')
-        self.assertIn('it hears nobody: no mote is in its range', self.misses('mote 1 receives 8', alone))
+    def test_words(self) -> None:
+        self.assertEqual(self.misses('mote 1 prints h 8 by 6')[0].words,
+                         '`print h 8`, at 7: 1 moment too late, because the sentence allows up to 6')
+        scenario = SCENARIO.replace('    yield_until is(packet);\n    print data;',
+                                    '    while 1 {\n      yield;\n      if (data > 8) {\n        print data;\n      }\n    }')
+        report = REPORT.replace('7 print h 8\n7 leave h\n', '')
+        self.assertIn('line 9: `print data` was never reached; line 8: `if (data > 8)` was tested once, and was never '
+                      'true, the last time, at 7', [it.words for it in self.misses('mote 1 prints h 9', source(
+                          scenario, report))])
+        self.assertIn('worker has waited at line 28: `yield_until is(go)` from 0; its condition was tested once in '
+                      'this time, and was never true', [it.words for it in self.misses(
+                          'mote 0 prints worker 1', source(CALLED, REPORT_OF_CALLED))])
 
     def test_what_became_of_copies(self) -> None:
         """The six packets of mote 0 in the report of test_summary, and one that collides."""
@@ -999,7 +636,7 @@ code taker { body { while 1 { acquire items; print 7; } } }
         missing = asker.about('mote 0 sends 7 by 3')
         assert isinstance(missing, Missing)
         begun = time.process_time()
-        first = next(_Misses(asker, missing, 0).outside())
+        first = next(_Misses(asker, missing, 0).found())
         self.assertLess(time.process_time() - begun, 2)
         self.assertEqual(first.words, '`send 0 7`, at 4: 1 moment too late, because the sentence allows up to 3')
 
@@ -1011,6 +648,7 @@ code taker { body { while 1 { acquire items; print 7; } } }
         self.assertEqual((found.last.where, found.hop.where), (At(0, 12), At(1, 4)))
         self.assertEqual(found.words, 'the medium lost it, because it loses all packets from 0 to 1')
         self.assertIsNone(diverged(source(), source(), At(1, 7)))
+
 
 
 def runs() -> list[Path]:
@@ -1027,15 +665,6 @@ class Runs(unittest.TestCase):
     def run_of(self, name: str) -> Source:
         data = (TOP / 'examples' / name).read_bytes()
         return Source(name, answer(data).report, Scenario.parse(data))
-
-    def test_lost_copies_have_other_values_only_if_the_question_has_the_value_of_a_packet(self) -> None:
-        asker = Asker(self.run_of('flooding.toml'))
-        for question, lost in (('mote 1 prints flood 9', '1 copy did'),
-                               ('mote 1 receives 9', '1 copy with other values')):
-            missing = asker.about(question)
-            assert isinstance(missing, Missing)
-            said = [it.words for _, its in misses(asker, missing) for it in its]
-            self.assertTrue(any(it.startswith(lost) for it in said), said)
 
     def test_each_line_has_one_cause_that_is_earlier(self) -> None:
         """On all examples and cases, and on random scenarios, back to the start of a mote."""
@@ -1118,16 +747,6 @@ class Runs(unittest.TestCase):
             words = [it.words for _, its in misses(asker, missing) for it in its]
             self.assertTrue(any('`print data`' in it and 'was never reached' in it for it in words), words)
 
-    def test_the_caller_that_waits_is_named(self) -> None:
-        asker = Asker(self.run_of('lesson/start.toml'))
-        missing = asker.about('mote 3 prints hops 2')
-        assert isinstance(missing, Missing)
-        words = [it.words for _, its in misses(asker, missing) for it in its]
-        self.assertIn('hops has waited at line 19: `yield_until is(msg)` since 0, and nothing has called it '
-                      'since; line 11: '
-                      '`synch hops msg data`, which calls it, was never reached, because wave has waited at line 10: '
-                      '`yield_until is(packet)` since 0', words)
-
     def test_the_if_that_led_to_a_statement(self) -> None:
         found = self.run_of('flooding.toml')
         for question, led in (('mote 6 prints flood 1', ', in line 20: `if (is(packet) && (data > newest))`'),
@@ -1149,8 +768,6 @@ class Runs(unittest.TestCase):
                       self.near('small_network.toml', 'mote 1 receives 12'))
         self.assertIn('packet 1 of mote 2, with the value 40, was sent at 19: it would arrive at 21, after the end',
                       self.near('small_network.toml', 'mote 1 receives 40'))
-        self.assertIn('the event msg 31 for echo was refused at 10, because the queue was full',
-                      self.near('small_network.toml', 'mote 1 prints echo 31'))
         self.assertIn('it halted at 0; line 6: `while 1` repeated 4998 times in this call, and nothing in its block '
                       'waited: if the loop waits for something, write a `yield_until` in it; if it calculates, write a '
                       '`pause` in it, after which it continues at once',
@@ -1159,8 +776,6 @@ class Runs(unittest.TestCase):
     def test_an_event_for_a_process_that_is_not_on_the_process_list(self) -> None:
         run = self.run_of('broadcast.toml')
         self.assertEqual(because(run, At(0, 10)), 'event 0 was dropped: b was not on the process list')
-        self.assertIn('the event msg 1 for c was dropped at 0, because c was not on the process list',
-                      self.near('processes.toml', 'mote 0 prints c 1'))
         left = source(report=REPORT.replace('7 take 0 h', '7 drop 0 h'))
         self.assertEqual(after_post(left, At(1, 5)).words,
                          'its event was dropped at 7, because h was not on the process list')
@@ -1295,7 +910,7 @@ class Runs(unittest.TestCase):
         for arguments, said in (
                 (('examples/flooding.toml', 'mote 6 prints flod 1'), 'a process'),
                 (('examples/none.toml', '3'), 'No such file'),
-                (('examples/flooding.toml', 'no mote halts'), 'no line to ask about')):
+                (('examples/flooding.toml', 'no mote halts'), 'no line of a trace shows it')):
             refused = self.why(*arguments)
             self.assertEqual((refused.returncode, refused.stdout), (2, ''))
             self.assertIn(said, refused.stderr)

@@ -53,7 +53,7 @@ class Answers(unittest.TestCase):
         self.assertEqual([it['line'] for it in self.ask('why', row=28)['chain']], [28, 27, 26, 25, 14, 8, 7, 6, 1])
         self.assertEqual(self.ask('why', question='mote 1 prints h 8')['line'], 28)
         self.assertEqual(self.ask('why', question='mote 1 prints h 9')['motes'][0]['misses'][0]['words'],
-                         'it prints 1 value: 8 at 7')
+                         'h had left at 7')
         self.assertIn('no trace', self.ask('why', row=99)['said'])
         self.assertIn('a process', self.ask('why', question='mote 1 prints x 9')['said'])
 
@@ -165,7 +165,7 @@ class Page(unittest.TestCase):
         self.tab('checks')
         self.wait('checks', 'mote 0 prints flood 1')
         self.browser.run("document.querySelector('#checks .broken button').click()")
-        self.wait('why', 'it never prints anything by flood')
+        self.wait('why', 'was never reached')
         self.assertEqual(self.browser.run("document.getElementById('why-asked').value"), 'mote 0 prints flood 1')
 
     def test_steps_and_values(self) -> None:

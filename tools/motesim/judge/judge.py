@@ -30,10 +30,18 @@ BECAME = {'collided': 'collide', 'received': 'recv', 'full': 'lost'}
 Span = tuple[int, int | None]
 
 
+class Lack(NamedTuple):
+    """Motes that have too few lines in a period."""
+    motes: tuple[int, ...]
+    span: Span
+
+
 class Broken(NamedTuple):
-    """The reason why a sentence doesn't hold, and the first row of the report that shows it, from 1, or None."""
+    """The reason why a sentence doesn't hold, and the first row of the report that shows it, from 1, or None. `lacks`
+    says who has too few lines, if lines are missing."""
     why: str
     row: int | None = None
+    lacks: Lack | None = None
 
 
 class Event(NamedTuple):
@@ -56,7 +64,7 @@ class Apart(Exception):
     """Packets of one mote can't reach another, so there are no hops between them."""
 
 
-def _within(at: int, span: Span) -> bool:
+def within(at: int, span: Span) -> bool:
     return span[0] <= at and (span[1] is None or at <= span[1])
 
 
@@ -198,29 +206,30 @@ class Judge:
     def within(self, events: list[Event], window: Window, motes: tuple[int, ...]) -> list[Event]:
         """The events that are in a window."""
         spans = self.spans(window, motes)
-        return [event for event in events if any(_within(event.line.at, span) for span in spans)]
+        return [event for event in events if any(within(event.line.at, span) for span in spans)]
 
     def name(self, motes: tuple[int, ...]) -> str:
         return 'mote %d' % motes[0] if len(motes) == 1 else TOGETHER
 
     def counted(self, events: list[Event], count: Count, motes: tuple[int, ...], span: Span) -> Broken | None:
         """Checks the number of events in a span."""
-        inside = [event for event in events if _within(event.line.at, span)]
+        inside = [event for event in events if within(event.line.at, span)]
         if count.admits(len(inside)):
             return None
         why = '%s%s; wanted: %s' % (has_lines(self.name(motes), len(inside)), span_in_words(span), count)
         spare = _first_spare([event.row for event in inside], count)
         if spare is not None:
             return Broken(why, spare)
-        later = [event for event in events if event.line.at > span[0] and not _within(event.line.at, span)]
-        return Broken(why + '; the next is', later[0].row) if later else Broken(why)
+        later = [event for event in events if event.line.at > span[0] and not within(event.line.at, span)]
+        lacks = Lack(motes, span)
+        return Broken(why + '; the next is', later[0].row, lacks) if later else Broken(why, lacks=lacks)
 
     def listed(self, deed: Deed, mote: int) -> list[Set[int]]:
         """The wanted values of all lines, in the order of the lines: for each line, the numbers that its value may
         be."""
         return [self.values(deed.value, mote)] if deed.value else [{value} for value in deed.values]
 
-    def ordered(self, deed: Deed, events: list[Event], motes: tuple[int, ...]) -> Broken | None:
+    def ordered(self, deed: Deed, events: list[Event], motes: tuple[int, ...], span: Span) -> Broken | None:
         """Checks that the values of all lines are those of a list, in its order."""
         values = self.listed(deed, motes[0])
         for event, wanted in zip(events, values):
@@ -230,7 +239,8 @@ class Judge:
         if len(events) > len(values):
             return Broken('%s one more value' % verb(self.name(motes), 'print'), events[len(values)].row)
         if len(events) < len(values):
-            return Broken('%s %d of these %d values' % (verb(self.name(motes), 'print'), len(events), len(values)))
+            return Broken('%s %d of these %d values' % (verb(self.name(motes), 'print'), len(events), len(values)),
+                          lacks=Lack(motes, span))
         return None
 
     def in_any_order(self, deed: Deed, events: list[Event], motes: tuple[int, ...], span: Span) -> Broken | None:
@@ -243,13 +253,14 @@ class Judge:
                 return Broken('%s %s, %s' % (verb(self.name(motes), 'print'), value, why), event.row)
             left.remove(value)
         never = verb(self.name(motes), 'print', 'never ')
-        return Broken('%s %s%s' % (never, ', '.join(map(str, left)), span_in_words(span))) if left else None
+        return Broken('%s %s%s' % (never, ', '.join(map(str, left)), span_in_words(span)),
+                      lacks=Lack(motes, span)) if left else None
 
     def last(self, deed: Deed, events: list[Event], motes: tuple[int, ...], span: Span) -> Broken | None:
         """Checks the value of the last line in a span."""
         allowed = self.values(deed.value, motes[0]) if deed.value else set()
         if not events:
-            return Broken('%s no such line%s' % (has(self.name(motes)), span_in_words(span)))
+            return Broken('%s no such line%s' % (has(self.name(motes)), span_in_words(span)), lacks=Lack(motes, span))
         if events[-1].line.value in allowed:
             return None
         return Broken('the last such line of %s; wanted: %s' % (self.name(motes), either(allowed)), events[-1].row)
@@ -265,22 +276,23 @@ class Judge:
         return [event for mote in others for event in self.within(
             self.done(other.deed or it.deed, (mote,)), it.than.window, (mote,))]
 
-    def than(self, it: Does, one: list[Event], two: list[Event], name: str, span: Span) -> Broken | None:
+    def than(self, it: Does, one: list[Event], two: list[Event], motes: tuple[int, ...], span: Span) -> Broken | None:
         """Compares the number of lines in a span with the number of the other lines."""
         if it.count.admits(len(one), len(two)):
             return None
         why = '%s: %d lines%s, compared with %d; wanted: %s%s as many' % (
-            name, len(one), span_in_words(span), len(two), it.count, '' if it.count.is_part else ' times')
+            self.name(motes), len(one), span_in_words(span), len(two), it.count, '' if it.count.is_part else ' times')
         most = it.count.number * len(two) // (100 if it.count.is_part else 1)
         if len(one) > most or one and it.count.compare == 'fewer than':
             return Broken(why, one[min(most, len(one) - 1)].row)
-        return Broken(why + '; the last such line is', one[-1].row) if one else Broken(why)
+        return Broken(why + '; the last such line is', one[-1].row) if one else Broken(why, lacks=Lack(motes, span))
 
-    def related(self, it: Does, lines: list[Event], others: list[Event], name: str, span: Span) -> Broken | None:
+    def related(self, it: Does, lines: list[Event], others: list[Event], motes: tuple[int, ...], span: Span
+                ) -> Broken | None:
         """Checks that lines are before, after or near others. In `within 10 of each time`, the others are those in a
         span; otherwise the lines are."""
-        why = relations.broken(it, name, span_in_words(span), lines, others, self.scenario.end)
-        return Broken(*why) if why else None
+        why = relations.broken(it, self.name(motes), span_in_words(span), lines, others, self.scenario.end)
+        return Broken(*why, None if why[1] else Lack(motes, span)) if why else None
 
     def of_unit(self, it: Does, motes: tuple[int, ...]) -> Broken | None:
         """Checks a sentence for one mote, or for several together."""
@@ -295,28 +307,28 @@ class Judge:
             is_shown = broken.row is not None or events or it.than or is_event
             more = '' if is_shown else self.other_value(it, motes)
             more = '; ' + more if more else ''
-            return Broken(broken.why + more + remark_on(it.deed, motes, self.values), broken.row)
+            return broken._replace(why=broken.why + more + remark_on(it.deed, motes, self.values))
         except Apart as apart:
             return Broken(str(apart))
 
     def of_events(self, it: Does, events: list[Event], motes: tuple[int, ...]) -> Broken | None:
         """Checks a sentence for the lines that show its action."""
-        others, name = self.compared(it, motes), self.name(motes)
+        others = self.compared(it, motes)
         for span in self.spans(it.window, motes):
-            inside = [event for event in events if _within(event.line.at, span)]
+            inside = [event for event in events if within(event.line.at, span)]
             if it.than:
-                broken = self.than(it, inside, others, name, span)
+                broken = self.than(it, inside, others, motes, span)
             elif it.relation and it.relation.kind == 'each':
-                asked = [event for event in others if _within(event.line.at, span)]
-                broken = self.related(it, events, asked, name, span)
+                asked = [event for event in others if within(event.line.at, span)]
+                broken = self.related(it, events, asked, motes, span)
             elif it.relation and not (inside or it.is_counted):
                 broken = self.counted(events, it.count, motes, span)
             elif it.relation:
-                broken = self.related(it, inside, others, name, span)
+                broken = self.related(it, inside, others, motes, span)
             elif it.deed.way == 'finally':
                 broken = self.last(it.deed, inside, motes, span)
             elif it.deed.way == 'just':
-                broken = self.ordered(it.deed, inside, motes)
+                broken = self.ordered(it.deed, inside, motes, span)
             elif it.deed.way == 'set':
                 broken = self.in_any_order(it.deed, inside, motes, span)
             else:
@@ -344,19 +356,21 @@ class Judge:
         numbers = range(len(self.report.motes)) if motes.numbers is None else sorted(motes.numbers)
         return tuple(mote for mote in numbers if mote not in motes.but)
 
-    def shown_by(self, it: Does, mote: int) -> Event | None:
-        """The line with which a mote has done what the sentence says; of several periods, that in the last one."""
-        events = self.done(it.deed, (mote,))
-        for span in reversed(self.spans(it.window, (mote,))):
-            inside = [event for event in events if _within(event.line.at, span)]
+    def shown_by(self, it: Does, motes: tuple[int, ...]) -> Event | None:
+        """The line with which a mote, or several together, have done what the sentence says; of several periods, that in
+        the last one."""
+        events = self.done(it.deed, motes)
+        for span in reversed(self.spans(it.window, motes)):
+            inside = [event for event in events if within(event.line.at, span)]
             if inside:
-                return inside[-1 if it.deed.way != 'any' else min(max(it.count.least, 1), len(inside)) - 1]
+                least = 1 if it.than else max(it.count.least, 1)
+                return inside[-1 if it.deed.way != 'any' else min(least, len(inside)) - 1]
         return None
 
     def beyond(self, it: Does, doing: list[int], allowed: int) -> tuple[int, int | None]:
         """The first mote in time that does what the sentence says beyond the allowed number, and the row that shows it. A
         mote without a row has done it from the start."""
-        shown = [(mote, self.shown_by(it, mote)) for mote in doing]
+        shown = [(mote, self.shown_by(it, (mote,))) for mote in doing]
         lines = sorted((event.line.at, mote, event.row) for mote, event in shown if event)
         # (the motes without a row come first, but a mote with a row is easier to look at)
         later = lines[max(allowed - len(doing) + len(lines), 0):]
@@ -368,7 +382,7 @@ class Judge:
             broken = self.of_motes(period)
             if broken:
                 when = span_in_words(self.spans(period.window, ())[0]).strip()
-                return Broken('%s: %s' % (when, broken.why), broken.row)
+                return broken._replace(why='%s: %s' % (when, broken.why))
         return None if periods(it) else self.of_motes(it)
 
     def of_motes(self, it: Does) -> Broken | None:
@@ -383,7 +397,7 @@ class Judge:
             first = self.beyond(it, doing, 0) if doing else None
             return Broken('mote %d does' % first[0], first[1]) if first else None
         if it.motes.kind == 'some':
-            return None if doing else Broken('no mote does')
+            return None if doing else Broken('no mote does', lacks=next((it.lacks for it in broken.values() if it), None))
         assert it.motes.count
         if it.motes.count.admits(len(doing), len(chosen) if it.motes.count.is_part else 1):
             return None
@@ -405,7 +419,7 @@ class Judge:
         which = [motes_do(motes, verb) for motes, verb in (
             (doing, 'does'), ([mote for mote, _ in others], "doesn't")) if motes]
         first = others[0][1]
-        return Broken('%s\n%s; the first that doesn\'t is\n%s' % (why, '; '.join(which), first.why), first.row)
+        return Broken('%s\n%s; the first that doesn\'t is\n%s' % (why, '; '.join(which), first.why), first.row, first.lacks)
 
     def part_of_copies(self, it: Copies) -> Broken | None:
         """Checks which share of the copies that were due has an outcome."""
@@ -451,7 +465,7 @@ class Judge:
         try:
             for row in found:
                 for index, span in enumerate(self.spans(window, (row.mote,))):
-                    if _within(row.at, span):
+                    if within(row.at, span):
                         parts[index].append(row.row)
         except Apart as apart:
             return Broken(str(apart))

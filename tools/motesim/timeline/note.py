@@ -67,13 +67,12 @@ def note_of(run: Run, sentence: str, broken: Broken | None, more: tuple[str, ...
 def _near(asker: Asker, missing: Missing) -> tuple[Line, ...]:
     """The near misses of a missing line, first those about the wanted packet itself. If no run of the program can have
     this report, there are none."""
-    # (if a value is missing, the copies with other values are no reason to look at the last of them first)
+    # (if a value is missing, a copy with another value is no reason to look at it first)
     deed = missing.sentence.deed
     has_value = deed.way in ('just', 'set') or isinstance(deed.patterns[0][-1], Value)
     try:
-        lines = [Line('mote %d: %s' % (mote, it.words), 0 if has_value and it.is_rest else it.row)
-                 for mote, its in misses(asker, missing)
-                 for it in sorted(its, key=lambda it: (not it.is_wanted, has_value and it.is_rest))]
+        lines = [Line('mote %d: %s' % (mote, it.words), it.row if it.is_wanted or not has_value else 0)
+                 for mote, its in misses(asker, missing) for it in sorted(its, key=lambda it: not it.is_wanted)]
     except Fault:
         return ()
     return tuple(lines[:MOST_LINES])

@@ -3,7 +3,6 @@ from __future__ import annotations
 
 import argparse
 import json
-import shlex
 import sys
 
 from motesim.faults import Fault
@@ -12,7 +11,7 @@ from motesim.why.chain import Hop, as_json, chain, on_values, path_of, rows
 from motesim.why.diverge import diverged
 from motesim.why.diverge import rows as parted_rows
 from motesim.why.miss import as_json as missed
-from motesim.why.miss import dropped_elsewhere, misses, value_elsewhere
+from motesim.why.miss import misses
 from motesim.why.miss import rows as near_rows
 from motesim.why.question import Asked, Asker, Missing
 from motesim.why.source import Source, read_source
@@ -89,7 +88,7 @@ def of_first(asker: Asker, other: Asker, question: str) -> Asked | None:
     a sentence about motes, or if no such mote has the line in the other run."""
     for one in asker.lacking(asker.read(question)):
         if all(mote < other.traces.motes for mote in other.judge.chosen(one.motes)):
-            found = other.answer(one)
+            found = other.answer(one) if other.judge.broken(one) is None else None
             if isinstance(found, Asked):
                 return found
     return None
@@ -121,13 +120,6 @@ def show_why(source: Source, asked: argparse.Namespace) -> int:
         near = misses(asker, found)
         print(json.dumps({'question': asked.question, **missed(found, near)}, indent=1) if asked.json else
               '\n'.join(near_rows(found, near)))
-        value = value_elsewhere(asker, found, near)
-        if value is not None and not asked.json:
-            dropped = dropped_elsewhere(asker, found, value)
-            if dropped:
-                print('\n'.join(['', 'Dropped at other motes:', *('  ' + it for it in dropped)]))
-            print('\n`tools/log %s --value %d` shows all lines with the value %d, and so the last mote that has it' % (
-                shlex.quote(asked.file), value, value))
         if asked.other is not None:
             show_other(asker, found, asked)
         return 1

@@ -12,10 +12,9 @@ from typing import NamedTuple
 
 from motesim.faults import Fault
 from motesim.judge.judge import Span
-from motesim.judge.sentences import Copies, Does, Packets
 from motesim.report import FIELDS, MOST_MOMENT
-from motesim.why.question import Asker, within
-from motesim.why.source import At, Found, Source, Traces, read_traces, traces_of
+from motesim.why.question import Asker
+from motesim.why.source import At, Source, Traces, read_traces, traces_of
 
 # The number of bytes that are written at a time.
 PIECE = 1 << 20
@@ -147,36 +146,17 @@ def add_all(log: Log, mote: int, _: re.Pattern[str], span: tuple[int, int]) -> I
         begin = end + 1
 
 
-def is_inside(line: Found, asker: Asker, it: Copies | Packets) -> bool:
-    """Returns whether a line is in the time of a sentence. (This time may depend on the hops of the line's mote.)"""
-    return any(within([line], span) for span in asker.judge.spans(it.window, (line.where.mote,)))
-
-
 def of_sentence(source: Source, sentence: str, it: Filter) -> Log:
     """Those lines of a filter's result that a sentence is about."""
-    asker, asked = Asker(source), None
-    asked = asker.read(sentence)
-    if isinstance(asked, Does):
-        lines = []
-        for mote in asker.judge.chosen(asked.motes):
-            spans = asker.judge.spans(asked.window, (mote,))
-            own = asker.lines(asked, (mote,))
-            lines += [line for line in own if any(within([line], span) for span in spans)]
-    elif isinstance(asked, Copies) and asked.outcome != 'left':
-        lines = asker.of_losses(asked) if asked.outcome == 'lost' else asker.of_copies(asked)
-        lines = [line for line in lines if is_inside(line, asker, asked)]
-    elif isinstance(asked, Packets):
-        lines = [line for line in asker.packets() if is_inside(line, asker, asked)]
-    else:
-        raise Fault('this sentence isn\'t about lines of a trace: %s' % sentence)
-    kept = filtered(source.traces, it)
-    wanted = {(line.where.mote, source.traces.row(line.where)) for line in lines}
+    asker = Asker(source)
+    wanted, kept = set(asker.lines(asker.read(sentence))), filtered(source.traces, it)
     log = Log(source.traces)
     log.all = kept.all
-    for place, where in enumerate(zip(kept.owners, kept.rows)):
-        if where in wanted:
-            log.add(kept.moments[place], where[1], where[0], kept.begins[place], kept.ends[place])
-            log.kinds.setdefault(where[0], Counter())[kept.words(place).partition(' ')[0]] += 1
+    for place, row in enumerate(kept.rows):
+        if row in wanted:
+            mote = kept.owners[place]
+            log.add(kept.moments[place], row, mote, kept.begins[place], kept.ends[place])
+            log.kinds.setdefault(mote, Counter())[kept.words(place).partition(' ')[0]] += 1
     return log
 
 

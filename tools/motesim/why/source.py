@@ -3,13 +3,12 @@ from __future__ import annotations
 
 import re
 from collections.abc import Iterator
-from functools import cached_property
 from pathlib import Path
 from typing import NamedTuple
 
-from motesim.report.belongs import check_motes, check_scenario
+from motesim.report.belongs import check_scenario
 from motesim.faults import Fault
-from motesim.report import Log, Report, Trace
+from motesim.report import Report
 from motesim.runner.run import NoReport, is_scenario, read_file, refuse_others, run_program
 from motesim.scenario.encodings import decoded
 from motesim.scenario.scenario import Scenario
@@ -18,9 +17,6 @@ from motesim.why.lines_of_file import ScenarioFile
 from motesim.why.replay import QUEUE, Replay
 from motesim.why.translate import Program, translated
 
-# Up to this many bytes a report is compared with its scenario copy by copy; for a longer one, only the motes are
-# compared.
-MOST_CHECKED = 10_000_000
 HEAD = re.compile(rb'mote (\d+) ([A-Za-z0-9_-]{1,32})')
 
 
@@ -202,14 +198,6 @@ class Traces:
             at = self.data.find(mark, at + 1, self.medium_end)
         return None
 
-    @cached_property
-    def bare(self) -> Report:
-        """The report's motes without their lines, for code that needs only their number."""
-        trace = Trace([])
-        for _ in self.programs:
-            trace.add([])
-        return Report(self.programs, trace, Log(), 0)
-
 
 class Source:
     """A run: its traces, its scenario, and the replay of each mote that was asked about."""
@@ -312,10 +300,8 @@ def read_source(path: str | Path, scenario: str | Path | None = None) -> Source:
                     "--scenario FILE" % path)
     try:
         source = Source(str(path), data, found, scenario_file(path if scenario is None else scenario))
-        if scenario is not None and len(data) <= MOST_CHECKED:
+        if scenario is not None:
             check_scenario(Report.parse(data), found)
-        elif scenario is not None:
-            check_motes(source.traces.bare, found)
         return source
     except Fault as fault:
         raise Fault('%s: %s' % (path, fault)) from None
