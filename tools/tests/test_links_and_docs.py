@@ -10,8 +10,6 @@ from here import TOP
 
 PAGES = ('*.md', 'docs/**/*.md', 'bench/*.md', 'examples/**/*.md', 'tests/**/*.md', 'tools/**/*.md', 'log/*.md')
 PUBLIC = re.compile(r' *pub (fn|struct|enum|trait|const) (\w+)')
-# A clause without a name, or with a name that states no fact.
-WEAK_CLAUSE = re.compile(r'^ *(requires|ensures)\*? ((here|there|some|few|early|whole) )?\{', re.M)
 
 
 def files(*patterns: str) -> list[Path]:
@@ -57,22 +55,12 @@ def faults_of_docs() -> Iterator[str]:
                 doc = []
 
 
-def weak_clauses() -> Iterator[str]:
-    for path in files('crates/*/src/**/*.rt'):
-        text = path.read_text('utf-8')
-        if 'tests' not in path.parts:
-            yield from (place(path, text[:it.start()].count('\n') + 1) for it in WEAK_CLAUSE.finditer(text))
-
-
 class LinksAndDocs(unittest.TestCase):
     def test_no_link_is_broken(self) -> None:
         self.assertEqual([*broken_links()], [])
 
     def test_public_items_have_docs(self) -> None:
         self.assertEqual([*faults_of_docs()], [])
-
-    def test_clauses_have_names(self) -> None:
-        self.assertEqual([*weak_clauses()], [])
 
 
 if __name__ == '__main__':

@@ -148,10 +148,6 @@ class Runs(unittest.TestCase):
             with self.assertRaises(Fault) as seen:
                 read_traces(path)
             self.assertIn(hint, str(seen.exception))
-            path = Path(folder, 'a.mote')
-            path.write_text(SCENARIO_OF_ONE, encoding='utf-16')
-            with self.assertRaisesRegex(Fault, 'looks like a text in UTF-16, .* Save it as UTF-8'):
-                read_traces(path)
 
     def test_the_command(self) -> None:
         shown = self.log('--kind', 'send', '--mote', '0').split('\n')
