@@ -329,21 +329,18 @@ class FaultsTest(unittest.TestCase):
             self.assertEqual(shown[mark.find('^'):mark.rfind('^') + 1].strip(), marked, seen)
             self.assertIn(words, ' '.join(it.strip() for it in rest), seen)
 
-    def test_a_program_with_a_byte_order_mark_and_a_scenario_in_its_place(self) -> None:
+    def test_a_program_with_a_byte_order_mark(self) -> None:
         plan = PLAN_OF_ONE % 'a.toml'
         source = 'process a;\ncode a { body { } }\n'
         made = Plan('a.plan.toml', plan, Files(Path(), {'a.toml': b'\xef\xbb\xbf' + source.encode()})).scenario({})
         self.assertEqual(Scenario.parse(made).programs, {'a': source})
-        with self.assertRaisesRegex(Fault, 'This file begins as a scenario'):
-            Plan('a.plan.toml', plan, Files(Path(), {'a.toml': b'# a net\nversion = 2\n'})).scenario({})
 
     def test_a_program_with_an_error_or_in_another_encoding(self) -> None:
         plan = PLAN_OF_ONE % 'a.mote'
         source = 'process a;\nautostart a;\ncode a {\n  var n = 0;\n  body {\n    n = n + 1;\n  }\n}\n'
         for data, words in ((source.encode(), 'Hint: Two values with `+` between them are in parentheses: `(n + 1)`.\n'
                              'Write, as line 6:\n      n = (n + 1);\n'),
-                            (source.encode('utf-16'), 'a text in UTF-16, by the byte order mark that it begins with. '
-                                                      'Save it as UTF-8: ')):
+                            (source.encode('utf-16'), 'a.mote is not UTF-8, because of a byte in line 1. Save it')):
             with self.assertRaises(Fault) as seen:
                 Plan('a.plan.toml', plan, Files(Path(), {'a.mote': data})).scenario({})
             self.assertIn(words, str(seen.exception))
