@@ -25,7 +25,6 @@ same tree and binary yield the same archive, byte for byte.
 from __future__ import annotations
 
 import contextlib
-import csv
 import gzip
 import hashlib
 import importlib
@@ -37,12 +36,11 @@ from collections.abc import Collection, Iterable, Iterator, Sequence
 from pathlib import Path, PurePosixPath
 from typing import NamedTuple
 
-from motesim.experiments.asked import Places, sweep_of
+from motesim.experiments.asked import sweep_of
 from motesim.experiments.results import read_results
 from motesim.experiments.sweep import name_of_results
 from motesim.faults import Fault, command
 from motesim.files import refuse_inputs
-from motesim.output import is_shipped
 from motesim.plan.plan import Plan
 from motesim.runner.optimized import wait_for_optimized
 from motesim.runner.programs import COMPILED, TOP, is_proved, program_of_sources, program_path
@@ -133,8 +131,7 @@ class Sorted(NamedTuple):
                   for plan in self.added for file in self.lacks(plan)]
         lines += ['Not finished: %s has %d of the %d runs of %s' % (one_line(results), count, runs, one_line(plan))
                   for plan, results, count, runs in self.unfinished()]
-        return lines + ['Made with MOTESIM: %s. In a repeated sweep the column `program` may differ; '
-                        '`tools/sweep --check` ignores it' % one_line(it)
+        return lines + ['Made with MOTESIM: %s. The first line of a repeated sweep may differ' % one_line(it)
                         for it in self.added if names_another_program(self.packed[it])]
 
     def studies(self) -> dict[str, tuple[list[str], list[str]]]:
@@ -155,8 +152,7 @@ class Sorted(NamedTuple):
                 # (a plan without such a table has no runs of its own)
                 with contextlib.suppress(Fault):
                     sweep = sweep_of(Plan.read(self.packed[plan]), [], [], None)
-                    places = Places(sweep)
-                    found = {places.of(row) for row in read_results(self.packed[its])[1]} - {None}
+                    found = {sweep.place_of(row) for row in read_results(self.packed[its])[1]} - {None}
                     if len(found) < sweep.runs() and (found or name_of_results(plan) == PurePosixPath(its).name):
                         yield plan, its, len(found), sweep.runs()
 
@@ -176,7 +172,7 @@ class Sorted(NamedTuple):
 def is_results(path: Path) -> bool:
     """Returns whether a file has results of tools/sweep."""
     if path.suffix != '.csv':
-        return path.suffix == '.sqlite'
+        return False
     with path.open('rb') as file:
         return kinds.begins_as_results(file.readline())
 
@@ -198,20 +194,18 @@ def pairs_of(plans: Sequence[str], results: Sequence[str]) -> list[tuple[str, st
 
 
 def check_of(plan: str, results: str) -> str:
-    """The command that repeats the runs of a plan in the archive, and compares them with the results."""
-    is_chosen = PurePosixPath(results).name == name_of_results(plan) and not is_shipped(TOP / plan)
-    return 'tools/sweep %s --check' % plan + ('' if is_chosen else ' -o %s' % results)
+    """The commands that repeat the runs of a plan in the archive, and compare them with the results."""
+    return 'tools/sweep %s -o again.csv && diff again.csv %s' % (plan, results)
 
 
 def names_another_program(path: Path) -> bool:
-    """Returns whether a file is a CSV file of results of tools/sweep from a binary whose version isn't known."""
-    if path.suffix != '.csv':
+    """Returns whether a file has results of tools/sweep from a binary whose version isn't known."""
+    if not is_results(path):
         return False
-    with path.open(encoding='utf-8', errors='replace', newline='') as file:
-        try:
-            return any((row.get('program') or '').startswith(ANOTHER) for row in csv.DictReader(file))
-        except csv.Error:
-            return False
+    try:
+        return read_results(path)[0].motesim.startswith(ANOTHER)
+    except Fault:
+        return False
 
 
 def files_of(path: Path) -> Iterator[Path]:

@@ -8,7 +8,7 @@ from argparse import SUPPRESS
 from pathlib import Path
 from typing import NoReturn
 
-from motesim.experiments.packages import SYSTEM, has
+from motesim.packages import SYSTEM, has
 from motesim.faults import Fault, command
 from motesim.words import words_of
 from motesim.runner.programs import TOP, program_path

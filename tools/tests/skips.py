@@ -5,7 +5,7 @@ import shutil
 import sys
 import unittest
 
-from motesim.experiments import packages
+from motesim import packages
 from motesim.faults import Fault
 from motesim.runner.run import program_path
 
@@ -15,7 +15,7 @@ def interpreter_with(test: unittest.TestCase, module: str) -> str:
     if packages.is_here(module):
         return sys.executable
     if not packages.has(module):
-        test.skipTest(packages.how_to_install(module))
+        test.skipTest('%s is not installed' % packages.DEBIAN[module])
     return packages.SYSTEM
 
 

@@ -9,7 +9,7 @@ from unittest import mock
 
 from here import TOOLS, TOP
 import motesim
-from motesim.experiments import packages
+from motesim import packages
 from stub import write_stub
 
 SCENARIO = '''version = 2

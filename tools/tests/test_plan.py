@@ -78,12 +78,6 @@ class ChanceTest(unittest.TestCase):
         self.assertEqual([chance.word() for _ in range(3)],
                          [6457827717110365317, 3203168211198807973, 9817491932198370423])
 
-    def test_some_numbers_are_those_of_as_many_calls(self) -> None:
-        for count in 1, 7, 2 ** 63 + 1:
-            one, other = Chance(3), Chance(3)
-            self.assertEqual(one.some_below(count, 20), [other.below(count) for _ in range(20)])
-            self.assertEqual(one.word(), other.word())
-
     def test_numbers_below_a_count(self) -> None:
         chance = Chance(1)
         self.assertEqual({chance.below(3) for _ in range(100)}, {0, 1, 2})
@@ -128,15 +122,12 @@ class PlacesTest(unittest.TestCase):
                 front += near
             self.assertEqual(reached, set(found))
 
-    def test_a_larger_net_of_one_seed_contains_the_smaller_one_unless_the_count_decides_too(self) -> None:
+    def test_a_larger_net_of_one_seed_contains_the_smaller_one(self) -> None:
         plan = ('end = 9\nmedium = { range = 9, base = 2, per = 9 }\n[parameters]\nmotes = 20\n[places]\n'
-                'rule = "random"\ncount = "${motes}"\nwidth = 99\nheight = 99\nseed = 1\nprogram = "a.mote"\n%s')
-        for words, is_within in ('', True), ('by_count = true\n', False), ('by_count = false\n', True):
-            made = Plan('a.plan.toml', plan % words, Files(Path(), {'a.mote': b'process a;\ncode a { body { } }\n'}))
-            small, large = (Scenario.parse(made.scenario({'motes': it})).places for it in (20, 40))
-            self.assertEqual(large[:20] == small, is_within, words)
-            if not is_within:
-                self.assertLess(len({place[:2] for place in small} & {place[:2] for place in large}), 3)
+                'rule = "random"\ncount = "${motes}"\nwidth = 99\nheight = 99\nseed = 1\nprogram = "a.mote"\n')
+        made = Plan('a.plan.toml', plan, Files(Path(), {'a.mote': b'process a;\ncode a { body { } }\n'}))
+        small, large = (Scenario.parse(made.scenario({'motes': it})).places for it in (20, 40))
+        self.assertEqual(large[:20], small)
 
     def test_what_cannot_be_met_is_told(self) -> None:
         with self.assertRaisesRegex(places.NoPlace, 'was always nearer'):
@@ -254,9 +245,6 @@ flood = 5
         self.assertEqual((len(both), both[0, 1], both[0, 2]), (10, 3, 7))
         some = losses('[[loss]]\nrule = "random"\none_in = 3\nseed = 4\nevery = 2\n')
         self.assertTrue(0 < len(some) < 10, some)
-        # (six primes lose at most one packet in 4.5)
-        with self.assertRaisesRegex(Fault, 'about'):
-            losses('[[loss]]\nrule = "primes"\nabout = 4\nseed = 1\n')
 
     def test_a_program_of_any_signs_comes_through(self) -> None:
         odd = SINK.replace('\n', '\r\n') + '// "\\ \x01\n'

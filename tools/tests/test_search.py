@@ -43,8 +43,7 @@ from motesim.search.search import Bounds, Search
 from motesim.search.sets import Known, count_of
 from motesim.search.shrink_found import Allowance
 from motesim.search.work import RUN, Outcome, Task
-from skips import interpreter_with, need_program
-from test_sweep import CLUSTER
+from skips import need_program
 
 # Mote 0 sends 7 at moment 10, and who hears it for the first time passes it on. Motes 1 and 2 are between 0 and 3.
 PROGRAM = """process flood;
@@ -1009,31 +1008,6 @@ code flood {
             status, _, seen = search(folder, scenario='absent.toml')
             self.assertEqual(status, 2)
             self.assertIn('absent.toml', seen)
-
-
-class Clusters(unittest.TestCase):
-    def test_a_cluster_finds_the_same(self) -> None:
-        need_program(self)
-        interpreter = interpreter_with(self, 'distributed')
-        words = '--faults', 'links,motes', '--at-most', '2'
-        with folder_with() as folder:
-            here = minimal_sets(folder, *words)
-            (folder / 'cluster.py').write_text(CLUSTER)
-            cluster = subprocess.Popen([interpreter, 'cluster.py'], cwd=folder, text=True, stdin=subprocess.PIPE,
-                                       stdout=subprocess.PIPE, stderr=subprocess.DEVNULL)
-            assert cluster.stdin and cluster.stdout
-            try:
-                address = cluster.stdout.readline().strip()
-                there = minimal_sets(folder, *words, '--dask', address)
-            finally:
-                cluster.stdin.close()
-                cluster.wait(60)
-                cluster.stdout.close()
-            self.assertEqual(there[0], here[0])
-            self.assertEqual(there[1]['covered'], here[1]['covered'])
-            status, _, seen = search(folder, *words, '--dask', address)
-            self.assertEqual(status, 2)
-            self.assertIn('no Dask scheduler answers at', seen)
 
 
 class Programs(unittest.TestCase):

@@ -8,11 +8,10 @@ import unittest
 from pathlib import Path
 
 from here import TOOLS, TOP
-from motesim.experiments import packages
-from motesim.analysis.origin import origin_path
+from motesim.analysis.command import table_path
+from motesim.analysis.of_plan import plots_of
 from motesim.plan.plan import Plan
-from motesim.experiments.wishes import table_path, wishes_of
-from skips import need_program
+from skips import interpreter_with, need_program
 
 STUDIES = TOP / 'examples/studies'
 
@@ -26,25 +25,28 @@ class StudiesTest(unittest.TestCase):
     def study(self, name: str, *words: str) -> list[dict[str, str]]:
         """The rows of a study with fewer values. Its pictures are drawn too, or shown as tables."""
         need_program(self)
+        interpreter_with(self, 'matplotlib')
         plan = STUDIES / (name + '.plan.toml')
         command = [sys.executable, '-B', str(TOOLS / 'sweep'), str(plan), '--plot', '--seconds', '500', *words]
         done = subprocess.run(command, cwd=self.folder, capture_output=True, text=True, env=dict(os.environ))
-        has_pictures = packages.is_here('matplotlib') or packages.has('matplotlib')
-        self.assertEqual(done.returncode, 0 if has_pictures else 1, done)
-        pictures = {wish.file for wish in wishes_of(Plan.read(plan))}
+        self.assertEqual(done.returncode, 0, done)
+        pictures = {it.file for it in plots_of(Plan.read(plan))}
         made = {it.name for it in self.folder.iterdir()} - {name + '.csv'}
-        more = {str(path(Path(it))) for it in pictures for path in (table_path, origin_path)}
-        self.assertEqual(made, pictures | more if has_pictures else set())
+        self.assertEqual(made, pictures | {str(table_path(Path(it))) for it in pictures})
+        return self.rows(name)
+
+    def rows(self, name: str) -> list[dict[str, str]]:
         with open(self.folder / (name + '.csv'), newline='') as file:
+            file.readline()
             return list(csv.DictReader(file))
 
     def test_every_study_is_on_the_page(self) -> None:
         page = (STUDIES / 'README.md').read_text('utf-8')
         for plan in STUDIES.glob('*.plan.toml'):
             self.assertIn('tools/sweep examples/studies/%s --plot' % plan.name, page)
-            for wish in wishes_of(Plan.read(plan)):
-                self.assertIn('(%s)' % wish.file, page)
-                self.assertTrue((STUDIES / wish.file).is_file(), wish.file)
+            for it in plots_of(Plan.read(plan)):
+                self.assertIn('(%s)' % it.file, page)
+                self.assertTrue((STUDIES / it.file).is_file(), it.file)
 
     def test_density(self) -> None:
         rows = self.study('density', '--vary', 'seed=1,2', '--vary', 'motes=20,50', '--vary', 'period=20,40')
@@ -79,8 +81,7 @@ class StudiesTest(unittest.TestCase):
         done = subprocess.run([sys.executable, '-B', str(TOOLS / 'sweep'), str(STUDIES / 'trickle.plan.toml'), *words],
                               cwd=self.folder, capture_output=True, text=True, env=dict(os.environ))
         self.assertEqual(done.returncode, 0, done)
-        with open(self.folder / 'trickle.csv', newline='') as file:
-            found = {(int(row['phases']), row['seed']): int(row['collided']) for row in csv.DictReader(file)}
+        found = {(int(row['phases']), row['seed']): int(row['collided']) for row in self.rows('trickle')}
         for seed in '1', '2':
             self.assertGreater(found[1, seed], 1.5 * found[256, seed])
 

@@ -1,40 +1,33 @@
-"""Sweeps: what is measured, what the rows say, what is run again, faults, Ctrl-C, and a Dask cluster."""
+"""Sweeps: what is measured, what the rows say, what is run again, faults, and Ctrl-C."""
 from __future__ import annotations
 
 import contextlib
 import csv
 import gc
 import io
-import logging
 import os
 import signal
-import sqlite3
 import subprocess
 import sys
 import tempfile
 import time
-import tracemalloc
 import unittest
-from collections.abc import Callable, Iterator
 from pathlib import Path
-from types import SimpleNamespace
-from typing import Any, cast
 from unittest import mock
 
 from here import TOOLS
-from motesim.experiments import packages, runs
 from motesim.faults import Fault
-from motesim.experiments.measures import Bench, Cell, MeasureFault, imports_of, read_measure
-from motesim.experiments.one_run import Job, Result, digest, run_job
+from motesim.experiments.measures import Bench, MeasureFault, imports_of, read_measure
+from motesim.experiments.one_run import digest, run_job
 from motesim.plan.plan import Plan
 from motesim.report import Report
-from motesim.experiments.results import CsvFile, SqliteFile, cell, line_of, read_results
+from motesim.experiments.results import Cell, Head, Results, cell, read_results
 from motesim.runner.run import Run
 from motesim.scenario import Scenario
-from motesim.judge.sentences import Names, SentenceFault, names_of
-from motesim.experiments.sweep import Sweeper, said
+from motesim.judge.sentences import names_of
+from motesim.experiments.sweep import Sweeper
 from motesim.experiments.asked import sweep_of, values_of
-from skips import interpreter_with, need_program
+from skips import need_program
 from stub import write_stub
 
 PLAN = '''end = 160
@@ -225,7 +218,7 @@ class MeasuresTest(unittest.TestCase):
                                  ('delivery: mote 1 prints a -> mote 1 prints a', False),
                                  ('delivery: mote 1 prints a 9 -> every mote prints a', False)]:
             found = read_measure(words, self.names).warning(bench())
-            self.assertEqual('mote 1 is in both sentences' in found and '`every mote but 1`' in found, is_warned, words)
+            self.assertEqual(found == 'own-message', is_warned, words)
 
     def test_sources_of_the_same_value_in_two_motes_are_a_warning(self) -> None:
         for words, is_warned in [('delivery: every mote prints a -> mote 2 prints a', True),
@@ -233,7 +226,7 @@ class MeasuresTest(unittest.TestCase):
                                  ('delivery: mote 1 prints a -> mote 2 prints a', False),
                                  ('delivery: every mote sends -> mote 2 prints a', False)]:
             found = read_measure(words, self.names).warning(bench())
-            self.assertEqual('source: motes 1 and 2 print 7. Messages are' in found, is_warned, words)
+            self.assertEqual(found == 'same-value', is_warned, words)
 
     def test_words_that_are_no_measure(self) -> None:
         for words in WRONG:
@@ -247,7 +240,6 @@ class MeasuresTest(unittest.TestCase):
             read_measure('python: mine.py:listed', self.names, {'mine.py': MINE}).of(bench())
         with self.assertRaisesRegex(MeasureFault, 'mine.py: line 1: SyntaxError'):
             read_measure('python: mine.py:x', self.names, {'mine.py': 'def :'})
-
 
     def test_a_number_that_is_none_is_not_kept(self) -> None:
         source = {'m.py': 'def f(run):\n    return %s\n'}
@@ -266,14 +258,6 @@ class MeasuresTest(unittest.TestCase):
                 'motes: every mote prints just a 4', 'or a comparison. A measure `holds: every mote prints just a 4`'):
             with self.assertRaisesRegex(MeasureFault, seen.replace('?', r'\?')):
                 read_measure(words, self.names)
-
-    def test_several_values_are_suggested_as_any_of_them(self) -> None:
-        for words, like in (
-                ('delivery: mote 1 print a 1 to 7 -> mote 2 prints a', 'mote 1 print a any of 1 to 7'),
-                ('count: motes 1 to 2 print a 1, 2, 3', 'motes 1 to 2 print a any of 1, 2, 3'),
-                ('holds: motes 1 to 2 print a 1, 2, 3', 'motes 1 to 2 print just a 1, 2, 3')):
-            with self.assertRaisesRegex(SentenceFault, 'Did you mean: %s$' % like):
-                read_measure(words, Names(('a',), 3))
 
     def test_a_function_of_two_arguments_gets_the_parameters_of_the_run(self) -> None:
         sources = {'m.py': 'def both(run, its):\n    return its.pop("period") * run.scenario.motes\n'
@@ -332,6 +316,7 @@ class Bed(unittest.TestCase):
 
     def rows(self, name: str = 'net.csv') -> list[dict[str, str]]:
         with open(self.folder / name, newline='') as file:
+            file.readline()
             return list(csv.DictReader(file))
 
     words = ('--vary', 'period=1..3', '--vary', 'motes=2,3', '--measure', 'end = last: every mote prints a',
@@ -346,28 +331,12 @@ class SweepTest(Bed):
         found = [(row['period'], row['motes'], row['name'], row['end'], row['prints'], row['fault']) for row in rows]
         self.assertEqual(found[:3], [('1', '2', 'a', '2', '2', ''), ('1', '3', 'a', '3', '3', ''),
                                      ('2', '2', 'a', '4', '2', '')])
-        self.assertEqual({(row['plan'], row['program']) for row in rows}, {
-            ('net.plan.toml', 'another with the SHA-256 ' + digest(self.stub.read_bytes()))})
+        head = read_results(self.folder / 'net.csv')[0]
+        self.assertEqual((head.plan, head.kit, head.motesim_sha256), (
+            'net.plan.toml', '', digest(self.stub.read_bytes())))
+        self.assertEqual(head.measures, {'end': 'last: every mote prints a', 'prints': 'prints'})
         self.assertTrue(all(len(row[name]) == 16 for row in rows for name in row if name.endswith('sha256')))
         self.assertEqual(len({row['scenario_sha256'] for row in rows}), 6)
-        self.assertEqual({row['measures'] for row in rows}, {'end = last: every mote prints a; prints'})
-
-    def test_the_rows_name_the_files_of_their_plan_and_an_older_file_of_results_continues(self) -> None:
-        for name in 'net.csv', 'net.sqlite':
-            self.assertEqual(self.sweep('--measure', 'sent', '-o', name).returncode, 0)
-        row = self.rows()[0]
-        self.assertRegex(row['plan_files'], r'^plan [0-9a-f]{16}; a\.mote %s$' % digest(
-            (self.folder / 'a.mote').read_bytes()))
-        with contextlib.closing(sqlite3.connect(self.folder / 'net.sqlite')) as base:
-            base.execute('alter table runs drop column plan_files')
-            base.commit()
-        del row['plan_files']
-        (self.folder / 'net.csv').write_text(line_of(row) + line_of(row.values()))
-        for name in 'net.csv', 'net.sqlite':
-            done = self.sweep('--measure', 'sent', '--vary', 'period=1,2', '-o', name)
-            self.assertEqual((done.returncode, done.stderr), (0, ''))
-            columns, found = read_results(self.folder / name)
-            self.assertEqual((columns, len(found)), (list(row), 3))
 
     def test_a_measure_reads_the_parameters_of_its_run(self) -> None:
         (self.folder / 'm.py').write_text('def f(run, parameters):\n    return "%r" % parameters\n')
@@ -375,43 +344,13 @@ class SweepTest(Bed):
         self.assertEqual([row['f'] for row in self.rows()],
                          ["{'period': %d, 'motes': 3, 'name': 'a'}" % it for it in (1, 2)])
 
-    def test_the_digests_of_all_files_of_a_measure_are_in_the_rows(self) -> None:
+    def test_the_digests_of_all_files_of_a_measure_are_in_the_first_line(self) -> None:
         (self.folder / 'm.py').write_text('import mine, math\ndef f(run):\n    return mine.lines(run)\n')
         self.assertEqual(self.sweep('--measure', 'python: m.py:f').returncode, 0)
-        files = '; '.join('%s has the SHA-256 %s' % (name, digest((self.folder / name).read_bytes()))
-                          for name in ('m.py', 'mine.py'))
-        self.assertEqual([row['measures'] for row in self.rows()], ['python: m.py:f; ' + files])
+        files = {name: digest((self.folder / name).read_bytes()) for name in ('m.py', 'mine.py')}
+        self.assertEqual(read_results(self.folder / 'net.csv')[0].files, files)
         (self.folder / 'mine.py').write_text(MINE + '# changed\n')
-        self.assertIn('from before a change of the measures', self.sweep('--measure', 'python: m.py:f').stderr)
-
-    def test_rows_of_an_older_definition_of_a_measure_are_not_mixed_with_new_ones(self) -> None:
-        for words, is_old in (('delivery: mote 0 sends -> every mote prints a', True),
-                              ('delivery: mote 0 sends -> mote 1 prints a', False),
-                              ('delivery: mote 0 sends -> some mote prints a', False)):
-            command = '--measure', words, '--vary', 'period=1,2', '-o', 'old.csv'
-            self.sweep(*command, '--renew')
-            path = self.folder / 'old.csv'
-            before = digest(repr(([words], [])).encode())
-            path.write_text(path.read_text().replace(self.rows('old.csv')[0]['measures_sha256'], before))
-            done = self.sweep(*command)
-            self.assertEqual('from before a change of the measures. --renew' in done.stderr, is_old, done)
-
-    def test_rows_of_tools_that_make_other_scenarios_are_not_mixed_with_new_ones(self) -> None:
-        plan, path = self.folder / 'net.plan.toml', self.folder / 'old.csv'
-        words = '--measure', 'sent', '-o', 'old.csv', '--vary', 'period=1,2'
-        self.sweep(*words)
-        # (the name of a plan, and its comments, may change)
-        renamed = plan.rename(self.folder / 'other.plan.toml')
-        renamed.write_text('# mine\n' + renamed.read_text())
-        more = [*self.command(*words)[:3], 'other.plan.toml', *words[:-1], 'period=1..3']
-        done = subprocess.run(more, cwd=self.folder, env=self.here(), capture_output=True, text=True)
-        self.assertEqual((done.returncode, done.stdout), (0, 'old.csv: 3 runs, 1 of them now, 0 with a fault\n'))
-        renamed.rename(plan)
-        path.write_text(path.read_text().replace(self.rows('old.csv')[0]['scenario_sha256'], '0123456789abcdef'))
-        done = self.sweep(*words)
-        self.assertEqual((done.returncode, done.stderr), (2, (
-            'sweep: old.csv has 3 rows from before a change of the tools that make scenarios. --renew runs them again, '
-            'and -o names another file\n')))
+        self.assertIn('from before a change of a measure', self.sweep('--measure', 'python: m.py:f').stderr)
 
     def test_a_parameter_that_nothing_uses_and_an_error_in_a_picture_are_known_before_the_runs(self) -> None:
         plan = self.folder / 'net.plan.toml'
@@ -426,156 +365,19 @@ class SweepTest(Bed):
         self.assertEqual((done.returncode, done.stdout, (self.folder / 'none.csv').exists()), (2, '', False))
         self.assertIn('A plot has no key of this name.', done.stderr)
 
-    def test_wrong_names_and_values_in_a_picture_are_known_before_the_runs(self) -> None:
+    def test_wrong_names_in_a_picture_are_known_before_the_runs(self) -> None:
         plan = self.folder / 'net.plan.toml'
         before = plan.read_text()
         picture = '[[plot]]\nfile = "a.svg"\nmeasure = "sent"\nagainst = "period"\n'
-        faults = {
-            picture.replace('"sent"', '"snet"'): 'The runs have no measure snet; did you mean sent?',
-            picture.replace('"period"', '"peroid"'): 'The runs have no parameter or measure peroid; did you mean '
-                                                     'period?',
-            picture + 'by = "motes,mote"\n': 'The runs have no parameter mote; did you mean motes?',
-            picture + 'over = "mote"\n': 'The runs have no parameter mote; did you mean motes?',
-            picture + 'where = { mote = 2 }\n': 'The runs have no parameter mote; did you mean motes?',
-            picture + 'where = { motes = "3,9" }\n': 'No run has motes = 9.',
-            picture + 'pair = "motes=3,9"\n': 'No run has motes = 9.',
-            picture + 'pair = "motes=2"\n': 'A pair is of two values of a parameter.',
-            picture + 'show = "heat"\n': 'A plot with this `show` needs the key `by`',
-        }
-        for words, said in faults.items():
-            with self.subTest(said, words=words):
-                plan.write_text(before + words)
-                done = self.sweep('--vary', 'period=1,2', '--measure', 'sent', '--plot')
-                self.assertEqual((done.returncode, done.stdout, (self.folder / 'net.csv').exists()), (2, '', False))
-                self.assertIn(said, done.stderr)
-        # (without --plot, a wrong name is a warning)
-        warned = 'sweep: warning: a picture of the plan can\'t be drawn from these results, and --plot would be ' \
-                 'refused:\n'
-        for number, (words, said) in enumerate(faults.items()):
-            with self.subTest('without --plot', words=words):
-                plan.write_text(before + words)
-                done = self.sweep('--vary', 'period=1,2', '--measure', 'sent', '-o', '%d.csv' % number)
-                self.assertEqual((done.returncode, len(self.rows('%d.csv' % number))), (0, 2), done)
-                is_value = said.startswith(('No run', 'A pair')) or 'where' in words
-                self.assertEqual((done.stderr.startswith(warned), said in done.stderr), 2 * (not is_value,), done)
-        plan.write_text(before + picture)
-        self.assertEqual(self.sweep('--vary', 'period=1,2', '--measure', 'sent', '-o', 'right.csv').stderr, '')
-        # (a value that only earlier rows of the file have)
-        plan.write_text(before + picture + 'where = { motes = 4 }\n')
-        self.sweep('--vary', 'period=1,2', '--vary', 'motes=4', '--measure', 'sent')
-        self.assertNotIn('No run has', self.sweep('--vary', 'period=1,2', '--measure', 'sent', '--plot').stderr)
-
-    def test_more_seeds_than_draw_apart(self) -> None:
-        source = 'process a;\ncode a { var dice = 0; body { dice = ((self * 257) + ${period}); print 3; } }\n'
-        (self.folder / 'a.mote').write_text(source)
-        warned = 'sweep: warning: period = 0 to 257: with 1 of these 2 seeds, mote k draws the same numbers as mote k '
-        note = 'warning: with period = 257 mote k draws the same numbers as mote k + 1 with period = 0, so these two ' \
-               'runs are not independent: use at most 257 seeds in a row'
-        for values, is_warned in ('0,257', True), ('1,257', False):
-            for end in '.csv', '.sqlite':
-                name = values[0] + end
-                done = self.sweep('--vary', 'period=' + values, '--measure', 'sent', '-o', name)
-                self.assertEqual((done.returncode, warned in done.stderr), (0, is_warned), done)
-                rows = read_results(self.folder / name)[1]
-                self.assertEqual([(row['note'], row['chance_seeds']) for row in rows],
-                                 [(None, 'period'), (note if is_warned else None, 'period')])
-
-    def test_seeds_with_which_two_processes_of_a_mote_draw_alike(self) -> None:
-        first, second = 'dice = ((self * 257) + ${period});', 'dice = (((self * 257) + ${period}) + 128);'
-        source = ('process a, b;\ncode a { var dice = 0; body { %s print 3; } }\n'
-                  'code b { var dice = 0; body { %s print 4; } }\n')
-        note = ('warning: with period = %d a process draws the same numbers as another process of a mote with period = '
-                '%d, so these two runs are not independent: use at most 128 seeds in a row')
-        # (with 130 and 1, the processes of two neighbouring motes draw alike)
-        for lines, values, before in (((first, second), '1,129', 1), ((first, second), '1,130', 1),
-                                      ((first, second), '1,128', 0), ((first, second), '2,129', 0),
-                                      ((second, second), '1,129', 0)):
-            (self.folder / 'a.mote').write_text(source % lines)
-            (self.folder / 'a.csv').unlink(missing_ok=True)
-            done = self.sweep('--vary', 'period=' + values, '--measure', 'sent', '-o', 'a.csv')
-            with self.subTest(values=values, lines=lines):
-                self.assertEqual(done.returncode, 0, done)
-                last = int(values.split(',')[1])
-                warned = ('sweep: warning: period = 1 to %d: with 1 of these 2 seeds, a process draws the same numbers '
-                          'as another process of a mote with the seed %d less, so these runs are not independent: use '
-                          'at most 128 seeds in a row' % (last, last - 1))
-                self.assertEqual(warned in done.stderr, bool(before), done.stderr)
-                rows = read_results(self.folder / 'a.csv')[1]
-                self.assertEqual(rows[-1]['note'], note % (last, before) if before else None)
-                self.assertEqual(rows[-1]['chance_seeds'], 'period period+128' if lines[0] == first else 'period')
-
-    def test_values_of_parameters_with_which_a_program_calculates_another_number(self) -> None:
-        plan = self.folder / 'net.plan.toml'
-        plan.write_text(plan.read_text().replace('period = 4', 'period = 4\nguard = 30'))
-        notes = {'(period * 90) / 100': {800: '`(800 * 90)` would be 72,000, but'},
-                 'period / guard': {25: '`(25 / 30)` is 0: '}, 'period - guard': {25: '`(25 - 30)` would be -5, but'}}
-        for value, wanted in notes.items():
-            value = value.replace('period', '${period}').replace('guard', '${guard}')
-            (self.folder / 'a.mote').write_text('process a;\ncode a { etimer t; body { set t (%s); print 3; } }\n' %
-                                                value)
-            self.sweep('--vary', 'period=25,40,800', '--measure', 'sent', '-o', 'a.csv', '--renew')
-            for row in read_results(self.folder / 'a.csv')[1]:
-                self.assertIn(wanted.get(cast(int, row['period']), ''), str(row['note'] or ''))
-                self.assertEqual(row['note'] is None, row['period'] not in wanted, row['note'])
-
-    def test_a_program_that_begins_with_another_multiple_of_the_motes_number(self) -> None:
-        plan = self.folder / 'net.plan.toml'
-        plan.write_text(plan.read_text().replace('period = 4', 'period = 4\nseed = 1'))
-        note = ('warning: with seed = %d mote k draws the same numbers as mote k + 1 with seed = %d, so these two runs '
-                'are not independent: begin with `((self * 257) + ${seed})`')
-        for value, column, before in (('(self + ${seed})', 'seed*1', 4), ('((${seed} + self) * 9)', 'seed*1', 4),
-                                      ('((self * 3) + ${seed})', 'seed*3', 2), ('((self * 257) + ${seed})', 'seed', 0),
-                                      ('(self + ${period})', None, 0), ('(2 == (self + ${seed}))', None, 0)):
-            with self.subTest(value):
-                (self.folder / 'a.mote').write_text(
-                    'process a;\ncode a { var dice = 0; body { dice = %s; print 3; } }\n' % value)
-                (self.folder / 'a.csv').unlink(missing_ok=True)
-                self.assertEqual(self.sweep('--vary', 'seed=1..5', '--measure', 'sent', '-o', 'a.csv').returncode, 0)
-                row = read_results(self.folder / 'a.csv')[1][-1]
-                self.assertEqual((row['chance_seeds'], row['note']),
-                                 (column, note % (5, before) if before else None))
-
-    def test_the_corrected_seed_of_a_second_process_has_the_parameter(self) -> None:
-        code = 'code %s { var dice = 0; body { dice = ((self * 257) + ${period}); dice = (dice * 3); print 3; } }\n'
-        (self.folder / 'a.mote').write_text('process a, b; autostart a, b;\n' + code % 'a' + code % 'b')
-        done = self.sweep('--vary', 'period=7', '--measure', 'sent', '-o', 'a.csv')
-        self.assertEqual(done.returncode, 0, done)
-        self.assertIn('in `b`, write `dice = (((self * 257) + ${period}) + 128);`', done.stderr)
-
-    def test_seeds_that_do_not_depend_on_the_mote_or_that_motes_of_two_runs_share(self) -> None:
-        plan = self.folder / 'net.plan.toml'
-        plan.write_text(plan.read_text().replace('period = 4', 'period = 4\nseed = 1'))
-        alike = ('all motes that draw numbers draw the same ones: the seed `dice = %s;` doesn\'t depend on the mote; '
-                 'begin with `((self * 257) + ${seed})`')
-        shared = ('motes of two runs draw the same numbers: mote k + 2 draws the numbers of mote k in the run with the '
-                  'next seed; begin with `((self * 257) + ${seed})`')
-        for seed, draw, wanted in (
-                ('${seed}', '', alike), ('(${seed} + 5)', '', alike), ('${seed}', 'dice = (dice + self);', ''),
-                ('${period}', '', ''), ('((${seed} * 2) + self)', '', shared), ('(self + (${seed} * 2))', '', shared),
-                ('((${seed} * 4) + self)', '', ''), ('((self * 257) + ${seed})', '', '')):
-            with self.subTest(seed + draw):
-                (self.folder / 'a.mote').write_text(
-                    'process a; autostart a; code a { var dice = 0; // dice = self;\nbody { dice = %s; %s print 3; '
-                    'dice = ((dice * 25173) + 13849); } }' % (seed, draw))
-                self.sweep('--vary', 'seed=1', '--vary', 'motes=3', '--measure', 'sent', '-o', 'a.csv', '--renew')
-                note = read_results(self.folder / 'a.csv')[1][0]['note']
-                self.assertEqual(note, 'warning: ' + wanted.replace('%s', seed) if wanted else None)
-
-    def test_seeds_of_two_commands_draw_alike(self) -> None:
-        source = 'process a;\ncode a { var dice = 0; body { dice = ((self * 257) + ${period}); print 3; } }\n'
-        (self.folder / 'a.mote').write_text(source)
-        for name, values in ('up.csv', ('0', '257')), ('down.csv', ('257', '0')), ('up.sqlite', ('0', '257')):
-            said = [self.sweep('--vary', 'period=' + it, '--measure', 'sent', '-o', name).stderr for it in values]
-            self.assertEqual(['period = 0 to 257: ' in it for it in said], [False, True], said)
-            found = {row['period']: row['note'] for row in read_results(self.folder / name)[1]}
-            self.assertIsNone(found[0])
-            self.assertIn('period = 257 mote k draws the same numbers as mote k + 1 with period = 0', str(found[257]))
-        # (the note goes with the row that it is about)
-        (self.folder / 'a.mote').write_text(source + '// more\n')
-        path = self.folder / 'up.csv'
-        path.write_text(''.join(it for it in path.read_text().splitlines(True) if not it.startswith('0,')))
-        self.sweep('--vary', 'period=257', '--measure', 'sent', '-o', 'up.csv', '--renew')
-        self.assertEqual([row['note'] for row in read_results(self.folder / 'up.csv')[1]], [None])
+        for words, said in ((picture.replace('"sent"', '"snet"'), '`measure` names snet'),
+                            (picture.replace('"period"', '"peroid"'), '`against` names peroid'),
+                            (picture + 'by = "motes,mote"\n', '`by` names mote,'),
+                            (picture + 'where = { mote = 2 }\n', '`where` names mote,'),
+                            (picture + 'show = "heat"\n', '`show` is median, mean, points, cdf,')):
+            plan.write_text(before + words)
+            done = self.sweep('--vary', 'period=1,2', '--measure', 'sent', '--plot')
+            self.assertEqual((done.returncode, done.stdout, (self.folder / 'net.csv').exists()), (2, '', False))
+            self.assertIn(said, ' '.join(done.stderr.split()))
 
     def test_only_what_is_missing_is_run(self) -> None:
         self.sweep(*self.words)
@@ -585,7 +387,7 @@ class SweepTest(Bed):
         self.assertEqual((self.folder / 'net.csv').read_bytes(), before)
         # (half a row, as of a machine that lost its power)
         rows = before.split(b'\n')
-        (self.folder / 'net.csv').write_bytes(b'\n'.join(rows[:3]) + b'\n' + rows[3][:9])
+        (self.folder / 'net.csv').write_bytes(b'\n'.join(rows[:4]) + b'\n' + rows[4][:9])
         again = self.sweep(*self.words, '--jobs', '1')
         self.assertEqual(again.stdout, 'net.csv: 6 runs, 4 of them now, 0 with a fault\n')
         self.assertEqual((self.folder / 'net.csv').read_bytes(), before)
@@ -597,12 +399,12 @@ class SweepTest(Bed):
         (self.folder / 'a.mote').write_text(MOTE + '// another\n')
         again = self.sweep(*self.words)
         self.assertEqual(again.returncode, 2)
-        self.assertIn('net.csv has 6 rows from before a change of the plan or a file next to it. --renew', again.stderr)
+        self.assertIn('net.csv has rows from before a change of the plan or a file next to it: --renew', again.stderr)
         anew = self.sweep(*self.words, '--renew')
         self.assertEqual(anew.stdout, 'net.csv: 6 runs, 6 of them now, 0 with a fault\n')
         other = self.sweep(*self.words, '--measure', 'sent')
         self.assertEqual(other.returncode, 2)
-        self.assertIn('net.csv doesn\'t have the columns of this sweep (it lacks sent), because ', other.stderr)
+        self.assertIn('name, end, prints, and this sweep makes ', other.stderr)
 
     def test_rows_that_a_command_does_not_run_again_are_not_removed(self) -> None:
         words = '--measure', 'prints', '--measure', 'python: mine.py:wrong'
@@ -614,9 +416,9 @@ class SweepTest(Bed):
         self.assertEqual(len(self.rows()), 6)
         (self.folder / 'mine.py').write_text(MINE + '# more\n')
         done = self.sweep('--vary', 'period=1..3', '--vary', 'motes=2', *words, '--renew')
-        self.assertEqual((done.returncode, done.stderr), (2, (
-            'sweep: net.csv has 3 rows from before a change of the measures, with values that this command lacks, and '
-            '--renew would remove them: vary all values of the file, or name another file with -o\n')))
+        self.assertEqual(done.returncode, 2)
+        self.assertIn('net.csv has rows from before a change of a measure: name another file with -o, or vary all '
+                      'values of the file', done.stderr)
         self.assertEqual(sorted(map(str, self.rows())), sorted(map(str, before)))
         done = self.sweep('--vary', 'period=1..3', '--vary', 'motes=2,3', *words, '--renew')
         self.assertIn('6 runs, 6 of them now', done.stdout)
@@ -633,14 +435,14 @@ class SweepTest(Bed):
         self.assertEqual(done.stdout, 'net.csv: 5 runs, 2 of them now, 0 with a fault\n', done)
         self.assertEqual(self.rows()[:3], before)
         (self.folder / 'net.plan.toml').write_text(other.replace('step = 10', 'step = 9'))
-        self.assertIn('a change of the plan or a file next to it.', self.sweep().stderr)
+        self.assertIn('a change of the plan or a file next to it:', self.sweep().stderr)
 
     def test_what_has_changed_is_named(self) -> None:
         self.sweep('--vary', 'motes=2,3', '--measure', 'python: mine.py:lines')
         (self.folder / 'mine.py').write_text(MINE + '# more\n')
         self.stub.write_text(self.stub.read_text() + '# more\n')
         again = self.sweep('--vary', 'motes=2,3', '--measure', 'python: mine.py:lines')
-        self.assertIn('2 rows from before a change of motesim, and of the measures.', again.stderr)
+        self.assertIn('rows from before a change of motesim:', again.stderr)
 
     def test_places_and_rejected_nets_are_in_the_rows(self) -> None:
         (self.folder / 'net.plan.toml').write_text(PLAN.replace('rule = "line"', 'rule = "random"').replace(
@@ -666,80 +468,6 @@ class SweepTest(Bed):
                            cwd=self.folder, capture_output=True)
             self.assertEqual([row['loss'] for row in self.rows('%d.csv' % every)], [share])
 
-    def test_losses_in_step_are_a_warning_of_each_run(self) -> None:
-        need_program(self)
-        (self.folder / 'net.plan.toml').write_text(PLAN.replace('name = "a"', 'name = "a"\nseed = 1\nevery = 2')
-                                                   + '[[loss]]\nrule = "all"\nevery = "${every}"\n')
-        (self.folder / 'a.mote').write_text(
-            'process a; autostart a; code a { etimer t; body { while (self == 1) { set t 4; yield_until fired(t); '
-            'send 7; } } } // ${seed}\n')
-        command = self.command('--vary', 'every=2,1', '--vary', 'seed=1..3', '--measure', 'sent')
-        done = subprocess.run(command, cwd=self.folder, capture_output=True, text=True)
-        self.assertEqual((done.returncode, done.stdout), (0, 'net.csv: 6 runs, 6 of them now, 0 with a fault\n'), done)
-        warned = ('mote 1 loses the same packets on all of its 2 links: 20 of its 40 packets reach nobody (about 10 '
-                  'would, if the links lost independently); give its links different periods, as the rule `primes` of '
-                  'a plan does')
-        self.assertEqual([row['note'] for row in self.rows()], 3 * ['warning: ' + warned] + 3 * [''])
-        self.assertEqual(done.stderr, 'sweep: 3 of 6 runs have a warning in the column note; the first (every = 2, '
-                                      'seed = 1): %s\n' % warned)
-        self.assertIn(' 0 of them now', subprocess.run([*command, '--retry'], cwd=self.folder, capture_output=True,
-                                                       text=True).stdout)
-
-    def test_warnings_do_not_depend_on_the_order_of_the_seeds_or_on_earlier_commands(self) -> None:
-        need_program(self)
-        (self.folder / 'net.plan.toml').write_text(PLAN.replace('name = "a"', 'name = "a"\nseed = 1') + (
-            '[[loss]]\nrule = "all"\nevery = 2\n'))
-        # (with an odd seed two kinds of packets alternate)
-        (self.folder / 'a.mote').write_text(
-            'process a; autostart a; code a { var n = 0; etimer t; body { while (self == 0) { set t 4; yield_until '
-            'fired(t); n = (n + 1); if ((${seed} % 2) && (n % 2)) { send 900; } else { send n; } } } }\n')
-        runs = {}
-        for name, orders in {'one': ['1..4'], 'two': ['3..4', '1..4'], 'three': ['4,2,1,3']}.items():
-            for order in orders:
-                done = subprocess.run([*self.command('--vary', 'seed=' + order, '--measure', 'sent'), '-o',
-                                       name + '.csv'], cwd=self.folder, capture_output=True, text=True)
-            self.assertIn('sweep: 2 of 4 runs have a warning in the column note; the first (seed = ', done.stderr)
-            runs[name] = (self.folder / (name + '.csv')).read_bytes()
-        self.assertEqual(runs['one'], runs['two'])
-        self.assertEqual(sorted(runs['one'].splitlines()), sorted(runs['three'].splitlines()))
-
-    def test_a_single_warned_run_has_its_message_in_the_singular(self) -> None:
-        need_program(self)
-        (self.folder / 'net.plan.toml').write_text(PLAN + '[[loss]]\nrule = "all"\nevery = 9\n')
-        (self.folder / 'a.mote').write_text('process a; autostart a; code a { body { if self { send 7; } } }\n')
-        done = subprocess.run(self.command('--measure', 'sent'), cwd=self.folder, capture_output=True, text=True)
-        self.assertIn('sweep: 1 of 1 runs has a warning in the column note; the first: no packet', done.stderr)
-
-    def test_runs_whose_losses_lose_nothing_are_counted(self) -> None:
-        need_program(self)
-        (self.folder / 'net.plan.toml').write_text(PLAN.replace('name = "a"', 'name = "a"\nevery = 2') + (
-            '[[loss]]\nrule = "all"\nevery = "${every}"\n'))
-        (self.folder / 'a.mote').write_text(
-            'process a; autostart a; code a { var n = 0; body { while ((self == 1) && (n < 3)) { send 7; n = (n + 1); '
-            'pause; } } } // ${period}\n')
-        command = self.command('--vary', 'every=2..5', '--measure', 'sent')
-        done = subprocess.run(command, cwd=self.folder, capture_output=True, text=True)
-        self.assertEqual(done.stderr, (
-            'sweep: 2 of 4 runs have a warning in the column note; the first (every = 4): no packet was lost, though '
-            'the scenario has losses: a loss with `every = N` loses each N-th packet of its sender, but no mote with '
-            'losses sent more than 3 packets, and the least N is 4\n'), done)
-        self.assertEqual([bool(row['note']) for row in self.rows()], [False, False, True, True])
-
-    def test_runs_in_which_all_motes_halt_are_counted(self) -> None:
-        need_program(self)
-        (self.folder / 'net.plan.toml').write_text(PLAN)
-        # (with period 1 all motes run away, and with period 2 all motes except mote 0)
-        (self.folder / 'a.mote').write_text(
-            'process a; autostart a; code a { etimer t; body { set t 5; yield_until fired(t); while ((self + 2) > '
-            '${period}) { } } }')
-        done = subprocess.run(self.command('--vary', 'period=1..2', '--measure', 'halt'), cwd=self.folder,
-                              capture_output=True, text=True)
-        self.assertEqual((done.returncode, done.stderr), (0, (
-            'sweep: 1 of 2 runs has a warning in the column note; the first (period = 1): all motes halted, the last '
-            'one at moment 5: each mote used up the 10,000 units of work of a kernel run. Make the scenario of this '
-            'row with tools/scenario, and tools/explain names the loops\n')), done)
-        self.assertEqual([(row['halt'], bool(row['note'])) for row in self.rows()], [('3', True), ('2', False)])
-
     def test_sources_of_the_same_value_are_reported_once_with_the_number_of_runs(self) -> None:
         need_program(self)
         (self.folder / 'net.plan.toml').write_text(PLAN)
@@ -747,10 +475,8 @@ class SweepTest(Bed):
         command = self.command('--vary', 'period=1..3', '--measure', 'delivery: every mote prints a -> mote 0 prints a',
                                '--measure', 'flow ratio: print a -> print a')
         done = subprocess.run(command, cwd=self.folder, capture_output=True, text=True)
-        self.assertEqual((done.returncode, done.stderr.count('\n')), (0, 1), done)
-        self.assertTrue(done.stderr.startswith(
-            'sweep: 3 of 3 runs have a warning in the column note; the first (period = 1): several motes print the '
-            'same value as a source: motes 0 and 1 print 1. '), done)
+        self.assertEqual(done.stderr, 'sweep: warning: same-value, in 3 of 3 runs: two messages have the same value, so '
+                                      'a measure can\'t tell them apart\n')
 
     def test_a_line_that_is_the_delivery_of_its_own_message_is_reported(self) -> None:
         need_program(self)
@@ -761,65 +487,11 @@ class SweepTest(Bed):
             (self.folder / 'net.csv').unlink(missing_ok=True)
             done = subprocess.run(self.command('--vary', 'period=1..3', '--measure', 'delivery: ' + words),
                                   cwd=self.folder, capture_output=True, text=True)
-            self.assertEqual(done.stderr.count(
-                'sweep: 3 of 3 runs have a warning in the column note; the first (period = 1): a line counts as the '
-                'delivery of its own message: the line `0 print a 1` of mote 0 is a line of both sentences'), counts,
-                (words, done))
+            self.assertEqual(done.stderr.count('sweep: warning: own-line, in 3 of 3 runs: '), counts, (words, done))
         done = subprocess.run(self.command('--vary', 'period=1', '--measure',
                                            'delay: mote 0 prints a -> mote 0 prints a'),
                               cwd=self.folder, capture_output=True, text=True)
         self.assertIn('both sentences are the same, so they are fulfilled at the same moment', done.stderr)
-
-    def test_a_value_that_one_mote_prints_twice_is_reported_with_the_measures(self) -> None:
-        need_program(self)
-        (self.folder / 'net.plan.toml').write_text(PLAN)
-        (self.folder / 'a.mote').write_text(
-            'process a; autostart a; code a { var n = 0; etimer t; body { while (n < 4) { if (self == 0) { print (n % '
-            '${period}); } n = (n + 1); set t 2; yield_until fired(t); } } }')
-        command = self.command(
-            '--vary', 'period=2,4', '--measure', 'arrived = delivery: mote 0 prints a -> mote 1 prints a', '--measure',
-            'flow ratio: print a -> print a', '--measure', 'sent')
-        done = subprocess.run(command, cwd=self.folder, capture_output=True, text=True)
-        self.assertEqual((done.returncode, done.stderr.count('\n')), (0, 1), done)
-        self.assertTrue(done.stderr.startswith(
-            'sweep: 1 of 2 runs has a warning in the column note; the first (period = 2): a mote prints the same value '
-            'twice as a source: mote 0 prints 0 at moment 0 and at moment 4. '), done)
-        notes = [row['note'] for row in self.rows()]
-        self.assertTrue(notes[0].endswith(' (measures arrived, flow ratio: print a -> print a)'), notes)
-        self.assertEqual(notes[1], '')
-
-    def test_runs_with_packets_of_one_moment_are_counted(self) -> None:
-        need_program(self)
-        plan = PLAN.replace('per = 100', 'per = 100\ncollide = true').replace('"a"', '"a"\nseed = 1')
-        (self.folder / 'net.plan.toml').write_text(plan)
-        (self.folder / 'a.mote').write_text('process a; autostart a; code a { body { if (self == 1) { send ${period}; '
-                                            'send ${seed}; } } }')
-        command = self.command('--vary', 'period=1', '--vary', 'seed=1..3', '--measure', 'sent')
-        done = subprocess.run(command, cwd=self.folder, capture_output=True, text=True)
-        self.assertEqual((done.returncode, done.stderr.count('\n')), (0, 1), done)
-        self.assertIn('sweep: 3 of 3 runs have a warning in the column note; the first (period = 1, seed = 1): '
-                      'packets of one moment collide with each other: mote 1 sent 2 packets at moment 0, ', done.stderr)
-
-    def test_results_with_a_byte_order_mark_are_read_and_continued(self) -> None:
-        self.sweep(*self.words)
-        path = self.folder / 'net.csv'
-        before = read_results(path)
-        path.write_bytes(b'\xef\xbb\xbf' + path.read_bytes())
-        self.assertEqual(read_results(path), before)
-        done = self.sweep(*self.words)
-        self.assertEqual((done.returncode, done.stdout), (0, 'net.csv: 6 runs, 0 of them now, 0 with a fault\n'))
-        self.assertEqual(read_results(path), before)
-
-    def test_sqlite(self) -> None:
-        done = self.sweep(*self.words, '-o', 'net.sqlite')
-        self.assertEqual((done.returncode, done.stdout), (0, 'net.sqlite: 6 runs, 6 of them now, 0 with a fault\n'))
-        base = sqlite3.connect(self.folder / 'net.sqlite')
-        self.addCleanup(base.close)
-        self.assertEqual(list(base.execute('select sum(end), count(*) from runs where motes = 3')), [(18, 3)])
-        self.assertEqual(self.sweep(*self.words, '-o', 'net.sqlite').stdout,
-                         'net.sqlite: 6 runs, 0 of them now, 0 with a fault\n')
-        columns, rows = read_results(self.folder / 'net.sqlite')
-        self.assertEqual((columns[:4], rows[0]['period']), (['period', 'motes', 'name', 'end'], 1))
 
     def test_faults_are_rows(self) -> None:
         for name, line in ('long', '// long'), ('refuse', '// refuse'), ('text', 'code a'):
@@ -841,23 +513,10 @@ class SweepTest(Bed):
         with mock.patch.dict(os.environ, MOTESIM=str(self.stub)), mock.patch('motesim.experiments.one_run.BUSY', busy):
             plan = Plan.read(self.folder / 'net.plan.toml')
             sweeper = Sweeper(sweep_of(plan, ['name=a,' + name], ['prints'], seconds), self.folder / (name + '.csv'))
-            self.addCleanup(sweeper.file.close)
-            return run_job(next(sweeper.jobs([1]))).fault
+            return run_job(sweeper.work(), next(sweeper.jobs([1]))).fault
 
     def test_the_limit_of_a_run_is_processor_time(self) -> None:
         self.assertEqual(self.fault_of_one('burn', 0.5, 10_000), 'no answer in 0.5 seconds of processor time')
-
-    def test_a_run_that_the_machine_has_no_time_for_is_run_again(self) -> None:
-        fault = self.fault_of_one('wait', 2, 0.5)
-        self.assertEqual(fault, 'the machine is too busy: no answer in 1 seconds, though it used less processor time '
-                                'than its limit; the same command runs it again')
-        words = '--vary', 'name=a,refuse', '--measure', 'prints', '-o', 'busy.csv'
-        (self.folder / 'refuse.mote').write_text(MOTE + '// refuse\n')
-        self.sweep(*words)
-        self.assertIn(' 0 of them now', self.sweep(*words).stdout)
-        text = (self.folder / 'busy.csv').read_text()
-        (self.folder / 'busy.csv').write_text(text.replace('motesim: out of memory', fault.replace(',', ' ')))
-        self.assertIn(' 1 of them now', self.sweep(*words).stdout)
 
     def test_a_report_without_end_is_stopped(self) -> None:
         (self.folder / 'long.mote').write_text(MOTE + '// long\n')
@@ -868,17 +527,15 @@ class SweepTest(Bed):
         with mock.patch.dict(os.environ, MOTESIM=str(self.stub)):
             plan = Plan.read(self.folder / 'net.plan.toml')
             sweeper = Sweeper(sweep_of(plan, ['period=3'], ['python: mine.py:lines'], None), self.folder / 'a.csv')
-            self.addCleanup(sweeper.file.close)
-            job = next(sweeper.jobs([0]))
-            result = run_job(job._replace(work=job.work._replace(folder='/nowhere')))
+            result = run_job(sweeper.work()._replace(folder='/nowhere'), next(sweeper.jobs([0])))
         self.assertEqual((result.measures, result.fault), ({'lines': 15}, ''))
 
     def test_a_measure_that_fails_is_an_empty_cell_with_a_note(self) -> None:
         words = '--vary', 'motes=2,3', '--measure', 'python: mine.py:wrong', '--measure', 'prints'
         note = 'wrong: wrong of mine.py: line 8: ZeroDivisionError: division by zero'
         done = self.sweep(*words)
-        self.assertEqual((done.returncode, done.stdout), (1, 'net.csv: 2 runs, 2 of them now, 0 with a fault\n2 runs '
-                                                             'lack a measure; the first: %s\n' % note), done)
+        self.assertEqual((done.returncode, done.stdout), (1, 'net.csv: 2 runs, 2 of them now, 0 with a fault\n2 of '
+                                                             '2 runs lack a measure; the first: %s\n' % note), done)
         self.assertEqual([(row['wrong'], row['prints'], row['fault'], row['note']) for row in self.rows()],
                          [('', '2', '', note), ('', '3', '', note)])
         self.assertIn('0 of them now', self.sweep(*words).stdout)
@@ -895,10 +552,10 @@ class SweepTest(Bed):
             (('--measure', 'sent', '--measure', 'sent'), 'two columns would have the name sent'),
             (('--measure', 'sent', '--vary', 'speed=1'), 'has no parameter speed; it has: period, motes, name'),
             (('--measure', 'sent', '--vary', 'motes=0'), 'net.plan.toml, line 12:'),
-            (('--measure', 'sent', '--vary', 'motes=2', '--vary', 'motes=3,4'), '--vary names motes twice'),
+            (('--measure', 'sent', '--vary', 'motes=2', '--vary', 'motes=3,4'), 'once for each name'),
             (('--measure', 'python: no.py:x'), 'no.py: No such file'),
             (('--measure', 'sent of mote 4', '--vary', 'motes=2,4'),
-             'no mote 4: the largest net has the motes 0 to 3'),
+             'the largest net has the motes 0 to 3'),
         ]:
             done = self.sweep(*words)
             self.assertEqual((done.returncode, done.stdout), (2, ''), words)
@@ -908,7 +565,7 @@ class SweepTest(Bed):
     def test_a_flow_of_a_process_that_no_program_has_is_refused_before_any_run(self) -> None:
         done = self.sweep('--vary', 'motes=2,3', '--measure', 'flow reached: print aa')
         self.assertEqual(done.returncode, 2, done.stdout)
-        self.assertIn("measure 'flow reached: print aa': no program has a process aa; there are: a", done.stderr)
+        self.assertIn("measure 'flow reached: print aa': no program has a process aa", done.stderr)
         self.assertFalse((self.folder / 'net.csv').exists())
         # (the programs may vary too: one of them has the process)
         (self.folder / 'bee.mote').write_text(MOTE.replace(' a', ' bee'))
@@ -945,20 +602,15 @@ class SweepTest(Bed):
             self.assertEqual((done.returncode, done.stdout), (2, ''))
             self.assertIn('Allowed here: a mote, 0 to 4', done.stderr)
         (self.folder / 'net.plan.toml').write_text(PLAN)
-        for measure in 'count: every mote prints cat', 'flow ratio: print cat':
-            done = self.sweep('--vary', 'name=a,bee', '--measure', measure)
-            self.assertEqual((done.returncode, done.stdout), (2, ''))
-            self.assertRegex(done.stderr, r'a, bee\b')
+        done = self.sweep('--vary', 'name=a,bee', '--measure', 'count: every mote prints cat')
+        self.assertEqual((done.returncode, done.stdout), (2, ''))
+        self.assertRegex(done.stderr, r'a, bee\b')
 
     def test_runs_that_make_no_scenario_are_rows_wherever_they_are(self) -> None:
         done = self.sweep('--vary', 'motes=0,3,5000', '--measure', 'motes: every mote prints a', '-o', 'odd.csv')
         self.assertEqual(done.returncode, 1, done.stderr)
         self.assertIn('odd.csv: 3 runs, 3 of them now, 2 with a fault', done.stdout)
         self.assertEqual([bool(row['fault']) for row in self.rows('odd.csv')], [True, False, True])
-
-    def test_a_program_that_is_not_this_trees_names_no_kit(self) -> None:
-        self.sweep(*self.words)
-        self.assertEqual({row['kit'] for row in self.rows()}, {''})
 
     def test_what_the_plan_says_itself(self) -> None:
         sweep = '[sweep]\nvary = { period = "1..2", motes = [2, 3] }\nmeasure = ["prints"]\n'
@@ -988,115 +640,47 @@ class SweepTest(Bed):
         self.assertGreaterEqual(len(rows), 4)
         self.assertEqual(sorted(row['prints'] for row in rows if row['name'] == 'a'), ['1', '2', '3', '4'])
 
-    @unittest.skipUnless(Path('/dev/full').exists(), 'there is no /dev/full here')
-    def test_results_that_find_the_disk_full_are_named(self) -> None:
-        with self.assertRaisesRegex(Fault, '^/dev/full: No space left on device$'):
-            CsvFile(Path('/dev/full'), ['a'])
+    def test_results_that_cannot_be_written_are_named(self) -> None:
+        head = Head('a', ['x'], {'sent': 'sent'}, {}, '1', 'a', '')
+        results = Results(self.folder / 'x.csv', head)
+        self.addCleanup(results.close)
+        with mock.patch.object(results, 'file', mock.Mock(write=mock.Mock(side_effect=OSError(28, 'no space')))):
+            with self.assertRaisesRegex(Fault, '/x.csv: no space$'):
+                results.add({'x': 1})
+        for name, text in ('mine.txt', 'a diary'), ('old.csv', 'period,sent,fault,note,plan\n'):
+            (self.folder / name).write_text(text)
+            with self.assertRaisesRegex(Fault, 'isn.t a file that this version of tools/sweep wrote'):
+                Results(self.folder / name, head)
+            self.assertEqual((self.folder / name).read_text(), text)
+        with self.assertRaisesRegex(Fault, 'isn.t a file'):
+            Results(Path('/dev/null'), head)
 
     def test_a_run_leaves_the_search_for_cycles_as_it_was(self) -> None:
         with mock.patch.dict(os.environ, MOTESIM=str(self.stub)):
             plan = Plan.read(self.folder / 'net.plan.toml')
             sweeper = Sweeper(sweep_of(plan, ['period=3'], ['prints'], None), self.folder / 'b.csv')
-            self.addCleanup(sweeper.file.close)
             gc.enable()
-            run_job(next(sweeper.jobs([0])))
+            run_job(sweeper.work(), next(sweeper.jobs([0])))
         self.assertTrue(gc.isenabled())
 
-    def test_no_row_is_kept_in_memory(self) -> None:
-        """Each further run needs less than 100 bytes; a row kept as a dictionary needs more than 1,000.
-
-        (Python keeps the memory of up to 2,000 tuples of each length, so both sweeps are longer.)
-        """
-        def results(jobs: Iterator[Job], processes: int, seconds: float) -> Iterator[Result]:
-            return (Result(job.place, {'prints': job.place}, '%016x' % job.place, '', '') for job in jobs)
-
-        peaks = {}
-        for kind in 'csv', 'sqlite':
-            for count in 2_100, 4_200:
-                with mock.patch.dict(os.environ, MOTESIM=str(self.stub)), mock.patch(
-                        'motesim.experiments.sweep.run_here', results), contextlib.redirect_stdout(io.StringIO()):
-                    asked = sweep_of(Plan.read(self.folder / 'net.plan.toml'), ['period=1..%d' % count], ['prints'], 9)
-                    sweeper = Sweeper(asked, self.folder / ('many%d.%s' % (count, kind)))
-                    gc.collect()
-                    tracemalloc.start()
-                    sweeper.keep(False, False)
-                    self.assertEqual((sweeper.run(1, None), said(sweeper, count)), (count, 0))
-                    peaks[count] = tracemalloc.get_traced_memory()[1]
-                    tracemalloc.stop()
-                    sweeper.file.close()
-            self.assertLess(peaks[4_200] - peaks[2_100], 100 * 2_100, kind)
-            rows = read_results(self.folder / ('many4200.%s' % kind))[1]
-            self.assertEqual([row['period'] for row in rows], list(range(1, 4_201)))
-
-    def test_rows_that_a_spreadsheet_wrote_are_written_plainly(self) -> None:
-        path = self.folder / 'net.csv'
-        for written in 'a,b\r\n1,"x"\r\n"2",""\r\n3,"y, z"\r\n', 'a,b\n1,x\n2,\n3,"y, z"\n':
-            path.write_bytes(written.encode())
-            file = CsvFile(path, ['a', 'b'])
-            spots = [spot for spot, _ in file.rows()]
-            file.keep(file.keep(spots[::-1]))
-            spots = [file.add({'a': 4, 'b': None}), *(spot for spot, _ in file.rows())]
-            file.close()
-            self.assertEqual(spots[0], spots[-1])
-            self.assertEqual(path.read_bytes(), b'a,b\n3,"y, z"\n2,\n1,x\n4,\n')
-
     def test_rows_of_other_values_stay_behind_those_of_the_sweep(self) -> None:
-        for name in 'net.csv', 'net.sqlite':
-            words = '--vary', 'motes=2', '--measure', 'prints', '-o', name
-            for periods in '5,3,1', '4,3,2':
-                self.sweep('--vary', 'period=' + periods, *words)
-            found = [row['period'] for row in read_results(self.folder / name)[1]]
-            self.assertEqual(found, [4, 3, 2, 5, 1], name)
-            self.assertIn('3 runs, 0 of them now', self.sweep('--vary', 'period=1,3,5', *words).stdout)
-
-    def test_rows_with_another_default_have_a_warning(self) -> None:
-        words = '--vary', 'motes=2,3', '--measure', 'prints'
-        line = 'sweep: warning: net.csv has rows with period = 6, 4, and this command adds rows with period = 5\n'
-        for period, more, seen in (4, (), ''), (5, ('--vary', 'period=6'), ''), (5, (), line), (5, (), ''):
-            (self.folder / 'net.plan.toml').write_text(PLAN.replace('period = 4', 'period = %d' % period))
-            done = self.sweep(*words, *more)
-            self.assertEqual((done.returncode, done.stderr), (0, seen), (period, more))
+        words = '--vary', 'motes=2', '--measure', 'prints'
+        for periods in '5,3,1', '4,3,2':
+            self.sweep('--vary', 'period=' + periods, *words)
+        self.assertEqual([row['period'] for row in self.rows()], ['4', '3', '2', '5', '1'])
+        self.assertIn('3 runs, 0 of them now', self.sweep('--vary', 'period=1,3,5', *words).stdout)
 
     def test_two_sweeps_do_not_write_one_file(self) -> None:
-        kinds: list[tuple[type[CsvFile] | type[SqliteFile], str]] = [(CsvFile, 'both.csv'), (SqliteFile,
-                                                                                             'both.sqlite')]
-        for kind, name in kinds:
-            file = kind(self.folder / name, ['a'])
+        head = Head('a', ['x'], {'sent': 'sent'}, {}, '1', 'a', '')
+        file = Results(self.folder / 'both.csv', head)
+        for _ in range(2):
             with self.assertRaisesRegex(Fault, 'another sweep'):
-                kind(self.folder / name, ['a'])
-            file.keep([file.add({'a': 1})])
-            with self.assertRaisesRegex(Fault, 'another sweep'):
-                kind(self.folder / name, ['a'])
-            file.close()
-            kind(self.folder / name, ['a']).close()
-
-    def test_sqlite_keeps_many_rows_together_and_all_at_the_end(self) -> None:
-        path = self.folder / 'many.sqlite'
-        file = SqliteFile(path, ['a'])
-        began = time.process_time()
-        for number in range(20_000):
-            file.add({'a': number})
-        # (row by row it takes about ten times as long, and most of that is the disk)
-        self.assertLess(time.process_time() - began, 10)
+                Results(self.folder / 'both.csv', head)
+            file.write([{'x': 1, 'sent': 2}])
         file.close()
-        self.assertEqual(len(read_results(path)[1]), 20_000)
-
-    def test_sqlite_shows_its_rows_while_a_sweep_runs(self) -> None:
-        file = SqliteFile(self.folder / 'slow.sqlite', ['a'])
-        self.addCleanup(file.close)
-        with mock.patch('motesim.experiments.results.time.monotonic', side_effect=[0, 0.1, 0.7]):
-            file.add({'a': 1})
-            file.add({'a': 2})
-            self.assertEqual(read_results(self.folder / 'slow.sqlite')[1], [])
-            file.add({'a': 3})
-        self.assertEqual(len(read_results(self.folder / 'slow.sqlite')[1]), 3)
-
-    def test_results_with_signs_of_an_address_in_their_name(self) -> None:
-        for name in 'what?.sqlite', 'a#b.sqlite', 'x%20y.sqlite':
-            file = SqliteFile(self.folder / name, ['a'])
-            file.add({'a': 1})
-            file.close()
-            self.assertEqual(read_results(self.folder / name), (['a'], [{'a': 1}]), name)
+        again = Results(self.folder / 'both.csv', head)
+        self.assertEqual([(row['x'], row['sent']) for row in again.rows], [(1, 2)])
+        again.close()
 
     def test_a_measure_of_a_mote_that_some_nets_lack(self) -> None:
         done = self.sweep('--vary', 'motes=2,4', '--measure', 'prints of mote 3')
@@ -1138,141 +722,6 @@ progress.add(True)
                               env={**os.environ, 'PYTHONPATH': str(TOOLS)})
         self.assertEqual(done.stderr.split('\n'), ['1 of 3 runs, 0 with a fault, 2:00 left',
                                                    '2 of 3 runs, 1 with a fault, 0:30 left', ''])
-
-
-CLUSTER = '''import sys
-from distributed import LocalCluster
-if __name__ == '__main__':
-    with LocalCluster(n_workers=2, threads_per_worker=1, dashboard_address=None, local_directory='.') as cluster:
-        print(cluster.scheduler_address, flush=True)
-        sys.stdin.read()
-'''
-
-
-class DaskTest(Bed):
-    """The same rows by a cluster of two workers."""
-
-    def test_a_cluster_of_two_workers(self) -> None:
-        interpreter = interpreter_with(self, 'distributed')
-        self.sweep(*self.words)
-        (self.folder / 'cluster.py').write_text(CLUSTER)
-        cluster = subprocess.Popen([interpreter, 'cluster.py'], cwd=self.folder, env=self.here(), text=True,
-                                   stdin=subprocess.PIPE, stdout=subprocess.PIPE, stderr=subprocess.DEVNULL)
-        assert cluster.stdin and cluster.stdout
-        try:
-            address = cluster.stdout.readline().strip()
-            done = self.sweep(*self.words, '-o', 'dask.csv', '--dask', address)
-            self.assertEqual((done.returncode, done.stdout),
-                             (0, 'dask.csv: 6 runs, 6 of them now, 0 with a fault\n'), done)
-            self.assertEqual((self.folder / 'dask.csv').read_bytes(), (self.folder / 'net.csv').read_bytes())
-            if not packages.is_here('distributed'):
-                self.assertIn('%s has it, and continues' % packages.SYSTEM, done.stderr)
-        finally:
-            cluster.stdin.close()
-            cluster.wait(60)
-            cluster.stdout.close()
-
-
-class Future:
-    """A task of a cluster that does it when its result is asked for."""
-
-    def __init__(self, work: Callable[[list[Job]], list[Result]], jobs: list[Job]) -> None:
-        self.work, self.jobs = work, jobs
-
-    def result(self) -> list[Result]:
-        return self.work(self.jobs)
-
-
-class Cluster:
-    """A stand-in for Dask's package, its client and a cluster of so many workers, which may do nothing."""
-
-    def __init__(self, workers: int, is_busy: bool = False) -> None:
-        self.workers, self.is_busy = workers, is_busy
-        self.tasks: list[Future] = []
-        self.cancelled: list[Future] = []
-        self.is_closed = False
-
-    def Client(self, address: str, timeout: float) -> Cluster:
-        return self
-
-    def wait_for_workers(self, count: int, timeout: float) -> None:
-        if self.workers < count:
-            raise TimeoutError
-
-    def upload_file(self, path: str) -> None:
-        pass
-
-    def scheduler_info(self) -> dict[str, dict[str, None]]:
-        return {'workers': {str(it): None for it in range(self.workers)}}
-
-    def submit(self, work: Callable[[list[Job]], list[Result]], jobs: list[Job], pure: bool) -> Future:
-        self.tasks.append(Future(work, jobs))
-        return self.tasks[-1]
-
-    def wait(self, futures: list[Future], timeout: float, return_when: str) -> SimpleNamespace:
-        if self.is_busy:
-            os.kill(os.getpid(), signal.SIGINT)
-            raise TimeoutError
-        return SimpleNamespace(done={futures[0]})
-
-    def cancel(self, futures: list[Future]) -> None:
-        self.cancelled += futures
-
-    def close(self) -> None:
-        self.is_closed = True
-
-
-def done_at_once(job: Job) -> Result:
-    """The result of a job that does nothing, in this process or in another one."""
-    return Result(job.place, {}, '', '', '')
-
-
-class JobsAhead(unittest.TestCase):
-    """The number of jobs that a sweep makes before they run."""
-
-    def jobs(self, count: int) -> Iterator[Job]:
-        for place in range(count):
-            self.made += 1
-            yield Job(place, (), (), cast(Any, None))
-
-    def setUp(self) -> None:
-        self.made = 0
-        done = mock.patch.object(runs, 'run_job', done_at_once)
-        done.start()
-        self.addCleanup(done.stop)
-
-    def by(self, cluster: Cluster, count: int) -> Iterator[Result]:
-        with mock.patch.object(packages, 'load', return_value=cluster):
-            yield from runs.run_by_dask(self.jobs(count), count, 'tcp://there')
-
-    def test_processes_here_are_given_jobs_as_they_begin(self) -> None:
-        with contextlib.closing(runs.run_here(self.jobs(10_000), 2, 60)) as results:
-            next(results)
-            self.assertLess(self.made, 500)
-
-    def test_a_cluster_is_given_few_jobs_ahead_and_many_runs_in_a_task(self) -> None:
-        cluster = Cluster(2)
-        results = self.by(cluster, 10_000)
-        next(results)
-        self.assertLess(self.made, 500)
-        places = [0, *(result.place for result in results)]
-        self.assertEqual((sorted(places), len(cluster.tasks), cluster.is_closed), (list(range(10_000)), 200, True))
-
-    def test_ctrl_c_ends_a_sweep_whose_cluster_does_nothing(self) -> None:
-        cluster = Cluster(1, is_busy=True)
-        with self.assertRaises(runs.Stopped):
-            list(self.by(cluster, 100))
-        self.assertEqual((len(cluster.cancelled), cluster.is_closed), (runs.TASKS_AHEAD, True))
-
-    def test_dask_logs_no_tracebacks(self) -> None:
-        self.addCleanup(logging.disable, logging.NOTSET)
-        logging.disable(logging.NOTSET)
-        list(self.by(Cluster(1), 5))
-        self.assertFalse(logging.getLogger('distributed.client').isEnabledFor(logging.CRITICAL))
-
-    def test_a_cluster_without_workers_is_reported(self) -> None:
-        with self.assertRaisesRegex(Fault, 'has no workers'):
-            list(self.by(Cluster(0), 5))
 
 
 if __name__ == '__main__':

@@ -1,4 +1,4 @@
-"""Statistics of sweeps: estimates with their intervals, crossings of a threshold, paired comparison, pictures.
+"""Statistics of sweeps: tables, pictures and comparisons.
 
     from motesim.analysis import frame
 

@@ -2,15 +2,11 @@
 
   tools/sweep net.plan.toml --vary period=10,20,40 --vary seed=1..30 --measure sent --measure ratio -o net.csv
 
-The tool makes a run for each combination of the values. Each run has a row with its parameters and measures in net.csv
-(CSV, or SQLite if the name ends in .sqlite). If you start the same command again, the tool makes only the missing runs.
-After Ctrl-C the finished rows stay in the file. A run with an error has a row with the error. If a measure fails, its
-cell is empty, and the row has a note. A plan can have values and measures in its table `sweep`: --vary replaces the
-plan's values of the same parameter, and --measure adds to the plan's measures. --plot draws what the plan's `plot`
-describes.
-
---check repeats all runs of a finished sweep, writes no file, and compares the new rows with the results: it names each
-column that differs, and counts the runs that differ in it.
+The tool makes a run for each combination of the values. Each run has a row with its parameters and measures in net.csv.
+If you start the same command again, the tool makes only the missing runs. After Ctrl-C the finished rows stay in the
+file. A run with an error has a row with the error. If a measure fails, its cell is empty, and the row has a note. A plan
+can have values and measures in its table `sweep`: --vary replaces the plan's values of the same parameter, and
+--measure adds to the plan's measures. --plot draws what the plan's `plot` describes.
 
 The forms of values are 10,20,40 (these numbers), 1..30 (all whole numbers from 1 to 30), and 0..100..25 (0, 25, 50, 75
 and 100). With `name = MEASURE` the column of a measure gets this name. The measures are:
@@ -40,11 +36,13 @@ and 100). With `name = MEASURE` the column of a measure gets this name. The meas
 docs/use/EXPERIMENTS.md shows a sweep from its beginning to a plot, and docs/use/SWEEPS.md describes all measures.
 
 The tool ends with status 0, with 1 if a row has an error or lacks a measure, with 2 if nothing could be done, and with
-130 after Ctrl-C. With --check the status is 1 if a run differs.
+130 after Ctrl-C.
 """
 from __future__ import annotations
 
 import os
+import sys
+from pathlib import Path
 
 from motesim.faults import command
 from motesim.words import words_of
@@ -68,18 +66,23 @@ def main() -> int:
                        help='the limit of a report, in bytes (200,000,000)')
     words.add_argument('--dask', metavar='ADDRESS', help='send the runs to the Dask scheduler at this address')
     words.add_argument('--renew', action='store_true',
-                       help='repeat the runs of rows that are older than a change of the plan, of motesim or of the '
-                            'measures; this is an error if one of these rows has values that the command lacks')
+                       help='repeat the runs of rows that are older than a change of the plan, of motesim or of a '
+                            'measure')
     words.add_argument('--retry', action='store_true', help='repeat runs with an error or without a measure')
     words.add_argument('--plot', action='store_true', help="draw what the plan's `plot` describes")
-    words.add_argument('--check', action='store_true', help='repeat all runs, and compare them with the results')
     asked = words.parse_args()
     if asked.jobs < 1 or asked.seconds is not None and not 0 < asked.seconds <= MOST_SECONDS:
         words.error('--jobs is 1 or more, and --seconds more than 0')
-    if asked.check:
-        if asked.plot or asked.renew or asked.retry:
-            words.error('--check writes no file, so leave out --plot, --renew and --retry')
-        from motesim.experiments import repeated
-        return repeated.status_of(asked)
-    from motesim.experiments.sweep import status_of
-    return status_of(asked)
+    from motesim.analysis.of_plan import plots_of
+    from motesim.analysis.points import measures_in
+    from motesim.experiments.sweep import status_of, sweeper_of
+    sweeper = sweeper_of(asked)
+    # (an error in a picture is reported before the runs, not after them)
+    plots = plots_of(sweeper.plan, sweeper.head.parameters, measures_in(sweeper.head)) if asked.plot else []
+    status = status_of(asked, sweeper)
+    if plots and status in (0, 1):
+        import subprocess
+        plot = str(Path(__file__).resolve().parents[2] / 'plot')
+        drawn = subprocess.run([sys.executable, '-B', plot, str(sweeper.path), '--plan', asked.plan])
+        status = max(status, drawn.returncode)
+    return status

@@ -20,7 +20,8 @@ from pathlib import PurePath
 from types import ModuleType
 from typing import Any
 
-from motesim.experiments.ignored import RECEIVED, of_ignored
+from motesim.experiments.doubts import OWN_LINE, OWN_MESSAGE, SAME_VALUE
+from motesim.experiments.results import Cell
 from motesim.explain.synonyms import known
 from motesim.text import nearest
 from motesim.judge import judge as judges
@@ -38,8 +39,6 @@ from motesim.scenario import Scenario
 from motesim.scenario.scenario import hops_over
 from motesim.judge.sentences import Copies, Does, Motes, Names, Packets, Refused, Sentence, read_sentence
 
-Cell = int | float | str | None
-
 SUMMARY = ('sent', 'copies', *summary.BECAME.values(), 'ratio', *summary.COUNTED.values(), 'halt')
 REACHABLE, LOSS = 'reachable', 'loss'
 FLOWS = tuple(FLOW_NAMES[1:])
@@ -52,24 +51,8 @@ NAMED = re.compile(r'\s*([A-Za-z][A-Za-z0-9_ -]{0,39}?)\s*=(?!=)\s*(.*)', re.S)
 OF_SUMMARY = re.compile(r'([a-z]+)(?:\s+of\s+mote\s+([0-9]{1,4}))?')
 OF_FLOW = re.compile(r'flow\s+([a-z]+)\s*:(.*)', re.S)
 OF_SENTENCE = re.compile(r'(%s)\s*:(.*)' % '|'.join(KINDS), re.S)
-# The beginning of a second sentence of which one line is enough for a delivery.
-OF_ONE = re.compile(r'\s*(?:mote|some mote)\b', re.I)
-# The texts of measures that count something, or measure time.
-OF_COUNT = re.compile(r'(?:%s)(?:\s+of\s+mote\s+[0-9]+)?|(?:count|motes|moment|last|delay)\s*:.*'
-                      r'|flow\s+(?:%s)\s*:.*' % tuple('|'.join(it for it in its if it != 'ratio')
-                                                     for its in (SUMMARY, FLOWS)), re.S)
-# The texts of measures of packets or messages that arrive.
-OF_DELIVERY = re.compile(r'(?:ratio|received)(?:\s+of\s+mote\s+[0-9]+)?|(?:delivery|flow\s+[a-z]+)\s*:.*', re.S)
-# `just` and the process whose values follow, in a sentence that is suggested.
 OF_PYTHON = re.compile(r'python\s*:\s*([^:]+?)\s*:\s*([A-Za-z_]\w*)')
 
-# The beginnings of the warnings about a mote that has to receive its own messages, and about a line of both sentences.
-OWN = 'a message and its own mote count as a pair'
-OWN_LINE = 'a line counts as the delivery of its own message'
-OF_OWN_LINE = OWN_LINE + (
-    ': the line `%s` of mote %d is a line of both sentences, so its message counts as delivered at once. Use different '
-    'lines for the beginning and the end of a message, such as `prints source` and `prints sink`, or leave the mote '
-    'out of the second sentence')
 NO_PARAMETERS = (
     '%r: a measure has no parameters, so `%s` isn\'t replaced by a value: write the value itself, or write a measure '
     'with `python:`, whose function may have the values of the parameters as its second argument')
@@ -105,21 +88,17 @@ def _no_warning(bench: Bench) -> str:
     return ''
 
 
-def _warning_of_ignored(bench: Bench) -> str:
-    return of_ignored(bench.run.scenario)
-
-
 @dataclass(frozen=True)
 class Measure:
-    """A measure: the name of its column, and its text.
+    """A measure: the name of its column, its text, and whether it is about packets or messages that arrive.
 
-    warning  a reason to doubt the measure of a run, or an empty text
+    warning  the code of a reason to doubt the measure of a run, or an empty text
     """
     name: str
     words: str
     of: Callable[[Bench], Cell]
-    file: str = ''
     warning: Callable[[Bench], str] = _no_warning
+    is_of_arrivals: bool = False
 
 
 def _of_summary(name: str, mote: str | None) -> Callable[[Bench], Cell]:
@@ -309,25 +288,19 @@ def _of_sentence(kind: str, words: str, names: Names) -> Callable[[Bench], Cell]
     return _guarded(lambda judge: work[kind](judge, its[0]))
 
 
-def _own(messages: Sequence[Line], receivers: Sequence[tuple[int, ...]]) -> str:
-    """A warning if each message has to reach several motes, and its own mote is one of them; otherwise an empty
-    text."""
-    several = {*receivers} if len(receivers) > 1 else set()
-    own = next((it.mote for it in messages if (it.mote,) in several), None)
-    return '' if own is None else OWN + ': mote %d is in both sentences, and so is a receiver of its own messages. ' \
-        'Leave it out, as in `every mote but %d`, or use `flow reached`, which counts only other motes' % (own, own)
-
-
 def _warning_of_delivery(words: str, names: Names) -> Callable[[Bench], str]:
-    """The warning of a `delivery`: several messages have the same value, or a mote is its own receiver."""
+    """The warning of a `delivery`: messages have the same value, a mote has to receive its own messages, or a line is
+    the delivery of its own message."""
     begin, end = (_plain('delivery', read_sentence(it.strip(), names), it.strip()) for it in words.split('->'))
 
     def found(judge: Judge) -> str:
         messages, receivers = _lines(judge, begin, judge.chosen(begin.motes)), _receivers(judge, end.motes)
+        if same_value(messages):
+            return SAME_VALUE
+        if len(receivers) > 1 and any((it.mote,) in receivers for it in messages):
+            return OWN_MESSAGE
         ends = {line for group in receivers for line in _lines(judge, end, group)}
-        own = next((it for it in messages if it in ends), None)
-        of_line = OF_OWN_LINE % (str(own), own.mote) if own else ''
-        return same_value(messages) or _own(messages, receivers) or of_line
+        return OWN_LINE if ends.intersection(messages) else ''
 
     of = _guarded(found)
     return lambda bench: str(of(bench) or '')
@@ -426,17 +399,6 @@ def _said(fault: Exception, file: str, sources: Mapping[str, str]) -> str:
     return '%s%s: %s' % (where, type(fault).__name__, ' '.join(what.split()))
 
 
-def is_count(words: str) -> bool:
-    """Returns whether a measure, given by its text or the name of its column, counts something or measures time, and so
-    isn't a share if it is only 0 and 1."""
-    return OF_COUNT.fullmatch(_parts(words)[1]) is not None
-
-
-def is_delivery(words: str) -> bool:
-    """Returns whether a measure, given by its text, is about packets or messages that arrive."""
-    return OF_DELIVERY.fullmatch(_parts(words)[1]) is not None
-
-
 def name_of(words: str) -> str:
     """The name of a measure's column."""
     named, text = _parts(words)
@@ -462,14 +424,6 @@ def processes_of_flow(words: str) -> list[str]:
     return sorted({it.process for it in read_flow(found[2]) if it.process}) if found else []
 
 
-def edition_of(words: str) -> str:
-    """The name of the present definition of a measure, if the same text had another meaning before; otherwise an empty
-    text."""
-    found = OF_SENTENCE.fullmatch(_parts(words)[1])
-    is_of_pairs = found and found[1] == 'delivery' and not OF_ONE.match(found[2].partition('->')[2])
-    return 'share of pairs' if is_of_pairs else ''
-
-
 def mote_of(words: str) -> int | None:
     """The mote of a measure such as `sent of mote 3`."""
     found = OF_SUMMARY.fullmatch(_parts(words)[1])
@@ -485,28 +439,27 @@ def read_measure(words: str, names: Names = Names(), sources: Mapping[str, str] 
         raise MeasureFault(NO_PARAMETERS % (words, parameter[0]))
     try:
         if python:
-            return Measure(name, text, _of_python(python[1], python[2], sources), python[1])
+            return Measure(name, text, _of_python(python[1], python[2], sources))
         if flow and flow[1] not in FLOWS:
             raise MeasureFault('%r is not a measure: a flow has no %s; %s' % (text, flow[1], known(flow[1], FLOWS)))
         if flow:
             words_of_flow = flow[2]
-            return Measure(name, text, _of_flow(flow[1], flow[2]),
-                           warning=lambda bench: same_value_in_flow(bench.run.report, words_of_flow))
+            return Measure(name, text, _of_flow(flow[1], flow[2]), lambda bench: SAME_VALUE if same_value_in_flow(
+                bench.run.report, words_of_flow) else '', True)
+        if sentence and sentence[1] == 'delivery':
+            return Measure(name, text, _of_sentence(sentence[1], sentence[2], names),
+                           _warning_of_delivery(sentence[2], names), True)
         if sentence:
-            of = _of_sentence(sentence[1], sentence[2], names)
-            if sentence[1] == 'delivery':
-                return Measure(name, text, of, warning=_warning_of_delivery(sentence[2], names))
-            return Measure(name, text, of)
+            return Measure(name, text, _of_sentence(sentence[1], sentence[2], names))
     except FlowFault as fault:
         raise MeasureFault(str(fault)) from None
     if text == REACHABLE:
         return Measure(name, text, lambda bench: reachable(bench.run.scenario))
     if text == LOSS:
-        return Measure(name, text, loss, warning=_warning_of_ignored)
+        return Measure(name, text, loss)
     plain = OF_SUMMARY.fullmatch(text)
     if plain and plain[1] in SUMMARY:
-        warning = _warning_of_ignored if plain[1] in RECEIVED else _no_warning
-        return Measure(name, text, _of_summary(plain[1], plain[2]), warning=warning)
+        return Measure(name, text, _of_summary(plain[1], plain[2]), is_of_arrivals=plain[1] in ('ratio', 'received'))
     near = nearest(plain[1] if plain else text, [*SUMMARY, REACHABLE, LOSS])
     raise MeasureFault('%r is not a measure%s A measure is one of %s, or begins with %s, python: or flow NAME:' % (
         text, '; did you mean %s?' % near if near else '.', ', '.join((*SUMMARY, REACHABLE, LOSS)),

@@ -38,17 +38,3 @@ class Chance:
             word = self.word()
             if word < most:
                 return word % count
-
-    def some_below(self, count: int, number: int) -> list[int]:
-        """This many numbers from 0 to `count - 1`: the same as from this many calls of `below`, in less time."""
-        most, state = MASK + 1 - (MASK + 1) % count, self.state
-        found: list[int] = []
-        while len(found) < number:
-            state = (state + STEP) & MASK
-            word = ((state ^ (state >> 30)) * 0xBF58476D1CE4E5B9) & MASK
-            word = ((word ^ (word >> 27)) * 0x94D049BB133111EB) & MASK
-            word ^= word >> 31
-            if word < most:
-                found.append(word % count)
-        self.state = state
-        return found

@@ -44,10 +44,6 @@ class Files:
             made.update(b'\0%s\0%d\0' % (name.encode(), len(data)) + data)
         return made.hexdigest()
 
-    def digest_of(self, name: str) -> str:
-        """The SHA-256 of one file; a missing file counts as empty."""
-        return hashlib.sha256(self._data(name)).hexdigest()
-
     def _data(self, name: str) -> bytes:
         try:
             return self.read(name)

@@ -14,7 +14,7 @@ TOP = {'end': needed(int, 0, 1_000_000), 'medium': needed(dict),
 MEDIUM = {'range': needed(int, 0, 100_000), 'base': needed(int, 1, 1_000_000), 'per': needed(int, 1, 1_000_000),
           'collide': optional(bool, False)}
 AREA = {'width': needed(int, 0, 60_000), 'height': needed(int, 0, 60_000), 'seed': needed(int, 0, MOST_SEED),
-        'least': optional(int, 0, 0, 60_000), 'connected': optional(bool, False), 'by_count': optional(bool, False)}
+        'least': optional(int, 0, 0, 60_000), 'connected': optional(bool, False)}
 COUNT, STEP = needed(int, 1, MOST_MOTES), needed(int, 0, 60_000)
 PLACES: dict[str, dict[str, Key]] = {
     'grid': {'columns': COUNT, 'rows': COUNT, 'step': STEP},
@@ -32,13 +32,9 @@ LOSSES: dict[str, dict[str, Key]] = {
     'all': {'every': EVERY},
     'longer': {'than': needed(int, 0, 100_000), 'every': EVERY},
     'random': {'one_in': needed(int, 1, 1_000_000), 'seed': needed(int, 0, MOST_SEED), 'every': EVERY},
-    'primes': {'about': needed(int, 5, 1_000), 'seed': needed(int, 0, MOST_SEED)},
     'link': {'from': NUMBER, 'to': NUMBER, 'every': EVERY},
     'csv': {'file': needed(str)},
 }
-# The streams of random numbers of a seed: stream 0 is for the places, and this one for the losses. With `by_count`
-# each number of motes has its own stream for the places, this one or a later one. If several tables of an array draw
-# numbers, each has streams of its own: these, plus a number for each such table before it.
-LOSS_STREAM, FIRST_OF_COUNTS, OF_TABLE = 1, 2, 1 << 32
-# The number of primes from which the rule `primes` chooses.
-PRIMES = 6
+# The streams of random numbers of a seed: stream 0 is for the places, and this one for the losses. If several tables of
+# an array draw numbers, each has streams of its own: these, plus a number for each such table before it.
+LOSS_STREAM, OF_TABLE = 1, 1 << 32

@@ -8,14 +8,14 @@ from pathlib import PurePath
 from typing import Any
 
 from motesim.notation import faults as program_faults
-from motesim.plan import places, primes
+from motesim.plan import places
 from motesim.plan.chance import Chance
 from motesim.faults import Fault
 from motesim.plan.places import Crowd, NoPlace, NotConnected, Point
 from motesim.plan.files import CsvTable, Files
 from motesim.plan.hints import of_chance
 from motesim.plan.keys import (
-    CORNER, FIRST_OF_COUNTS, LOSS_STREAM, LOSSES, MEDIUM, MOST_BYTES, MOST_LOSSES, MOST_MOTES, MOST_PLACE, OF_TABLE,
+    CORNER, LOSS_STREAM, LOSSES, MEDIUM, MOST_BYTES, MOST_LOSSES, MOST_MOTES, MOST_PLACE, OF_TABLE,
     OTHER, PLACES, TOP,
 )
 from motesim.plan.tables import Key, NoParameter, PlanFault, Tables, filled, needed, optional, shown, text_of_value
@@ -201,12 +201,11 @@ class Builder:
             return self.listed(values['at'], path + ('at',))
         if rule == 'csv':
             return self.places_of_csv(values, path, names)
-        return self.drawn(values, reach, FIRST_OF_COUNTS + count if values.get('by_count') else 0)
+        return self.drawn(values, reach)
 
-    def drawn(self, values: Mapping[str, Any], reach: int | None, first: int) -> list[Point]:
-        """The places of a group that is drawn. Counts the nets that were rejected. `first`: the stream of random
-        numbers of the first such group."""
-        stream = self.stream_of('places', first)
+    def drawn(self, values: Mapping[str, Any], reach: int | None) -> list[Point]:
+        """The places of a group that is drawn. Counts the nets that were rejected."""
+        stream = self.stream_of('places', 0)
         area = values['width'], values['height'], values['seed'], values['least'], reach, stream
         if values['rule'] == 'random':
             found = places.scattered(values['count'], *area)
@@ -301,9 +300,7 @@ class Builder:
             return {self.pair(values['from'], values['to'], path, len(motes)): values['every']}
         if rule == 'csv':
             return self.losses_of_csv(values['file'], path + ('file',), len(motes))
-        if rule == 'primes':
-            return primes.periods(links, values['about'], Chance(values['seed'], self.stream_of('loss', LOSS_STREAM)))
-        every = values['every']
+        every: int = values['every']
         if rule == 'all':
             return dict.fromkeys(links, every)
         if rule == 'longer':

@@ -10,7 +10,6 @@ place in the plan or in the file next to it.
 from __future__ import annotations
 
 from collections.abc import Mapping
-from hashlib import sha256
 from pathlib import Path
 
 from motesim.faults import Fault
@@ -88,8 +87,3 @@ class Plan:
     def digest(self, given: Mapping[str, Value]) -> str:
         """The SHA-256 of the parts of the plan that determine a run, and of the files that it needs."""
         return self.files.digest(self.tables.of_runs(), self.used_files(given))
-
-    def digests(self, given: Mapping[str, Value]) -> dict[str, str]:
-        """The SHA-256 of these parts of the plan, with the name `plan`, and of each file that the run needs."""
-        return {'plan': sha256(self.tables.of_runs().encode()).hexdigest(),
-                **{name: self.files.digest_of(name) for name in self.used_files(given)}}

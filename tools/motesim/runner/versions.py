@@ -2,6 +2,7 @@
 from __future__ import annotations
 
 import os
+from functools import lru_cache
 from hashlib import sha256
 from pathlib import Path
 
@@ -22,7 +23,18 @@ def program_version(program: Path) -> str:
         return VERSION
     if is_compiled(program):
         return '%s unproved' % VERSION
-    return '%s %s' % (ANOTHER, sha256(program.read_bytes()).hexdigest()[:16])
+    return '%s %s' % (ANOTHER, program_digest(program))
+
+
+def program_digest(program: Path) -> str:
+    """The first 16 digits of the SHA-256 of a binary; its bytes are read once, unless they change."""
+    about = program.stat()
+    return _digest(program, about.st_size, about.st_mtime_ns)
+
+
+@lru_cache(maxsize=4)
+def _digest(path: Path, size: int, changed: int) -> str:
+    return sha256(path.read_bytes()).hexdigest()[:16]
 
 
 def version_line(may_be_proved: bool = True) -> str:

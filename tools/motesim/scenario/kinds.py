@@ -6,10 +6,10 @@ import re
 # A program begins with a declaration, below comments.
 PROGRAM = re.compile(r'\ufeff?(?:\s|//[^\n]*+\n)*+(?:process|receiver|autostart|event|semaphore)[ \t]++[A-Za-z]')
 
-# A plan has places, and neither a version nor motes. The first line of results has the columns of a sweep.
+# A plan has places, and neither a version nor motes. The first line of results names the plan.
 PLACES = re.compile(rb'^[ \t]*(?:\[\[?[ \t]*places[ \t]*\]|places[ \t]*=)', re.M)
 OF_SCENARIO = re.compile(rb'^[ \t]*(?:\[\[?[ \t]*mote[ \t]*\]|(?:mote|version)[ \t]*=)', re.M)
-RESULTS = re.compile(rb'[^\n]*,fault,note,plan,[^\n]*,parameters\r?\n')
+RESULTS = re.compile(rb'#\{"plan": ')
 
 # The name of a file or folder that students shouldn't see: one of its words begins like this.
 FOR_TEACHERS = re.compile(r'(?:.*[^a-z])?(?:solution|hidden|answer|marks|key\.csv\Z)', re.S | re.I)

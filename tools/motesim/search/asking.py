@@ -4,20 +4,19 @@ from __future__ import annotations
 import hashlib
 from collections.abc import Callable
 
-from motesim.experiments.one_run import program_digest
 from motesim.explain.same_seed import draws
 from motesim.judge.sentences import Sentence
 from motesim.notation.faults import tokens_of
 from motesim.runner.optimized import optimized_path
+from motesim.runner.versions import program_digest
 from motesim.scenario import Scenario
 from motesim.search import calculated
-from motesim.search.by_dask import ByDask
 from motesim.search.change import Base
 from motesim.search.faults import WHY_NONE, Asked, absent_kinds, faults_of, untried_copies, without_effect
 from motesim.search.kept import Kept
 from motesim.search.one_program import Limits, OneProgram
 from motesim.search.prepare import plain_run, prepare
-from motesim.search.runner import Here, Runner
+from motesim.search.runner import Here, OnCluster, Runner
 from motesim.search.search import Bounds, Search
 from motesim.search.sets import Known
 from motesim.search.work import Work, mask_of, numbers_of
@@ -39,7 +38,7 @@ def drawn(scenario: Scenario) -> str:
 def runner_of(work: Work, processes: int, address: str | None) -> Runner:
     """The workers of a search: processes of this machine, or a Dask cluster."""
     if address:
-        return ByDask(work, address)
+        return OnCluster(work, address)
     return Here(work, processes)
 
 

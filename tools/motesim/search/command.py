@@ -3,10 +3,9 @@ from __future__ import annotations
 
 import argparse
 import os
-import sys
 from pathlib import Path
 
-from motesim.experiments import packages
+from motesim import packages
 from motesim.experiments.asked import values_of
 from motesim.experiments.runs import Break
 from motesim.faults import INTERRUPTED, Fault
@@ -197,8 +196,7 @@ def status_of(words: argparse.Namespace) -> int:
     if words.scenario is None:
         raise Fault('SCENARIO is missing: tools/search --help says more')
     if words.dask:
-        packages.hand_on('search', 'distributed', sys.argv)
-        packages.load('distributed')
+        packages.need('distributed')
     asking = asking_of(words)
     folder = Path(words.output) if words.output else Path(
         Path(words.scenario).name.removesuffix('.toml').removesuffix('.plan') + '.search')
