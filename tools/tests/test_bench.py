@@ -26,17 +26,6 @@ class Scenarios(unittest.TestCase):
             for text in found.programs.values():
                 self.assertIsNone(find_fault(text), name)
 
-    def test_the_coverage_of_intervals_has_a_help_and_rows_without_an_interval(self) -> None:
-        script = str(TOP / 'bench/coverage.py')
-        for words, status, seen in ((['--help'], 0, 'bench/coverage.py 400 lognormal'),
-                                    (['1', '700 packets'], 0, '\n700 packets      5\n'),
-                                    (['0'], 2, 'SWEEPS is 1 or more'), (['x'], 2, "invalid int value: 'x'"),
-                                    (['9', 'normal'], 2, 'there is no distribution normal')):
-            done = subprocess.run([sys.executable, '-B', script, *words], capture_output=True, text=True)
-            self.assertEqual(done.returncode, status, done.stderr)
-            self.assertIn(seen, done.stdout + done.stderr)
-            self.assertNotIn('Traceback', done.stderr)
-
     def test_other_words_are_told(self) -> None:
         for name in bench.SCENARIOS:
             done = subprocess.run([str(TOP / 'bench' / name), 'x'], capture_output=True, text=True)
