@@ -15,6 +15,7 @@ from pathlib import Path
 from unittest import mock
 
 from here import TOP
+from motesim.experiments.results import Head
 from motesim.faults import Fault
 from motesim.version import VERSION
 from project import pack
@@ -33,6 +34,11 @@ x = 0
 y = 0
 program = "p"
 '''
+
+
+def results(motesim: str = '1.2') -> str:
+    """The first lines of a file of results."""
+    return Head('net.plan.toml', ['seed'], {'sent': 'sent'}, {}, motesim, '0123456789abcdef', '').text()
 
 
 class Pack(unittest.TestCase):
@@ -263,19 +269,17 @@ class Pack(unittest.TestCase):
         top = self.tree('examples/a.toml', '')
         study = top.parent / 'study'
         study.mkdir()
-        for name, text in (('a.csv', 'seed,program\n1,another with the SHA-256 0123456789abcdef\n'),
-                           ('b.csv', 'seed,program\n1,1.2 unproved\n'), ('empty.csv', ''),
-                           ('c.csv', 'x,y\n1,another with the SHA-256\n'),
-                           ('d.txt', 'program\nanother with the SHA-256 0\n')):
+        another = results('another with the SHA-256 0123456789abcdef')
+        for name, text in (('a.csv', another), ('b.csv', results('1.2 unproved')), ('empty.csv', ''),
+                           ('c.csv', another.replace(', "kit"', ', "kid"')), ('d.txt', another)):
             (study / name).write_text(text)
         self.assertEqual([it for it in pack.sorted_files(['examples'], [study], top).notes() if 'MOTESIM' in it], [
-            'Made with MOTESIM: study/a.csv. In a repeated sweep the column `program` may differ; '
-            '`tools/sweep --check` ignores it'])
+            'Made with MOTESIM: study/a.csv. The first line of a repeated sweep may differ'])
 
     def test_the_archive_of_a_study_says_how_to_repeat_it(self) -> None:
         top = self.tree('examples/a.toml', '')
         plan = '[[places]]\nrule = "line"\n'
-        for name, text in (('mystudy/net.plan.toml', plan), ('mystudy/net.csv', 'seed,fault,note,plan,x,parameters\n'),
+        for name, text in (('mystudy/net.plan.toml', plan), ('mystudy/net.csv', results()),
                            ('lab/net.plan.toml', plan), ('lab/marks of mine.csv', 'name,mark\n')):
             (top / name).parent.mkdir(exist_ok=True)
             (top / name).write_text(text)
@@ -286,30 +290,29 @@ class Pack(unittest.TestCase):
             other = pack.files(write_stub(top), pack.sorted_files(['examples'], [top / 'lab'], top))['README.md']
         self.assertIn('\nThe folder mystudy has a study: its plan (mystudy/net.plan.toml) and its results '
                       '(mystudy/net.csv). docs/use/PLANS.md explains plans,\n', readme)
-        self.assertIn('`tools/sweep mystudy/net.plan.toml --check`', readme)
+        self.assertIn('`tools/sweep mystudy/net.plan.toml -o again.csv && diff again.csv mystudy/net.csv`', readme)
         self.assertNotIn('study', other[0].decode().replace('studio', ''))
         two = pack.about_studies({'lab': (['lab/a.plan.toml', 'lab/b.plan.toml'], ['lab/a.csv', 'lab/b.csv'])})
         self.assertIn('its plans (lab/a.plan.toml, lab/b.plan.toml) and', two)
-        self.assertIn('\n\n- `tools/sweep lab/a.plan.toml --check`\n- `tools/sweep lab/b.plan.toml --check`\n\n', two)
+        self.assertIn('\n\n- `tools/sweep lab/a.plan.toml -o again.csv && diff again.csv lab/a.csv`\n- `tools/sweep lab/b', two)
         self.assertEqual(pack.how_to_unpack('a.tar.gz', 'motesim-1', found),
                          'Readers unpack it by: tar xzf a.tar.gz && cd motesim-1\n'
                          'The README.md in it says how to repeat the study in mystudy')
         self.assertRegex(pack.how_to_unpack('a.tar.gz', 'motesim-1', pack.sorted_files(['examples'], (), top)),
                          r'^Students .* \./run examples/flooding\.toml$')
 
-    def test_the_command_that_checks_a_study_names_results_that_the_tool_would_not_find(self) -> None:
-        for plans, results, command in (
-                (['s/a.plan.toml', 's/b.plan.toml'], ['s/b.csv'], 's/b.plan.toml --check'),
-                (['s/a.plan.toml'], ['s/x.sqlite'], 's/a.plan.toml --check -o s/x.sqlite'),
-                (['docs/s/a.plan.toml'], ['docs/s/a.csv'], 'docs/s/a.plan.toml --check -o docs/s/a.csv')):
-            self.assertEqual(pack.check_of(*pack.pairs_of(plans, results)[0]), 'tools/sweep ' + command)
+    def test_the_results_of_a_plan_are_those_with_its_name(self) -> None:
+        for plans, names, pair in (
+                (['s/a.plan.toml', 's/b.plan.toml'], ['s/b.csv'], ('s/b.plan.toml', 's/b.csv')),
+                (['s/a.plan.toml'], ['s/x.csv'], ('s/a.plan.toml', 's/x.csv'))):
+            self.assertEqual(pack.pairs_of(plans, names), [pair])
 
     def test_results_that_lack_runs_are_listed(self) -> None:
         top = self.tree('examples/a.toml', '')
         plan = ('end = 9\n[medium]\nrange = 1\nbase = 1\nper = 1\n[parameters]\nseed = 1\n'
                 '[[places]]\nrule = "line"\ncount = 1\nstep = 1\nprogram = "p"\n')
         table = '[sweep]\nvary = { seed = "1..3" }\nmeasure = ["sent"]\n'
-        head, row = 'seed,sent,fault,note,plan,x,parameters\n', '%d,0,,,net.plan.toml,,seed\n'
+        head, row = results(), '%d,0,,,,0,a,b,c,d\n'
         for more, results, seeds, count in ((table, 'net.csv', (1, 3), 2), (table, 'net.csv', (1, 2, 3), None),
                                             (table, 'net.csv', (), 0), ('', 'net.csv', (1,), None),
                                             (table, 'x.csv', (2,), 1), (table, 'x.csv', (4,), None)):

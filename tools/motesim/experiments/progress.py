@@ -7,7 +7,7 @@ import time
 from motesim.terminal import write_over
 
 # (seconds between two lines if standard error is not a terminal)
-SHOWN_EVERY = 30
+SHOWN_EVERY = 60
 
 
 class Progress:
