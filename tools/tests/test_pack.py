@@ -36,7 +36,7 @@ program = "p"
 '''
 
 
-def results(motesim: str = '1.2') -> str:
+def first_lines(motesim: str = '1.2') -> str:
     """The first lines of a file of results."""
     return Head('net.plan.toml', ['seed'], {'sent': 'sent'}, {}, motesim, '0123456789abcdef', '').text()
 
@@ -269,8 +269,8 @@ class Pack(unittest.TestCase):
         top = self.tree('examples/a.toml', '')
         study = top.parent / 'study'
         study.mkdir()
-        another = results('another with the SHA-256 0123456789abcdef')
-        for name, text in (('a.csv', another), ('b.csv', results('1.2 unproved')), ('empty.csv', ''),
+        another = first_lines('another with the SHA-256 0123456789abcdef')
+        for name, text in (('a.csv', another), ('b.csv', first_lines('1.2 unproved')), ('empty.csv', ''),
                            ('c.csv', another.replace(', "kit"', ', "kid"')), ('d.txt', another)):
             (study / name).write_text(text)
         self.assertEqual([it for it in pack.sorted_files(['examples'], [study], top).notes() if 'MOTESIM' in it], [
@@ -279,7 +279,7 @@ class Pack(unittest.TestCase):
     def test_the_archive_of_a_study_says_how_to_repeat_it(self) -> None:
         top = self.tree('examples/a.toml', '')
         plan = '[[places]]\nrule = "line"\n'
-        for name, text in (('mystudy/net.plan.toml', plan), ('mystudy/net.csv', results()),
+        for name, text in (('mystudy/net.plan.toml', plan), ('mystudy/net.csv', first_lines()),
                            ('lab/net.plan.toml', plan), ('lab/marks of mine.csv', 'name,mark\n')):
             (top / name).parent.mkdir(exist_ok=True)
             (top / name).write_text(text)
@@ -312,7 +312,7 @@ class Pack(unittest.TestCase):
         plan = ('end = 9\n[medium]\nrange = 1\nbase = 1\nper = 1\n[parameters]\nseed = 1\n'
                 '[[places]]\nrule = "line"\ncount = 1\nstep = 1\nprogram = "p"\n')
         table = '[sweep]\nvary = { seed = "1..3" }\nmeasure = ["sent"]\n'
-        head, row = results(), '%d,0,,,,0,a,b,c,d\n'
+        head, row = first_lines(), '%d,0,,,,0,a,b,c,d\n'
         for more, results, seeds, count in ((table, 'net.csv', (1, 3), 2), (table, 'net.csv', (1, 2, 3), None),
                                             (table, 'net.csv', (), 0), ('', 'net.csv', (1,), None),
                                             (table, 'x.csv', (2,), 1), (table, 'x.csv', (4,), None)):
