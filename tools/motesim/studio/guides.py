@@ -80,7 +80,7 @@ def guide(name: str, text: str, page: Path = PAGE) -> list[dict[str, Any]]:
     rows = sections(page.read_text('utf-8')).get(name, [])
     own = [{'kind': 'look' if it.startswith('Look at:') else 'text', 'text': it.removeprefix('Look at:').strip()}
            for it in comment_of(text)]
-    return own + sorted(blocks(rows), key=lambda it: it['kind'] != 'task')
+    return own + sorted(blocks(rows), key=lambda it: bool(it['kind'] != 'task'))
 
 
 def title(text: str) -> str:
