@@ -1,7 +1,9 @@
 """The sentences that can be read, the judgement of a report, and the messages for a file of expectations."""
 from __future__ import annotations
 
+import ast
 import contextlib
+import inspect
 import io
 import os
 import re
@@ -13,7 +15,7 @@ from unittest import mock
 
 from here import TOOLS
 from motesim.commands import expect as command
-from motesim.judge import expectations, remarks
+from motesim.judge import expectations, remarks, sentences
 from motesim.judge.expectations import UnknownSentence, expect, parts_of, read_all
 from motesim.judge.judge import Judge
 from motesim.report import Report
@@ -502,33 +504,41 @@ class Files(unittest.TestCase):
 
 
 class Page(unittest.TestCase):
+    """The tables of forms in EXPECTATIONS: each form is read, and each phrase of the reader is in one."""
+    # For each table, by the title of its first column, the sentences in which its forms are tried.
+    FRAMES = {'MOTES': ('%s halt', '%s halts'), 'DEED': ('mote 1 %s',), 'VALUE': ('mote 1 prints p %s',),
+              'TIMES': ('mote 1 sends %s',), 'WHEN': ('mote 1 sends %s',), 'ORDER': ('mote 1 sends 1 %s',),
+              'Sentence': ('%s',)}
+
     def setUp(self) -> None:
-        self.page = (TOOLS.parent / 'docs/use/EXPECTATIONS.md').read_text('utf-8')
+        page = (TOOLS.parent / 'docs/use/EXPECTATIONS.md').read_text('utf-8')
+        self.forms: dict[str, list[str]] = {}
+        for title in self.FRAMES:
+            rows = re.findall(r'^\| (`.*?`) \|', page.split('| %s |' % title)[1].split('\n\n')[0], re.M)
+            self.forms[title] = [form for row in rows for form in re.findall(r'`([^`]+)`', row)]
 
-    def forms(self, title: str) -> list[str]:
-        """The code in the first column of a table, by a part of its page and the title of that column."""
-        table = self.page.split('| %s |' % title)[1].split('\n\n')[0]
-        rows = re.findall(r'^\| (`.*?`) \|', table, re.M)
-        return [form for row in rows for form in re.findall(r'`([^`]+)`', row)]
+    def is_read(self, sentence: str) -> bool:
+        try:
+            read_sentence(sentence.replace('VALUE', '7').replace(' P', ' p'), Names(('p', 'echo'), 40))
+            return True
+        except SentenceFault:
+            return False
 
-    def read(self, sentence: str) -> Sentence:
-        with self.subTest(sentence):
-            return read_sentence(sentence, Names(('P',), 25))
+    def test_each_form_can_be_read(self) -> None:
+        for title, frames in self.FRAMES.items():
+            for form in self.forms[title]:
+                with self.subTest(form):
+                    self.assertTrue(any(self.is_read(frame % form) for frame in frames))
+        self.assertGreater(sum(map(len, self.forms.values())), 80)
 
-    def test_each_form_of_the_page_can_be_read(self) -> None:
-        for form in self.forms('MOTES'):
-            self.read(form + (' halt' if 'motes' in form else ' halts'))
-        for form in self.forms('DEED'):
-            self.read('mote 1 ' + form.replace('VALUE', '7'))
-        for form in self.forms('VALUE'):
-            self.read('mote 1 finally prints P ' + ('the set of motes that it hears ' * form.startswith('but')) + form)
-        for form in self.forms('TIMES'):
-            self.read('mote 1 sends ' + form)
-        for form in self.forms('WHEN'):
-            self.read('mote 1 sends ' + form)
-        for form in self.forms('Sentence'):
-            self.read(form)
-        self.assertGreater(len(self.forms('Sentence')), 10)
+    def test_each_phrase_of_the_reader_is_in_a_form(self) -> None:
+        known = set(re.findall(r'\w+|%', ' '.join(form for forms in self.forms.values() for form in forms)))
+        calls = [it for it in ast.walk(ast.parse(inspect.getsource(sentences))) if isinstance(it, ast.Call)
+                 and isinstance(it.func, ast.Attribute) and it.func.attr in ('accept', 'need', 'verb')]
+        phrases = {it.value for call in calls for it in call.args if isinstance(it, ast.Constant)}
+        self.assertGreater(len(phrases), 60)
+        missing = {phrase for phrase in phrases if not set(re.findall(r'\w+|%', phrase)) <= known}
+        self.assertLessEqual(missing, {'per cent', 'print', 'receive', 'send', 'leave', 'write', 'halt', 'start'})
 
 
 class Examples(unittest.TestCase):

@@ -15,8 +15,8 @@ from motesim.judge.sentences import names_of
 from motesim.scenario import Scenario
 from motesim.summary.counts import summary
 from motesim.summary.flows import flow_rows, flow_rows_by
-from motesim.why.series import Series
-from motesim.why.source import traces_of
+from motesim.report import Report
+from motesim.summary.series import Series
 from page_measures import NEVER, Lines, PageMeasures
 from skips import need_program
 
@@ -123,7 +123,7 @@ class Numbers(unittest.TestCase):
                 of_motes, of_net = page.summary()
                 self.assert_rows([*motes, net], [*of_motes, of_net], 'motes')
                 self.assert_rows(links, page.links(), 'links')
-                self.assert_rows(list(Series(traces_of('', report.encode()), by, end).rows()),
+                self.assert_rows(list(Series(Report.parse(report), by, end).rows()),
                                  [page.interval(*part) for part in page.parts(by)], 'over time')
                 for source, sink, values in FLOWS:
                     words = 'print %s -> ' % source * bool(source) + 'print %s%s' % (sink, values)

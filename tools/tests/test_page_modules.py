@@ -20,8 +20,8 @@ from motesim.timeline.bundle import BundleFault, bundle, modules_of
 from motesim.timeline.columns import data_of
 from motesim.why.chain import chain
 from motesim.why.pages import causes_of
-from motesim.why.series import Series
-from motesim.why.source import At, Source, Traces
+from motesim.summary.series import Series
+from motesim.why.source import At, Source
 
 PAGES = [TOOLS / 'motesim' / name / 'page' for name in ('timeline', 'studio', 'web')]
 ENTRIES = [PAGES[0] / 'open.js', PAGES[1] / 'studio.js', PAGES[2] / 'web.js', PAGES[2] / 'worker.js']
@@ -126,7 +126,7 @@ def given() -> dict[str, Any]:
             'sums': sums, 'dropped': dropped, **{name: test_timeline.case(name) for name in CASES}}
     chains = [{'name': 'small', **it} for it in chains_of(small, CHAINS)]
     chains += [{'name': 'dropped', **it} for it in chains_of(dropped, [(0, DROPPED)])]
-    series = list(Series(Traces(test_summary.REPORT.encode()), 5, 10).rows())
+    series = list(Series(Report.parse(test_summary.REPORT), 5, 10).rows())
     return {
         'kinds': list(KINDS), 'words': {'colours': COLOURS, 'naming': NAMING},
         'runs': {name: run_given(run) for name, run in runs.items()},

@@ -1,12 +1,8 @@
 """Sentences about two events, about parts of motes and of copies, and words that sentences don't have."""
-import ast
-import inspect
-import re
 import time
 import unittest
 
 import here  # noqa: F401
-from motesim.judge import forms, sentences
 from motesim.judge.judge import Judge
 from motesim.judge.sentences import Names, SentenceFault, names_of, read_sentence
 from motesim.report import Report
@@ -290,40 +286,6 @@ class Sentences(unittest.TestCase):
             with self.subTest(sentence), self.assertRaises(SentenceFault) as raised:
                 read_sentence(sentence, names_of(self.scenario))
             self.assertIn(seen, str(raised.exception))
-
-
-class Forms(unittest.TestCase):
-    """The tables of forms: each example is read, each phrase of the reader is in one, and the page has them."""
-    names = Names(('p', 'echo'), 40)
-
-    def test_each_example_is_read(self) -> None:
-        for table in forms.TABLES:
-            for form, sentences in table.examples():
-                with self.subTest(form):
-                    self.assertTrue(any(self.is_read(it) for it in sentences), sentences)
-
-    def is_read(self, sentence: str) -> bool:
-        try:
-            read_sentence(sentence, self.names)
-            return True
-        except SentenceFault:
-            return False
-
-    def test_each_phrase_of_the_reader_is_in_an_example(self) -> None:
-        shown = ' '.join(form for table in forms.TABLES for form, _ in table.examples())
-        known = set(re.findall(r'\w+|%', shown))
-        tree = ast.parse(inspect.getsource(sentences))
-        calls = [it for it in ast.walk(tree) if isinstance(it, ast.Call) and isinstance(it.func, ast.Attribute)
-                 and it.func.attr in ('accept', 'need', 'verb')]
-        phrases = {it.value for call in calls for it in call.args if isinstance(it, ast.Constant)}
-        self.assertGreater(len(phrases), 60)
-        missing = {phrase for phrase in phrases if not set(re.findall(r'\w+|%', phrase)) <= known}
-        self.assertEqual(missing, {'per cent', 'print', 'receive', 'send', 'leave', 'write', 'halt',
-                                   'start'} & missing)
-
-    def test_the_page_has_the_tables(self) -> None:
-        page = forms.PAGE.read_text('utf-8')
-        self.assertEqual(page, forms.written(page), 'PYTHONPATH=tools python3 -m motesim.judge.forms writes them')
 
 
 if __name__ == '__main__':

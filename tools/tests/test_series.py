@@ -15,14 +15,13 @@ from motesim.runner.run import Run, answer
 from motesim.scenario import Scenario
 from motesim.summary.counts import summary
 from motesim.summary.flows import Message, flow_rows_by
-from motesim.why.series import NAMES, Series
-from motesim.why.source import Traces
+from motesim.summary.series import NAMES, Series
 
 
 def rows(report: str, by: int, end: int | None = None) -> list[dict[str, object]]:
     """The rows of a report, with what isn't 0 or None."""
     return [{name: value for name, value in row.items() if value and name not in ('from', 'to')}
-            for row in Series(Traces(report.encode()), by, end).rows()]
+            for row in Series(Report.parse(report), by, end).rows()]
 
 
 # Three events wait at 3; the first two are taken at 3 and 12, the third, for all, at 25 by two processes.
@@ -58,11 +57,11 @@ class Intervals(unittest.TestCase):
             {'posted': 3, 'queue': 3}, {'queue': 2, 'waited': 9.0}, {'queue': 1, 'waited': 22.0}])
 
     def test_intervals(self) -> None:
-        self.assertEqual([(it['from'], it['to']) for it in Series(Traces(QUEUE.encode()), 20).rows()],
+        self.assertEqual([(it['from'], it['to']) for it in Series(Report.parse(QUEUE), 20).rows()],
                          [(0, 19), (20, 39)])
         for by in 0, -1, 1_000_001:
             with self.assertRaises(Fault):
-                Series(Traces(QUEUE.encode()), by)
+                Series(Report.parse(QUEUE), by)
 
 
 class Runs(unittest.TestCase):
@@ -77,7 +76,7 @@ class Runs(unittest.TestCase):
                 continue
             scenario = Scenario.parse(data)
             net = summary(Run('', Report.parse(got.report), scenario))[1]
-            found = list(Series(Traces(got.report), 7, scenario.end).rows())
+            found = list(Series(Report.parse(got.report), 7, scenario.end).rows())
             for name in ('sent', 'received', 'lost', 'ring', 'collided', 'halted', 'late',
                          'posted', 'refused', 'prints'):
                 self.assertEqual(sum(row[name] or 0 for row in found), net[name], (path.name, name))

@@ -1,65 +1,52 @@
 """The values of variables, and the state of a mote. The values are worked out by hand from the scenarios."""
 import json
+import re
 import subprocess
 import sys
-import tempfile
 import unittest
-from pathlib import Path
 
 from here import TOOLS, TOP
 import skips
 import test_why
-from motesim.contiki.random_scenario import random_scenario
 from motesim.faults import Fault
 from motesim.runner.run import answer
 from motesim.scenario import Scenario
 from motesim.why.source import At, Source
 from motesim.why.state import after_line, after_moment, as_json, read_state, rows
-from motesim.why.translate import translated
-from motesim.why.watch import Unwatched, Watched, read_watch, replayed, watch, with_prints
+from motesim.why.watch import read_watch, replayed
 
-# A loop of 3,000 rounds has 6,000 units of work: one for each assignment, and one for each further test. With two
-# prints behind each assignment it would have 12,000, and 10,000 are allowed.
-LOOP = '''version = 1
-end = 9
-[medium]
-range = 1
-base = 1
-per = 1
-[programs]
-p = """
-process a;
-autostart a;
-code a {
-  var n = 0;
-  body {
-    while (n < 3000) {
-      n = (n + 1);
-    }
-    print n;
-    yield;
-  }
-}
-"""
-[[mote]]
-x = 0
-y = 0
-program = "p"
-'''
+MARK = 60_001
 
 
-class Prints(unittest.TestCase):
-    def test_prints_are_added_behind_each_statement_that_gives_a_value(self) -> None:
-        text = ('process a; process_x;'.replace(' process_x;', '') + '\n'
-                'code a { var n = 1; var m = 0; body { n = (n == 2); m = n; // n = 3;\n'
-                'post a msg n into n; if (m == n) { n = 5; } broadcast msg m into m; } }')
-        program = translated(text)
-        changed = with_prints(text, program, [Watched('p', 0, 0, 'n', 77)])
-        self.assertEqual(changed, 'process a;\n'
-                         'code a { var n = 1; var m = 0; body { n = (n == 2); print 77; print n; m = n; // n = 3;\n'
-                         'post a msg n into n; print 77; print n; if (m == n) { n = 5; print 77; print n; } '
-                         'broadcast msg m into m; } }')
+def with_prints(program: str, variable: str) -> str:
+    """A program that prints a mark and a variable after each assignment to it."""
+    added = r'\g<0> print %d; print %s;' % (MARK, variable)
+    plain = re.sub(r'//[^\n]*', '', program)
+    return re.sub(r'(?<=[;{}])(\s*)\b%s = [^;]*;|\binto %s;' % (variable, variable), added, plain)
 
+
+def printed(scenario: str, process: str, variable: str) -> list[list[int]] | None:
+    """The values that a variable gets at each mote, by added prints; None if they can't be added to the program, if
+    they change the run, or if a mote halts."""
+    found = re.search(r'\ncode %s \{.*?(?=\ncode |\Z)' % process, scenario, re.S)
+    changed = scenario.replace(found[0], with_prints(found[0], variable)) if found else scenario
+    got, plain = answer(changed.encode()), answer(scenario.encode())
+    if got.status or changed == scenario or b' halt\n' in plain.report:
+        return None
+    values: list[list[int]] = []
+    rows, left = got.report.decode().split('\n'), list[str]()
+    lines = iter(rows)
+    for line in lines:
+        if line.startswith('mote '):
+            values.append([])
+        if line.endswith(' print %s %d' % (process, MARK)):
+            values[-1].append(int(next(lines).rsplit(' ', 1)[1]))
+        else:
+            left.append(line)
+    return values if '\n'.join(left).encode() == plain.report else None
+
+
+class Questions(unittest.TestCase):
     def test_what_is_watched(self) -> None:
         source = Source('test', test_why.REPORT.encode(), Scenario.parse(test_why.SCENARIO))
         for words, said in (('mote 0 n', "there is no variable 'n'"), ('mote 2 n', 'there is no mote 2'),
@@ -108,39 +95,27 @@ class Runs(unittest.TestCase):
 
     def test_flooding(self) -> None:
         """Mote 3 is 3 hops from mote 0: message 1 comes at 40 + 9, and 3 at 120 + 9; 2 goes around a loss, 6 later."""
-        text = (TOP / 'examples/flooding.toml').read_text()
-        source = self.source(text)
-        values = watch(source, text, *read_watch(source, 'mote 3 newest'))
+        source = self.source((TOP / 'examples/flooding.toml').read_text())
+        values = replayed(source, *read_watch(source, 'mote 3 newest'))
         self.assertEqual([(it.at, it.value) for it in values], [(0, 0), (49, 1), (95, 2), (129, 3)])
 
-    def test_all_variables_of_the_examples(self) -> None:
-        """The added prints and the replay are two ways to the same values."""
-        watched_runs = 0
-        texts = [path.read_text() for path in sorted(TOP.glob('examples/*.toml'))
-                 if not path.name.endswith('.expect.toml')]
-        texts += [random_scenario(seed).decode() for seed in range(1, 12)]
-        for text in texts:
-            if answer(text.encode()).status:
+    def test_variables_of_the_examples(self) -> None:
+        """Added prints and the replay are two ways to the same values."""
+        compared = 0
+        for path in sorted(TOP.glob('examples/*.toml')):
+            text = path.read_text()
+            if path.name.endswith('.expect.toml') or answer(text.encode()).status:
                 continue
             source = self.source(text)
-            names = {'%s.%s' % (it.name, name) for mote in range(source.traces.motes)
-                     for it in source.program(mote).processes for name in it.variables}
-            if not names:
-                continue
-            motes, watched = read_watch(source, 'every mote ' + ', '.join(sorted(names)))
-            try:
-                self.assertEqual(watch(source, text, motes, watched), replayed(source, motes, watched), text[:300])
-                watched_runs += 1
-            except Unwatched as fault:
-                self.assertRegex(str(fault), 'uses? up (the|its) work', text[:300])
-        self.assertGreater(watched_runs, 10)
-
-    def test_the_work_limit_rules_prints_out(self) -> None:
-        source = self.source(LOOP)
-        motes, watched = read_watch(source, 'mote 0 n')
-        with self.assertRaisesRegex(Unwatched, 'the added prints use up the work of mote 0 at 0'):
-            watch(source, LOOP, motes, watched)
-        self.assertEqual([it.value for it in replayed(source, motes, watched)], list(range(3001)))
+            for name in {'%s.%s' % (it.name, name) for it in source.program(0).processes for name in it.variables}:
+                found = printed(text, *name.split('.'))
+                if found is not None:
+                    values = replayed(source, *read_watch(source, 'every mote ' + name))
+                    own = [[it.value for it in values if it.mote == mote][1:] for mote in range(source.traces.motes)]
+                    with self.subTest(path.name, variable=name):
+                        self.assertEqual(own, found)
+                    compared += any(found)
+        self.assertGreater(compared, 20)
 
     def why(self, *arguments: str) -> subprocess.CompletedProcess[str]:
         return subprocess.run([sys.executable, str(TOOLS / 'why'), *arguments], capture_output=True, text=True,
@@ -151,12 +126,6 @@ class Runs(unittest.TestCase):
         self.assertEqual([it['value'] for it in json.loads(got.stdout)], [0, 1, 2, 3])
         self.assertIn('timer next of flood is due at 80',
                       self.why('examples/flooding.toml', '--state', 'mote', '0', 'at', '46').stdout)
-        with tempfile.TemporaryDirectory() as room:
-            path = Path(room, 'loop.toml')
-            path.write_text(LOOP)
-            got = self.why(str(path), '--watch', 'mote 0 n')
-            self.assertIn('these values come from the replay', got.stderr)
-            self.assertEqual((got.returncode, got.stdout.count('\n')), (0, 3002))
         self.assertEqual(self.why('examples/flooding.toml').returncode, 2)
 
 

@@ -18,8 +18,8 @@ from motesim.timeline.html import write_page
 from motesim.timeline.note import Line, Note, note_of
 from motesim.why.chain import chain
 from motesim.why.pages import Causes, causes_of
-from motesim.why.series import Series
-from motesim.why.source import At, Source, Traces
+from motesim.summary.series import Series
+from motesim.why.source import At, Source
 
 
 def small_run() -> Run:
@@ -187,7 +187,7 @@ class Pages(unittest.TestCase):
             text = text.replace('%s = ""' % name, '%s = %s' % (name, program))
         scenario = Scenario.parse(text)
         self.open(Run('sums', Report.parse(test_summary.REPORT), scenario))
-        rows = list(Series(Traces(test_summary.REPORT.encode()), 5, 10).rows())
+        rows = list(Series(Report.parse(test_summary.REPORT), 5, 10).rows())
         script = '(() => {const its = %s; return %s;})()'
         shown = self.script("(() => {document.getElementById('over-time').open = true; return true;})()")
         self.assertTrue(shown)

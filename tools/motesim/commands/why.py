@@ -22,9 +22,6 @@ def main() -> int:
     words.add_argument('--other-scenario', metavar='FILE', help='if --other names a report: its scenario')
     words.add_argument('--watch', metavar='WORD', nargs='+',
                        help='show the values of variables over time: --watch mote 3 newest, distance')
-    words.add_argument('--replay', action='store_true',
-                       help='with --watch: add no `print` statements to the program, and show only the values that a '
-                            'replay finds')
     words.add_argument('--state', metavar='WORD', nargs='+',
                        help='show the state of a mote: --state mote 3 at 46, or after a line: --state 3:114')
     words.add_argument('--json', action='store_true', help='write the result in JSON')

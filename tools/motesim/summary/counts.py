@@ -19,9 +19,8 @@ from motesim.summary.shares import share
 from motesim.report import KINDS, LOST, MOST_MOMENT, OUTCOMES, Report
 from motesim.runner.run import Run, read_run
 from motesim.scenario import Scenario
-from motesim.why.series import NAMES as SERIES_NAMES
-from motesim.why.series import Series
-from motesim.why.source import read_traces, traces_of
+from motesim.summary.series import NAMES as SERIES_NAMES
+from motesim.summary.series import Series
 
 # A row of a table, by the names of the columns: numbers, names, or None if there is no value.
 Row = dict[str, Any]
@@ -164,8 +163,8 @@ def show_flow(run: Run, words: argparse.Namespace) -> int:
 
 def show_series(asked: argparse.Namespace) -> int:
     """Shows the events of each interval in the chosen form."""
-    data, scenario = read_traces(asked.report, asked.scenario)
-    rows = list(Series(traces_of(asked.report, data), asked.by, scenario.end if scenario else None).rows())
+    run = read_run(asked.report, asked.scenario)
+    rows = list(Series(run.report, asked.by, run.scenario.end if run.scenario else None).rows())
     if asked.json:
         print(json.dumps({'by': asked.by, 'intervals': rows}, indent=1))
     elif asked.csv:

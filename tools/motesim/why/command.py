@@ -3,7 +3,6 @@ from __future__ import annotations
 
 import argparse
 import json
-import sys
 
 from motesim.faults import Fault
 from motesim.runner.run import read_file
@@ -18,7 +17,7 @@ from motesim.why.source import Source, read_source
 from motesim.why.state import as_json as state_as_json
 from motesim.why.state import read_state
 from motesim.why.state import rows as state_rows
-from motesim.why.watch import Unwatched, read_watch, replayed, watch
+from motesim.why.watch import read_watch, replayed
 from motesim.why.watch import as_json as values_as_json
 from motesim.why.watch import rows as value_rows
 
@@ -46,21 +45,8 @@ def show_chain(source: Source, asked: Asked, is_short: bool) -> None:
 
 
 def show_watch(source: Source, asked: argparse.Namespace) -> int:
-    """Shows the values of variables; if prints can't be added, the values of the replay, and the reason."""
-    motes, watched = read_watch(source, ' '.join(asked.watch))
-    values = replayed(source, motes, watched)
-    said = ''
-    if not asked.replay:
-        if asked.file == '-' or asked.scenario == '-':
-            raise Fault('--watch runs the scenario a second time: name a file, and not standard input')
-        text = read_file(asked.scenario or asked.file).decode('utf-8')
-        try:
-            if watch(source, text, motes, watched) != values:
-                raise Fault('the added prints and the replay disagree; please report this scenario')
-        except Unwatched as fault:
-            said = 'why: %s; these values come from the replay of the mote, without added prints' % fault
-    if said:
-        print(said, file=sys.stderr)
+    """Shows the values of variables."""
+    values = replayed(source, *read_watch(source, ' '.join(asked.watch)))
     print(json.dumps(values_as_json(values), indent=1) if asked.json else '\n'.join(value_rows(values)))
     return 0
 

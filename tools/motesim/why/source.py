@@ -26,12 +26,6 @@ class At(NamedTuple):
     place: int
 
 
-class Found(NamedTuple):
-    """A line that a search found: its moment and its place."""
-    at: int
-    where: At
-
-
 class Traces:
     """The traces and the log of the medium in a report's bytes."""
 
@@ -105,30 +99,6 @@ class Traces:
             begin = self.data.find(b'\n', begin) + 1
         return self.data[begin:self.data.find(b'\n', begin)].decode('ascii', 'replace')
 
-    def text_at(self, where: At) -> str:
-        """The text of a line, without keeping its trace in memory."""
-        if where.mote in self.kept:
-            return self.text(where)
-        begin = self.begins[where.mote]
-        for _ in range(where.place):
-            begin = self.data.find(b'\n', begin) + 1
-        return self.data[begin:self.data.find(b'\n', begin)].decode('ascii')
-
-    def last_line(self, mote: int) -> str:
-        end = self.ends[mote] - 1
-        return self.data[self.data.rfind(b'\n', 0, end) + 1:end].decode('ascii', 'replace')
-
-    def moment_of_last(self, mote: int) -> int:
-        """The moment of a mote's last line."""
-        return int(self.last_line(mote).partition(' ')[0]) if self.begins[mote] < self.ends[mote] else 0
-
-    def halts(self, mote: int) -> bool:
-        return self.last_line(mote).endswith(' halt')
-
-    def left(self) -> int:
-        """The number of copies that would arrive after the end."""
-        return int(self.data[self.medium_end:].split(b' ')[1])
-
     def at_row(self, row: int) -> At | None:
         """The place of a line of the report; None for a line of the medium, or if there is no such line."""
         for mote in range(self.motes):
@@ -166,16 +136,6 @@ class Traces:
                 if kind == 'collide':
                     found.setdefault(moment, []).append(place)
         return self.collided[mote].get(at, [])
-
-    def matching(self, mote: int, pattern: bytes) -> list[Found]:
-        """The lines of a mote that have this pattern after the moment."""
-        found, begin = [], self.begins[mote]
-        row, counted = 0, begin
-        for it in re.compile(rb'^(\d+) ' + pattern + rb'$', re.M).finditer(self.data, begin, self.ends[mote]):
-            row += self.data.count(b'\n', counted, it.start())
-            counted = it.start()
-            found.append(Found(int(it[1]), At(mote, row)))
-        return found
 
     def packets(self, pattern: bytes = rb'\d+ \d+ \d+.*') -> Iterator[tuple[int, str]]:
         """The lines of the medium that have this pattern after the moment, each with its number in the report."""

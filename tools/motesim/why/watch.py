@@ -1,34 +1,23 @@
-"""The values of variables over time, by prints that are added to a program: docs/use/WATCH.md.
-
-After each assignment to a watched variable, two prints are added: a mark, which the process never prints by itself,
-and the value. The changed scenario is run. Without the added lines, its report must be the same as that of the
-scenario, byte for byte. Then the values are those of the run.
-"""
+"""The values of variables over time, from the replay of a mote: docs/use/WATCH.md."""
 from __future__ import annotations
 
-import json
 import re
 from typing import Any, NamedTuple
 
 from motesim.text import nearest
 from motesim.faults import Fault
-from motesim.notation.faults import Token, tokens_of
-from motesim.runner.run import NoReport, run_program
-from motesim.toml import read_toml
-from motesim.why.source import At, Source, Traces
+from motesim.why.source import At, Source
 from motesim.why.translate import Program
 
 ASKED = re.compile(r'\s*(?:every\s+mote|motes?\s+(?P<motes>\d+(?:\s*(?:,|and|to)\s*\d+)*))\s+(?P<names>[a-z].*)')
-MOST_VALUE = 65_535
 
 
 class Watched(NamedTuple):
-    """A watched variable of a process, both by their numbers, and the mark of its lines."""
+    """A watched variable of a process, both by their numbers."""
     program: str
     process: int
     variable: int
     name: str
-    mark: int = 0
 
 
 class Given(NamedTuple):
@@ -89,150 +78,6 @@ def read_watch(source: Source, text: str) -> tuple[list[int], list[Watched]]:
     return motes, found
 
 
-def with_marks(source: Source, watched: list[Watched]) -> list[Watched]:
-    """Selects for each variable a mark that its process never prints."""
-    taken: dict[tuple[str, int], set[int]] = {}
-    found = []
-    for it in watched:
-        key = it.program, it.process
-        if key not in taken:
-            name = source.translated[it.program].processes[it.process].name
-            motes = [mote for mote, program in enumerate(source.traces.programs) if program == it.program]
-            prints = (source.traces.matching(mote, b'print %s .*' % name.encode()) for mote in motes)
-            taken[key] = {int(source.traces.text_at(line.where).rsplit(' ', 1)[1]) for its in prints for line in its}
-        mark = next((value for value in range(MOST_VALUE, -1, -1) if value not in taken[key]), None)
-        if mark is None:
-            raise Unwatched('the process prints every possible value, so added prints can\'t be distinguished from '
-                            'its own')
-        taken[key].add(mark)
-        found.append(it._replace(mark=mark))
-    return found
-
-
-def assigned(tokens: list[Token], at: int) -> str:
-    """The variable to which the statement at a token assigns, or an empty text."""
-    if tokens[at + 1].text == '=' and tokens[at - 1].text in (';', '{', '}'):
-        return tokens[at].text
-    if tokens[at].text == 'into':
-        return tokens[at + 1].text
-    return ''
-
-
-def with_prints(text: str, program: Program, watched: list[Watched]) -> str:
-    """A program with prints after each assignment to a watched variable."""
-    tokens = tokens_of(text)
-    wanted = {(program.processes[it.process].name, it.name): it.mark for it in watched}
-    rows, process = text.split('\n'), ''
-    added: list[tuple[int, int, str]] = []
-    for at, token in enumerate(tokens[:-2]):
-        if token.text == 'code':
-            process = tokens[at + 1].text
-        name = assigned(tokens, at) if process else ''
-        if (process, name) in wanted:
-            end = next(it for it in tokens[at:] if it.text == ';')
-            prints = ' print %d; print %s;' % (wanted[process, name], name)
-            added.append((end.line - 1, end.column + 1, prints))
-    for line, column, prints in reversed(added):
-        rows[line] = rows[line][:column] + prints + rows[line][column:]
-    return '\n'.join(rows)
-
-
-def toml_of(value: object) -> str:
-    """A value of TOML on one line."""
-    if isinstance(value, bool):
-        return 'true' if value else 'false'
-    if isinstance(value, str):
-        return json.dumps(value, ensure_ascii=False).replace('\x7f', '\\u007f')
-    if isinstance(value, dict):
-        return '{%s}' % ', '.join('%s = %s' % (toml_of(key), toml_of(it)) for key, it in value.items())
-    if isinstance(value, list):
-        return '[%s]' % ', '.join(map(toml_of, value))
-    return str(value)
-
-
-def with_programs(scenario: str, programs: dict[str, str]) -> str:
-    """A scenario with other texts of some programs."""
-    tables = read_toml(scenario)
-    tables['programs'].update(programs)
-    return ''.join('%s = %s\n' % (key, toml_of(value)) for key, value in tables.items())
-
-
-class _Stripped:
-    """A run with added prints, next to the run without them."""
-
-    def __init__(self, source: Source, changed: Traces, watched: list[Watched]):
-        self.source, self.changed = source, changed
-        self.marks: dict[tuple[str, str], Watched] = {}
-        for it in watched:
-            process = source.translated[it.program].processes[it.process].name
-            self.marks[it.program, 'print %s %d' % (process, it.mark)] = it
-
-    def values(self, mote: int) -> list[Given]:
-        """The values of a mote's variables, in order; the other lines must be those of the run without prints."""
-        wanted, lines = self.source.traces.lines(mote), self.changed.lines(mote)
-        program = self.source.traces.programs[mote]
-        found: list[Given] = []
-        at = place = 0
-        while at < len(lines):
-            moment, _, words = lines[at].partition(' ')
-            it = self.marks.get((program, words)) if words.startswith('print ') else None
-            head = '%s print %s ' % (moment, words.split(' ')[1]) if it else ''
-            if it and at + 1 < len(lines) and lines[at + 1].startswith(head):
-                row = self.source.traces.row(At(mote, place - 1)) if place else 0
-                found.append(Given(mote, int(moment), row, words.split(' ')[1], it.name,
-                                   int(lines[at + 1][len(head):])))
-                at += 2
-                continue
-            if place >= len(wanted) or lines[at] != wanted[place]:
-                self.differ(mote, lines[at], wanted[place] if place < len(wanted) else 'nothing')
-            at, place = at + 1, place + 1
-        if place < len(wanted):
-            self.differ(mote, 'nothing', wanted[place])
-        # (not all lines of a large run are kept)
-        self.source.traces.kept.pop(mote, None)
-        self.changed.kept.pop(mote, None)
-        return found
-
-    @staticmethod
-    def differ(mote: int, found: str, wanted: str) -> None:
-        """Raises an `Unwatched`: the run with added prints differs from the run without them."""
-        if found.endswith(' halt') or wanted.endswith(' halt'):
-            raise Unwatched("the added prints use up the work of mote %d at %s, so that it halts: this run can't be "
-                            'watched by prints' % (mote, found.split(' ')[0]))
-        raise Unwatched("the added prints change the run: mote %d writes '%s', and without them '%s'" % (
-            mote, found, wanted))
-
-    def check_medium(self) -> None:
-        """The log of the medium and the last line have to be the same, byte for byte."""
-        one, other = self.source.traces, self.changed
-        if one.data[one.medium_begin:] != other.data[other.medium_begin:]:
-            raise Unwatched('the added prints change the packets of the run')
-
-
-def watch(source: Source, scenario: str, motes: list[int], watched: list[Watched]) -> list[Given]:
-    """The values of variables on some motes, by prints that are added to their programs."""
-    marked = with_marks(source, watched)
-    programs: dict[str, str] = {}
-    for name in {it.program for it in marked}:
-        its = [it for it in marked if it.program == name]
-        programs[name] = with_prints(source.scenario.programs[name], source.translated[name], its)
-    try:
-        changed = Traces(run_program(with_programs(scenario, programs).encode()))
-    except NoReport as fault:
-        raise Unwatched("the added prints don't fit into the program: %s" % fault) from None
-    stripped = _Stripped(source, changed, marked)
-    if changed.programs != source.traces.programs:
-        raise Unwatched('the added prints change the run')
-    found = {mote: stripped.values(mote) for mote in range(source.traces.motes)}
-    stripped.check_medium()
-    for mote in motes:
-        # (a trace that ends with `halt` would also do so with the prints, and its last event would be missing)
-        if source.traces.halts(mote):
-            raise Unwatched('mote %d uses up its work, and with added prints it would do so earlier: this run can\'t '
-                            'be watched by prints' % mote)
-    return first_values(source, motes, marked) + [it for mote in motes for it in found[mote]]
-
-
 def first_values(source: Source, motes: list[int], watched: list[Watched]) -> list[Given]:
     """The values with which variables are declared."""
     found = []
@@ -245,7 +90,7 @@ def first_values(source: Source, motes: list[int], watched: list[Watched]) -> li
 
 
 def replayed(source: Source, motes: list[int], watched: list[Watched]) -> list[Given]:
-    """The same values from the replay of the motes, without any added print."""
+    """The values of variables on some motes."""
     found = first_values(source, motes, watched)
     wanted = {(it.program, it.process, it.variable): it.name for it in watched}
     for mote in motes:
@@ -277,5 +122,3 @@ def as_json(values: list[Given]) -> list[dict[str, Any]]:
     return [{'at': it.at, 'mote': it.mote, 'line': it.row or None, 'process': it.process, 'variable': it.variable,
              'value': it.value} for it in in_order(values)]
 
-
-__all__ = ['Given', 'Unwatched', 'as_json', 'read_watch', 'replayed', 'rows', 'watch', 'with_prints']
