@@ -19,6 +19,7 @@ from project.counts import pytest_terminal_summary  # noqa: E402, F401
 
 def pytest_addoption(parser: pytest.Parser) -> None:
     parser.addoption('--name', action='append', default=[], help='test only this; the module says what it may name')
+    parser.addoption('--build', action='store_true', help='test_module: also build the module again')
 
 
 @pytest.fixture(scope='session')

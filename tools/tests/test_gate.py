@@ -15,7 +15,7 @@ from motesim.faults import Fault
 from project import testing
 
 STEPS = ['run_cases', 'check_examples', 'check_tutorial', 'spoil_bytes', 'compare_workers', 'refuse_memory',
-         'test_tools', 'wrong_bodies']
+         'test_tools', 'wrong_bodies', 'check_module']
 
 
 class Gate(unittest.TestCase):
@@ -29,6 +29,8 @@ class Gate(unittest.TestCase):
         self.put('tools/differential', 'echo "2 passed, 0 failed"')
         self.put('bin/rt', 'echo "2 passed, 0 failed"')
         self.put('bin/nproc', 'echo 1')
+        self.put('bin/node', 'true')
+        self.put('bin/wasm-opt', 'true')
         self.put('crates/motesim/out/motesim', 'true')
 
     def put(self, name: str, text: str) -> None:
@@ -44,10 +46,10 @@ class Gate(unittest.TestCase):
 
     def test_all_steps_are_added_up(self) -> None:
         lines, status = self.run_it()
-        self.assertEqual((lines[-1], status), ('20 passed, 0 failed, 0 skipped', 0))
-        self.assertEqual(len([it for it in lines if it.startswith('== time: 0m')]), 10)
+        self.assertEqual((lines[-1], status), ('22 passed, 0 failed, 0 skipped', 0))
+        self.assertEqual(len([it for it in lines if it.startswith('== time: 0m')]), 11)
         lines, status = self.run_it('--quick')
-        self.assertEqual((lines[-1], status), ('8 passed, 0 failed, 0 skipped', 0))
+        self.assertEqual((lines[-1], status), ('10 passed, 0 failed, 0 skipped', 0))
 
     def test_what_fails_and_what_is_skipped_counts(self) -> None:
         self.put('tools/dev/test_tools',
@@ -55,14 +57,14 @@ class Gate(unittest.TestCase):
         self.put('tools/dev/run_cases', 'exit 1')
         self.put('tools/dev/spoil_bytes', 'echo "2 passed, 0 failed"; exit 3')
         lines, status = self.run_it()
-        self.assertEqual((lines[-1], status), ('21 passed, 3 failed, 3 skipped', 1))
+        self.assertEqual((lines[-1], status), ('23 passed, 3 failed, 3 skipped', 1))
 
     def test_what_can_not_be_run_fails_unless_it_may_be_skipped(self) -> None:
         (self.room / 'tools/dev/refuse_memory').unlink()
         number = re.findall(r'refuse_memory program (\d+)', (TOP / 'test').read_text('utf-8'))[0]
-        self.assertEqual(self.run_it()[0][-1], '18 passed, %s failed, 0 skipped' % number)
+        self.assertEqual(self.run_it()[0][-1], '20 passed, %s failed, 0 skipped' % number)
         lines, status = self.run_it('--may-skip', 'refuse_memory')
-        self.assertEqual((lines[-1], status), ('18 passed, 0 failed, %s skipped' % number, 0))
+        self.assertEqual((lines[-1], status), ('20 passed, 0 failed, %s skipped' % number, 0))
         self.assertIn('== skipped: tools/dev/refuse_memory: it is not here', lines)
 
     def test_without_python_and_compiler_the_steps_fail(self) -> None:

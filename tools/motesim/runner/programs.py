@@ -60,16 +60,16 @@ def is_program(path: Path) -> bool:
 
 # Sources.
 
-def crates_of_program(top: Path) -> list[str]:
-    """The crates from which the binary is made, in the order of crates.txt: each line has a name, options, and the
-    crates that it uses."""
+def crates_of_program(top: Path, program: str = 'motesim') -> list[str]:
+    """The crates from which a program is made, in the order of their names. Each line of crates.txt has a name,
+    options, and the crates that it uses."""
     below: dict[str, list[str]] = {}
     for row in (top / 'crates.txt').read_text('utf-8').splitlines():
         name, _, rest = row.partition('#')[0].partition(':')
         if name.split():
             below[name.split()[0]] = rest.split()
     found: dict[str, None] = {}
-    left = ['motesim']
+    left = [program]
     while left:
         name = left.pop()
         # (a name without a line in crates.txt is a library of the kit)
@@ -79,10 +79,10 @@ def crates_of_program(top: Path) -> list[str]:
     return sorted(found)
 
 
-def digest(top: Path = TOP, parts: Sequence[str] = CODE) -> str:
-    """A digest of these parts of all crates from which the binary is made."""
+def digest(top: Path = TOP, parts: Sequence[str] = CODE, program: str = 'motesim') -> str:
+    """A digest of these parts of all crates from which a program is made."""
     found = hashlib.sha256((top / 'crates.txt').read_bytes())
-    for crate in crates_of_program(top):
+    for crate in crates_of_program(top, program):
         for part in parts:
             for path in sorted((top / 'crates' / crate / part).rglob('*')):
                 if path.is_file():

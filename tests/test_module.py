@@ -1,0 +1,146 @@
+"""Tests web/motesim.wasm: tools/dev/check_module [--build]
+
+Node runs the module on the scenarios of all cases, on all examples, and on 300 random scenarios. The module has to
+write the expected texts of the cases, and for the other scenarios what the built program writes. If its memory has a
+limit, it has to write the report or `motesim: out of memory`. web/motesim.json has to name the sources of this tree.
+
+With --build, the module is also made again, from the intermediate code of the proved program if `rt ci` has proved the
+libraries here. If the same kit and version of binaryen made the committed module from the same kind of code, both have
+to be the same, byte for byte; in any case the new one has to pass the same tests. tools/dev/build_web replaces a module
+that fails.
+"""
+from __future__ import annotations
+
+import subprocess
+from collections.abc import Iterator
+from pathlib import Path
+
+import pytest
+from differences import answer, check_answer
+from motesim.contiki.random_scenario import random_scenario
+from motesim.runner import Answer
+from motesim.runner.module import ABOUT, MODULE, SCRIPT, SOURCE, read_about
+from motesim.runner.programs import CODE, TOP, digest
+from project import web
+from project.tree import commit
+from test_cases import Case, all_cases
+
+COUNT = 300
+RENEW = 'tools/dev/build_web makes the module again'
+RUNS = Path(__file__).with_name('run_module.js')
+# A scenario with a small report, whose run needs memory beyond that which the module has at its start.
+SMALL = TOP / 'tests/cases/nets/two_senders.toml'
+OUT_OF_MEMORY = b'motesim: out of memory\n'
+
+
+def pytest_generate_tests(metafunc: pytest.Metafunc) -> None:
+    if 'kind' in metafunc.fixturenames:
+        kinds = ['committed', *(['built'] if metafunc.config.getoption('build') else [])]
+        metafunc.parametrize('kind', [pytest.param(it, marks=pytest.mark.xdist_group(it)) for it in kinds])
+
+
+@pytest.fixture(scope='session')
+def built() -> web.Made:
+    """The module of the sources of this tree."""
+    return web.build()
+
+
+@pytest.fixture
+def module(kind: str, request: pytest.FixtureRequest, tmp_path: Path) -> Path:
+    if kind == 'committed':
+        return MODULE
+    file = tmp_path / 'built.wasm'
+    made: web.Made = request.getfixturevalue('built')
+    file.write_bytes(made.module)
+    return file
+
+
+def answers(module: Path, scenarios: dict[str, bytes], room: Path) -> dict[str, Answer]:
+    """The answers of a module to scenarios."""
+    for name, scenario in scenarios.items():
+        (room / (name + '.toml')).write_bytes(scenario)
+    subprocess.run(['node', RUNS, module, room], check=True, stdin=subprocess.DEVNULL)
+    return {name: answer_in(room / name) for name in scenarios}
+
+
+def answer_in(path: Path) -> Answer:
+    report, fault, status = (path.with_name(path.name + it).read_bytes() for it in ('.1', '.2', '.status'))
+    # (an exception has no number)
+    return Answer(int(status), report, fault) if status.isdigit() else Answer(-1, report, fault + status)
+
+
+def cases() -> Iterator[tuple[str, bytes, Answer]]:
+    """Each scenario of the cases, with its name and the expected answer."""
+    for case in map(Case, all_cases()):
+        if case.path.parent.name != 'command' and 'command' not in case.path.parts:
+            for name, scenario, expected in case.scenarios():
+                yield ' '.join([str(case.path.relative_to(TOP)), name]), scenario, expected
+
+
+def test_it_is_made_from_the_sources_of_this_tree(request: pytest.FixtureRequest) -> None:
+    about = read_about()
+    assert about, '%s doesn\'t say from what the module is made' % ABOUT
+    assert about.sources == digest(TOP, CODE, SOURCE), 'the crates have changed since it was made: ' + RENEW
+    if request.config.getoption('build'):
+        made: web.Made = request.getfixturevalue('built')
+        assert web.difference(about, made.about) is None, RENEW
+
+
+def test_it_writes_what_cases_expect(module: Path, tmp_path: Path) -> None:
+    expected = {'%d' % number: it for number, it in enumerate(cases())}
+    found = answers(module, {number: scenario for number, (_, scenario, _) in expected.items()}, tmp_path)
+    for number, (name, _, one) in expected.items():
+        check_answer(name, one, found[number])
+
+
+def test_it_writes_what_the_program_writes(module: Path, program: Path, tmp_path: Path) -> None:
+    examples = {'-'.join(it.relative_to(TOP).parts): it.read_bytes() for it in TOP.glob('examples/**/*.toml')}
+    texts = {**examples, **{'random-%d' % seed: random_scenario('%s %d' % (commit(), seed)) for seed in range(COUNT)}}
+    found = answers(module, texts, tmp_path)
+    for name, scenario in texts.items():
+        check_answer(name, answer(program, scenario), found[name])
+
+
+def with_limit(module: bytes, pages: int) -> bytes:
+    """The module with a limit of its memory, which has the number of pages that it has at its start, and more."""
+    begin, end = next((begin, end) for kind, begin, end in web.sections(module) if kind == 5)
+    assert module[begin:begin + 2] == b'\x01\x00' and 128 <= pages < 1 << 14
+    limited = b'\x01\x01' + module[begin + 2:end] + bytes([pages & 127 | 128, pages >> 7])
+    return module[:begin - 1] + bytes([len(limited)]) + limited + module[end:]
+
+
+def test_it_says_that_memory_is_out(module: Path, tmp_path: Path) -> None:
+    data, scenario = module.read_bytes(), SMALL.read_bytes()
+    begin = next(begin for kind, begin, _ in web.sections(data) if kind == 5)
+    least, _ = web.leb128(data, begin + 2)
+    whole = answers(module, {'whole': scenario}, tmp_path)['whole']
+    refused = 0
+    for more in range(0, 64):
+        limited, room = tmp_path / 'limited.wasm', tmp_path / str(more)
+        room.mkdir()
+        limited.write_bytes(with_limit(data, least + more))
+        got = answers(limited, {'small': scenario}, room)['small']
+        if got == whole:
+            break
+        refused += 1
+        assert (got.status, got.fault) == (1, OUT_OF_MEMORY) and whole.report.startswith(got.report)
+    assert got == whole and refused
+
+
+def test_the_script_is_a_program(program: Path, tmp_path: Path) -> None:
+    scenario = SMALL.read_bytes()
+    expected = answer(program, scenario)
+    check_answer('from standard input', expected, answer(SCRIPT, scenario))
+    for words in [str(SMALL)], ['--', str(SMALL)]:
+        check_answer('from a file', expected, answer(SCRIPT, b'', *words))
+    for words in ['/nowhere'], [str(tmp_path)]:
+        check_answer('without a file', answer(program, b'', *words), answer(SCRIPT, b'', *words))
+    check_answer('too long', answer(program, b'#' * 5_000_000), answer(SCRIPT, b'#' * 5_000_000))
+    assert answer(SCRIPT, scenario, '--workers', '2').status == 2
+
+
+def test_the_script_writes_to_a_file_and_to_a_pipe(tmp_path: Path) -> None:
+    words = 'cd %s; "$0" "$1" >whole; "$0" "$1" | head -n 1; "$0" "$1" >/dev/full' % tmp_path
+    done = subprocess.run(['bash', '-c', words, SCRIPT, TOP / 'examples/flooding.toml'], capture_output=True)
+    first = (tmp_path / 'whole').read_bytes().split(b'\n')[0] + b'\n'
+    assert (done.stdout, done.stderr, done.returncode) == (first, b'motesim: write fault\n', 1)
