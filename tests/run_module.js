@@ -10,7 +10,8 @@ for (const name of fs.readdirSync(folder).filter(it => it.endsWith('.toml'))) {
   const path = folder + '/' + name.slice(0, -'.toml'.length), written = {1: [], 2: []};
   let status;
   try {
-    status = runModule(compiled, fs.readFileSync(path + '.toml'), (stream, bytes) => written[stream].push(bytes)).status;
+    const scenario = fs.readFileSync(path + '.toml');
+    status = runModule(compiled, scenario, (stream, bytes) => written[stream].push(bytes)).status;
   } catch (fault) {
     status = fault;
   }

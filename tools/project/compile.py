@@ -1,19 +1,23 @@
 """Compiles `motesim` without proving it, if no binary of these sources is built. ./run and tools/pack use this module.
 
 The binary is kept in out/programs by a digest of the sources (motesim.runner.programs). It is compiled quickly, and
-`motesim.runner.programs.optimize` has it replaced by an optimized one.
+`motesim.runner.programs.optimize` has it replaced by an optimized one. `python3 -m project.compile` does both.
 """
 from __future__ import annotations
 
+import contextlib
 import os
 import shutil
+import subprocess
 import sys
 import tempfile
 import time
 from pathlib import Path
 
 from motesim.faults import Fault
-from motesim.runner.programs import COMPILES, PARTS, PROGRAMS, TOP, compiled_kept, is_program
+from motesim.runner.programs import (COMPILES, NICENESS, PARTS, PROGRAMS, TOP, compiled_kept, is_program,
+                                     optimize)
+from motesim.runner.waiting import is_free
 from project import kit
 from project.running import end_on_signals, locked
 
@@ -51,3 +55,18 @@ def compile_program() -> Path:
                 print('motesim: %s' % line, file=sys.stderr, flush=True)
             make(kept)
     return kept
+
+
+def compile_in_background() -> None:
+    """Starts a process that compiles the binary of these sources, and an optimized one after it, unless another
+    process compiles it."""
+    with contextlib.suppress(FileNotFoundError), open(COMPILES, 'rb') as held:
+        if not is_free(held):
+            return
+    subprocess.Popen(['nice', '-n', str(NICENESS), sys.executable, '-Bm', __name__], stdin=subprocess.DEVNULL,
+                     stdout=subprocess.DEVNULL, stderr=subprocess.DEVNULL, start_new_session=True,
+                     env={**os.environ, 'PYTHONPATH': str(TOP / 'tools')})
+
+
+if __name__ == '__main__':
+    optimize(compile_program())

@@ -1,8 +1,9 @@
 """Runs motesim, and compiles it first if it isn't built: tools/run_program [arguments], which is ./run
 
-The proved binary of these sources runs if it has been built. Otherwise a binary is compiled without a proof, once, and
-is kept; a line on standard error says so. Before it compiles, the tool refuses arguments that motesim doesn't know,
-and a file that can't be read. The environment variable MOTESIM names another binary. After an error, a further line
+The proved binary of these sources runs if it has been built, and otherwise one that is compiled without a proof. If
+there is neither, and there are no options, node runs the WebAssembly module of these sources, and the binary is
+compiled in the background. Without node, or with options, the binary is compiled first. A line on standard error says
+what runs. Before it compiles, the tool refuses arguments that motesim doesn't know, and a file that can't be read. The environment variable MOTESIM names another binary. After an error, a further line
 says how to find out why there is no report. With --help the options of ./run are below those of motesim.
 """
 from __future__ import annotations
@@ -10,6 +11,7 @@ from __future__ import annotations
 import argparse
 import contextlib
 import os
+import shutil
 import signal
 import subprocess
 import sys
@@ -18,9 +20,10 @@ from pathlib import Path
 from typing import NamedTuple, NoReturn
 
 from motesim.faults import Fault
-from motesim.runner.programs import NOT_PROVED, is_compiled, optimize, program_of_sources, program_path
+from motesim.runner.programs import (IN_NODE, NOT_PROVED, TOP, is_compiled, module_program, optimize,
+                                     program_of_sources, program_path)
 from motesim.runner.versions import version_line
-from project.compile import compile_program
+from project.compile import compile_in_background, compile_program
 from project.running import ends_with_parent
 
 NAME = 'motesim'
@@ -31,6 +34,11 @@ Options of ./run itself, which compiles motesim if it isn't built:
       --unproved     Runs a motesim that is compiled without a proof, even if a proved one is built
       --version      Prints the version, and whether the motesim that would run is proved"""
 FAILED, MISUSED = 1, 2
+IN_BACKGROUND = '; a faster one is compiled in the background'
+NOTHING_RUNS = 'without the Rattle kit, which compiles motesim, a WebAssembly module can run: install node (on Debian ' \
+               '`apt-get install nodejs`), or open %s in a browser'
+NO_OPTIONS = 'without the Rattle kit, which compiles motesim, there is only its WebAssembly module, which has no ' \
+             'options: leave them out'
 
 
 class Request(NamedTuple):
@@ -41,6 +49,10 @@ class Request(NamedTuple):
     wants_help: bool
     is_unproved: bool
     refusal: str | None
+
+    @property
+    def has_options(self) -> bool:
+        return self.is_unproved or any(it not in ('--', self.file) for it in self.words)
 
 
 class Reader(argparse.ArgumentParser):
@@ -106,8 +118,21 @@ def check_arguments(request: Request) -> None:
         sys.exit(FAILED)
 
 
+def without_binary(request: Request) -> Path:
+    """The script of the module, or a binary that is compiled now."""
+    module, has_kit = module_program(), shutil.which('rt') is not None
+    if module and not request.has_options:
+        say('%s: %s%s' % (NAME, IN_NODE, IN_BACKGROUND * has_kit))
+        if has_kit:
+            compile_in_background()
+        return module
+    if not has_kit:
+        raise Fault(NO_OPTIONS if module else NOTHING_RUNS % (TOP / 'web/motesim.html'))
+    return compile_program()
+
+
 def program_for(request: Request) -> Path:
-    """The binary that runs with these arguments. If none is built, checks the arguments, and compiles one."""
+    """The program that runs with these arguments. If no binary is built, checks the arguments first."""
     if os.environ.get('MOTESIM') and not request.is_unproved:
         return program_path().resolve()
     found = program_of_sources(may_be_proved=not request.is_unproved)
@@ -117,7 +142,7 @@ def program_for(request: Request) -> Path:
             say(HELP_OF_RUN)
             sys.exit(0)
         check_arguments(request)
-        found = compile_program()
+        found = without_binary(request)
     if is_compiled(found) and not request.wants_help:
         say('%s: %s' % (NAME, NOT_PROVED))
         optimize(found)

@@ -1,5 +1,5 @@
-// The C runtime of web/motesim.wasm: what the native program gets from glibc and from the kit's C libraries. One thread;
-// streams are functions of the host; memory is that of the module. tools/project/web.py compiles it.
+// The C runtime of web/motesim.wasm: what the native program gets from glibc and from the kit's C libraries. It has one
+// thread. Streams are functions of the host, and memory is that of the module. tools/project/web.py compiles it.
 typedef unsigned char u8;
 typedef unsigned int u32;
 typedef unsigned long u64;

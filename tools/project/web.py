@@ -33,8 +33,8 @@ from project import kit
 
 RUNTIME = Path(__file__).with_name('runtime.c')
 # What the intermediate code may use: functions of the runtime, and families of LLVM's own functions.
-EXTERNALS = frozenset('__sysv_signal __write __x86_get_cpuid_feature_leaf _exit rattle_alloc rattle_dealloc rattle_errno '
-                      'rattle_realloc read write'.split())
+EXTERNALS = frozenset('__sysv_signal __write __x86_get_cpuid_feature_leaf _exit rattle_alloc rattle_dealloc '
+                      'rattle_errno rattle_realloc read write'.split())
 INTRINSICS = frozenset('abs arithmetic.fence assume bswap ctlz ctpop cttz fshl fshr memcpy memmove memset '
                        'sadd.with.overflow smax smin smul.with.overflow ssub.with.overflow trap uadd.sat '
                        'uadd.with.overflow umax umin umul.with.overflow usub.sat usub.with.overflow'.split())
@@ -191,8 +191,7 @@ def module_of(code: Path, room: Path) -> bytes:
          '--target=x86_64-unknown-linux-gnu'], room)
     (room / 'code.ll').write_text(retargeted((room / 'x86.ll').read_text('utf-8')), 'utf-8')
     run([clang, *OPTIONS, '-x', 'ir', 'code.ll', '-o', 'code.o'], room)
-    run([clang, *OPTIONS, '-ffreestanding', '-fno-builtin', '-nostdlib', '-Wall', '-x', 'c', RUNTIME, '-o', 'runtime.o'],
-        room)
+    run([clang, *OPTIONS, '-ffreestanding', '-fno-builtin', '-Wall', '-x', 'c', RUNTIME, '-o', 'runtime.o'], room)
     # (the linker is a part of the kit's clang)
     run(['wasm-ld', '-m', 'wasm64', '--no-entry', '--gc-sections', '--strip-all', '--stack-first', '-z',
          'stack-size=%d' % STACK, 'code.o', 'runtime.o', '-o', 'wide.wasm'], room, clang)

@@ -82,15 +82,14 @@ class Gate(unittest.TestCase):
         self.assertRegex(lines[-1], r'^\d+ passed, \d+ failed, \d+ skipped$')
 
 
-class Landing(unittest.TestCase):
-    """The script .ci/run, which decides whether a landing counts. Debian's commands are stand-ins."""
+class Packages(unittest.TestCase):
+    """The Debian packages that ./test installs. Debian's commands are stand-ins, and there are no steps."""
 
-    def run_it(self, missing: str, can_install: bool, user: int = 0) -> tuple[list[str], int, str]:
-        """The lines, the status, and the calls of apt-get, on a machine that lacks packages."""
+    def run_it(self, missing: str, can_install: bool, *words: str, user: int = 0) -> tuple[list[str], str]:
+        """The lines before the first step, and the calls of apt-get, on a machine that lacks packages."""
         with tempfile.TemporaryDirectory() as folder:
             room = Path(folder)
             for name, text in {
-                'test': 'echo "./test $*"; echo "1 passed, 0 failed, 0 skipped"; exit 3',
                 'bin/dpkg-query': 'case " %s " in *" $4 "*) echo un ;; *) echo "ii " ;; esac' % missing,
                 'bin/id': 'echo %d' % user,
                 'bin/apt-get': 'echo "$*" >>"%s/calls"; exit %d' % (room, not can_install),
@@ -99,27 +98,44 @@ class Landing(unittest.TestCase):
                 path.parent.mkdir(exist_ok=True)
                 path.write_text('#!/bin/sh\n%s\n' % text)
                 path.chmod(0o755)
-            (room / '.ci').mkdir()
-            shutil.copy(TOP / '.ci/run', room / '.ci/run')
+            (room / 'tools/dev').mkdir(parents=True)
+            for name in 'test', 'tools/dev/packages.txt':
+                shutil.copy(TOP / name, room / name)
             here = {**os.environ, 'PATH': '%s:%s' % (room / 'bin', os.environ['PATH'])}
-            done = subprocess.run([room / '.ci/run', '--quick'], env=here, capture_output=True, text=True, timeout=60)
+            done = subprocess.run([room / 'test', '--quick', *words], env=here, capture_output=True, text=True,
+                                  timeout=60)
             calls = (room / 'calls').read_text() if (room / 'calls').is_file() else ''
-        return done.stdout.splitlines(), done.returncode, calls
+        self.assertRegex(done.stdout.splitlines()[-1], r'^0 passed, \d+ failed, 0 skipped$')
+        return [it for it in done.stdout.splitlines() if 'not run' not in it][:-2], calls
 
-    LAST = ['./test --quick', '1 passed, 0 failed, 0 skipped']
+    def test_without_a_missing_one_nothing_is_said(self) -> None:
+        self.assertEqual(self.run_it('', True), ([], ''))
 
-    def test_it_ends_as_the_test_does(self) -> None:
-        self.assertEqual(self.run_it('', True), (self.LAST, 3, ''))
-        self.assertEqual(self.run_it('mypy', True, user=1000), (self.LAST, 3, ''))
-
-    def test_it_installs_what_is_missing(self) -> None:
-        lines, status, calls = self.run_it('mypy tcc', True)
-        self.assertEqual((lines, status), (['installing mypy tcc', *self.LAST], 3))
+    def test_root_installs_what_is_missing(self) -> None:
+        lines, calls = self.run_it('mypy tcc', True)
+        self.assertEqual(lines, ['== installing mypy tcc (--no-install leaves this out)'])
         self.assertEqual(calls, 'update -q\ninstall -y -q --no-install-recommends mypy tcc\n')
 
-    def test_what_can_not_be_installed_is_named_and_the_test_runs(self) -> None:
-        lines, status, _ = self.run_it('mypy', False)
-        self.assertEqual((lines[1].partition(':')[0], lines[2:], status), ("mypy can't be installed", self.LAST, 3))
+    def test_others_get_the_command_and_what_they_lack(self) -> None:
+        for words, user in ([], 1000), (['--no-install'], 0):
+            lines, calls = self.run_it('mypy tcc', True, *words, user=user)
+            self.assertIn('`apt-get install mypy tcc`', lines[0])
+            self.assertEqual([it.partition(':')[0].strip() for it in lines[1:]], ['mypy', 'tcc'])
+            self.assertEqual(calls, '')
+
+    def test_what_can_not_be_installed_is_named(self) -> None:
+        lines, _ = self.run_it('mypy', False)
+        self.assertEqual(lines[1], "== mypy can't be installed: the tests that need it say so")
+
+    def test_the_landing_calls_the_test(self) -> None:
+        with tempfile.TemporaryDirectory() as folder:
+            room = Path(folder)
+            (room / '.ci').mkdir()
+            shutil.copy(TOP / '.ci/run', room / '.ci/run')
+            (room / 'test').write_text('#!/bin/sh\necho "./test $*"; exit 3\n')
+            (room / 'test').chmod(0o755)
+            done = subprocess.run([room / '.ci/run', '--quick'], capture_output=True, text=True, timeout=60)
+        self.assertEqual((done.stdout, done.returncode), ('./test --quick\n', 3))
 
 
 SOURCE = """import unittest

@@ -8,6 +8,9 @@ out/programs by a digest of what they were made from:
     compiled-DIGEST/motesim    compiled without a proof; the digest is of the sources
     slow-DIGEST/motesim        a copy of the first compiled one (motesim.runner.optimized)
 
+If there is none, the tools run the script web/motesim, which runs the WebAssembly module of these sources in node. The
+module has the same reports, and needs longer for them.
+
 A binary in this folder is complete, and never changes, except that an optimized one replaces the first compiled one.
 """
 from __future__ import annotations
@@ -26,6 +29,7 @@ from pathlib import Path
 
 from motesim.faults import Fault
 from motesim.runner import waiting
+from motesim.runner.module import SCRIPT, SOURCE, read_about
 from motesim.runner.waiting import clock, ends, is_free, say
 
 TOP = Path(__file__).resolve().parents[3]
@@ -46,6 +50,7 @@ CODE, ALL_PARTS = ('src',), ('src', 'specs', 'proofs')
 # (./run has this line too, for machines without Python)
 COMPILED = 'this program is compiled, not proved'
 NOT_PROVED = COMPILED + '; ./prove proves it here'
+IN_NODE = 'node runs the WebAssembly module of motesim, which isn\'t proved, and takes longer than a compiled motesim'
 WAITING = 'waiting for motesim, which another command is compiling; this usually needs about a minute'
 STILL = 'still waiting for the motesim that another command is compiling (%s so far)'
 
@@ -180,6 +185,19 @@ def program_of_sources(may_be_proved: bool = True) -> Path | None:
     return (proved_program() if may_be_proved else None) or compiled_program()
 
 
+@functools.cache
+def module_program() -> Path | None:
+    """The script that runs the WebAssembly module of these sources, if node is here."""
+    about = read_about() if is_program(SCRIPT) and shutil.which('node') else None
+    is_packed = not (TOP / 'crates.txt').is_file()
+    return SCRIPT if about and (is_packed or about.sources == digest(TOP, CODE, SOURCE)) else None
+
+
+def is_module(program: Path) -> bool:
+    """Returns whether a program is the script that runs the WebAssembly module."""
+    return program.resolve() == SCRIPT.resolve()
+
+
 def _is_kept_as(kinds: tuple[str, ...], program: Path) -> bool:
     return program.parent.parent == PROGRAMS.resolve() and program.parent.name.startswith(kinds)
 
@@ -214,11 +232,10 @@ def is_said_today() -> bool:
 
 
 @functools.cache
-def say_not_proved() -> None:
-    """Prints, once a day, that the binary was compiled, not proved. (A tree's ./run prints it each time.)"""
-    if is_said_today():
-        return
-    print('motesim: %s' % (COMPILED if is_program(PACKED) else NOT_PROVED), file=sys.stderr, flush=True)
+def say_not_proved(line: str) -> None:
+    """Prints, once a day, that the program isn't the proved one. (A tree's ./run prints it each time.)"""
+    if not is_said_today():
+        print('motesim: ' + line, file=sys.stderr, flush=True)
 
 
 def program_path() -> Path:
@@ -246,13 +263,15 @@ def wait_for_compiled() -> None:
 @functools.cache
 def _program_here() -> Path:
     """The binary of these sources. A process uses the same one even if the sources change."""
-    found = program_of_sources()
+    found = program_of_sources() or module_program()
     if found is None:
         wait_for_compiled()
         found = program_of_sources()
     if found is None:
         raise ProgramFault('motesim isn\'t compiled yet: start ./run FILE.toml once, which compiles it within a minute '
                            'or so; or name a compiled motesim in the environment variable MOTESIM')
-    if is_compiled(found):
-        say_not_proved()
+    if is_module(found):
+        say_not_proved(IN_NODE)
+    elif is_compiled(found):
+        say_not_proved(COMPILED if is_program(PACKED) else NOT_PROVED)
     return found

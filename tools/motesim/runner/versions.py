@@ -6,7 +6,7 @@ from functools import lru_cache
 from hashlib import sha256
 from pathlib import Path
 
-from motesim.runner.programs import is_compiled, is_proved, program_of_sources
+from motesim.runner.programs import is_compiled, is_module, is_proved, module_program, program_of_sources
 from motesim.version import KIT, VERSION
 
 ANOTHER = 'another with the SHA-256'
@@ -23,6 +23,8 @@ def program_version(program: Path) -> str:
         return VERSION
     if is_compiled(program):
         return '%s unproved' % VERSION
+    if is_module(program):
+        return '%s in node' % VERSION
     return '%s %s' % (ANOTHER, program_digest(program))
 
 
@@ -41,6 +43,8 @@ def version_line(may_be_proved: bool = True) -> str:
     """Returns the line of `--version`: the version, and whether the binary that would run is proved."""
     named = os.environ.get('MOTESIM') if may_be_proved else None
     program = Path(named) if named else program_of_sources(may_be_proved)
+    if program is None and may_be_proved:
+        program = module_program()
     proofs = 'the proofs of %s are for %s' % (VERSION, KIT)
     if program is None:
         return 'motesim %s, not built yet (%s)' % (VERSION, proofs)
@@ -48,4 +52,6 @@ def version_line(may_be_proved: bool = True) -> str:
         return 'motesim %s, proved with %s' % (VERSION, KIT)
     if is_compiled(program):
         return 'motesim %s, compiled, not proved (%s)' % (VERSION, proofs)
+    if is_module(program):
+        return 'motesim %s, as a WebAssembly module in node, not proved (%s)' % (VERSION, proofs)
     return 'tools of motesim %s with another program, %s, which MOTESIM names (%s)' % (VERSION, program, proofs)
