@@ -117,8 +117,8 @@ class Packages(unittest.TestCase):
         self.assertEqual(calls, 'update -q\ninstall -y -q --no-install-recommends mypy tcc\n')
 
     def test_others_get_the_command_and_what_they_lack(self) -> None:
-        for words, user in ([], 1000), (['--no-install'], 0):
-            lines, calls = self.run_it('mypy tcc', True, *words, user=user)
+        for word, user in ('--quick', 1000), ('--no-install', 0):
+            lines, calls = self.run_it('mypy tcc', True, word, user=user)
             self.assertIn('`apt-get install mypy tcc`', lines[0])
             self.assertEqual([it.partition(':')[0].strip() for it in lines[1:]], ['mypy', 'tcc'])
             self.assertEqual(calls, '')
