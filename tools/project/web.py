@@ -20,8 +20,6 @@ import shutil
 import subprocess
 import tempfile
 from collections.abc import Iterator, Sequence
-from importlib import import_module
-from importlib.util import find_spec
 from pathlib import Path
 from typing import NamedTuple
 
@@ -29,7 +27,7 @@ from motesim.faults import Fault, command
 from motesim.runner.module import ABOUT, MODULE, SOURCE, About, read_about
 from motesim.runner.programs import CODE, TOP, digest
 from motesim.words import words_of
-from project import kit
+from project import kit, page
 
 RUNTIME = Path(__file__).with_name('runtime.c')
 # What the intermediate code may use: functions of the runtime, and families of LLVM's own functions.
@@ -252,5 +250,4 @@ def main() -> int:
     write(made)
     print('%s: %d bytes, from the intermediate code of the %s program%s' % (
         MODULE.relative_to(TOP), len(made.module), made.about.code, ', as before' if kept == made.about else ''))
-    # (a tree without the page has only the module)
-    return int(import_module('project.page').main()) if find_spec('project.page') else 0
+    return page.main()
