@@ -294,7 +294,9 @@ class Page(unittest.TestCase):
         self.wait('!document.getElementById("notice").hidden')
         self.assertIn('You stopped the run.', self.shown('notice'))
         self.assertTrue(self.value('document.getElementById("stop").hidden'))
-        self.assertIsNone(self.server.session.runs.running)
+        # (the thread of the run notices its end a little later)
+        with self.server.session.runs.turn:
+            self.assertIsNone(self.server.session.runs.running)
 
     def test_a_page_without_a_run_offers_none(self) -> None:
         self.file.write_text('# never_ends\n' + NET)
