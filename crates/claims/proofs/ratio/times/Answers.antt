@@ -1,0 +1,5 @@
+use Rattle.claims.proofs.RatioLaws.{product_in_two}
+use Rattle.claims.proofs.ratio.times.Goals as goal
+
+pub returns : goal.returns
+returns c = product_in_two c.args.number c.args.factor

@@ -1,0 +1,99 @@
+//! Lines, and how many there are.
+ghost use Rattle.std.specs.Prelude.{◌≡◌, slice_get};
+ghost use Rattle.mote_net.specs.Report.{report_of};
+ghost use Rattle.claims.specs.Traces.{count_in};
+ghost use Rattle.claims.specs.Lines.{is_wanted, count_of, is_counted, counted_in, wanted_lines};
+
+use crate::order::Order;
+use crate::trace::{Deed, Found, Watch, trace_of};
+use mote_net::Report;
+
+/// The lines of a deed, or those of them that have an order.
+#[derive(Drop)]
+pub struct Lines {
+    pub deed: Deed,
+    pub order: Option<Order>,
+}
+
+impl Lines {
+    fn are_in_order(&self, report: &Report, line: &Found) -> bool
+        ensures { result ≡ is_wanted self.now.order (report_of report.now) line.now }
+    {
+        match &self.order {
+            None => true,
+            Some(order) => order.admits(report, line),
+        }
+    }
+
+    fn count_in(&self, report: &Report, watch: Watch) -> usize
+        ensures { result ≡ count_in (is_wanted self.now.order (report_of report.now)) (report_of report.now) self.now.deed watch }
+    {
+        trace_of(report, watch.mote)
+            .iter()
+            .enumerate()
+            .filter(|(place, line)| {
+                self.deed.shows(watch, line)
+                    && self.are_in_order(
+                        report,
+                        &Found {
+                            mote: watch.mote,
+                            place: *place,
+                            line: **line,
+                        },
+                    )
+            })
+            .count()
+    }
+
+    /// The number of lines in a report.
+    pub fn count(&self, report: &Report) -> u128
+        ensures { result ≡ count_of self.now (report_of report.now) }
+    {
+        let mut count = 0;
+        for watch in &self.deed.watches {
+            count += self.count_in(report, *watch) as u128;
+        }
+        count
+    }
+
+    fn counts(&self, report: &Report, watch: Watch, line: &Found) -> bool
+        ensures { result ≡ is_counted self.now (report_of report.now) watch line.now }
+    {
+        self.deed.shows(watch, &line.line) && self.are_in_order(report, line)
+    }
+
+    fn line_in(&self, report: &Report, watch: Watch, index: u64) -> Option<Found>
+        ensures { result ≡ slice_get (counted_in self.now (report_of report.now) watch) index }
+    {
+        let mut left = index;
+        for (place, line) in trace_of(report, watch.mote).iter().enumerate() {
+            let found = Found {
+                mote: watch.mote,
+                place,
+                line: *line,
+            };
+            if self.counts(report, watch, &found) {
+                if left == 0 {
+                    return Some(found);
+                }
+                left -= 1;
+            }
+        }
+        None
+    }
+
+    /// The line at an index among the lines that are counted, mote by mote.
+    pub fn line_at(&self, report: &Report, index: u64) -> Option<Found>
+        ensures { result ≡ slice_get (wanted_lines self.now (report_of report.now)) index }
+    {
+        let mut left = index;
+        for watch in &self.deed.watches {
+            let count = self.count_in(report, *watch) as u64;
+            if left < count {
+                return self.line_in(report, *watch, left);
+            }
+            left -= count;
+        }
+        None
+    }
+}

@@ -1,0 +1,58 @@
+//! The lines of a report that fit a pattern.
+ghost use Rattle.std.specs.Prelude.{◌≡◌};
+ghost use Rattle.std.specs.List.{list_any};
+ghost use Rattle.mote_net.specs.Report.{report_of};
+ghost use Rattle.claims.specs.Patterns.{fits};
+ghost use Rattle.claims.specs.Traces.{trace_at, shows};
+
+use crate::pattern::Pattern;
+use crate::set::Span;
+use mote_net::Report;
+use trace_lines::{Line, What};
+
+/// A mote, and the period in which its lines count.
+#[derive(Clone, Copy)]
+pub struct Watch {
+    pub mote: u16,
+    pub when: Span,
+}
+
+/// The lines of some motes, each in its period, that fit one of some patterns.
+#[derive(Drop)]
+pub struct Deed {
+    pub watches: Vec<Watch>,
+    pub patterns: Vec<Pattern>,
+}
+
+/// A line of a report, with its mote and its place in the mote's trace.
+#[derive(Clone, Copy)]
+pub struct Found {
+    pub mote: u16,
+    pub place: usize,
+    pub line: Line,
+}
+
+impl Deed {
+    fn fits(&self, what: &What) -> bool
+        ensures { result ≡ list_any (λ p. fits p what.now) self.now.patterns.items }
+    {
+        self.patterns.iter().any(|pattern| pattern.fits(what))
+    }
+
+    /// Returns whether a line of a mote is in its period, and fits one of the patterns.
+    pub fn shows(&self, watch: Watch, line: &Line) -> bool
+        ensures { result ≡ shows self.now watch line.now }
+    {
+        watch.when.has(line.at) && self.fits(&line.what)
+    }
+}
+
+/// The trace of a mote; a mote that isn't in the report has no lines.
+pub fn trace_of(report: &Report, mote: u16) -> &[Line]
+    ensures { result.now ≡ trace_at (report_of report.now) mote }
+{
+    match report.traces.get(usize::from(mote)) {
+        Some(trace) => trace.as_slice(),
+        None => &[],
+    }
+}
