@@ -1,7 +1,7 @@
 """Makes one archive for a classroom: tools/pack [-o FILE] [OWN ..]
 
-The archive motesim-VERSION.tar.gz has `motesim`, the tools and pages for users, the examples, and the terms under
-which all of it may be passed on. The archive runs on any Linux for x86-64 with glibc 2.34 or newer, from any folder.
+The archive motesim-VERSION.tar.gz has `motesim`, the tools and pages for users, the examples, web/motesim.html, which
+simulates in any browser, and the terms under which all of it may be passed on. The archive runs on any Linux for x86-64 with glibc 2.34 or newer, from any folder.
 Its tools need Python 3.11 or newer. Nothing is installed, and nothing is fetched from a network.
 
     tar xzf motesim-VERSION.tar.gz && cd motesim-VERSION && ./run examples/flooding.toml
@@ -54,9 +54,9 @@ from project.compile import compile_program
 from project.tree import commit, git
 
 # The contents of the archive besides the binary: files, and folders with all files in them that git knows.
-PARTS = ('CHANGES.md', 'CITATION.cff', 'LICENSE', 'docs/use', 'examples', 'tools/contiki_host', 'tools/motesim')
+PARTS = ('CHANGES.md', 'CITATION.cff', 'LICENSE', 'docs/use', 'examples', 'tools/contiki_host', 'tools/motesim', 'web')
 # The page for teachers; the folders of the tools and pages; and files that tools and editors make for their own use.
-PAGE_FOR_TEACHERS, OURS = 'docs/use/TEACH.md', ('docs', 'tools')
+PAGE_FOR_TEACHERS, OURS = 'docs/use/TEACH.md', ('docs', 'tools', 'web')
 RUBBISH = re.compile(r'(.*/)?(\.|__pycache__/|[^/]*~(/|\Z))', re.S)
 # The part of a path up to the first name that begins with a dot.
 HIDDEN = re.compile(r'(?:[^/.][^/]*/)*\.[^/]*')

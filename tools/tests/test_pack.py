@@ -68,6 +68,10 @@ class Pack(unittest.TestCase):
                 self.assertEqual((done.returncode, done.stderr), (0, ''))
             done = subprocess.run([str(top / 'run'), '--version'], capture_output=True, text=True)
             self.assertIn('motesim %s, proved with' % VERSION, done.stdout)
+            self.assertEqual((top / 'web/motesim.html').read_bytes(), (TOP / 'web/motesim.html').read_bytes())
+            if shutil.which('node'):
+                done = subprocess.run([str(top / 'web/motesim')], input=SCENARIO, capture_output=True, text=True)
+                self.assertIn('print a 3', done.stdout)
             self.assertIn('`tools/summary`: Counts what happened in a run', (top / 'README.md').read_text('utf-8'))
             for name in pack.user_commands():
                 words = [sys.executable, str(top / 'tools' / name), '--help']
