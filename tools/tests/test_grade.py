@@ -837,7 +837,7 @@ class Forms(Folder):
         note = json.loads(re.findall('id="data" type="application/json">(.*)</script>', picture)[0])['note']
         # (the stub is not a kernel, so nothing more is known of what came near)
         self.assertEqual((note['title'], note['why'], note['mote'], note['at']), (
-            'every mote prints a 3', 'mote 0 has 0 such lines; wanted: at least 1', 0, 60))
+            'every mote prints a 3', 'mote 0 has 0 such lines; wanted: at least 1; it prints a 4 at moment 4', 0, 60))
         self.assertNotIn('<script>', page)
 
     def test_a_run_that_is_too_long_for_a_page_says_so_in_its_row(self) -> None:
