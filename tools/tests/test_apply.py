@@ -20,13 +20,13 @@ BROKEN = 'process a;\nautostart a;\ncode a {\n  body {\n    print (1);\n  }\n}\n
 
 
 class Changes(unittest.TestCase):
-    def test_each_message_is_followed(self) -> None:
-        text = in_net('p', 'process a;\nautostart a;\ncode a {\n  var n = 0;\n  body {\n    PROCESS_BEGIN();\n'
-                           '    n++;\n    printf("%d\\n", n);\n    PROCESS_END();\n  }\n}\n')
+    def test_each_correction_is_made(self) -> None:
+        text = in_net('p', 'process a;\nautostart a;\ncode a {\n  var n = 0;\n  body {\n    n++;\n    print n\n'
+                           '    print m;\n  }\n}\n')
         made = list(changes(text))
         self.assertIsNone(find_fault(made[-1][1].encode()))
-        change = next(it for it, _ in made if it.new == ('    n = (n + 1);',))
-        self.assertEqual((change.gone, change.hint), (('    n++;',), 'There is no `++`.'))
+        self.assertEqual([it.edits[0].lines for it, _ in made], [
+            ('    n = (n + 1);',), ('    print n;',), ('  var m = 0;',)])
 
     def test_a_program_gets_an_allowed_name(self) -> None:
         for name, program in (('blink.c', 'blink'), ('/tmp/My-Program.c', 'my_program'), ('-', 'p'), ('3.c', '3'),
@@ -38,7 +38,7 @@ class Changes(unittest.TestCase):
     def test_the_first_error_without_a_corrected_line_ends_it(self) -> None:
         text = in_net('p', 'process a;\ncode a {\n  body {\n    print (1);\n    goto out;\n  }\n}\n')
         made = list(changes(text))
-        self.assertEqual([it.new for it, _ in made], [('    print 1;',)])
+        self.assertEqual([it.edits[0].lines for it, _ in made], [('    print 1;',)])
 
 
 class Command(unittest.TestCase):

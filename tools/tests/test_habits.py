@@ -1,102 +1,73 @@
-"""Mistakes by somebody who had not seen the hints: the message alone has what is needed to write the right line.
-
-A message that shows lines is taken at its word: the lines are put where it says, and the scenario has to run. One that
-shows none has to have the words that one needs.
-"""
+"""What people write who come from other languages: each pattern of the tool has an example in habits.tsv, and 150
+mistakes in whole scenarios, by somebody who hadn't seen the hints, are in mistakes/."""
 import unittest
+from pathlib import Path
 
-from follow import followed
-from habits import HABITS, Habit
 from here import TOP
-from motesim.explain.explanation import explanation
-from motesim.runner.run import answer
-from motesim.scenario.faults import find_fault
-from skips import need_program
+from motesim.explain.advice import advice
+from motesim.explain.applied import changes
+from motesim.explain.explanation import correction_of, explanation
+from motesim.explain.habits import habits
+from motesim.notation.faults import find_fault
+from motesim.scenario.faults import find_fault as find_fault_of_scenario
 
-NAME = 'typed.toml'
-# Where no line can be known: a part of the hint from which it is written.
-SAID = {
-    'c-switch': '`if (mode == 1) { .. } else {', 'c-case': '`if (x == 2) { print 2; }`',
-    'c-var-named-like-process': 'another name is needed here, such as `token2`',
-    'c-thread-used-before-declared': 'A thread never spawns itself',
-    'c-var-of-other-process': 'Declare another at the head',
-    'c-number-too-large': '65535 moments at most', 'contiki-wait-in-ctimer': 'A callback can\'t wait',
-    'contiki-broadcast-send': '`send x;`', 'contiki-unicast-send': '`send ((dest * 256) + x);`',
-    'contiki-data-assigned': 'Assign to a variable of your own',
-}
-# Whose lines are right and mean something else than the writer of the corpus meant, as far as a line can tell.
-OTHERS = {
-    'c-break', 'c-for-counted', 'c-var-in-body', 'c-print-string', 'contiki-pollhandler',
-    'contiki-ctimer-without-block', 'contiki-send-to', 'contiki-leds-toggle', 'contiki-random-rand',
-    'toml-end-seconds-float', 'toml-end-with-unit',
-}
-# Whose line is right, and whose scenario lacks another line too: the typed text is at the place of a declaration.
-LACKING = {'c-define'}
+HERE = Path(__file__).parent
+MOST = 60
+ROWS = [row.split('\t') for row in (HERE / 'habits.tsv').read_text().splitlines()]
+MISTAKES = [row.split('\t') for row in (HERE / 'mistakes/mistakes.tsv').read_text().splitlines()]
 
 
-def message(text: str) -> list[str]:
-    data = text.encode()
-    fault = find_fault(data)
-    assert fault is not None
-    return explanation(NAME, data, 'motesim: ' + fault.message)
+def program(place: str, line: str) -> str:
+    """A program with a line at one of its places."""
+    at = {it: line if it == place else '' for it in ('top', 'head', 'thread', 'body')}
+    own = ['' if line.lower().startswith(word) else word + ' a;\n' for word in ('process', 'autostart')]
+    if place != 'top':
+        own = ['process a;\n', 'autostart a;\n']
+    return ('event go;\nsemaphore s = 0;\n%s%s\n%sreceiver a;\ncode a {\n  var x = 0;\n  var y = 0;\n%s\n'
+            '  etimer t;\n  ctimer c { poll a; }\n  thread th {\n%s\n }\n  body {\n%s\n  }\n}\n' % (
+                own[0], at['top'], own[1], at['head'], at['thread'], at['body']))
 
 
 class Habits(unittest.TestCase):
-    def test_there_are_150_and_each_is_a_mistake(self) -> None:
-        self.assertEqual(len({it.name for it in HABITS}), 150)
-        for it in HABITS:
-            with self.subTest(it.name):
-                self.assertIsNone(find_fault(it.meant.encode()))
-                self.assertIsNotNone(find_fault(it.typed.encode()))
-
-    def test_the_message_has_the_line_or_the_words(self) -> None:
-        for it in HABITS:
-            lines = message(it.typed)
-            with self.subTest(it.name):
-                if it.name in SAID:
-                    self.assertIn(SAID[it.name], ' '.join(line.strip() for line in lines))
-                    continue
-                fixed = followed(it.typed, lines)
-                assert fixed is not None, lines
-                fault = find_fault(fixed.encode())
-                if it.name in LACKING:
-                    assert fault and fault.program
-                    self.assertEqual(fault.program.token.text, 'led')
+    def test_each_pattern_has_an_example_which_gets_the_right_line(self) -> None:
+        self.assertLessEqual(len(habits()), MOST)
+        said = set()
+        for place, typed, right in ROWS:
+            with self.subTest(typed):
+                text = program(place, typed)
+                fault = find_fault(text)
+                assert fault is not None
+                found = advice(text, fault)
+                assert found is not None
+                said.add(found.hint)
+                if right:
+                    self.assertEqual(found.applied(text), program(place, right))
+                    self.assertIsNone(find_fault(program(place, right)))
                 else:
-                    self.assertIsNone(fault, fixed)
+                    self.assertEqual(found.edits, ())
+        self.assertEqual({it.why for it in habits()} - said, set())
 
-    def test_it_means_what_was_meant(self) -> None:
-        need_program(self)
-        for it in HABITS:
-            if it.name not in {*SAID, *OTHERS, *LACKING}:
-                with self.subTest(it.name):
-                    self.assertEqual(self.report(it, followed(it.typed, message(it.typed)) or ''), self.report(it,
-                        it.meant))
+    def test_the_mistakes_have_their_place_and_their_correction(self) -> None:
+        for name, base, line, typed, message, wanted in MISTAKES:
+            rows = (HERE / 'mistakes' / (base + '.toml')).read_text().split('\n')
+            self.assertIsNone(find_fault_of_scenario('\n'.join(rows).encode()), base)
+            rows[int(line) - 1:int(line)] = typed.replace('\\t', '\t').split('\u00b6')
+            text = '\n'.join(rows)
+            with self.subTest(name):
+                fault = find_fault_of_scenario(text.encode())
+                assert fault is not None
+                self.assertEqual(fault.message, message)
+                self.assertIn('Allowed here', '\n'.join(explanation('x', text.encode(), 'motesim: ' + message)))
+                made = [new for _, new in changes(text)]
+                runs = bool(made) and find_fault_of_scenario(made[-1].encode()) is None
+                self.assertEqual('runs' if runs else 'edits' if made else 'advice' if correction_of(text) else 'none',
+                                 wanted)
 
-    def report(self, it: Habit, text: str) -> bytes:
-        got = answer(text.encode())
-        self.assertEqual(got.status, 0, it.name)
-        return got.report
-
-    def test_no_more_than_a_tenth_is_left_to_the_reader(self) -> None:
-        self.assertLessEqual(len(SAID) + len(LACKING), 15)
-
-    def test_the_page_has_these_counts(self) -> None:
-        shown = len(HABITS) - len(SAID)
-        run = shown - len(LACKING)
-        page = ' '.join((TOP / 'docs/use/EXPLAIN.md').read_text().split())
-        self.assertIn('For %d of the mistakes the message shows corrected lines. With only these corrections %d of the '
-                      '%d scenarios run, and %d of these %d write exactly the report' % (
-                          shown, run, shown, run - len(OTHERS), run), page)
-        self.assertIn('For the %d mistakes without corrected lines' % len(SAID), page)
-
-
-class Valid(unittest.TestCase):
-    def test_what_is_in_order_needs_no_message(self) -> None:
+    def test_more_than_half_are_corrected_and_no_example_of_the_product_is_a_mistake(self) -> None:
+        self.assertGreater(sum(it[5] in ('runs', 'edits') for it in MISTAKES), len(MISTAKES) / 2)
         for path in sorted((TOP / 'examples').glob('*.toml')):
             if not path.name.endswith('.expect.toml') and path.name != 'wrong.toml':
-                with self.subTest(path.name):
-                    self.assertIsNone(find_fault(path.read_bytes()))
+                self.assertIsNone(find_fault_of_scenario(path.read_bytes()), path.name)
 
 
 if __name__ == '__main__':

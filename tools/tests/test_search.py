@@ -610,14 +610,6 @@ class Searches(unittest.TestCase):
             # (only mote 0 sends: to motes 1 and 2)
             self.assertIn('11 of the 16 faults have no effect without other faults', said)
 
-    def test_a_program_that_draws_numbers_has_a_remark(self) -> None:
-        wanted = 'the program p draws random numbers: a fault also changes which draws follow it, '
-        for value, is_seen in (('((known * 25173) + 13849)', True), ('((known * 2) + 1)', False),
-                               ('((known * 225) % 239)', True), ('((known * 100) + data)', False)):
-            with folder_with(DIAMOND.replace('print data;', 'print data; known = %s;' % value)) as folder:
-                said = search(folder, '--faults', 'motes')[1]
-                self.assertEqual(wanted in said, is_seen, (value, said))
-
     def test_other_forms_of_text(self) -> None:
         for text in DIAMOND.replace('\n', '\r\n'), '\ufeff' + DIAMOND, DIAMOND[:-1]:
             with folder_with() as folder:

@@ -12,8 +12,6 @@ from typing import NamedTuple
 
 from motesim.report import OUTCOMES, Report
 
-SAME_MOMENT = 'packets of one moment collide with each other'
-
 
 class Burst(NamedTuple):
     """The first moment at which a mote sent several packets that collided, their number, and the number of such
@@ -22,12 +20,6 @@ class Burst(NamedTuple):
     at: int
     packets: int
     moments: int
-
-    def __str__(self) -> str:
-        return ('%s: mote %d sent %d packets at moment %d, so their copies arrive together at every receiver, and none '
-                'is received (%d such moment%s); let the second packet wait for a timer of 1 (`set t 1; yield_until '
-                'fired(t);`)' % (SAME_MOMENT, self.sender, self.packets, self.at, self.moments,
-                                 's' if self.moments > 1 else ''))
 
 
 def _collided(report: Report) -> Counter[tuple[int, int, int]]:

@@ -8,11 +8,10 @@ from collections import Counter
 from collections.abc import Callable
 from typing import NamedTuple
 
-from motesim.explain.differences import shown
 from motesim.explain.explanation import place_of_token
-from motesim.explain.lint import Program
 from motesim.faults import Fault
-from motesim.notation.faults import WAITS, Token
+from motesim.notation.faults import Token
+from motesim.notation.tree import read_program, statements_of, written
 from motesim.report import Report
 from motesim.runner import LimitMet, Limits, ProgramFault, Runner
 from motesim.runner.run import Answer
@@ -68,8 +67,7 @@ def busiest(data: bytes, file_lines: bool = True, goes_on: Callable[[], bool] = 
     """A sentence about the process that prints or pauses most, or the mote that sends or posts most, in a run that ends
     earlier; an empty text if none does so often.
 
-    file_lines  whether the sentence has lines of the scenario; otherwise it has lines of the program's text, or none if
-                this text is translated
+    file_lines  whether the sentence has lines of the scenario; otherwise it has lines of the program's text
     goes_on     whether to try a further run; if not, the sentence is empty
     """
     written = END.search(data)
@@ -135,25 +133,20 @@ def lines_of(data: bytes, its: Does, file_lines: bool) -> tuple[str, bool]:
     the text of its program. Also returns whether the outermost of these loops is endless and waits only by `pause`."""
     scenario = Scenario.parse(data)
     name = scenario.places[its.mote].program
-    program = Program(name, scenario.programs[name])
-    begin = next(at for at, it in enumerate(program.words) if program.words[at:at + 2] == ['code', its.process])
-    end = program.end_of_block(begin + 2)
+    code = next(it for it in read_program(scenario.programs[name]).codes if it.process.text == its.process)
+    all_of = list(code.statements())
     # (a process may also post the event of a `pause` to itself)
-    places = [at for at in range(begin, end) if program.words[at] == its.kind] or [
-        at for at in range(begin, end) if program.words[at] == 'post' and program.words[at + 2] == 'continue']
-    if not places:
+    found = [it for it in all_of if it.kind == its.kind] or [
+        it for it in all_of if it.kind == 'post' and it.names[1].text == 'continue']
+    loops = [it for it in all_of if it.kind == 'while' and all(one in statements_of(it.block) for one in found)]
+    lines = [line_of(data, it.token, name, file_lines) for it in (*found, *loops)]
+    if not found or not all(lines):
         return '', False
-    loops = loops_around(program, begin, places)
-    lines = [line_of(data, program.tokens[at], name, file_lines) for at in (*places, *loops)]
-    if not all(lines):
-        return '', False
-    heads = [head_of(program, at) for at in loops]
-    only_pauses = bool(loops) and heads[0] == 'while 1' and waits_of(program, loops[0]) == {'pause'}
-    if program.is_translated and not file_lines:
-        # (its author knows the lines in C only)
-        return '', only_pauses
-    where = ', '.join(lines[:len(places)]) + ('' if file_lines else ' of program %s' % one_line(name))
-    turns = ['`%s` (%s)' % it for it in zip(heads, lines[len(places):])][::-1]
+    heads = ['while %s' % written(it.value) for it in loops if it.value]
+    only_pauses = bool(loops) and loops[0].is_endless and {
+        it.kind for it in statements_of(loops[0].block) if it.waits} == {'pause'}
+    where = ', '.join(lines[:len(found)]) + ('' if file_lines else ' of program %s' % one_line(name))
+    turns = ['`%s` (%s)' % it for it in zip(heads, lines[len(found):])][::-1]
     return ' (%s)%s' % (where, ', in each turn of ' * bool(turns) + ' within '.join(turns)), only_pauses
 
 
@@ -163,23 +156,3 @@ def line_of(data: bytes, token: Token, program: str, is_of_file: bool) -> str:
         return 'line %d' % token.line
     place = place_of_token(data.decode('utf-8'), program, token)
     return 'line %d' % place.line if place else ''
-
-
-def loops_around(program: Program, begin: int, places: list[int]) -> list[int]:
-    """The places of the `while` words, behind a first place, whose blocks are around all of some places, the outermost
-    first."""
-    first, last = min(places), max(places)
-    return [at for at in range(begin, first) if program.words[at] == 'while' and program.end_of_block(
-        program.words.index('{', at)) > last]
-
-
-def head_of(program: Program, at: int) -> str:
-    """The text of a `while` and its test."""
-    text = shown(program.words[at:program.words.index('{', at)])
-    return re.sub(r'\b(is|fired|expired|gone|running|count) \(', r'\1(', text)
-
-
-def waits_of(program: Program, at: int) -> set[str]:
-    """The words of the statements in the block of a loop that wait."""
-    begin = program.words.index('{', at)
-    return set(program.words[begin:program.end_of_block(begin)]) & {*WAITS, 'spawn'}

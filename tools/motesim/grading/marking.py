@@ -7,7 +7,6 @@ from dataclasses import dataclass, replace
 from pathlib import Path
 
 from motesim.explain.explanation import explanation, of_program as fault_of_program, of_program_file, tables_or_none
-from motesim.explain.lint import ZERO_GIVEN
 from motesim.explain.within import busiest
 from motesim.faults import Fault, tried
 from motesim.files import replace_whole
@@ -134,7 +133,7 @@ class Task:
         return InNet(marks, lacks, run=Run('', report, scenario, file) if len(got.report) <= MOST_SHOWN else None,
                      broken=[None if lack else next(places) for lack in lacks], bytes=len(got.report),
                      halts=halt_of(report), moments=seen_of(scenario, report, program),
-                     warned=warned_of(programs, ZERO_GIVEN.search(text) is not None))
+                     warned=warned_of(programs, text))
 
     def answer(self, scenario: bytes) -> Answer:
         """The answer of `motesim`, within the limits. The error at a limit says what the run does most often."""

@@ -63,9 +63,14 @@ def _parts(tokens: Sequence[Token]) -> list[str]:
     return [*parts, _spelled(value)]
 
 
+def span(tokens: Sequence[Token], at: int) -> tuple[int, int]:
+    """The first and the last token of the expression around a token."""
+    return _reach(tokens, at, -1, ')', '('), _reach(tokens, at, 1, '(', ')')
+
+
 def written(tokens: Sequence[Token], at: int) -> str | None:
     """The expression around a token, with all its parentheses."""
-    first, last = _reach(tokens, at, -1, ')', '('), _reach(tokens, at, 1, '(', ')')
+    first, last = span(tokens, at)
     if last - first >= MOST_TOKENS:
         return None
     parts = _parts(tokens[first:last + 1])

@@ -4,12 +4,9 @@ from __future__ import annotations
 import hashlib
 from collections.abc import Callable
 
-from motesim.explain.same_seed import draws
 from motesim.judge.sentences import Sentence
-from motesim.notation.faults import tokens_of
 from motesim.runner.optimized import optimized_path
 from motesim.runner.versions import program_digest
-from motesim.scenario import Scenario
 from motesim.search import calculated
 from motesim.search.change import Base
 from motesim.search.faults import WHY_NONE, Asked, absent_kinds, faults_of, untried_copies, without_effect
@@ -20,19 +17,6 @@ from motesim.search.runner import Here, OnCluster, Runner
 from motesim.search.search import Bounds, Search
 from motesim.search.sets import Known
 from motesim.search.work import Work, mask_of, numbers_of
-
-
-# The remark on a search in a net whose programs draw random numbers.
-DRAWN = ('%s %s random numbers: a fault also changes which draws follow it, so a broken expectation may only show '
-         'other draws; compare several seeds')
-
-
-def drawn(scenario: Scenario) -> str:
-    """The remark on the programs of motes that draw random numbers, or an empty text."""
-    names = [name for name, text in scenario.programs.items() if draws([it.text for it in tokens_of(text)])
-             and any(it.program == name for it in scenario.places)]
-    many = len(names) > 1
-    return DRAWN % ('the program%s %s' % ('s' * many, ', '.join(names)), 'draw' if many else 'draws') if names else ''
 
 
 def runner_of(work: Work, processes: int, address: str | None) -> Runner:
@@ -86,7 +70,7 @@ class Asking:
         these copies, and lines about faults without an effect, about programs that draw random numbers, and about
         numbers in programs that are too great, below 0, or 0 with a value of a parameter."""
         of_numbers = calculated.remark(self.base, self.prepared.faults)
-        return [*self.notes, *self.left_out, *filter(None, [self.idle, drawn(self.base.scenario_itself), of_numbers])]
+        return [*self.notes, *self.left_out, *filter(None, [self.idle, of_numbers])]
 
     def digest(self) -> str:
         """The identity of a search, by which it differs from others."""

@@ -3,7 +3,8 @@ from __future__ import annotations
 
 from collections.abc import Sequence
 
-from motesim.explain.lint import has_zero, of_numbers, programs_of
+from motesim.explain.said import in_words
+from motesim.explain.warnings import of_numbers_in
 from motesim.search.change import Base
 from motesim.search.faults import FaultyPart, change_of
 
@@ -22,6 +23,4 @@ def remark(base: Base, faults: Sequence[FaultyPart]) -> str:
 
 def warnings(base: Base) -> list[str]:
     """The warnings about numbers in the programs of a scenario."""
-    is_zero_given = has_zero(base.source)
-    return [it.text for program in programs_of(base.scenario_itself).values()
-            for it in of_numbers(program, is_zero_given)]
+    return [in_words(it) for it in of_numbers_in(base.scenario_itself, base.source)]

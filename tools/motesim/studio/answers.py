@@ -7,9 +7,9 @@ from typing import Any, NamedTuple
 
 from motesim.comparison.columns import MEDIUM
 from motesim.comparison.reports import Difference, compared, differences, lists_of, origin, packet_of, row_of
-from motesim.explain.explanation import TEXT, explanation, place_of_fault, place_of_token
-from motesim.explain.followed import followed
-from motesim.explain.lint import warnings
+from motesim.explain.explanation import TEXT, correction_of, explanation, place_of_fault, place_of_token
+from motesim.explain.said import in_words
+from motesim.explain.warnings import warnings
 from motesim.faults import Fault
 from motesim.judge import expectations
 from motesim.judge.judge import Judge
@@ -69,8 +69,9 @@ def unwrapped(lines: list[str]) -> list[str]:
 def fault(text: str, line: str) -> dict[str, Any]:
     """An error in the words of tools/explain, with its place in the text and the corrected text if they are known."""
     data = text.encode('utf-8')
-    place, message = place_of_fault(data, line), explanation(TEXT, data, line)
-    return {'line': line, 'words': unwrapped(message), 'corrected': followed(text, message),
+    place, found = place_of_fault(data, line), correction_of(text)
+    return {'line': line, 'words': unwrapped(explanation(TEXT, data, line)),
+            'corrected': found.applied(text) if found and found.edits else None,
             'place': stretch16(text, place) if place else None}
 
 
@@ -89,7 +90,7 @@ def warned(done: Finished) -> list[dict[str, Any]]:
             place = place_of_token(done.text, it.program, it.token)
         elif it.path is not None:
             place = place_of(done.text, it.path)
-        found.append({'text': it.text, 'place': stretch16(done.text, place) if place else None})
+        found.append({'name': it.name, 'text': in_words(it), 'place': stretch16(done.text, place) if place else None})
     return found
 
 

@@ -4,7 +4,6 @@ from __future__ import annotations
 from collections.abc import Iterator
 from typing import Any, NamedTuple
 
-from motesim.explain.lint import Program as Loops
 from motesim.faults import Fault
 from motesim.why.endless import AT_ONCE, LETS_WAIT, MOST_WAITS, Endless, instead
 from motesim.why.replay import SYSTEM, Frame, Link, Replay
@@ -99,9 +98,8 @@ def used_up(source: Source, mote: int) -> list[str]:
             '%s never waited, because its condition was %s each time' % (
                 in_words(program, it), AT_ONCE[program.statement(it).kind]) for it in found.waits[:MOST_WAITS]
         ) + ': %s waits for the next call first' % instead(program, found.waits[0])]
-    branches = [text for text, _ in Loops('', program.text).waiting_branches()]
-    if branches or not found:
-        return branches
+    if not found:
+        return []
     return [in_rounds(program, found) + (
         'nothing in its block waited: ' + LETS_WAIT)]
 

@@ -1,0 +1,75 @@
+"""Warnings about a net: programs that no mote runs, packets that reach nobody, and what a run shows."""
+from __future__ import annotations
+
+from collections.abc import Iterator, Mapping
+
+from motesim.explain.moments import bursts
+from motesim.explain.of_structure import asked_in, posted_in
+from motesim.explain.warned import Fact, Warned, of_token
+from motesim.notation.tree import Program, written
+from motesim.report import Report
+from motesim.scenario import Scenario
+
+
+def sends(program: Program) -> bool:
+    return any(it.kind == 'send' for it in program.statements())
+
+
+def hears(program: Program) -> bool:
+    """Returns whether a program waits for packets."""
+    return any(asked_in(code, 'packet') for code in program.codes)
+
+
+def of_net(scenario: Scenario, programs: Mapping[str, Program]) -> Iterator[Warned]:
+    """Yields the warnings about motes and links."""
+    used = [programs[it.program] for it in scenario.places]
+    for name, program in programs.items():
+        if all(place.program != name for place in scenario.places):
+            yield of_token('unused-program', name, program.processes[0])
+        elif hears(program) and program.receiver and not sends(program):
+            yield from of_broadcast(name, program, not any(sends(it) or 'packet' in posted_in(it) for it in used))
+    lonely = {number for number, program in enumerate(used) if scenario.motes > 1 and (
+        not scenario.hearers(number) and (sends(program) or hears(program)))}
+    for number in sorted(lonely):
+        yield Warned('out-of-range', mote=number)
+    for number, (sender, to) in enumerate(scenario.losses):
+        if not scenario.hears(to, sender) and not {sender, to} & lonely:
+            yield Warned('loss-without-link', (('sender', sender), ('to', to)), loss=number)
+    for number in sorted({to for _, to in scenario.losses}):
+        if scenario.loses_all_to(number) and hears(used[number]):
+            yield Warned('loses-everything', mote=number)
+
+
+def of_broadcast(name: str, program: Program, nobody_sends: bool) -> Iterator[Warned]:
+    """The first `broadcast` of a program that waits for packets, if no mote sends any, or if no other process waits for
+    the event."""
+    for code in program.codes:
+        for it in code.statements():
+            if it.kind == 'broadcast' and it.value:
+                others = [one for one in program.codes if one != code]
+                is_awaited = any(asked_in(one, it.names[0].text) or any(
+                    wait.kind == 'yield' for wait in one.statements()) for one in others)
+                if nobody_sends or not is_awaited:
+                    yield of_token('broadcast-stays', name, it.token, value=written(it.value))
+                return
+
+
+def of_moments(report: Report) -> Iterator[Warned]:
+    """Yields the warnings about packets that one mote sent at the same moment, so that they collided."""
+    for it in bursts(report):
+        yield Warned('same-moment', (('packets', it.packets), ('at', it.at)), mote=it.sender)
+
+
+def of_halts(scenario: Scenario, report: Report) -> Iterator[Warned]:
+    """Yields the warnings about motes that halted: for the first one of each program, with the loop that did it."""
+    known: dict[str, tuple[tuple[str, Fact], ...]] = {}
+    for mote in report.motes:
+        at = mote.halted()
+        if at is None:
+            continue
+        facts = known.get(mote.program)
+        if facts is None:
+            # (only a halt needs it, and its modules are many)
+            from motesim.explain.used_up import loop_of
+            facts = known[mote.program] = (('at', at), *loop_of(scenario, mote))
+        yield Warned('used-up', facts, mote.program, mote=mote.number)

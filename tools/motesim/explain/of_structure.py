@@ -1,0 +1,123 @@
+"""Warnings about processes that never run, and about packets, events and signals that reach nobody."""
+from __future__ import annotations
+
+from collections.abc import Iterator
+
+from motesim.explain.warned import Warned, of_token
+from motesim.notation.tree import Code, Part, Program, Statement, expressions_of, statements_of, tests_in, values_in
+from motesim.notation.tree import Test as Asked
+
+POSTS = ('post', 'synch', 'broadcast')
+SETS = ('set', 'reset', 'restart_timer')
+
+
+def asked_in(code: Code, event: str) -> list[Asked]:
+    """The tests of a code whether its process is called with an event."""
+    return [it for part in code.parts for it in expressions_of(part.block)
+            if isinstance(it, Asked) and it.token.text == 'is' and it.of == event]
+
+
+def posted_in(program: Program) -> set[str]:
+    """The events that a program posts."""
+    return {it.names[-1].text for it in program.statements() if it.kind in POSTS}
+
+
+def of_structure(name: str, program: Program) -> Iterator[Warned]:
+    yield from of_start(name, program)
+    yield from of_receiver(name, program)
+    for event in (*(it.text for it in program.events), 'msg', 'com'):
+        tests = [it for code in program.codes for it in asked_in(code, event)]
+        if tests and event not in posted_in(program):
+            yield of_token('event-never-posted', name, tests[0].token, event=event)
+    for semaphore, value in program.semaphores.items():
+        for waiter in program.codes if not value else ():
+            yield from of_signal(name, program, semaphore, waiter)
+
+
+def of_start(name: str, program: Program) -> Iterator[Warned]:
+    if not program.autostart:
+        yield of_token('no-autostart', name, program.processes[0])
+        return
+    started = {*program.autostart, *(it.names[0].text for it in program.statements() if it.kind == 'start')}
+    for process in program.processes:
+        if process.text not in started:
+            yield of_token('never-started', name, process, process=process.text)
+
+
+def of_receiver(name: str, program: Program) -> Iterator[Warned]:
+    waits = {code.process.text: tests for code in program.codes if (tests := asked_in(code, 'packet'))}
+    if program.receiver is None:
+        for process, tests in list(waits.items())[:1]:
+            yield of_token('no-receiver', name, tests[0].token, process=process)
+        return
+    if 'packet' in posted_in(program):
+        return
+    receiver = program.receiver.text
+    for process, tests in waits.items():
+        if process != receiver:
+            yield of_token('not-the-receiver', name, tests[0].token, process=process, receiver=receiver)
+    code = next(it for it in program.codes if it.process.text == receiver)
+    values = {word for part in code.parts for it in statements_of(part.block) for word in values_in(it.value)}
+    # (what follows a `yield` may be meant for packets)
+    is_called = any(it.kind == 'yield' for it in code.statements()) and not is_idle(code)
+    if receiver not in waits and not values & {'data', 'from'} and not is_called:
+        yield of_token('ignores-packets', name, program.receiver, receiver=receiver)
+    else:
+        yield from of_missed(name, code)
+
+
+def is_idle(code: Code) -> bool:
+    """Returns whether nothing follows any `yield` of a code in its loop."""
+    return all(len(it.block) == 1 for it in code.statements() if any(inner.kind == 'yield' for inner in it.block))
+
+
+def of_missed(name: str, code: Code) -> Iterator[Warned]:
+    """The first wait for a timer in a loop that also waits for packets."""
+    for loop in code.statements():
+        waits = [it for it in statements_of(loop.block) if it.waits and it.value] if loop.kind == 'while' else []
+        heard = [it for it in waits if any(test.of == 'packet' for test in tests_in(it.value, 'is'))]
+        for it in waits:
+            timers = tests_in(it.value, 'fired', 'expired')
+            if heard and it not in heard and timers:
+                yield of_token('misses-packets', name, it.token, line=heard[0].token.line,
+                               test='fired(%s)' % timers[0].of)
+                return
+
+
+def of_signal(name: str, program: Program, semaphore: str, waiter: Code) -> Iterator[Warned]:
+    """The first `signal` behind which a process waits for ever, because nothing calls it."""
+    process = waiter.process.text
+    if not any(awaits(it, semaphore) for it in waiter.statements()) or is_called(program, waiter):
+        return
+    for code in program.codes:
+        for part in code.parts:
+            for it in statements_of(part.block):
+                if it.has('signal', semaphore) and (part.kind == 'ctimer' or code != waiter and is_later(part, it)):
+                    yield of_token('signal-wakes-nobody', name, it.token, semaphore=semaphore, process=process)
+                    return
+
+
+def awaits(it: Statement, semaphore: str) -> bool:
+    if it.kind == 'acquire':
+        return it.names[0].text == semaphore
+    return it.waits and any(test.of == semaphore for test in tests_in(it.value, 'count'))
+
+
+def is_called(program: Program, code: Code) -> bool:
+    """Returns whether a process doesn't start at boot, or something but the exit of another process may call it."""
+    process = code.process.text
+    if process not in program.autostart or program.receiver and program.receiver.text == process:
+        return True
+    timers = {it.text for it in code.timers}
+    own = any(it.kind == 'pause' or it.kind in SETS and it.names[0].text in timers for it in code.statements())
+    return own or any(it.kind == 'broadcast' or it.kind in ('poll', 'post', 'synch', 'start', 'kill') and
+                      it.names[0].text == process for it in program.statements())
+
+
+def is_later(part: Part, signal: Statement) -> bool:
+    """Returns whether a `signal` is behind a wait of its process, or in a loop that waits."""
+    its = list(statements_of(part.block))
+    before = its[:its.index(signal)]
+    return any(it.waits for it in before) or any(
+        it.kind == 'while' and signal in (inner := list(statements_of(it.block))) and any(one.waits for one in inner)
+        for it in before)
