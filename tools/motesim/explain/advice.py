@@ -118,13 +118,13 @@ def _nearest(source: str, fault: ProgramError) -> Iterator[Correction]:
 def _declarations(source: str, tokens: list[Token], at: int, fault: ProgramError) -> Iterator[Correction]:
     """The declaration of an unknown name: at the head of its code, or above the processes."""
     name, kinds = fault.token.text, [it.partition(' (')[0] for it in fault.may]
-    code = max((place for place in range(at) if tokens[place].text == 'code'), default=None)
+    code = max((place for place in range(at) if tokens[place].text == 'code'), default=-1)
     first = next((it.line for it in tokens if it.text == 'process'), 1)
     for kind, form in ABOVE.items():
         if kind in kinds:
             yield Correction('No %s has this name. Declare it above the processes.' % kind.split()[1], (
                 Edit(first, first - 1, (form % name,)),))
-    for kind, form in AT_HEAD.items() if code is not None and '`print`' not in fault.may else ():
+    for kind, form in AT_HEAD.items() if code >= 0 and '`print`' not in fault.may else ():
         if kind in kinds:
             below = code + 2
             while kind == 'a timer' and tokens[below + 1].text == 'var':

@@ -1,7 +1,7 @@
 """Warnings about values: tests that always have the same result, and results that don't fit into 16 bits."""
 from __future__ import annotations
 
-from collections.abc import Iterator
+from collections.abc import Callable, Iterator
 
 from motesim.explain.warned import Warned, of_token
 from motesim.notation.tree import Code, Expression, Operation, Program, Statement, Value
@@ -10,8 +10,9 @@ from motesim.notation.tree import expressions_of, is_number, written
 VALUES = 65_536
 ORDER = ('<', '<=', '>', '>=')
 MIRRORED = {'<': '>', '>': '<', '<=': '>=', '>=': '<='}
-CALCULATES = {'+': lambda a, b: a + b, '-': lambda a, b: a - b, '*': lambda a, b: a * b,
-              '/': lambda a, b: a // b if b else 0, '%': lambda a, b: a % b if b else 0}
+CALCULATES: dict[str, Callable[[int, int], int]] = {
+    '+': lambda a, b: a + b, '-': lambda a, b: a - b, '*': lambda a, b: a * b,
+    '/': lambda a, b: a // b if b else 0, '%': lambda a, b: a % b if b else 0}
 # Tests of a difference that are true if both sides differ, and those that are true only if they are equal.
 ABOVE, AT_MOST = (('>', '0'), ('>=', '1')), (('<=', '0'), ('<', '1'))
 

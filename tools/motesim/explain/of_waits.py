@@ -70,9 +70,9 @@ def of_timers(name: str, code: Code) -> Iterator[Warned]:
         used = [it for part in code.parts for it in expressions_of(part.block) if isinstance(it, Asked) and (
             it.of == timer and it.token.text in ('fired', 'expired'))]
         if not any(it.kind == 'set' for it in its):
-            place = next((it.token for it in its), used[0].token if used else None) or next(
-                (it for it in code.timers if it.text == timer), code.process)
-            yield of_token('timer-never-set', name, place, timer=timer)
+            places = [*(it.token for it in its), *(it.token for it in used), *(
+                it for it in code.timers if it.text == timer), code.process]
+            yield of_token('timer-never-set', name, places[0], timer=timer)
         elif all(part.kind == 'body' for part, it in sets if it.names[0].text == timer):
             yield from of_late(name, code, timer, its)
             yield from of_once(name, code, timer, its)
