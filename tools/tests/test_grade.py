@@ -521,8 +521,7 @@ class Nets(Folder):
         (self.top / 'task.toml').write_text(net(PROGRAM % 9).replace('collide = false', 'collide = true'))
         self.hand_in('ben.mote', 'process a;\nautostart a;\nreceiver a;\ncode a { body { if (self == 0) { send 1; '
                      'send 2; }\nyield_until is(packet); while 1 { } } }\n')
-        wanted = ('Warning: an endless loop in which nothing waits: the mote halts when its work is used up (line 5 of '
-                  'the program)', 'Warning: packets of one moment collide with each other: mote 0 sent 2 packets')
+        wanted = ('Warning (never-waits): ', 'Warning (same-moment): mote 0 sent 2 packets')
         for text in self.grade('--net', 'task.toml', '--why', 'ben'), self.grade(
                 '--net', 'task.toml', '-o', 'marks.html') and self.page():
             for line in wanted:
@@ -542,26 +541,24 @@ class Nets(Folder):
         self.hand_in('dan.mote', head + 'receiver a;\ncode a { body { while 1 {\n'
                      'if (self < 9) { print 1; } else { yield; } } } }\n')
         for name, wanted in (
-                ('ben', 'Warning: the `while` on line 5 of the program repeated '),
-                ('cem', 'Warning: the program waits for packets, but no program of a mote sends one by `send`; this '
-                 '`broadcast` posts'),
-                ('dan', 'Warning: the `while` on line 4 of the program waits in only one branch')):
+                ('ben', 'Warning (used-up): mote 0 halts at 0'), ('cem', 'Warning (broadcast-stays): '),
+                ('dan', 'The loop on line 4 of program task repeated')):
             with self.subTest(name):
                 shown = self.grade('--net', 'task.toml', '--why', name)
                 self.assertIn(wanted, shown)
                 self.assertEqual(shown.count(wanted), 1, shown)
         self.grade('--net', 'task.toml', '-o', 'marks.html')
-        self.assertIn('waits in only one branch', self.page())
+        self.assertIn('Warning (used-up)', self.page())
         self.grade('--hidden', 'task.toml', '-o', 'marks.html')
-        self.assertNotIn('waits in only one branch', self.page())
+        self.assertNotIn('Warning (used-up)', self.page())
 
     def test_a_process_that_nothing_starts_is_named(self) -> None:
         need_program(self)
         self.stub = program_path()
-        starts = 'no process starts at boot: an `autostart` with its names is missing'
+        starts = 'Warning (no-autostart): no process starts at boot'
         self.hand_in('ben.mote', 'process a;\ncode a { body { print 3; } }\n')
         self.hand_in('cem.mote', 'process a;\nautostart a;\ncode a { body { yield_until is(packet); print 3; } }\n')
-        self.assertIn('Warning: %s\n' % starts, self.grade('--net', 'task.toml', '--why', 'ben'))
+        self.assertIn(starts, self.grade('--net', 'task.toml', '--why', 'ben'))
         self.assertIn('but no process is the `receiver`', self.grade('--net', 'task.toml', '--why', 'cem'))
         self.assertNotIn('Warning', self.grade('--net', 'task.toml', '--why', 'anna'))
         self.grade('--net', 'task.toml', '-o', 'marks.html')
@@ -888,20 +885,14 @@ class Forms(Folder):
             with mock.patch('motesim.grading.marking.of_program_file', side_effect=IndexError('of a tuple')):
                 marks = task.of((1, entry))
             self.assertEqual((marks.has_mark, marks.held), (True, 0))
-        with mock.patch('motesim.grading.warned.of_start', side_effect=IndexError('of a tuple')):
-            self.assertEqual(warned_of({'task': PROGRAM % 3}), ())
+        with mock.patch('motesim.grading.warned.of_program', side_effect=IndexError('of a tuple')):
+            self.assertEqual(warned_of({'task': PROGRAM % 3}, ''), ())
 
-    def test_why_warns_of_losses_and_seeds(self) -> None:
-        lost = "Warning: a loss from mote 0 to mote 2, which doesn't hear it, loses nothing"
-        draws = (PROGRAM % 4).replace('body {', 'var dice = 1; body { dice = ((self * 257) + 1);')
-        self.hand_in('ben.toml', net(draws, 257) + loss(0, 2))
-        self.assertIn(lost, self.grade('--why', 'ben').split('\n'))
+    def test_why_warns_of_a_solutions_own_net(self) -> None:
+        self.hand_in('ben.toml', net(PROGRAM % 4, 257) + loss(0, 2))
+        self.assertIn('Warning (loss-without-link): ', self.grade('--why', 'ben'))
         (self.top / 'wide.toml').write_text(net(PROGRAM % 9, 257) + loss(0, 2))
-        why = self.grade('--why', 'ben', '--net', 'wide.toml')
-        self.assertIn('Warning: in a net of more than 255 motes, ', why)
-        self.assertNotIn(lost, why)
-        self.hand_in('cem.toml', net(PROGRAM % 3, 3) + loss(0, 2))
-        self.assertNotIn('Warning', self.grade('--why', 'cem'))
+        self.assertNotIn('loss-without-link', self.grade('--why', 'ben', '--net', 'wide.toml'))
 
     def test_why_says_what_to_do_if_something_was_renamed(self) -> None:
         self.hand_in('ben.toml', net((PROGRAM % 3).replace(' a', ' b')))

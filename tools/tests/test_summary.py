@@ -16,7 +16,7 @@ from here import TOOLS
 from motesim.summary import counts as summary
 from motesim.faults import Fault
 from motesim.summary.flows import FlowFault, flow_rows, read_flow
-from motesim.explain.lint import of_moments
+from motesim.explain.of_nets import of_moments
 from motesim.report import Report
 from motesim.runner.run import Run
 from motesim.scenario import Scenario
@@ -198,8 +198,7 @@ from to copies received lost ring collided halted late ratio delay
                          'summary: 4 of the 4 collided copies collided with another packet that their sender sent at '
                          'the same moment; tools/explain names these motes\n')
         [found] = of_moments(Report.parse(text))
-        self.assertIn('mote 0 sent 2 packets at moment 4, so their copies arrive together at every receiver, and none '
-                      'is received (2 such moments)', found.text)
+        self.assertEqual((found.name, found.mote, dict(found.facts)), ('same-moment', 0, {'packets': 2, 'at': 4}))
         self.assertEqual([*of_moments(Report.parse(REPORT))], [])
 
     def test_a_flow_whose_motes_print_the_same_value_as_a_source_has_a_warning(self) -> None:

@@ -9,7 +9,7 @@ from motesim.explain import missing, synonyms
 from motesim.explain.advice import advice
 from motesim.explain.edits import Correction
 from motesim.explain.repair import repair
-from motesim.explain.said import in_words
+from motesim.explain.said import with_name
 from motesim.explain.warned import Warned
 from motesim.explain.warnings import warnings
 from motesim.faults import Fault, tried
@@ -229,7 +229,7 @@ def refused(name: str, data: bytes, fault: NoReport) -> Fault:
 
 def warned(name: str, text: str, warning: Warned) -> list[str]:
     """A warning with its name and its place."""
-    lines = wrapped('Warning (%s): %s.' % (warning.name, in_words(warning)))
+    lines = wrapped(with_name(warning) + '.')
     if warning.program is not None and warning.token is not None:
         return lines + shown_program(name, text, warning.program, warning.token)
     return lines + (shown_place(name, text, scenario_faults.place_of(text, warning.path)) if warning.path else [])

@@ -95,7 +95,9 @@ def _of_missing(text: str, tables: dict[str, Any], fault: ScenarioError) -> Iter
     """Another key that most likely means the missing one; or an example of the missing one, below the name of its
     table."""
     wanted, like = fault.missing, synonyms.like_of_missing(tables, fault)
-    if like:
+    if like and synonyms.is_about_chance(like):
+        yield Correction(NO_CHANCE)
+    elif like and isinstance(synonyms.at(tables, (*fault.path, like)), list) <= (wanted in ('mote', 'loss')):
         place = place_of(text, (*fault.path, like))
         begin = _row(text, place).find(like, place.column, place.column + place.length)
         if begin >= 0:
@@ -150,7 +152,9 @@ def _of_value(text: str, tables: dict[str, Any], fault: ScenarioError) -> Iterat
     """A value of another kind, or out of range: the same number or text in the right kind, or the nearest number."""
     name, value, place = str(fault.path[-1]), synonyms.at(tables, fault.path), fault.place(text)
     rule = {**TOP, **MEDIUM, **LOSS, **MOTE, 'collide': Rule(bool)}.get(name)
-    new = _as_kind(value, rule) if rule else None
+    # (a share of lost packets is no period)
+    is_share = name == 'every' and not (type(value) is float and value.is_integer() or str(value).isdecimal())
+    new = _as_kind(value, rule) if rule and not is_share else None
     if new is None and type(value) is int and rule and rule.kind is int:
         least = 1 if name in ('base', 'per') else rule.least
         # (the nearest period of a loss, 1, would lose every packet)
@@ -167,7 +171,7 @@ def _as_kind(value: object, rule: Rule) -> str | None:
         return found[0]
     if rule.kind is bool:
         return 'true' if word.lower() in ('1', 'true', 'yes', 'on') else 'false'
-    return '"%s"' % word if rule.kind is str and isinstance(value, int | float) else None
+    return None
 
 
 def _row(text: str, place: Place) -> str:

@@ -70,3 +70,8 @@ def in_words(it: Warned) -> str:
     kinds = kind if len(it.others) == 1 else kind + ('es' if kind == 'loss' else 's')
     shown = ', '.join(map(str, it.others[:MOST_PLACES])) + (', ..' if len(it.others) > MOST_PLACES else '')
     return '%s; the same is true of %d more %s: %s' % (form.format_map(facts), len(it.others), kinds, shown)
+
+
+def with_name(it: Warned) -> str:
+    """The text of a warning, with the name by which it is silenced."""
+    return 'Warning (%s): %s' % (it.name, in_words(it))

@@ -3,7 +3,7 @@ from __future__ import annotations
 
 from collections.abc import Callable, Iterable, Mapping
 
-from motesim.explain.said import in_words
+from motesim.explain.said import with_name
 from motesim.explain.warned import Warned, together
 from motesim.explain.warnings import of_program, of_run, silenced
 from motesim.faults import tried
@@ -19,7 +19,7 @@ OF_NET = frozenset(('out-of-range', 'loses-everything', 'loss-without-link'))
 def shown(find: Callable[[], Iterable[Warned]]) -> tuple[str, ...]:
     """The first of some warnings, with their lines."""
     def lines() -> tuple[str, ...]:
-        return tuple('Warning: %s%s' % (in_words(it), ' (line %d of the program)' % it.token.line if it.token else '')
+        return tuple(with_name(it) + (' (line %d of the program)' % it.token.line if it.token else '')
                      for it in together(find())[:MOST_WARNED])
 
     return tried(lines, lambda words: ())
