@@ -87,7 +87,8 @@ def status_of(asked: argparse.Namespace) -> int:
         plot.check()
         plot.check_names(head.parameters, measures_in(head))
         if plot.file:
-            refuse_inputs(folder / plot.file, [results, asked.plan])
+            for path in folder / plot.file, table_path(folder / plot.file):
+                refuse_inputs(path, [results, asked.plan])
     if any(plot.file for plot in plots):
         packages.need('matplotlib')
     for plot in plots:
