@@ -13,7 +13,6 @@ from motesim.plan.chance import Chance
 from motesim.faults import Fault
 from motesim.plan.places import Crowd, NoPlace, NotConnected, Point
 from motesim.plan.files import CsvTable, Files
-from motesim.plan.hints import of_chance
 from motesim.plan.keys import (
     CORNER, LOSS_STREAM, LOSSES, MEDIUM, MOST_BYTES, MOST_LOSSES, MOST_MOTES, MOST_PLACE, OF_TABLE,
     OTHER, PLACES, TOP,
@@ -24,6 +23,9 @@ from motesim.scenario.encodings import decoded
 from motesim.scenario.faults import Path, Place
 from motesim.text import wrapped
 from motesim.toml import MARK
+
+# What no rule for losses does.
+BY_CHANCE = ' (for losses by chance see docs/use/LOSSES.md)'
 
 
 def files_of(tables: Tables, files: Files) -> list[str]:
@@ -98,16 +100,14 @@ class Builder:
     def rule(self, table: object, path: Path, rules: Mapping[str, Mapping[str, Key]], more: Mapping[str, Key],
              what: str) -> dict[str, Any]:
         """A table whose key `rule` determines its other keys."""
-        may = ', '.join('`"%s"`' % it for it in rules)
+        may = ', '.join('`"%s"`' % it for it in rules) + (BY_CHANCE if rules is LOSSES else '')
         if type(table) is not dict:
             raise self.tables.fault(path, '%s is a table with a key `rule`.' % what, 'a table')
         if 'rule' not in table:
-            rule = '%s needs a `rule`.%s' % (what, of_chance(what, table))
-            raise self.tables.fault(path, rule, '`rule`: one of ' + may, False)
+            raise self.tables.fault(path, '%s needs a `rule`.' % what, '`rule`: one of ' + may, False)
         name = self.tables.filled(table['rule'], path + ('rule',))
         if type(name) is not str or name not in rules:
-            rule = '%s has no such rule.%s' % (what, of_chance(what, [name]))
-            raise self.tables.fault(path + ('rule',), rule, may)
+            raise self.tables.fault(path + ('rule',), '%s has no such rule.' % what, may)
         keys = {'rule': needed(str), **rules[name], **more}
         return self.tables.read(table, path, keys, '%s by the rule `%s`' % (what, name))
 
@@ -194,7 +194,7 @@ class Builder:
         if rule == 'grid':
             return places.grid(values['columns'], values['rows'], values['step'])
         if rule == 'line':
-            return places.line(values['count'], values['step'])
+            return places.grid(values['count'], 1, values['step'])
         if rule == 'ring':
             return places.ring(values['count'], values['radius'])
         if rule == 'list':

@@ -75,10 +75,6 @@ def grid(columns: int, rows: int, step: int) -> list[Point]:
     return [(column * step, row * step) for row in range(rows) for column in range(columns)]
 
 
-def line(count: int, step: int) -> list[Point]:
-    return [(number * step, 0) for number in range(count)]
-
-
 def _series(angle: int, first: int) -> int:
     """The sine of an angle up to a right one (`first` is 1) or its cosine (0), all times 2 to the power of BITS."""
     term, total, number, sign = angle if first else 1 << BITS, 0, first, 1

@@ -14,7 +14,6 @@ from typing import Any, NoReturn
 
 from motesim.text import shown_place, wrapped
 from motesim.faults import Fault
-from motesim.plan.hints import of_chance, of_parameter
 from motesim.plan.parameters import PARAMETER
 from motesim.scenario.faults import Path, Place, place_of, value_of
 from motesim.toml import NoToml, read_toml
@@ -165,12 +164,10 @@ class Tables:
         for name in table:
             if name not in keys:
                 known = ', '.join('`%s`' % it for it in keys)
-                rule = '%s has no key of this name.%s' % (what, of_chance(what, [name]))
-                raise self.fault(path + (name,), rule, known, False)
+                raise self.fault(path + (name,), '%s has no key of this name.' % what, known, False)
         for name, key in keys.items():
             if key.is_needed and name not in table:
-                rule = '%s needs the key `%s`, but it is missing.' % (what, name)
-                raise self.fault(path, rule, key.may(name), False)
+                raise self.fault(path, '%s needs the key `%s`, but it is missing.' % (what, name), key.may(name), False)
         return {name: self.checked(table[name], path + (name,), name, key) if name in table else key.default
                 for name, key in keys.items()}
 
@@ -179,7 +176,6 @@ class Tables:
         found = self.filled(value, path)
         given = '' if found is value else ' `%s` is %s here.' % (value, text_of_value(found))
         if type(found) is not key.kind and key.kind is not object:
-            given = given or of_parameter(found, self.parameters)
             raise self.fault(path, 'This is not %s.%s' % (KINDS[key.kind], given), key.may(name))
         size = found if key.kind is int else len(found) if key.kind is list else None
         if size is not None and key.most and not key.least <= size <= key.most:
