@@ -3,7 +3,7 @@ import {aim, followMouse} from './aim.js';
 import {chooseAgain, chooseCopy, chooseLine, chooseMote, chosenInWords, follow, selectNothing, walk, walkLanes
   } from './details.js';
 import {byId, element} from './dom.js';
-import {drawAll, redraw} from './draw.js';
+import {drawAll, redraw, redrawLanes} from './draw.js';
 import {drawLegend, readColours} from './forms.js';
 import {arrivalOf} from './index.js';
 import {forgetForms} from './lanes.js';
@@ -147,7 +147,7 @@ function onWheel(pane, event) {
   else zoomTime(Math.exp(-dy * 0.0015), event.offsetX - pane.gutter);
   keepTime();
   pane.keep();
-  redraw();
+  redrawLanes();
 }
 
 /** Reacts to a click: selects the nearest mark or arrow, or sets the moment. */
@@ -184,7 +184,7 @@ function listenTo(pane) {
     pane.top -= dy;
     keepTime();
     pane.keep();
-    redraw();
+    redrawLanes();
   });
   canvas.addEventListener('pointerup', event => {
     canvas.classList.remove('held');
@@ -298,5 +298,5 @@ export function showInstead(pane, run) {
 overlays.push(drawChain);
 mapOverlays.push(drawChainOnMap);
 offers.push(offerWhy);
-Object.assign(page, {time, chosen: () => chosen.pane ? chosen : null, redraw, drawAll, find, act, setNow, count,
+Object.assign(page, {time, chosen: () => chosen.pane ? chosen : null, redraw, redrawLanes, drawAll, find, act, setNow, count,
   seriesOf});

@@ -1,27 +1,53 @@
 // Lanes with too many lines for forms: as colours of pixels, or as strokes.
+import {lowerBound} from './data.js';
 import {colours} from './forms.js';
 import {CLASS, HALTED, HEARD, OTHER, PRINTED, SENT, SILENT, TROUBLE} from './index.js';
 import {time} from './time.js';
 
-/** The classes of lines of one mote by columns of a pixel, into an array of bits. */
-function columnsOf(pane, mote, bits) {
-  const {run} = pane, width = bits.length, first = pane.moment(pane.gutter), perPixel = 1 / time.scale;
-  const share = run.pieces / (run.end + 1);
+/** Adds the classes of one mote's lines to the columns from one to another, each a pixel wide. */
+function addColumns(pane, mote, bits, begin, end) {
+  const {run} = pane, first = pane.moment(pane.gutter), perPixel = 1 / time.scale, share = run.pieces / (run.end + 1);
   if (perPixel * share >= 1) {
     const row = mote * run.pieces;
-    for (let j = 0; j < width; j++) {
+    for (let j = begin; j < end; j++) {
       const a = Math.max(0, Math.floor((first + j * perPixel) * share));
       const b = Math.min(run.pieces, Math.floor((first + (j + 1) * perPixel) * share));
       for (let piece = a; piece < b; piece++) bits[j] |= run.overview[row + piece];
     }
     return;
   }
-  const [from, to] = pane.linesInView(mote), {at, kind, silent} = run,
-    broad = Math.max(1, Math.floor(time.scale * 0.7));
+  const {at, kind, silent, traceStart} = run, broad = Math.max(1, Math.floor(time.scale * 0.7));
+  const last = traceStart[mote + 1];
+  const from = lowerBound(at, Math.floor(first + (begin - broad) * perPixel) - 1, traceStart[mote], last);
+  const to = lowerBound(at, Math.ceil(first + (end + broad) * perPixel) + 1, from, last);
   for (let i = from; i < to; i++) {
     const x = Math.round((at[i] + 0.5 - first) * time.scale - broad / 2), bit = silent[i] ? SILENT : CLASS[kind[i]];
-    for (let j = Math.max(0, x); j < Math.min(width, x + broad); j++) bits[j] |= bit;
+    for (let j = Math.max(begin, x); j < Math.min(end, x + broad); j++) bits[j] |= bit;
   }
+}
+
+/** The classes of lines of one mote by columns. They are kept: when time is moved by whole pixels, only the columns
+    that come into view are computed. */
+export function columnsOf(pane, mote, width) {
+  const {run} = pane, {scale} = time, first = pane.moment(pane.gutter);
+  if (!pane.kept || pane.kept.run !== run || pane.kept.scale !== scale || pane.kept.width !== width) {
+    pane.kept = {run, scale, width, columns: new Map()};
+  }
+  const known = pane.kept.columns.get(mote), exact = known ? (known.first - first) * scale : width;
+  const shift = Math.round(exact);
+  if (!known || Math.abs(exact - shift) > 0.01 || Math.abs(shift) >= width) {
+    const bits = new Uint8Array(width);
+    addColumns(pane, mote, bits, 0, width);
+    pane.kept.columns.set(mote, {first, bits});
+    return bits;
+  }
+  if (!shift) return known.bits;
+  const {bits} = known, [begin, end] = shift > 0 ? [0, shift] : [width + shift, width];
+  bits.copyWithin(Math.max(0, shift), Math.max(0, -shift), width - Math.max(0, shift));
+  bits.fill(0, begin, end);
+  addColumns(pane, mote, bits, begin, end);
+  known.first -= shift / scale;
+  return bits;
 }
 
 /** A colour #rrggbb as a picture's number. */
@@ -45,13 +71,16 @@ export function drawOverview(pane, from, to) {
     let last = first;
     while (last < to && pane.groupOf[pane.order[last]] === group) last++;
     const rows = Math.max(1, Math.min(last - first, Math.ceil((last - first) * pane.lane)));
-    const image = new ImageData(width, rows), pixels = new Uint32Array(image.data.buffer),
-      bits = new Uint8Array(width);
+    const image = new ImageData(width, rows), pixels = new Uint32Array(image.data.buffer);
     for (let row = 0, place = first; row < rows; row++) {
-      bits.fill(0);
       const until = first + Math.floor((row + 1) * (last - first) / rows);
-      for (; place < until; place++) columnsOf(pane, pane.order[place], bits);
-      for (let j = 0; j < width; j++) pixels[row * width + j] = table[bits[j]];
+      let bits = columnsOf(pane, pane.order[place++], width);
+      if (place < until) bits = bits.slice();
+      for (; place < until; place++) {
+        const more = columnsOf(pane, pane.order[place], width);
+        for (let j = 0; j < width; j++) bits[j] |= more[j];
+      }
+      for (let j = 0, at = row * width; j < width; j++) if (bits[j]) pixels[at + j] = table[bits[j]];
     }
     paint(pane, image, pane.laneTopOfPlace(first), (last - first) * pane.lane);
     first = last;
@@ -69,8 +98,8 @@ const STROKES = [[OTHER, 'run', 0.45, 0.55], [HEARD, 'recv', 0.66, 0.94], [SILEN
 
 export function drawStrokes(pane, mote) {
   const width = Math.max(1, Math.floor(pane.width - pane.gutter)), tall = Math.max(1, Math.round(pane.lane));
-  const bits = new Uint8Array(width), image = new ImageData(width, tall), pixels = new Uint32Array(image.data.buffer);
-  columnsOf(pane, mote, bits);
+  const bits = columnsOf(pane, mote, width), image = new ImageData(width, tall);
+  const pixels = new Uint32Array(image.data.buffer);
   for (const [bit, colour, from, to] of STROKES) {
     const value = pixelOf(colours[colour]), first = Math.floor(tall * from), last = Math.ceil(tall * to);
     for (let j = 0; j < width; j++) {

@@ -9,6 +9,7 @@ import {colours, head, path, stroke} from './forms.js';
 import {SMALL_LANE} from './layout.js';
 import {chosen} from './stage.js';
 import {showTime} from './time.js';
+import {count} from './words.js';
 
 const why = {pane: null, run: null, hops: [], about: ''};
 
@@ -44,6 +45,7 @@ export function sayWhy(text, items = []) {
   const box = whyBox();
   box.hidden = false;
   box.replaceChildren(element('h2', 'Why'), element('p', '', withPlaces(text)));
+  byId('spoken').textContent = text;
   if (items.length) box.append(list('ul', items));
 }
 
@@ -63,6 +65,7 @@ export function showChain(pane, hops, about) {
   box.hidden = false;
   box.replaceChildren(element('h2', `Why mote ${first.mote} writes: ${first.at} ${first.words}`),
     ...(about ? [element('p', about)] : []), element('p', pathOf(hops)), buttons, list('ol', items), chart);
+  byId('spoken').textContent = `A chain of ${count(hops.length, 'line')}. ${pathOf(hops)}`;
   redraw();
 }
 
