@@ -288,7 +288,8 @@ class Page(unittest.TestCase):
         begin = time.monotonic()
         self.put(ENDLESS + '\n')
         self.wait('by("sentence").textContent.includes("was stopped")')
-        self.assertLess(time.monotonic() - begin, 15)
+        # (5 seconds on a machine that has nothing else to do)
+        self.assertLess(time.monotonic() - begin, 60)
         self.put(FLOODING)
         self.wait('run.rows === 1072 && !document.body.classList.contains("stale")')
 
