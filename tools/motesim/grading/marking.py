@@ -6,7 +6,7 @@ from collections.abc import Sequence
 from dataclasses import dataclass, replace
 from pathlib import Path
 
-from motesim.explain.explanation import explanation, of_program as fault_of_program, of_program_file, tables_or_none
+from motesim.explain.explanation import explanation, of_program_file, tables_or_none
 from motesim.explain.within import busiest
 from motesim.faults import Fault, tried
 from motesim.files import replace_whole
@@ -263,4 +263,4 @@ def fix_of_program(name: str, text: str, wanted: str) -> list[str]:
         return []
     its = wanted if wanted in programs else next(iter(programs))
     error = find_program_fault(programs[its]) if type(programs[its]) is str else None
-    return fault_of_program(name, text, its, error) if error else []
+    return of_program_file('%s, program %s' % (name, its), programs[its], error) if error else []
