@@ -1,9 +1,17 @@
 """The edits of intermediate code for WebAssembly, what they refuse, and what web/motesim.json says of a module."""
 from __future__ import annotations
 
+import os
+import tempfile
+import time
+import types
 import unittest
+from pathlib import Path
+from unittest import mock
 
+import here  # (it puts tools/ on the path)
 from motesim.runner.module import About
+from project import kit
 from project.web import Unknown, difference, retargeted, with_narrow_table
 
 GOOD = '''source_filename = "rattle"
@@ -56,6 +64,23 @@ class Edits(unittest.TestCase):
         self.assertEqual(with_narrow_table(head + table), head + b'\x04\x05\x01\x70\x01\x01\x01')
         with self.assertRaisesRegex(Unknown, 'in its table'):
             with_narrow_table(head + table + element)
+
+
+class Libraries(unittest.TestCase):
+    def test_they_count_as_proved_until_a_source_changes(self) -> None:
+        with tempfile.TemporaryDirectory() as room:
+            top = Path(room)
+            source, built = top / 'crates/low/src/lib.rt', top / 'crates/low/out/rlib/low.rlib'
+            source.parent.mkdir(parents=True)
+            source.write_text('')
+            (top / 'crates.txt').write_text('low:\n')
+            program = types.SimpleNamespace(below=lambda: [types.SimpleNamespace(rlib=str(built))])
+            with mock.patch.object(kit, 'crate_named', lambda name, top: program):
+                self.assertFalse(kit.are_libraries_built('program', top))
+                built.mkdir(parents=True)
+                self.assertTrue(kit.are_libraries_built('program', top))
+                os.utime(source, (time.time() + 1,) * 2)
+                self.assertFalse(kit.are_libraries_built('program', top))
 
 
 class Differences(unittest.TestCase):

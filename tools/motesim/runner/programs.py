@@ -97,14 +97,16 @@ def digest(top: Path = TOP, parts: Sequence[str] = CODE, program: str = 'motesim
     return found.hexdigest()[:24]
 
 
+def last_change(top: Path = TOP) -> int:
+    """The time at which a source, contract or proof of a tree was changed last, in nanoseconds."""
+    folders = [it for part in ALL_PARTS for it in top.glob('crates/*/' + part)]
+    found = [os.path.join(at, name) for folder in folders for at, _, names in os.walk(folder) for name in ('', *names)]
+    return max(os.stat(it).st_mtime_ns for it in [*found, str(top / 'crates.txt')])
+
+
 def is_newer_than_sources(program: Path) -> bool:
     """Returns whether a binary exists, and no source, contract or proof has changed since it was built."""
-    if not is_program(program):
-        return False
-    folders = [it for part in ALL_PARTS for it in TOP.glob('crates/*/' + part)]
-    found = [os.path.join(at, name) for folder in folders for at, _, names in os.walk(folder) for name in ('', *names)]
-    found.append(str(TOP / 'crates.txt'))
-    return max(os.stat(it).st_mtime_ns for it in found) <= program.stat().st_mtime_ns
+    return is_program(program) and last_change() <= program.stat().st_mtime_ns
 
 
 # Kept binaries.
