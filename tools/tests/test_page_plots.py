@@ -61,7 +61,10 @@ class Study:
         """A command by chance."""
         chance, show = self.chance, self.chance.choice(('median', 'mean', 'mean', 'points', 'cdf', 'pair'))
         others = [name for name in self.parameters[1:-1] if len(self.values[name]) > 1]
-        pair = (others[0], *chance.sample(self.values[others[0]], 2)) if show == 'pair' and others else None
+        pair: tuple[str, str, str] | None = None
+        if show == 'pair' and others:
+            one, two = chance.sample(self.values[others[0]], 2)
+            pair = others[0], one, two
         left = others[1:] if pair else others
         ways = {name: chance.choice(('by', 'by', 'where', 'over', '')) for name in left}
         where = [(name, (chance.choice(self.values[name]),)) for name in left if ways[name] == 'where']
