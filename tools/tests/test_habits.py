@@ -6,7 +6,7 @@ from pathlib import Path
 from here import TOP
 from motesim.explain.advice import advice
 from motesim.explain.applied import changes
-from motesim.explain.explanation import correction_of, explanation
+from motesim.explain.explanation import correction_of, explanation, of_program_file
 from motesim.explain.habits import habits
 from motesim.notation.faults import find_fault
 from motesim.scenario.faults import find_fault as find_fault_of_scenario
@@ -46,6 +46,16 @@ class Habits(unittest.TestCase):
                 else:
                     self.assertEqual(found.edits, ())
         self.assertEqual({it.why for it in habits()} - said, set())
+
+    def test_half_a_line_has_an_explanation(self) -> None:
+        for place, typed, _ in ROWS[::6]:
+            for end in range(len(typed)):
+                text = program(place, typed[:end])
+                fault = find_fault(text)
+                if fault:
+                    shown = '\n'.join(of_program_file('x', text, fault))
+                    self.assertIn('Allowed here', shown)
+                    self.assertNotIn('an error in the tool itself', shown)
 
     def test_the_mistakes_have_their_place_and_their_correction(self) -> None:
         for name, base, line, typed, message, wanted in MISTAKES:

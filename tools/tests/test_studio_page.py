@@ -464,7 +464,7 @@ class Page(unittest.TestCase):
 
     def test_what_is_hardly_meant_is_warned_of(self) -> None:
         self.open()
-        self.assertIn('Warning: the timer `beat` is never set.', self.shown('warnings'))
+        self.assertIn('Warning (timer-never-set): ', self.shown('warnings'))
         self.value('[...document.querySelectorAll("#warnings button")].find('
                    'it => it.innerText.includes("`beat`")).click()')
         if has_editor(CODEMIRROR):

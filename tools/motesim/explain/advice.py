@@ -9,7 +9,7 @@ from collections.abc import Iterator
 from motesim.explain.edits import Correction, Edit, replaced
 from motesim.explain.habits import of_line
 from motesim.notation.faults import STATEMENTS, ProgramError, Token, find_fault, tokens_of
-from motesim.notation.grammar import DECLARING, OPERATORS
+from motesim.notation.grammar import OPERATORS
 from motesim.notation.grammar import STATEMENTS as FORMS
 from motesim.notation.parentheses import span, written
 from motesim.text import nearest
@@ -138,11 +138,17 @@ def _example(source: str, fault: ProgramError) -> Correction | None:
     """An example of the statement or the declaration that has a fault."""
     tokens = tokens_of(source)
     at = tokens.index(fault.token)
-    while at and tokens[at].text not in FORMS and tokens[at].text not in DECLARING:
+    while at and tokens[at].text not in FORMS and tokens[at].text not in DECLARED:
         if tokens[at - 1].text in ('{', '}', ';'):
             return None
         at -= 1
-    word = tokens[at].text
-    form = DECLARED.get(word) or ' '.join(PARTS.get(it, it) for it in FORMS[word].form.rstrip(';').split()) + (
-        ';' * FORMS[word].form.endswith(';')) if word in DECLARED or word in FORMS else None
-    return Correction('`%s` is written so: `%s`' % (word, form)) if form else None
+    form = form_of(tokens[at].text)
+    return Correction('`%s` is written so: `%s`' % (tokens[at].text, form)) if form else None
+
+
+def form_of(word: str) -> str | None:
+    """An example of the statement or the declaration that begins with a word."""
+    if word not in FORMS:
+        return DECLARED.get(word)
+    form = FORMS[word].form
+    return ' '.join(PARTS.get(it, it) for it in form.rstrip(';').split()) + form[len(form.rstrip(';')):]

@@ -13,7 +13,7 @@ import {askQuestion} from './whys.js';
 function showWarnings(warnings) {
   const box = byId('warnings');
   box.hidden = !warnings.length;
-  box.replaceChildren(...warnings.map(({text, place}) => makeButton(`Warning: ${text}.`, () => {
+  box.replaceChildren(...warnings.map(({name, text, place}) => makeButton(`Warning (${name}): ${text}.`, () => {
     if (place) studio.editor.goTo(place[0], place[1], place[2] - place[1]);
   })));
   studio.editor.refresh();
