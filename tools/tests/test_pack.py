@@ -36,7 +36,7 @@ program = "p"
 '''
 
 
-def first_lines(motesim: str = '1.2') -> str:
+def first_lines(motesim: str = '2.0') -> str:
     """The first lines of a file of results."""
     return Head('net.plan.toml', ['seed'], {'sent': 'sent'}, {}, motesim, '0123456789abcdef', '').text()
 
@@ -274,7 +274,7 @@ class Pack(unittest.TestCase):
         study = top.parent / 'study'
         study.mkdir()
         another = first_lines('another with the SHA-256 0123456789abcdef')
-        for name, text in (('a.csv', another), ('b.csv', first_lines('1.2 unproved')), ('empty.csv', ''),
+        for name, text in (('a.csv', another), ('b.csv', first_lines('2.0 unproved')), ('empty.csv', ''),
                            ('c.csv', another.replace(', "kit"', ', "kid"')), ('d.txt', another)):
             (study / name).write_text(text)
         self.assertEqual([it for it in pack.sorted_files(['examples'], [study], top).notes() if 'MOTESIM' in it], [
