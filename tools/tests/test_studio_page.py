@@ -299,11 +299,11 @@ class Page(unittest.TestCase):
             self.assertIsNone(self.server.session.runs.running)
 
     def test_a_page_without_a_run_offers_none(self) -> None:
-        self.file.write_text('# never_ends\n' + NET)
-        self.open(Limits(seconds=5))
+        self.file.write_text('# long_report\n' + NET)
+        self.open(Limits(output=1))
         ids = '["pin", "export", "play"].map(id => document.getElementById(id).disabled)'
         self.assertEqual(self.value(ids), [True, True, True])
-        self.value('m.editor().replace("never_ends", "ends")')
+        self.value('m.editor().replace("long_report", "short")')
         self.wait('m.panes.length')
         self.assertEqual(self.value(ids), [False, False, False])
 

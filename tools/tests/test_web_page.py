@@ -208,7 +208,7 @@ class Page(unittest.TestCase):
             self.press('examples')
             self.value('document.querySelectorAll("#cards button")[%d].click()' % place)
             self.wait('web.example.title === document.querySelectorAll("#cards strong")[%d].textContent && '
-                      'run.name === web.name' % place)
+                      'run.name === web.name && !web.fresh' % place)
             self.press('try')
             self.wait('m.differs.first || web.history.step.run')
             self.assertIn('instead of', self.said())
@@ -385,6 +385,14 @@ class Page(unittest.TestCase):
         self.wait('by("why-chain") && by("why-chain").textContent.includes("a timer had come to its end")')
         box = self.value('(it => [it.top, it.bottom, innerHeight])(by("card").getBoundingClientRect())')
         self.assertTrue(0 <= box[0] and box[1] <= box[2], box)
+
+    def test_the_log_is_filtered(self) -> None:
+        self.open()
+        self.press('tab-log')
+        for words, lines, said in ('print mote 24', 3, '3 of 970 lines'), ('nonsense', 0, 'has the name nonsense'):
+            self.value('(it => { it.value = %s; it.form.requestSubmit(); })(by("log-asked"))' % json.dumps(words))
+            self.wait('by("log-counts").textContent.includes(%s)' % json.dumps(said))
+            self.assertEqual(self.value('by("log-lines").children.length'), lines)
 
     def test_all_has_a_name(self) -> None:
         self.open()

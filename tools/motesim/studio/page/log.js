@@ -38,8 +38,9 @@ async function showLog() {
   const pane = panes[0];
   if (!pane) return;
   const {run} = pane, lines = await linesOfLog(run, byId('log-asked').value.trim());
-  if (!lines || panes[0].run !== run) return;
-  Object.assign(logged, {run, lines});
+  if (panes[0].run !== run) return;
+  Object.assign(logged, {run, lines: lines || new Uint32Array(0)});
+  if (!lines) return showLogFrom(0);
   byId('log-counts').textContent = countsOf(run, lines);
   let first = 0;
   while (first < lines.length && run.at[lines[first]] < Math.floor(play.now)) first++;

@@ -12,6 +12,14 @@ const WIDE = 280, HIGH = 120;
  * @typedef {{file: string, text: string, title: string, about: string, question: string, try: string,
  *   replace: Record<string, string>, from: number, to: number, still: number, speed: number}} Example */
 
+/** The first sentence of the comment at the head of a text.
+ * @param {string} text */
+export function firstSentence(text) {
+  const rows = text.split('\n'), end = rows.findIndex(row => !row.startsWith('#'));
+  const comment = rows.slice(0, Math.max(0, end)).map(row => row.replace(/^#+ ?/, '')).join(' ');
+  return (/^.*?[.](?= |$)/.exec(comment.replace(/`/g, '')) || [''])[0];
+}
+
 /** Draws the motes and the links of an example.
  * @param {any} canvas @param {string} text */
 function drawStill(canvas, text) {

@@ -42,7 +42,8 @@ export function beginStepping() {
   const bar = element('div', '', [button('« moment', 'The previous moment', -1, 'moment'),
     button('‹ line', 'The previous line', -1, 'line'), button('line ›', 'The next line', 1, 'line'),
     button('moment »', 'The next moment', 1, 'moment'),
-    button('‹ call', 'The start of the previous call', -1, 'call'), button('call ›', 'The start of the next call', 1, 'call')]);
+    button('‹ call', 'The start of the previous call', -1, 'call'),
+    button('call ›', 'The start of the next call', 1, 'call')]);
   bar.className = 'bar';
   byId('steps').append(bar, Object.assign(element('div'), {id: 'step-at'}));
   overlays.push(pane => { if (!byId('steps').hidden) showStep(pane); });

@@ -19,7 +19,7 @@ import {Alone} from './alone.js';
 import {chainOf} from './chain.js';
 import {EditRefused, applied} from './edits.js';
 import {effectInWords} from './effect.js';
-import {beginGallery} from './gallery.js';
+import {beginGallery, firstSentence} from './gallery.js';
 import {History} from './history.js';
 import {beginFiles, forgetDraft, keepDraft, keepInAddress, neverEnded, noteStart, showSharing, textToOpen
   } from './keeping.js';
@@ -36,8 +36,8 @@ const ORIGINS = {link: 'This net came with the link.', page: 'This net was saved
 const PANELS = ['log', 'steps', 'sums', 'legend'], PANEL_NAMES = ['Log', 'Steps', 'Sums', 'Forms'];
 
 /** The state of the page. `offer` is the change that the sentence offers. */
-const web = {backend: /** @type {any} */ (null), pad: /** @type {any} */ (null), history: new History(''), name: '', intro: '',
-  example: /** @type {any} */ (null), part: 'part-program', timer: 0, addressTimer: 0, asked: 0, ran: 0, fresh: true,
+const web = {backend: /** @type {any} */ (null), pad: /** @type {any} */ (null), history: new History(''), name: '',
+  intro: '', example: /** @type {any} */ (null), part: 'part-program', timer: 0, addressTimer: 0, asked: 0, ran: 0, fresh: true,
   isWaiting: false, sums: null};
 
 const isStill = () => matchMedia('(prefers-reduced-motion: reduce)').matches;
@@ -57,7 +57,8 @@ function sayIntro() {
   const {example} = web;
   if (!example) return say(web.intro);
   byId('try').textContent = example.try || '';
-  say(example.about || `The example ${example.file}.`, '', {tries: Boolean(example.try)});
+  const words = example.about || firstSentence(example.text) || `The example ${example.file}.`;
+  say(words, '', {tries: Boolean(example.try)});
 }
 
 // The text.
