@@ -35,10 +35,11 @@ const ORIGINS = {link: 'This net came with the link.', page: 'This net was saved
   draft: 'This is your text of the last time. Examples has the others.'};
 const PANELS = ['log', 'steps', 'sums', 'legend'], PANEL_NAMES = ['Log', 'Steps', 'Sums', 'Forms'];
 
-/** The state of the page. `offer` is the change that the sentence offers. */
+/** The state of the page. `intro` says where the text came from, `part` is the open tab of the text; `asked` counts the
+ * runs that were asked for, `ran` is the last of them that ended, and `fresh` is true until the first run of a text. */
 const web = {backend: /** @type {any} */ (null), pad: /** @type {any} */ (null), history: new History(''), name: '',
-  intro: '', example: /** @type {any} */ (null), part: 'part-program', timer: 0, addressTimer: 0, asked: 0, ran: 0, fresh: true,
-  isWaiting: false, sums: null};
+  intro: '', example: /** @type {any} */ (null), part: 'part-program', timer: 0, addressTimer: 0, asked: 0, ran: 0,
+  fresh: true, isWaiting: false, sums: null};
 
 const isStill = () => matchMedia('(prefers-reduced-motion: reduce)').matches;
 
