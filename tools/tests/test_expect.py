@@ -18,11 +18,11 @@ from motesim.commands import expect as command
 from motesim.judge import expectations, remarks, sentences
 from motesim.judge.expectations import UnknownSentence, expect, parts_of, read_all
 from motesim.judge.judge import Judge
+from motesim.judge.links import Links
 from motesim.report import Report
 from motesim.runner import LimitMet, Limits, Runner, programs
 from motesim.runner.run import answer
 from motesim.scenario import Scenario
-from motesim.search.quick_judge import Hops
 from motesim.judge.sentences import (
     EXAMPLES, Copies, Count, Does, Names, Refused, Sentence, SentenceFault, Value, names_of, read_sentence,
 )
@@ -289,7 +289,7 @@ p = "process near; autostart near; receiver near; code near { body { if (self ==
 """ % 'yield_until is(packet); print from;'
         report = answer(text.encode()).report
         judge = Judge(Report.parse(report), Scenario.parse(text))
-        links = Hops(Scenario.parse(text))
+        links = Links(Scenario.parse(text))
         for words, holds in (('mote 1 prints near a mote that it hears, one hop nearer to mote 0', True),
                              ('no mote but 0 prints near a mote that it hears, one hop nearer to mote 0', False)):
             sentence = read_sentence(words, names_of(Scenario.parse(text)))

@@ -108,19 +108,15 @@ SENTENCES: list[tuple[str, str | None, int | None]] = [
     ('mote 3 prints a within 40 of each time mote 0 sends',
      '`mote 0 sends` at 10 is this line, and mote 3 has no such line up to 50', 3),
     ('mote 3 prints a within 91 of each time mote 0 sends',
-     'none of the 3 events has its 91 moments before the end (100): the first `mote 0 sends` at 10 is this line, and '
-     'mote 3 has no such line up to the end; write a smaller number of moments, or set a later `end`', 3),
+     'the run ends at 100, within 91 of each `mote 0 sends`: write a smaller number, or set a later `end`', 3),
     ('mote 3 prints a within 2 of each time mote 0 sends 2',
-     'the only event doesn\'t have its 2 moments before the end (100): `mote 0 sends 2` at 99 is this line, and mote 3 '
-     'has no such line up to the end; write a smaller number of moments, or set a later `end`', 5),
+     'the run ends at 100, within 2 of each `mote 0 sends 2`: write a smaller number, or set a later `end`', 5),
     ('mote 3 prints a within 1 of each time mote 0 sends 2',
      '`mote 0 sends 2` at 99 is this line, and mote 3 has no such line up to 100', 5),
     ('mote 0 receives within 91 of each time mote 0 sends',
-     'none of the 3 events has its 91 moments before the end (100): the first `mote 0 sends` at 10 is this line, and '
-     'mote 0 has no such line up to the end; write a smaller number of moments, or set a later `end`', 3),
+     'the run ends at 100, within 91 of each `mote 0 sends`: write a smaller number, or set a later `end`', 3),
     ('every mote but 0 receives within 91 of each time mote 0 sends',
-     'none of the 3 events has its 91 moments before the end (100): the first `mote 0 sends` at 10 is this line, and '
-     'mote 3 has no such line up to the end; write a smaller number of moments, or set a later `end`', 3),
+     'the run ends at 100, within 91 of each `mote 0 sends`: write a smaller number, or set a later `end`', 3),
     ('no mote but 1 and 2 receives within 91 of each time mote 0 sends', None, None),
     ('some mote sends 1 after mote 2 receives', 'no mote does', None),
     ('some mote sends 1 at least once after mote 2 receives', None, None),

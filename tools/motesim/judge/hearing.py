@@ -32,5 +32,3 @@ def hearing(scenario: Scenario, r: int, s: int) -> str:
     return 'mote %d can hear mote %d: they are %s apart, the range is %d%s' % (
         r, s, distance(scenario, s, r), scenario.range, lost)
 
-
-__all__ = ['hearing', 'unheard']

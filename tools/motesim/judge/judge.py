@@ -15,6 +15,9 @@ from typing import NamedTuple
 
 from motesim.judge import relations
 from motesim.judge.hearing import hearing
+from motesim.judge.links import Apart as Apart
+from motesim.judge.links import Links
+from motesim.judge.links import Span as Span
 from motesim.judge.numbers import TOGETHER, either, has, has_lines, motes_do, there_are, verb
 from motesim.judge.sentences import (
     Copies, Count, Deed, Does, Hears, Lines, MediumLine, Motes, Packets, Pattern, Refused, Sentence, Value, Window,
@@ -25,9 +28,6 @@ from motesim.scenario import Scenario
 
 DOES = {'print': 'prints', 'send': 'sends', 'recv': 'receives'}
 BECAME = {'collided': 'collide', 'received': 'recv', 'full': 'lost'}
-
-# The first and the last moment of a period; None if it has no last one.
-Span = tuple[int, int | None]
 
 
 class Lack(NamedTuple):
@@ -58,10 +58,6 @@ class Row(NamedTuple):
 
     def in_time(self) -> tuple[int, int]:
         return self.at, self.row
-
-
-class Apart(Exception):
-    """Packets of one mote can't reach another, so there are no hops between them."""
 
 
 def within(at: int, span: Span) -> bool:
@@ -102,7 +98,7 @@ class Judge:
 
     def __init__(self, report: Report, scenario: Scenario):
         self.report, self.scenario = report, scenario
-        self.hops_from: dict[int, dict[int, int]] = {}
+        self.links = Links(scenario)
 
     @cached_property
     def rows(self) -> Sequence[str]:
@@ -115,47 +111,12 @@ class Judge:
         found = zip(map((mote + 2).__add__, trace.rows(mote, kind)), trace.lines(mote, kinds=(kind,)))
         return map(tuple.__new__, repeat(Event), found)
 
-    def hears(self, r: int, s: int) -> bool:
-        """True if mote r hears mote s by a link that doesn't lose everything."""
-        return self.scenario.is_open(s, r)
-
-    def heard(self, r: int) -> set[int]:
-        return {s for s in self.scenario.hearers(r) if self.hears(r, s)}
-
-    def hops(self, root: int, mote: int) -> int:
-        """The least number of hops from the root to a mote."""
-        if root not in self.hops_from:
-            self.hops_from[root] = self.scenario.hops_from(root)
-        if mote not in self.hops_from[root]:
-            raise Apart('mote %d is not reached from mote %d' % (mote, root))
-        return self.hops_from[root][mote]
-
-    def values(self, value: Value, mote: int) -> Set[int]:
-        """The numbers that a value may be, for a mote."""
-        if value.kind == 'number':
-            return {value.number}
-        if value.kind == 'any':
-            return value.values
-        if value.kind == 'self':
-            return {mote}
-        if value.kind == 'greatest':
-            return {self.scenario.motes - 1}
-        if value.kind == 'distance':
-            return {self.hops(value.number, mote)}
-        heard = self.heard(mote)
-        if value.kind == 'nearer':
-            hops = self.hops(value.number, mote)
-            return {s for s in heard if self.hops_from[value.number].get(s) == hops - 1}
-        if value.kind == 'linked':
-            heard = {s for s in heard if self.hears(s, mote)}
-        return {sum(1 << s for s in heard - value.but)}
-
     def fits(self, pattern: Pattern, mote: int) -> bytes:
         """For each line of the pattern's kind in a mote's trace, 1 if it matches the pattern, otherwise 0."""
         trace, kind = self.report.trace, str(pattern[0])
         place, fields = trace.place(mote, kind), trace.of[kind]
         # (a value may be unknown for this mote, whether or not it has such lines)
-        wanted = [self.values(it, mote) if isinstance(it, Value) else it for it in pattern[1:]]
+        wanted = [self.links.values(it, mote) if isinstance(it, Value) else it for it in pattern[1:]]
         count: int = place.stop - place.start
         found = bytes([len(wanted) <= len(fields)]) * count
         for its, (field, column) in zip(wanted, fields.items()):
@@ -197,11 +158,7 @@ class Judge:
 
     def spans(self, window: Window, motes: tuple[int, ...]) -> list[Span]:
         """The moments of a window, for these motes."""
-        begin, end, every = window.begin, window.end, window.every
-        if every and end is not None:
-            return [(at, min(at + every - 1, end)) for at in range(begin, end + 1, every)]
-        later = window.hop * self.hops(window.root, motes[0]) if window.root is not None else 0
-        return [(begin + later, None if end is None else end + later)]
+        return self.links.spans(window, motes[0] if motes else 0)
 
     def within(self, events: list[Event], window: Window, motes: tuple[int, ...]) -> list[Event]:
         """The events that are in a window."""
@@ -227,7 +184,7 @@ class Judge:
     def listed(self, deed: Deed, mote: int) -> list[Set[int]]:
         """The wanted values of all lines, in the order of the lines: for each line, the numbers that its value may
         be."""
-        return [self.values(deed.value, mote)] if deed.value else [{value} for value in deed.values]
+        return [self.links.values(deed.value, mote)] if deed.value else [{value} for value in deed.values]
 
     def ordered(self, deed: Deed, events: list[Event], motes: tuple[int, ...], span: Span) -> Broken | None:
         """Checks that the values of all lines are those of a list, in its order."""
@@ -258,7 +215,7 @@ class Judge:
 
     def last(self, deed: Deed, events: list[Event], motes: tuple[int, ...], span: Span) -> Broken | None:
         """Checks the value of the last line in a span."""
-        allowed = self.values(deed.value, motes[0]) if deed.value else set()
+        allowed = self.links.values(deed.value, motes[0]) if deed.value else set()
         if not events:
             return Broken('%s no such line%s' % (has(self.name(motes)), span_in_words(span)), lacks=Lack(motes, span))
         if events[-1].line.value in allowed:
@@ -307,7 +264,7 @@ class Judge:
             is_shown = broken.row is not None or events or it.than or is_event
             more = '' if is_shown else self.other_value(it, motes)
             more = '; ' + more if more else ''
-            return broken._replace(why=broken.why + more + remark_on(it.deed, motes, self.values))
+            return broken._replace(why=broken.why + more + remark_on(it.deed, motes, self.links.values))
         except Apart as apart:
             return Broken(str(apart))
 
@@ -506,7 +463,7 @@ class Judge:
                 return None
             return Broken('the medium has no such line', self.report.medium_row)
         if isinstance(it, Hears):
-            wrong = next((mote for mote in sorted(it.motes) if self.hears(mote, it.other) != it.can), None)
+            wrong = next((mote for mote in sorted(it.motes) if self.links.hears(mote, it.other) != it.can), None)
             return None if wrong is None else Broken(hearing(self.scenario, wrong, it.other))
         assert isinstance(it, Refused)
         return Broken('the program writes a report')

@@ -173,19 +173,16 @@ def _answered(relation: Relation, name: str, when: str, lines: Sequence[Found], 
         is_judged = is_judged or found is not None
     if is_judged:
         return None
-    return _none_judged(relation, name, when, order, end)
+    return _none_judged(relation, when, order, end)
 
 
-def _none_judged(relation: Relation, name: str, when: str, order: Order, end: int) -> Why:
+def _none_judged(relation: Relation, when: str, order: Order, end: int) -> Why:
     """The reason why a sentence is broken if no event of it can be judged."""
-    first, count = order.first(), len(order.events)
+    first = order.first()
     if first is None:
         return 'no line%s shows `%s`' % (when, relation.words), None
-    its = '%d %s' % (relation.moments, 'moment' if relation.moments == 1 else 'moments')
-    none = 'the only event doesn\'t have' if count == 1 else 'none of the %d events has' % count
-    return '%s its %s before the end (%d): %s`%s` at %d is this line, and %s no such line up to the end; %s' % (
-        none, its, end, '' if count == 1 else 'the first ', relation.words, first.line.at, has(name),
-        'write a smaller number of moments, or set a later `end`'), first.row
+    return 'the run ends at %d, within %d of each `%s`: write a smaller number, or set a later `end`' % (
+        end, relation.moments, relation.words), first.row
 
 
 def broken(it: Does, name: str, when: str, lines: Sequence[Found], events: Sequence[Found], end: int) -> Why | None:

@@ -275,6 +275,8 @@ class _Reader:
         self.words = [it[1] for it in found]
         self.places = [it.start(1) for it in found] + [len(text)]
         self.at, self.furthest = 0, 0
+        # (the places at which the sentence has the numbers of motes)
+        self.named: list[tuple[int, int]] = []
         self.wanted: list[str] = []
         self.is_one = True
         # (in `within 10 of receiving 1` the verb may also have this form)
@@ -340,7 +342,9 @@ class _Reader:
 
     def mote(self, least: int = 0) -> int:
         motes = MOST_MOTES if self.names.motes is None else self.names.motes
-        return self.number('a mote', motes - 1, least)
+        at, found = self.places[self.at], self.number('a mote', motes - 1, least)
+        self.named.append((at, found))
+        return found
 
     def ranges(self, one: Callable[[int], int], *between: str) -> list[int]:
         """Numbers, and ranges of numbers, with commas, `and` or one of these other words between them."""
@@ -698,22 +702,9 @@ def read_sentence(sentence: str, names: Names = Names()) -> Sentence:
     return found
 
 
-class _MoteReader(_Reader):
-    """Notes the places at which a sentence has the numbers of motes."""
-
-    def __init__(self, sentence: str, names: Names):
-        super().__init__(sentence, names)
-        self.named: list[tuple[int, int]] = []
-
-    def mote(self, least: int = 0) -> int:
-        at, found = self.places[self.at], super().mote(least)
-        self.named.append((at, found))
-        return found
-
-
 def motes_named(sentence: str, names: Names) -> list[tuple[int, int]]:
     """The places at which a sentence that can be read has the numbers of motes, and these numbers."""
-    reader = _MoteReader(sentence, names)
+    reader = _Reader(sentence, names)
     reader.sentence_here()
     return sorted(set(reader.named))
 

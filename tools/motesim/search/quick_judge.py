@@ -7,11 +7,12 @@ broken, and leaves forms of sentences that it doesn't know to `motesim.judge`.
 from __future__ import annotations
 
 import re
-from collections.abc import Callable, Iterable, Set
+from collections.abc import Callable, Iterable
 from dataclasses import fields, is_dataclass
 from functools import cache, cached_property, lru_cache, partial
 
 from motesim.judge.judge import Judge, periods
+from motesim.judge.links import Apart, Links
 from motesim.report import FIELDS, Report
 from motesim.scenario.scenario import Scenario
 from motesim.judge.sentences import (
@@ -21,63 +22,6 @@ from motesim.judge.sentences import (
 OUTCOMES = {'collided': 'collide', 'received': 'recv', 'full': 'lost'}
 # A line of a trace, in the form of this module: its moment, and the words after its kind.
 Row = tuple[str, str]
-# The moments of a window: the first and the last one, or None for no last one.
-Span = tuple[int, int | None]
-
-
-class NotReached(Exception):
-    """There are no hops to a mote, because no path of links leads to it."""
-
-
-class Hops:
-    """The links and the hops of a scenario."""
-
-    def __init__(self, scenario: Scenario):
-        self.scenario = scenario
-        self.found: dict[int, dict[int, int]] = {}
-
-    def hears(self, r: int, s: int) -> bool:
-        return self.scenario.is_open(s, r)
-
-    @cached_property
-    def heard(self) -> list[set[int]]:
-        losses, motes = self.scenario.losses, range(self.scenario.motes)
-        return [{s for s in self.scenario.hearers(r) if losses.get((s, r)) != 1} for r in motes]
-
-    def hops(self, root: int, mote: int) -> int:
-        if root not in self.found:
-            self.found[root] = self.scenario.hops_from(root)
-        if mote not in self.found[root]:
-            raise NotReached
-        return self.found[root][mote]
-
-    def values(self, value: Value, mote: int) -> Set[int]:
-        """The numbers that a value may be, for a mote."""
-        if value.kind == 'number':
-            return {value.number}
-        if value.kind == 'any':
-            return value.values
-        if value.kind == 'self':
-            return {mote}
-        if value.kind == 'greatest':
-            return {self.scenario.motes - 1}
-        if value.kind == 'distance':
-            return {self.hops(value.number, mote)}
-        heard = self.heard[mote]
-        if value.kind == 'nearer':
-            hops = self.hops(value.number, mote)
-            return {s for s in heard if self.found[value.number].get(s) == hops - 1}
-        if value.kind == 'linked':
-            heard = {s for s in heard if mote in self.heard[s]}
-        return {sum(1 << s for s in heard - value.but)}
-
-    def spans(self, window: Window, mote: int) -> list[Span]:
-        """The moments of a window, for a mote."""
-        begin, end, every = window.begin, window.end, window.every
-        if every and end is not None:
-            return [(at, min(at + every - 1, end)) for at in range(begin, end + 1, every)]
-        later = window.hop * self.hops(window.root, mote) if window.root is not None else 0
-        return [(begin + later, None if end is None else end + later)]
 
 
 # (for at most this many motes, lines are read mote by mote)
@@ -96,7 +40,7 @@ class Seen:
     """The parts of a report that are read: the lines of a kind, of all motes or of one mote."""
 
     def __init__(self, data: bytes, scenario: Scenario):
-        self.data, self.scenario, self.links = data, scenario, Hops(scenario)
+        self.data, self.scenario, self.links = data, scenario, Links(scenario)
         self.motes = scenario.motes
         text = data.decode('ascii')
         at = text.rfind('\nmedium\n')
@@ -285,7 +229,7 @@ def _or_not_reached(unit: Unit, seen: Seen, mote: int) -> bool:
     """Returns the value of `unit` for a mote; false if there are no hops to the mote."""
     try:
         return unit(seen, mote)
-    except NotReached:
+    except Apart:
         return False
 
 
@@ -325,7 +269,7 @@ def _counted(seen: Seen, rows: Iterable[tuple[int, int]], count: Count, window: 
         for at, mote in rows:
             for index, (begin, end) in enumerate(seen.links.spans(window, mote)):
                 counts[index] += begin <= at and (end is None or at <= end)
-    except NotReached:
+    except Apart:
         return False
     return all(map(count.admits, counts))
 

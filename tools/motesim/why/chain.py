@@ -350,7 +350,3 @@ def rows(hops: list[Hop]) -> list[str]:
         found.append(('%s %s %s  %s  %s' % (at.rjust(widths[0]), mote.rjust(widths[1]), row.rjust(widths[2]),
                                             words.ljust(min(widths[3], 32)), because)).rstrip())
     return found
-
-
-__all__ = ['Explainer', 'Hop', 'Path', 'as_json', 'cause_of', 'chain', 'count', 'in_words', 'on_values', 'path_of',
-           'places', 'rows', 'wait_of']

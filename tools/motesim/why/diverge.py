@@ -168,6 +168,3 @@ def rows(one: Source, other: Source, found: Diverged | None) -> list[str]:
         '      %s' % hop.because,
         '  %s: %s' % (other.name, found.words),
     ]
-
-
-__all__ = ['Diverged', 'diverged', 'rows']

@@ -89,6 +89,3 @@ def instead(program: Program, number: int) -> str:
     if text.startswith('wait_until'):
         return '`yield_until%s`' % text.removeprefix('wait_until')
     return '`yield_until` with the opposite condition'
-
-
-__all__ = ['AT_ONCE', 'Endless', 'LastRun', 'MOST_WAITS', 'endless', 'instead']

@@ -16,9 +16,6 @@ from motesim.report import FIELDS, MOST_MOMENT
 from motesim.why.question import Asker
 from motesim.why.source import At, Source, Traces, read_traces, traces_of
 
-# The number of bytes that are written at a time.
-PIECE = 1 << 20
-
 
 class Filter(NamedTuple):
     """The conditions that a line has to meet to be shown."""
@@ -214,19 +211,6 @@ def shown(log: Log, order: Sequence[int], form: str) -> Iterator[str]:
                        text[begins[place]:ends[place]], '\n'))
 
 
-def write(lines: Iterator[str]) -> None:
-    """Writes lines to standard output, many at a time."""
-    piece: list[str] = []
-    size = 0
-    for line in lines:
-        piece.append(line)
-        size += len(line)
-        if size > PIECE:
-            sys.stdout.write(''.join(piece))
-            piece, size = [], 0
-    sys.stdout.write(''.join(piece))
-
-
 def numbers_of(text: str, most: int, what: str) -> frozenset[int]:
     """The numbers of a list such as 3,5-7."""
     found: set[int] = set()
@@ -269,10 +253,7 @@ def status_of(asked: argparse.Namespace) -> int:
         order = order[:max(0, asked.first_lines)]
     if asked.last_lines is not None:
         order = order[len(order) - min(len(order), max(0, asked.last_lines)):]
-    write(shown(log, order, 'csv' if asked.csv else 'json' if asked.json else 'text'))
+    sys.stdout.writelines(shown(log, order, 'csv' if asked.csv else 'json' if asked.json else 'text'))
     if not (asked.csv or asked.json):
         print(sums(log))
     return 0
-
-
-__all__ = ['At', 'Filter', 'Log', 'filtered', 'of_sentence', 'status_of', 'sums']

@@ -106,7 +106,7 @@ class _Misses:
         wanted = next((it for it in reversed(self.pattern) if isinstance(it, Value)), None)
         if wanted is None or (self.kind == 'recv' and len(self.pattern) < 4):
             return set()
-        return self.asker.judge.values(wanted, self.mote)
+        return self.asker.judge.links.values(wanted, self.mote)
 
     def copies(self) -> Iterator[Miss]:
         """The last copies that this mote didn't get, up to the last moment: those with a wanted value, or, if there are

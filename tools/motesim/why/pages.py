@@ -83,6 +83,3 @@ def causes_of(run: Run) -> dict[str, Any]:
         return Causes(source_of(run)).said()
     except Fault as fault:
         return {'none': str(fault)}
-
-
-__all__ = ['Causes', 'MOST_LINES', 'causes_of', 'source_of']

@@ -125,6 +125,3 @@ def rows(state: dict[str, Any], heading: str) -> list[str]:
         lines.append('  %d packets wait for the radio process' % state['waiting_packets'])
     lines += ['  semaphore %s = %d' % pair for pair in state['semaphores'].items()]
     return lines
-
-
-__all__ = ['after_line', 'after_moment', 'as_json', 'read_state', 'rows']

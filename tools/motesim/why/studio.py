@@ -107,6 +107,3 @@ class Causes:
         wanted = Filter(None, tuple(FIELDS), None, None, (0, None))
         log = of_sentence(source, str(asked.get('sentence', '')), wanted)
         return {'rows': [log.rows[place] for place in log.order]}
-
-
-__all__ = ['Causes']
