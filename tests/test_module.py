@@ -77,6 +77,8 @@ def cases() -> Iterator[tuple[str, bytes, Answer]]:
                 yield ' '.join([str(case.path.relative_to(TOP)), name]), scenario, expected
 
 
+# (one process builds the module, for all tests)
+@pytest.mark.xdist_group('built')
 def test_it_is_made_from_the_sources_of_this_tree(request: pytest.FixtureRequest) -> None:
     about = read_about()
     assert about, '%s doesn\'t say from what the module is made' % ABOUT
