@@ -483,7 +483,7 @@ class Files(unittest.TestCase):
         # (an earlier test of this process may have found a program)
         uncached = programs._program_here.__wrapped__
         with mock.patch.dict(os.environ), mock.patch.multiple(
-                programs, program_of_sources=lambda: None, _program_here=uncached):
+                programs, program_of_sources=lambda: None, module_program=lambda: None, _program_here=uncached):
             os.environ.pop('MOTESIM', None)
             out, err, code = self.said('expect = ["mote 0 sends"]')
         self.assertEqual((out, code), ('', 2))
