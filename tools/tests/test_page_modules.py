@@ -110,6 +110,16 @@ class Bundles(unittest.TestCase):
             node(self, '--check', str(script))
 
 
+class Types(unittest.TestCase):
+    def test_types_fit_in_the_modules_that_have_them(self) -> None:
+        """Those that begin with `// @ts-check`."""
+        skips.need_command(self, 'tsc', 'node-typescript')
+        options = ['--allowJs', '--noEmit', '--target', 'es2022', '--module', 'es2022', '--moduleResolution', 'node',
+                   '--lib', 'es2022,dom,dom.iterable', '--skipLibCheck']
+        done = subprocess.run(['tsc', *options, *map(str, ENTRIES)], capture_output=True, text=True)
+        self.assertEqual(done.returncode, 0, done.stdout + done.stderr)
+
+
 def given() -> dict[str, Any]:
     """The wanted results for the tests in node."""
     small = Run('small', Report.parse(test_why.REPORT), Scenario.parse(test_why.SCENARIO))
