@@ -146,6 +146,13 @@ class Readme(unittest.TestCase):
         for page in 'docs/use/FROM_CONTIKI.md', 'docs/use/EXPLAIN.md':
             self.assertIn('](%s)' % page, text)
 
+    def test_what_it_shows_of_a_search_is_what_the_page_on_searches_shows(self) -> None:
+        shown = re.search(r'```console\n(.*?)```', (TOP / 'README.md').read_text(), re.S)
+        assert shown
+        for line in shown[1].splitlines():
+            with self.subTest(line):
+                self.assertIn(line.removeprefix('$ ').replace('examples/', '').removesuffix(' ..').strip(), page('SEARCH.md'))
+
 
 if __name__ == '__main__':
     unittest.main()
