@@ -1,0 +1,4 @@
+pub mod WitnessLaws
+pub mod ShownLaws
+pub mod SpareLaws
+pub mod BreakLaws

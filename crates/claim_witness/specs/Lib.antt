@@ -1,0 +1,3 @@
+-- Where a claim is broken.
+pub mod Witnesses
+pub mod Shows

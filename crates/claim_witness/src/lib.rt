@@ -1,0 +1,7 @@
+//! Where a claim is broken: the case, the test, the mote and the line.
+#![tactic(auto)]
+
+mod shown;
+mod witness;
+
+pub use witness::{Break, BrokenTest, Spare, Witness, break_of};
