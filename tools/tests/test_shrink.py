@@ -324,14 +324,12 @@ class Shrinks(unittest.TestCase):
             # (the file of an earlier result remains)
             self.assertTrue(small.exists())
 
-    def test_help_and_page_list_the_forms_of_a_fault(self) -> None:
-        page = (TOOLS.parent / 'docs/use/SEARCH.md').read_text().replace('`', '')
+    def test_the_helps_list_the_forms_of_a_fault(self) -> None:
         self.assertEqual({*FORMS, 'parameter'}, {*EFFECTS})
         for tool in 'search', 'shrink':
             done = subprocess.run([sys.executable, '-B', str(TOOLS / tool), '--help'], capture_output=True, text=True)
             for name, (_, words) in FORMS.items():
                 self.assertRegex(done.stdout, '\n  %s +%s\n' % (form_of(name), words))
-                self.assertIn('\n| %s | %s |\n' % (form_of(name), words), page)
 
     def test_the_progress_is_shown_if_standard_error_is_a_file(self) -> None:
         with folder_with() as folder:
