@@ -47,7 +47,6 @@ code p { var wanted = 1; etimer t; etimer u; body {
 } }
 '''
 """
-PAGES = ('NOTATION.md', 'QUICK.md')
 # The meanings of a table's letters in a program: an expression, and names.
 LETTERS = {'e': '(x + 1)', 'E': 'e', 'P': 'q', 'T': 't', 'S': 's', 'THREAD': 'f', 'a': 'x', 'b': 'y'}
 
@@ -76,17 +75,16 @@ def in_words(form: str) -> str:
 
 class Tables(unittest.TestCase):
     def test_what_is_not_so_is_refused_and_what_is_written_instead_is_right(self) -> None:
-        for name in PAGES:
-            rows = cells(page(name), '| Wrong | Right |')
-            self.assertGreater(len(rows), 6)
-            for wrong, right in rows:
-                for line in programs(wrong):
-                    with self.subTest(wrong=line):
-                        self.assertIsNotNone(find_fault(PROGRAM % line))
-                self.assertTrue(programs(right), right)
-                for line in programs(right):
-                    with self.subTest(right=line):
-                        self.assertIsNone(find_fault(PROGRAM % line))
+        rows = cells(page('QUICK.md'), '| Wrong | Right |')
+        self.assertGreater(len(rows), 6)
+        for wrong, right in rows:
+            for line in programs(wrong):
+                with self.subTest(wrong=line):
+                    self.assertIsNotNone(find_fault(PROGRAM % line))
+            self.assertTrue(programs(right), right)
+            for line in programs(right):
+                with self.subTest(right=line):
+                    self.assertIsNone(find_fault(PROGRAM % line))
 
     def test_the_statements_and_expressions_of_the_quick_reference(self) -> None:
         statements = [it for row in cells(page('QUICK.md'), '| Statement | What it does |') for it in programs(row[0])]
