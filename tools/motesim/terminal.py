@@ -57,15 +57,6 @@ def plain_stream(stream: TextIO) -> TextIO:
     return stream if isinstance(stream, Plain) else cast(TextIO, Plain(stream))
 
 
-def has_one_output() -> bool:
-    """Returns whether standard output and standard error are the same terminal, file or pipe."""
-    try:
-        return os.path.sameopenfile(sys.stdout.fileno(), sys.stderr.fileno())
-    except (OSError, ValueError):
-        # (a stream of Python itself, without a file)
-        return False
-
-
 def write_over(text: str) -> None:
     """Writes a text over the last line of standard error, which is a terminal."""
     stream = sys.stderr.stream if isinstance(sys.stderr, Plain) else sys.stderr

@@ -71,9 +71,6 @@ def status_of(asked: argparse.Namespace) -> int:
         sys.stdout.write(text)
         return 0
     refuse_inputs(asked.output, plan.paths(given))
-    try:
-        write_whole(asked.output, [text.encode('utf-8')])
-    except OSError as fault:
-        raise Fault('%s: %s' % (asked.output, fault.strerror)) from None
+    write_whole(asked.output, [text.encode('utf-8')])
     print(asked.output)
     return 0
