@@ -50,7 +50,7 @@ def _left(source: str, fault: ProgramError) -> tuple[int, int]:
 
 def _attempts(source: str, fault: ProgramError) -> Iterator[Correction]:
     tokens = tokens_of(source)
-    at = tokens.index(fault.token)
+    at = _index(tokens, fault.token)
     yield from of_line(source, fault)
     if fault.kind == BAD_TOKEN:
         yield from _small_letters(source, fault.token)
@@ -60,6 +60,12 @@ def _attempts(source: str, fault: ProgramError) -> Iterator[Correction]:
         yield from _nearest(source, fault)
     if fault.kind == UNKNOWN:
         yield from _declarations(source, tokens, at, fault)
+
+
+def _index(tokens: list[Token], token: Token) -> int:
+    """The index of a token. (A parameter of a plan stands for a number in the text, and has other tokens.)"""
+    return next((at for at, it in enumerate(tokens) if (it.line, it.column) >= (token.line, token.column)), -1) % len(
+        tokens)
 
 
 def _small_letters(source: str, token: Token) -> Iterator[Correction]:
@@ -124,7 +130,9 @@ def _declarations(source: str, tokens: list[Token], at: int, fault: ProgramError
         if kind in kinds:
             yield Correction('No %s has this name. Declare it above the processes.' % kind.split()[1], (
                 Edit(first, first - 1, (form % name,)),))
-    for kind, form in AT_HEAD.items() if code >= 0 and '`print`' not in fault.may else ():
+    # (a word at the beginning of a statement is a variable if an assignment follows)
+    is_used = '`print`' not in fault.may or tokens[at + 1].text == '='
+    for kind, form in AT_HEAD.items() if code >= 0 and is_used else ():
         if kind in kinds:
             below = code + 2
             while kind == 'a timer' and tokens[below + 1].text == 'var':
@@ -137,7 +145,7 @@ def _declarations(source: str, tokens: list[Token], at: int, fault: ProgramError
 def _example(source: str, fault: ProgramError) -> Correction | None:
     """An example of the statement or the declaration that has a fault."""
     tokens = tokens_of(source)
-    at = tokens.index(fault.token)
+    at = _index(tokens, fault.token)
     while at and tokens[at].text not in FORMS and tokens[at].text not in DECLARED:
         if tokens[at - 1].text in ('{', '}', ';'):
             return None
