@@ -1,0 +1,5 @@
+use Rattle.fault_sets.specs.FaultSet.{IsSet}
+use Rattle.survey_tests.proofs.tests.sets.write_sets.Given as goal
+
+abbrev pub invariant-loop-step : goal.invariant-loop-step
+invariant-loop-step l = IsSet 4 l.set

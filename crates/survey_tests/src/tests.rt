@@ -1,0 +1,3 @@
+mod fates;
+mod sets;
+mod surveys;
