@@ -313,10 +313,11 @@ impl Inbox {
         *known
     }
 
-    /// Takes the oldest copy or mark, and returns it with the number of its sender. This allocates nothing. If it returns
-    /// `None`, no item is known and nothing has changed. It returns `None` if it finds the queue empty; no clause can
-    /// bind this to the moment of the call, because other threads push at any moment. The tests `inbox_in_one_thread`
-    /// and `marked_inbox` show it. The items taken from a gathered sender are still a prefix of those that it pushed.
+    /// Takes the oldest copy or mark, and returns it with the number of its sender. This allocates nothing. If it
+    /// returns `None`, no item is known and nothing has changed. It returns `None` if it finds the queue empty; no
+    /// clause can bind this to the moment of the call, because other threads push at any moment. The tests
+    /// `inbox_in_one_thread` and `marked_inbox` show it. The items taken from a gathered sender are still a prefix of
+    /// those that it pushed.
     pub fn take_next<R: Wait>(&self, rt: &R, taker: &mut Taker) -> Option<Item>
         requires of_inbox { taker.old.inbox ≡ self.now }
         ensures still { (taker.new.inbox ≡ taker.old.inbox) × (taker.new.state.made ≡ taker.old.state.made)

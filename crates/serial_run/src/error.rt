@@ -18,9 +18,9 @@ pub enum RunError {
     CutWorker = 3,
     /// Out of memory: an allocation failed.
     Memory = 4,
-    /// A thread couldn't be started, the gate refused a start, or the executor in a thread returned an error. With null
-    /// messages, also a copy that a worker may not get yet: by a law the protocol sends none, but no contract of a single
-    /// thread can exclude it.
+    /// A thread couldn't be started, the gate refused a start, or the executor in a thread returned an error. With
+    /// null messages, also a copy that a worker may not get yet: by a law the protocol sends none, but no contract of
+    /// a single thread can exclude it.
     Thread = 5,
     /// Never returned: a worker stops only after another worker failed, and then the other's error is reported.
     Stopped = 6,
