@@ -13,7 +13,7 @@ from pathlib import Path
 
 import pytest
 from motesim.judge.expectations import beside, expect
-from motesim.judge.judge import Judge
+from motesim.judge.links import Links
 from motesim.report import Report
 from motesim.runner.programs import TOP
 from motesim.runner.run import Run, read_run
@@ -29,9 +29,9 @@ def check_readings(run: Run) -> None:
     """Fails unless each mote sends its own reading from 300 on, and one for each mote below it. No form of sentence
     expresses this."""
     assert run.scenario
-    judge = Judge(run.report, run.scenario)
+    links = Links(run.scenario)
     below = {mote.number: 1 for mote in run.report.motes}
-    for mote in sorted(run.report.motes[1:], key=lambda mote: -judge.hops(0, mote.number)):
+    for mote in sorted(run.report.motes[1:], key=lambda mote: -links.hops(0, mote.number)):
         parents = [line.value or 0 for line in mote.lines if line.kind == 'print' and line.process == 'parent']
         sends = [line for line in mote.lines if line.kind == 'send' and line.at >= 300]
         assert len(sends) == below[mote.number], 'mote %d sends another number of readings' % mote.number
