@@ -20,7 +20,7 @@ from pathlib import Path
 from typing import NamedTuple, NoReturn
 
 from motesim.faults import Fault
-from motesim.runner.programs import (IN_NODE, NOT_PROVED, TOP, is_compiled, module_program, optimize,
+from motesim.runner.programs import (IN_NODE, NOT_PROVED, is_compiled, module_program, nothing_runs, optimize,
                                      program_of_sources, program_path)
 from motesim.runner.versions import version_line
 from project.compile import compile_in_background, compile_program
@@ -35,8 +35,6 @@ Options of ./run itself, which compiles motesim if it isn't built:
       --version      Prints the version, and whether the motesim that would run is proved"""
 FAILED, MISUSED = 1, 2
 IN_BACKGROUND = '; a faster one is compiled in the background'
-NOTHING_RUNS = 'without the Rattle kit, which compiles motesim, a WebAssembly module can run: install node (on Debian ' \
-               '`apt-get install nodejs`), or open %s in a browser'
 NO_OPTIONS = 'without the Rattle kit, which compiles motesim, there is only its WebAssembly module, which has no ' \
              'options: leave them out'
 
@@ -127,7 +125,7 @@ def without_binary(request: Request) -> Path:
             compile_in_background()
         return module
     if not has_kit:
-        raise Fault(NO_OPTIONS if module else NOTHING_RUNS % (TOP / 'web/motesim.html'))
+        raise Fault(NO_OPTIONS if module else nothing_runs())
     return compile_program()
 
 

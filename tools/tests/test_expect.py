@@ -487,8 +487,7 @@ class Files(unittest.TestCase):
             os.environ.pop('MOTESIM', None)
             out, err, code = self.said('expect = ["mote 0 sends"]')
         self.assertEqual((out, code), ('', 2))
-        self.assertEqual(err, "expect: motesim isn't compiled yet: start ./run FILE.toml once, which compiles it "
-                              "within a minute or so; or name a compiled motesim in the environment variable MOTESIM\n")
+        self.assertEqual(err, 'expect: %s\n' % programs.nothing_runs())
 
     def test_no_program_and_no_file(self) -> None:
         with mock.patch.dict(os.environ, MOTESIM=str(self.room / 'none')):

@@ -51,6 +51,12 @@ CODE, ALL_PARTS = ('src',), ('src', 'specs', 'proofs')
 COMPILED = 'this program is compiled, not proved'
 NOT_PROVED = COMPILED + '; ./prove proves it here'
 IN_NODE = 'node runs the WebAssembly module of motesim, which isn\'t proved, and takes longer than a compiled motesim'
+NOT_COMPILED = 'motesim isn\'t compiled yet: start ./run FILE.toml once, which compiles it within a minute or so; or ' \
+               'name a compiled motesim in the environment variable MOTESIM'
+NO_NODE = 'without the Rattle kit, which compiles motesim, a WebAssembly module can run: install node (on Debian ' \
+          '`apt-get install nodejs`), or open %s in a browser'
+OTHER_SOURCES = 'there is no Rattle kit here, which compiles motesim, and web/motesim.wasm was made from other ' \
+                'sources: take both from one commit, or name a compiled motesim in the environment variable MOTESIM'
 WAITING = 'waiting for motesim, which another command is compiling; this usually needs about a minute'
 STILL = 'still waiting for the motesim that another command is compiling (%s so far)'
 
@@ -195,6 +201,13 @@ def module_program() -> Path | None:
     return SCRIPT if about and (is_packed or about.sources == digest(TOP, CODE, SOURCE)) else None
 
 
+def nothing_runs() -> str:
+    """Why no motesim can run here, and what to do."""
+    if shutil.which('rt'):
+        return NOT_COMPILED
+    return OTHER_SOURCES if shutil.which('node') and read_about() else NO_NODE % (TOP / 'web/motesim.html')
+
+
 def is_module(program: Path) -> bool:
     """Returns whether a program is the script that runs the WebAssembly module."""
     return program.resolve() == SCRIPT.resolve()
@@ -270,8 +283,7 @@ def _program_here() -> Path:
         wait_for_compiled()
         found = program_of_sources()
     if found is None:
-        raise ProgramFault('motesim isn\'t compiled yet: start ./run FILE.toml once, which compiles it within a minute '
-                           'or so; or name a compiled motesim in the environment variable MOTESIM')
+        raise ProgramFault(nothing_runs())
     if is_module(found):
         say_not_proved(IN_NODE)
     elif is_compiled(found):
