@@ -51,8 +51,8 @@ CODE, ALL_PARTS = ('src',), ('src', 'specs', 'proofs')
 COMPILED = 'this program is compiled, not proved'
 NOT_PROVED = COMPILED + '; ./prove proves it here'
 IN_NODE = 'node runs the WebAssembly module of motesim, which isn\'t proved, and takes longer than a compiled motesim'
-NOT_COMPILED = 'motesim isn\'t compiled yet: start ./run FILE.toml once, which compiles it within a minute or so; or ' \
-               'name a compiled motesim in the environment variable MOTESIM'
+NOT_COMPILED = 'motesim isn\'t compiled yet: start ./run FILE.toml once, which compiles it within a minute or so; ' \
+               'or name a compiled motesim in the environment variable MOTESIM'
 NO_NODE = 'without the Rattle kit, which compiles motesim, a WebAssembly module can run: install node (on Debian ' \
           '`apt-get install nodejs`), or open %s in a browser'
 OTHER_SOURCES = 'there is no Rattle kit here, which compiles motesim, and web/motesim.wasm was made from other ' \
