@@ -1,6 +1,4 @@
 """The needs of tests beyond Python: if one is missing, the test is skipped, and tools/dev/test_tools says why."""
-from __future__ import annotations
-
 import shutil
 import sys
 import unittest

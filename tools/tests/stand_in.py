@@ -7,8 +7,6 @@ moments, and those that hear it take what comes.
 A text with `never_ends` runs on, one with `long_report` writes without an end, and one with `much_memory` takes more
 and more memory.
 """
-from __future__ import annotations
-
 import contextlib
 import os
 import re

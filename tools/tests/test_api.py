@@ -134,7 +134,3 @@ class Installed(unittest.TestCase):
             here = {it.relative_to(TOOLS) for it in (TOOLS / 'motesim').rglob('*')
                     if it.is_file() and it.suffix != '.pyc'}
             self.assertEqual(sorted(map(str, here - shipped)), [])
-
-
-if __name__ == '__main__':
-    unittest.main()

@@ -1,6 +1,4 @@
 """tools/explain --apply: the corrected lines of all messages, written to another file."""
-from __future__ import annotations
-
 import contextlib
 import io
 import sys
@@ -124,7 +122,3 @@ class Command(unittest.TestCase):
         self.assertEqual(status, 2)
         self.assertIn('three single quotes in a row', err)
         self.assertFalse((self.folder / 'q.toml').exists())
-
-
-if __name__ == '__main__':
-    unittest.main()

@@ -39,7 +39,3 @@ class Arguments(unittest.TestCase):
             self.assertIn(why, str(refusal), words)
         for number in '0', '17', '-1', '++1', '100':
             self.assertIsNotNone(request_of(['--workers', number]).refusal, number)
-
-
-if __name__ == '__main__':
-    unittest.main()

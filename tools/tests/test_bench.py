@@ -1,6 +1,4 @@
 """The scenarios of bench/, and the output of tools/dev/bench about runs. The program is a stand-in."""
-from __future__ import annotations
-
 import contextlib
 import io
 import subprocess
@@ -72,7 +70,3 @@ class Command(unittest.TestCase):
 
     def test_another_name_is_told(self) -> None:
         self.assertIn("invalid choice: 'x' (choose from 'beacons'", self.said('none', 'x')[0])
-
-
-if __name__ == '__main__':
-    unittest.main()

@@ -1,6 +1,4 @@
 """The commands in tools/dev that test the built program. The programs here are stand-ins, and most have an error."""
-from __future__ import annotations
-
 import os
 import runpy
 import shutil
@@ -404,7 +402,3 @@ class Memory(Check):
         said, _, status = self.refused('int main(void) { return 0; }')
         self.assertIn('no request that can be refused', said)
         self.assertEqual(status, 1)
-
-
-if __name__ == '__main__':
-    unittest.main()

@@ -37,7 +37,3 @@ class Citation(unittest.TestCase):
         date = re.search(r'^date-released: (.*)$', self.TEXT, re.M)
         assert date
         self.assertIn('## %s, %s\n' % (VERSION, date[1]), (TOP / 'CHANGES.md').read_text('utf-8'))
-
-
-if __name__ == '__main__':
-    unittest.main()

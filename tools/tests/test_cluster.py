@@ -1,6 +1,4 @@
 """Work by a real Dask scheduler with two workers: what tools/sweep and tools/search find is the same as without it."""
-from __future__ import annotations
-
 import subprocess
 import tempfile
 import unittest
@@ -76,7 +74,3 @@ class Searches(unittest.TestCase):
             there = test_search.minimal_sets(folder, *words, '--dask', address)
         self.assertEqual(there[0], alone[0])
         self.assertEqual(there[1]['covered'], alone[1]['covered'])
-
-
-if __name__ == '__main__':
-    unittest.main()

@@ -1,6 +1,4 @@
 """Reports read in large pieces, against the same texts read line by line."""
-from __future__ import annotations
-
 import random
 import unittest
 from typing import Any
@@ -186,7 +184,3 @@ class Columns(unittest.TestCase):
         self.assertEqual(str(log[-1]), '9 0 1 3 1@12')
         with self.assertRaises(IndexError):
             log[3]
-
-
-if __name__ == '__main__':
-    unittest.main()

@@ -58,7 +58,3 @@ class Commands(unittest.TestCase):
         self.assertEqual((studio.SECONDS, studio.MEMORY, studio.REPORT), runs.Limits())
         self.assertEqual((sweep.MOST_BYTES, sweep.MOST_SECONDS), (asked.MOST_BYTES, asked.MOST_SECONDS))
         self.assertEqual(export.FORMS, tuple(ENDS))
-
-
-if __name__ == '__main__':
-    unittest.main()

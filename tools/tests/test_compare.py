@@ -1,6 +1,4 @@
 """The place at which two reports diverge, by compare. The reports are worked out by hand."""
-from __future__ import annotations
-
 import random
 import subprocess
 import sys
@@ -308,7 +306,3 @@ class Command(unittest.TestCase):
             words = [sys.executable, '-B', str(TOOLS / 'compare'), *map(str, paths[:2]), '--html', str(paths[2])]
             self.assertEqual(subprocess.run(words, capture_output=True).returncode, 1)
             self.assertIn('<title>', paths[2].read_text(encoding='utf-8'))
-
-
-if __name__ == '__main__':
-    unittest.main()

@@ -1,6 +1,4 @@
 """Programs as C files for Contiki: their text, their compilation, and what they do on the host."""
-from __future__ import annotations
-
 import random
 import re
 import shutil
@@ -478,7 +476,3 @@ class FolderTest(unittest.TestCase):
         done = self.export('s.toml', '--to', 'vcd', '--host')
         self.assertEqual(done.returncode, 2)
         self.assertIn('--host is for --form contiki', done.stderr)
-
-
-if __name__ == '__main__':
-    unittest.main()

@@ -1,6 +1,4 @@
 """The host, tools/contiki_host: its report of two programs written by hand, and that its rules are noticed."""
-from __future__ import annotations
-
 import re
 import shutil
 import subprocess
@@ -179,7 +177,3 @@ class Limits(unittest.TestCase):
                 report = host_report(Path(room) / 'c')
                 self.assertEqual(report, motesim_report(scenario))
                 self.assertRegex(report, r'(?m)^\d+ %s$' % line)
-
-
-if __name__ == '__main__':
-    unittest.main()

@@ -1,6 +1,4 @@
 """The comparison of motesim with the host: what its scenarios reach, and that it notices what differs."""
-from __future__ import annotations
-
 import itertools
 import os
 import shutil
@@ -176,7 +174,3 @@ class Command(unittest.TestCase):
         found = Scenario.parse(smallest)
         self.assertEqual((found.motes, len(found.losses)), (2, 1))
         self.assertLess(len(smallest), 400)
-
-
-if __name__ == '__main__':
-    unittest.main()

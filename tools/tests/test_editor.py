@@ -1,6 +1,4 @@
 """The grammars for editors: that they are whole, and know the notation's words."""
-from __future__ import annotations
-
 import json
 import re
 import unittest
@@ -99,7 +97,3 @@ class Grammars(unittest.TestCase):
         for path in TOP.glob('examples/*.toml'):
             for text in tomllib.loads(path.read_text('utf-8')).get('programs', {}).values():
                 self.assertIsNone(wrong.search(re.sub('//.*', '', text)), path.name)
-
-
-if __name__ == '__main__':
-    unittest.main()

@@ -1,6 +1,4 @@
 """The sentences that can be read, the judgement of a report, and the messages for a file of expectations."""
-from __future__ import annotations
-
 import ast
 import contextlib
 import inspect
@@ -554,7 +552,3 @@ class Examples(unittest.TestCase):
                     with self.subTest(example=path.name, sentence=sentence):
                         read_sentence(sentence, names)
         self.assertGreater(len(scenarios), 10)
-
-
-if __name__ == '__main__':
-    unittest.main()

@@ -1,6 +1,4 @@
 """The places of faults, and a test that each kind of fault of the pages has its words."""
-from __future__ import annotations
-
 import contextlib
 import io
 import os
@@ -376,7 +374,3 @@ class Failing(unittest.TestCase):
             with mock.patch.object(explain, 'read_file', return_value=program), contextlib.redirect_stdout(said):
                 self.assertEqual(explain.explain('a.toml', lambda data: Answer(0, b'', b'')), 0)
         self.assertIn('a.toml has a report, and no fault\nIts warnings aren\'t shown', said.getvalue())
-
-
-if __name__ == '__main__':
-    unittest.main()

@@ -251,7 +251,3 @@ class ExportTest(unittest.TestCase):
             self.assertEqual((done.returncode, done.stdout), (2, ''))
             self.assertIn(seen, done.stderr)
         self.assertEqual(sorted(it.name for it in self.folder.iterdir()), ['a.report', 'late.report'])
-
-
-if __name__ == '__main__':
-    unittest.main()

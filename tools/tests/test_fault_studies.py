@@ -1,6 +1,4 @@
 """The fault studies of the examples come out as they say; and the messages for one that doesn't, or can't be read."""
-from __future__ import annotations
-
 import contextlib
 import io
 import os
@@ -117,7 +115,3 @@ class Studies(unittest.TestCase):
                 path = Path(folder, 'study.toml')
                 path.write_text(text)
                 studies_of(path)
-
-
-if __name__ == '__main__':
-    unittest.main()

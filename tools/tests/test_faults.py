@@ -1,6 +1,4 @@
 """The end of a command: one line and status 2, whatever goes wrong; 130 after Ctrl-C."""
-from __future__ import annotations
-
 import os
 import re
 import signal
@@ -103,7 +101,3 @@ class Tools(unittest.TestCase):
                 lines = path.read_text('utf-8').splitlines()
                 self.assertEqual((len(lines), lines[0], lines[2]), (3, '#!/usr/bin/env python3', 'main()'), path.name)
                 self.assertRegex(lines[1], r'^from (motesim|project)\.[\w.]+ import main$')
-
-
-if __name__ == '__main__':
-    unittest.main()

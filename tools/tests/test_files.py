@@ -1,6 +1,4 @@
 """Files that are written whole, names that are not UTF-8, and errors of the tools themselves."""
-from __future__ import annotations
-
 import os
 import stat
 import subprocess
@@ -164,7 +162,3 @@ class Pages(unittest.TestCase):
         with mock.patch.dict(os.environ, HOME='/nowhere'):
             with room() as folder:
                 self.assertTrue(Path(folder).is_dir())
-
-
-if __name__ == '__main__':
-    unittest.main()

@@ -46,7 +46,3 @@ class Table(unittest.TestCase):
                 with self.subTest(right):
                     self.assertIsNone(find_fault(text), text)
                     self.assertEqual(answer(net([(0, 'p')], p=' '.join(text.split())).encode()).status, 0, text)
-
-
-if __name__ == '__main__':
-    unittest.main()

@@ -57,7 +57,3 @@ class FromScenario(unittest.TestCase):
         self.assertIn('No such file', self.made('--from', 'no.toml', status=2).stderr)
         (self.folder / 'net.toml').write_text('version = 1')
         self.assertIn('scenario fault 2', self.made('--from', 'net.toml', status=2).stderr)
-
-
-if __name__ == '__main__':
-    unittest.main()

@@ -1,6 +1,4 @@
 """The counts of ./test: steps that pass, fail, can't run, and those that may be skipped. The steps are stand-ins."""
-from __future__ import annotations
-
 import os
 import re
 import shutil
@@ -184,7 +182,3 @@ class UnitTests(unittest.TestCase):
         with mock.patch.object(testing, 'has', lambda module, python: False):
             with self.assertRaisesRegex(Fault, 'apt-get install python3-pytest'):
                 testing.pytest('scope')
-
-
-if __name__ == '__main__':
-    unittest.main()

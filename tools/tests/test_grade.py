@@ -964,7 +964,3 @@ class Forms(Folder):
         page = page_of([marks], ['"a" & <i>'], '<title>', 'x"y')
         for word in '<b>', '<i>', '<net>', '<why>', 'x"y':
             self.assertNotIn(word, page)
-
-
-if __name__ == '__main__':
-    unittest.main()

@@ -79,7 +79,3 @@ class Habits(unittest.TestCase):
         for path in sorted((TOP / 'examples').glob('*.toml')):
             if not path.name.endswith('.expect.toml') and path.name != 'wrong.toml':
                 self.assertIsNone(find_fault_of_scenario(path.read_bytes()), path.name)
-
-
-if __name__ == '__main__':
-    unittest.main()

@@ -26,7 +26,3 @@ class Imports(unittest.TestCase):
                 modules, lines = map(int, done.stdout.split())
                 self.assertLessEqual(modules, MOST_MODULES)
                 self.assertLessEqual(lines, MOST_LINES)
-
-
-if __name__ == '__main__':
-    unittest.main()

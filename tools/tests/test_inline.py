@@ -87,7 +87,3 @@ class Inline(unittest.TestCase):
             right = element.replace(change[1], wanted) if wanted else MEDIUM.partition('= ')[2]
             self.check('%smedium = %s\nmote = [%s]\n%s' % (HEAD, element, ', '.join(MOTES), PROGRAMS), element,
                        marked or 'medium', wanted, right)
-
-
-if __name__ == '__main__':
-    unittest.main()

@@ -119,7 +119,3 @@ class Inputs(unittest.TestCase):
         with self.assertRaisesRegex(Fault, 'writing .*/link would replace .*/a.mote, an input of this command: name '
                                            'another file with --html$'):
             refuse_inputs(self.room / 'link', [self.room / 'a.mote'], '--html')
-
-
-if __name__ == '__main__':
-    unittest.main()

@@ -55,7 +55,3 @@ class Others(unittest.TestCase):
         with mock.patch('project.kit.shutil.which', lambda name: None):
             with self.assertRaisesRegex(Fault, 'rt of the Rattle kit, .* is not installed'):
                 kit.rt.__wrapped__()
-
-
-if __name__ == '__main__':
-    unittest.main()

@@ -199,7 +199,3 @@ class Lesson(unittest.TestCase):
                     nets = nets_of([self.file('lab.toml', LAB % reading)], [], 'sensor')
                     found = self.marks_in(nets, 'expect = ["%s"]' % sentence, program)
                     self.assertEqual((reading, program, found.held), (reading, program, held))
-
-
-if __name__ == '__main__':
-    unittest.main()

@@ -1,6 +1,4 @@
 """Links of pages, and the docs of the crates' public items."""
-from __future__ import annotations
-
 import re
 import unittest
 from collections.abc import Iterator
@@ -61,7 +59,3 @@ class LinksAndDocs(unittest.TestCase):
 
     def test_public_items_have_docs(self) -> None:
         self.assertEqual([*faults_of_docs()], [])
-
-
-if __name__ == '__main__':
-    unittest.main()

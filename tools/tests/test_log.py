@@ -1,6 +1,4 @@
 """The chronological log. What is expected comes from the report's lines, put in order by Python's own sort."""
-from __future__ import annotations
-
 import csv
 import io
 import json
@@ -159,7 +157,3 @@ class Runs(unittest.TestCase):
         self.assertEqual(objects[0], {'at': 40, 'mote': 0, 'line': 8, 'words': 'send 0 1'})
         self.assertEqual(self.log('--kind', 'send', '--first-lines', '1').count('send 0 1'), 1)
         self.assertIn('net    75   75', self.log('--kind', 'send', '--counts'))
-
-
-if __name__ == '__main__':
-    unittest.main()

@@ -202,7 +202,3 @@ class ByChance(unittest.TestCase):
             first = self.cycle.first(mote, 7)
             kept = [packet for packet in range(1, 101) if not lost[first + packet]]
             self.assertEqual([line.value for line in report.motes[mote].lines if line.kind == 'print'], kept)
-
-
-if __name__ == '__main__':
-    unittest.main()

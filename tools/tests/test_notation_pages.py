@@ -150,7 +150,3 @@ class Readme(unittest.TestCase):
         for line in shown[1].splitlines():
             with self.subTest(line):
                 self.assertIn(line.removeprefix('$ ').replace('examples/', '').removesuffix(' ..').strip(), page('SEARCH.md'))
-
-
-if __name__ == '__main__':
-    unittest.main()

@@ -51,7 +51,3 @@ class OnceADay(unittest.TestCase):
         with mock.patch.dict(os.environ, MOTESIM_SEEN='/dev/null/said'):
             self.assertFalse(programs.is_said_today())
             self.assertFalse(programs.is_said_today())
-
-
-if __name__ == '__main__':
-    unittest.main()

@@ -348,7 +348,3 @@ class Pack(unittest.TestCase):
         self.assertNotIn('sqlite', page)
         self.assertIn(b'Permission is hereby granted', found['licenses/clap/LICENSE-MIT'])
         self.assertIn('LICENSE', pack.PARTS)
-
-
-if __name__ == '__main__':
-    unittest.main()

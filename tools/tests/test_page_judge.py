@@ -31,7 +31,3 @@ class Verdicts(unittest.TestCase):
                     self.assertEqual(QuickJudge([sentence]).broken(report.encode(), its) == [], holds, report)
                     found[holds] += 1
         self.assertGreater(min(found), sum(found) / 4, 'too few sentences hold, or too few are broken')
-
-
-if __name__ == '__main__':
-    unittest.main()

@@ -161,7 +161,3 @@ class Numbers(unittest.TestCase):
             for words, value in wanted:
                 with self.subTest(seed=seed, measure=words):
                     self.assert_same(read_measure(words, names).of(bench), value, words)
-
-
-if __name__ == '__main__':
-    unittest.main()

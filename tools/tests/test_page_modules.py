@@ -180,7 +180,3 @@ def _add_test(path: Path) -> None:
 
 for _path in TESTS:
     _add_test(_path)
-
-
-if __name__ == '__main__':
-    unittest.main()

@@ -1,6 +1,4 @@
 """Results by chance: tools/plot has the numbers that a second program computes, which was written from the page only."""
-from __future__ import annotations
-
 import contextlib
 import csv
 import io
@@ -139,7 +137,3 @@ class Plots(unittest.TestCase):
                         self.assert_page(study, study.asked())
         views = 'median', 'mean', 'points', 'cdf', 'pair', 'refused'
         self.assertGreater(min(self.seen[it] for it in views), 0, self.seen)
-
-
-if __name__ == '__main__':
-    unittest.main()

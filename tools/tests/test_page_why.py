@@ -247,7 +247,3 @@ class Runs(unittest.TestCase):
         with mock.patch('sys.argv', words), contextlib.redirect_stdout(out), contextlib.suppress(SystemExit):
             command.main()
         return out.getvalue()
-
-
-if __name__ == '__main__':
-    unittest.main()

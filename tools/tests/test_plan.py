@@ -399,7 +399,3 @@ class CommandTest(unittest.TestCase):
             for word, seen in ('unused=2', 'scenario: warning: nothing uses the parameter unused, '), ('period=3', ''):
                 done = self.run_it(str(folder / 'a.plan.toml'), '--set', word)
                 self.assertEqual((done.returncode, done.stderr.partition('so its')[0]), (0, seen), done.stderr)
-
-
-if __name__ == '__main__':
-    unittest.main()

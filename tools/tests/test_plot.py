@@ -1,6 +1,4 @@
 """Plots: tables, pictures, comparisons, and what is refused."""
-from __future__ import annotations
-
 import os
 import subprocess
 import sys
@@ -200,7 +198,3 @@ class PlotTest(unittest.TestCase):
             done = self.plot('--plan a.plan.toml')
             self.assertIn(said, done.stderr)
             self.assertEqual((done.returncode, (self.folder / 'a.svg').exists()), (2, False) if said else (0, True), done)
-
-
-if __name__ == '__main__':
-    unittest.main()

@@ -1,6 +1,4 @@
 """That ./prove proves a copy of the program's crates, reports each, and can be interrupted."""
-from __future__ import annotations
-
 import contextlib
 import io
 import shutil
@@ -108,7 +106,3 @@ class Proof(Tree):
         self.assertEqual(done.returncode, 2)
         self.assertIn('motesim is not proved', done.stderr)
         self.assertEqual(self.kept(), [])
-
-
-if __name__ == '__main__':
-    unittest.main()

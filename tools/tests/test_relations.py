@@ -282,7 +282,3 @@ class Sentences(unittest.TestCase):
             with self.subTest(sentence), self.assertRaises(SentenceFault) as raised:
                 read_sentence(sentence, names_of(self.scenario))
             self.assertIn(seen, str(raised.exception))
-
-
-if __name__ == '__main__':
-    unittest.main()

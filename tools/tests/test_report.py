@@ -1,6 +1,4 @@
 """The reader's results for reports and scenarios, and its errors for texts that are none."""
-from __future__ import annotations
-
 import os
 import random
 import stat
@@ -326,7 +324,3 @@ class Runs(unittest.TestCase):
                 read_run(self.write(name, 'x\n'))
         with self.assertRaisesRegex(ReportFault, 'b.report: line 1: expected'):
             read_run(self.write('b.report', 'x\n'))
-
-
-if __name__ == '__main__':
-    unittest.main()

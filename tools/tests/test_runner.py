@@ -1,6 +1,4 @@
 """Runs within limits, answers that are kept, and many pieces of work by worker processes."""
-from __future__ import annotations
-
 import contextlib
 import math
 import os
@@ -344,7 +342,3 @@ class Parts(unittest.TestCase):
         for is_much in False, True:
             with self.assertRaisesRegex(Fault, 'it is seven'):
                 list(each_part(work, range(9), is_much))
-
-
-if __name__ == '__main__':
-    unittest.main()

@@ -1,7 +1,5 @@
 """Searches for faults: the changes of each kind in the text, which sets are minimal, the reported coverage, and the
 fate of interrupted searches, hostile programs and texts that can't be changed."""
-from __future__ import annotations
-
 import contextlib
 import csv
 import io
@@ -1044,7 +1042,3 @@ class Programs(unittest.TestCase):
             self.assertLess(time.monotonic() - begin, 10)
             long = OneProgram(self.program(folder, 'exec cat /dev/zero\n'), Limits(report=100_000))
             self.assertEqual(long.run(b'').stopped, 'the report is longer than 100,000 bytes')
-
-
-if __name__ == '__main__':
-    unittest.main()

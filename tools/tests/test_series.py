@@ -116,7 +116,3 @@ class Runs(unittest.TestCase):
         found = list(csv.DictReader(io.StringIO(shown)))
         self.assertEqual(list(found[0]), NAMES)
         self.assertEqual([it['sent'] for it in found], ['3', '1', '0', '1', '0'])
-
-
-if __name__ == '__main__':
-    unittest.main()

@@ -1,7 +1,5 @@
 """Scenarios made small: that the result still fails in the same way, that no further step is possible, that sentences
 follow motes with other numbers, and that programs are read and written without a change."""
-from __future__ import annotations
-
 import os
 import signal
 import subprocess
@@ -433,7 +431,3 @@ class Shrinks(unittest.TestCase):
                            ([single, pair], 'made from: mote 0 is silent (the smallest set)'),
                            ([single, other, pair], 'made from: mote 0 is silent (the first of 2 sets of this size)')):
             self.assertEqual(chosen(single, sets), said)
-
-
-if __name__ == '__main__':
-    unittest.main()

@@ -1,6 +1,4 @@
 """The list of definitions on which the headline rests, in its order."""
-from __future__ import annotations
-
 import contextlib
 import io
 import sys
@@ -131,7 +129,3 @@ class ThisTree(unittest.TestCase):
         for path, below in rests.files.items():
             for it in below:
                 self.assertLessEqual(places[it], places[path])
-
-
-if __name__ == '__main__':
-    unittest.main()

@@ -1,6 +1,4 @@
 """Estimates against tables and books, and the rows of a sweep as a frame of pandas."""
-from __future__ import annotations
-
 import math
 import os
 import random
@@ -79,7 +77,3 @@ class Frames(unittest.TestCase):
                                   env={**os.environ, 'PYTHONPATH': str(TOOLS)})
         self.assertEqual(done.stdout, '2 0.375 Int64 1234567890123456\n3\n', done.stderr)
         self.assertIn('frame: net.csv: left out: 1 of 3 runs, which have a fault', done.stderr)
-
-
-if __name__ == '__main__':
-    unittest.main()

@@ -95,7 +95,3 @@ class StudiesTest(unittest.TestCase):
                 self.assertGreater(int(soon['collided']), 2 * int(late['collided']))
                 self.assertLess(int(soon['reached']), int(late['reached']))
                 self.assertLess(int(soon['delay']), int(late['delay']))
-
-
-if __name__ == '__main__':
-    unittest.main()

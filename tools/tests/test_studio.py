@@ -1,6 +1,4 @@
 """The studio without a browser: edits of the text, files, runs under limits, and who is answered."""
-from __future__ import annotations
-
 import http.client
 import itertools
 import json
@@ -564,7 +562,3 @@ class Command(unittest.TestCase):
             self.assertFalse(server.session.has_editor)
             self.assertNotIn(b'codemirror/', server.page())
             server.server_close()
-
-
-if __name__ == '__main__':
-    unittest.main()

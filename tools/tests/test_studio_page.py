@@ -1,6 +1,4 @@
 """The page of tools/studio in a headless browser, where there is one: what is typed, shown, dragged and clicked."""
-from __future__ import annotations
-
 import contextlib
 import json
 import sys
@@ -859,7 +857,3 @@ class Page(unittest.TestCase):
           .filter(it => !(it.textContent.trim() && it.matches("button")) && !it.getAttribute("aria-label") &&
           !(it.labels && it.labels.length) && !it.closest(".CodeMirror")).map(it => it.outerHTML)''')
         self.assertEqual(unnamed, [])
-
-
-if __name__ == '__main__':
-    unittest.main()

@@ -1,6 +1,4 @@
 """The counts of summary. The values are worked out by hand from the reports."""
-from __future__ import annotations
-
 import csv
 import io
 import json
@@ -259,7 +257,3 @@ from to copies received lost ring collided halted late ratio delay
         self.assertEqual((done.returncode, done.stdout), (2, ''))
         self.assertRegex(done.stderr, '^summary: .*report: the report is cut off at line %d: expected a number' %
                          REPORT.count('\n'))
-
-
-if __name__ == '__main__':
-    unittest.main()

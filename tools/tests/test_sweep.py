@@ -1,6 +1,4 @@
 """Sweeps: what is measured, what the rows say, what is run again, faults, and Ctrl-C."""
-from __future__ import annotations
-
 import contextlib
 import csv
 import gc
@@ -722,7 +720,3 @@ progress.add(True)
                               env={**os.environ, 'PYTHONPATH': str(TOOLS)})
         self.assertEqual(done.stderr.split('\n'), ['1 of 3 runs, 0 with a fault, 2:00 left',
                                                    '2 of 3 runs, 1 with a fault, 0:30 left', ''])
-
-
-if __name__ == '__main__':
-    unittest.main()

@@ -37,7 +37,3 @@ class Terminal(unittest.TestCase):
                 printed = self.printed(tool, *words)
                 self.assertIn('x\\r\\x1b[2Ky', printed)
                 self.assertNotRegex(printed, r'[\x00-\x08\x0b-\x1f\x7f-\x9f]')
-
-
-if __name__ == '__main__':
-    unittest.main()

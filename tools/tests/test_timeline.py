@@ -1,6 +1,4 @@
 """The pages of tools/timeline: their data, and in a headless browser, where there is one, what they show."""
-from __future__ import annotations
-
 import base64
 import contextlib
 import io
@@ -575,7 +573,3 @@ class Pages(unittest.TestCase):
         self.value('m.drawAll()')
         said = self.value('document.getElementById("drawn").textContent')
         self.assertRegex(said, r'[0-9,]+ marks? of events and runs not drawn')
-
-
-if __name__ == '__main__':
-    unittest.main()

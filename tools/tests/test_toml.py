@@ -137,7 +137,3 @@ class Tools(unittest.TestCase):
         self.assertEqual((done.returncode, done.stdout), (2, ''))
         self.assertIn('deep.toml is not TOML: Arrays or tables are nested too deeply', done.stderr)
         self.assertEqual(done.stderr.count('\n'), 1)
-
-
-if __name__ == '__main__':
-    unittest.main()

@@ -132,7 +132,3 @@ class Silence(unittest.TestCase):
                 with contextlib.redirect_stdout(out):
                     self.assertEqual(explain(str(path), silent=silent), 0)
                 self.assertEqual('Warning (no-autostart): ' in out.getvalue(), is_shown)
-
-
-if __name__ == '__main__':
-    unittest.main()

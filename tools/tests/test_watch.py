@@ -127,7 +127,3 @@ class Runs(unittest.TestCase):
         self.assertIn('timer next of flood is due at 80',
                       self.why('examples/flooding.toml', '--state', 'mote', '0', 'at', '46').stdout)
         self.assertEqual(self.why('examples/flooding.toml').returncode, 2)
-
-
-if __name__ == '__main__':
-    unittest.main()

@@ -1,6 +1,4 @@
 """The edits of intermediate code for WebAssembly, what they refuse, and what web/motesim.json says of a module."""
-from __future__ import annotations
-
 import os
 import tempfile
 import time
@@ -94,7 +92,3 @@ class Differences(unittest.TestCase):
     def test_other_bytes_from_other_tools_are_none(self) -> None:
         for other in {'kit': 'another'}, {'binaryen': '109'}, {'code': 'compiled'}:
             self.assertIsNone(difference(self.ONE, self.ONE._replace(sha256='y', **other)))
-
-
-if __name__ == '__main__':
-    unittest.main()

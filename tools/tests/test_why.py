@@ -915,7 +915,3 @@ class Runs(unittest.TestCase):
             refused = self.why(*arguments)
             self.assertEqual((refused.returncode, refused.stdout), (2, ''))
             self.assertIn(said, refused.stderr)
-
-
-if __name__ == '__main__':
-    unittest.main()

@@ -203,7 +203,3 @@ class Runs(unittest.TestCase):
         data = (TOP / 'examples/trickle.toml').read_bytes()
         run = Run('trickle', Report.parse(answer(data).report), Scenario.parse(data))
         self.assertNotIn('none', causes_of(run))
-
-
-if __name__ == '__main__':
-    unittest.main()

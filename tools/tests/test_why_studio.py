@@ -237,7 +237,3 @@ class Page(unittest.TestCase):
         self.wait('log', '3 of 970 lines: print 3')
         self.browser.run("document.querySelectorAll('#log-lines button')[0].click()")
         self.assertEqual(self.browser.run('motesim.chosen().mote'), 5)
-
-
-if __name__ == '__main__':
-    unittest.main()

@@ -156,7 +156,3 @@ class Verdicts(unittest.TestCase):
             assert isinstance(found, Asked)
             self.assertFalse(found.holds, text)
             self.assertEqual(asker.traces.row(found.where), 3 if 'never' in text else 4, text)
-
-
-if __name__ == '__main__':
-    unittest.main()

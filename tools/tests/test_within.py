@@ -138,7 +138,3 @@ class Endless(unittest.TestCase):
 
     def test_limits_are_greater_than_0(self) -> None:
         self.assertEqual(self.said('explain', 'print', '--memory', '0'), 'explain: limits are greater than 0\n')
-
-
-if __name__ == '__main__':
-    unittest.main()

@@ -1,6 +1,4 @@
 """The parts of tools/dev/wrong_bodies: edits, the lines of a check, and the choice of mutants."""
-from __future__ import annotations
-
 import re
 import shutil
 import tempfile
@@ -396,7 +394,3 @@ class Choice(unittest.TestCase):
         for name in 'lower', 'low/40':
             with self.assertRaisesRegex(Fault, 'there is no mutant ' + name):
                 wrong_bodies.named(self.EVERY, [name])
-
-
-if __name__ == '__main__':
-    unittest.main()
