@@ -15,6 +15,7 @@ import shutil
 import subprocess
 import tempfile
 import time
+import unittest
 import urllib.request
 from pathlib import Path
 from typing import Any
@@ -173,8 +174,7 @@ class Browser:
 
     def key(self, key: str, code: str = '', number: int = 0, text: str | None = None) -> None:
         text = key if text is None and len(key) == 1 else text or ''
-        self.call('Input.dispatchKeyEvent', type='keyDown', key=key, code=code, windowsVirtualKeyCode=number,
-                  text=text)
+        self.call('Input.dispatchKeyEvent', type='keyDown', key=key, code=code, windowsVirtualKeyCode=number, text=text)
         self.call('Input.dispatchKeyEvent', type='keyUp', key=key, code=code, windowsVirtualKeyCode=number)
         self.settle()
 
@@ -212,3 +212,15 @@ class Browser:
 
     def __exit__(self, *_: object) -> None:
         self.close()
+
+
+class InBrowser(unittest.TestCase):
+    """Tests in one browser, which are skipped if it doesn't start."""
+    browser: Any
+
+    @classmethod
+    def setUpClass(cls) -> None:
+        cls.browser, why = Browser.start()
+        if cls.browser is None:
+            raise unittest.SkipTest('browser: ' + why)
+        cls.addClassCleanup(cls.browser.close)

@@ -71,9 +71,8 @@ def report(scenario: Scenario) -> list[str]:
                 lines += ['%d post %d %s timer 0' % (at, number, text.process),
                           '%d take %d %s' % (at, number, text.process), '%d send %d %d' % (at, number, value)]
         for serial, (at, number, value) in enumerate(it for it in came if it[0] <= scenario.end):
-            lines += ['%d recv 0 %d %d' % (at, number, value),
-                      '%d post %d %s packet %d' % (at, serial, text.process, value),
-                      '%d take %d %s' % (at, serial, text.process)]
+            lines += ['%d recv 0 %d %d' % (at, number, value), '%d post %d %s packet %d' % (at, serial, text.process,
+                value), '%d take %d %s' % (at, serial, text.process)]
     lines.append('medium')
     for at, number, value, copies in sent:
         left += sum(arrival is not None and arrival > scenario.end for _, arrival in copies)

@@ -7,7 +7,7 @@ import unittest
 from pathlib import Path
 from unittest import mock
 
-from here import TOOLS, TOP
+from here import TOOLS, room_of
 import motesim
 from motesim import packages
 from stub import write_stub
@@ -40,9 +40,7 @@ MOTE = 'process a;\nautostart a;\ncode a { body { print ${first}; } }\n'
 
 class Calls(unittest.TestCase):
     def setUp(self) -> None:
-        room = tempfile.TemporaryDirectory()
-        self.addCleanup(room.cleanup)
-        self.room = Path(room.name)
+        self.room = room_of(self)
         # (mote n of the stand-in prints P at moment P * (n + 1))
         patch = mock.patch.dict(os.environ, MOTESIM=str(write_stub(self.room)))
         patch.start()
@@ -126,9 +124,8 @@ class Installed(unittest.TestCase):
             self.assertEqual(done.returncode, 0, done.stderr)
             use = 'import motesim, motesim.timeline.html as html; print(motesim.__file__); html.page_of; ' \
                   'print(len((html.PAGE / "page.html").read_text()) > 99)'
-            done = subprocess.run([sys.executable, '-B', '-c', use], cwd=room,
-                                  env={**os.environ, 'PYTHONPATH': str(room / 'there')},
-                                  capture_output=True, text=True)
+            done = subprocess.run([sys.executable, '-B', '-c', use], cwd=room, env={**os.environ,
+                'PYTHONPATH': str(room / 'there')}, capture_output=True, text=True)
             self.assertEqual(done.stdout.splitlines(), [str(room / 'there/motesim/__init__.py'), 'True'], done.stderr)
             shipped = {it.relative_to(room / 'there') for it in (room / 'there/motesim').rglob('*') if it.is_file()}
             here = {it.relative_to(TOOLS) for it in (TOOLS / 'motesim').rglob('*')

@@ -2,12 +2,11 @@
 import contextlib
 import io
 import sys
-import tempfile
 import unittest
 from pathlib import Path
 from unittest import mock
 
-import here  # noqa: F401
+from here import room_of  # (it puts tools/ on the path)
 from motesim.commands import explain as command
 from motesim.explain.applied import changes, in_net
 from motesim.scenario.faults import find_fault
@@ -42,9 +41,7 @@ class Changes(unittest.TestCase):
 class Command(unittest.TestCase):
     def setUp(self) -> None:
         need_program(self)
-        folder = tempfile.TemporaryDirectory()
-        self.addCleanup(folder.cleanup)
-        self.folder = Path(folder.name)
+        self.folder = room_of(self)
 
     def run_on(self, *words: str) -> tuple[int, str, str]:
         out, err = io.StringIO(), io.StringIO()

@@ -36,8 +36,7 @@ class Ratios(unittest.TestCase):
         self.assertEqual(bench.cell('user', [0.5], []), 'user 0.500 s')
         self.assertEqual(bench.cell('memory', [5e6], [1e7]), 'memory 5.0 MB, 10.0 MB: 0.50')
         self.assertEqual(bench.cell('user', [1, 2, 1], [1, 1, 1]), 'user 1.000 s, 1.000 s: 1.00 (1.00 to 2.00)')
-        self.assertEqual(bench.cell('user', [2, 3, 4, 50], [2, 2, 2, 2]),
-                         'user 2.000 s, 2.000 s: 1.75 (1.00 to 25.00)')
+        self.assertEqual(bench.cell('user', [2, 3, 4, 50], [2, 2, 2, 2]), 'user 2.000 s, 2.000 s: 1.75 (1.00 to 25.00)')
         self.assertEqual(bench.cell('user', [1], [0]), 'user 1.000 s, 0.000 s')
 
 
@@ -58,9 +57,8 @@ class Command(unittest.TestCase):
     def test_each_way_has_a_line(self) -> None:
         said, code = self.said('none', 'timers')
         self.assertEqual(code, 0)
-        self.assertEqual([line.split('user')[0].strip() for line in said.splitlines()], [
-            'timers 64 200000', 'one thread', '--workers 2 --sync joins', '--workers 4 --sync joins',
-            '--workers 2 --sync marks',
+        self.assertEqual([line.split('user')[0].strip() for line in said.splitlines()], ['timers 64 200000',
+            'one thread', '--workers 2 --sync joins', '--workers 4 --sync joins', '--workers 2 --sync marks',
             '--workers 4 --sync marks'])
 
     def test_a_report_that_differs_is_told(self) -> None:

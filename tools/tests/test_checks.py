@@ -4,14 +4,13 @@ import runpy
 import shutil
 import subprocess
 import sys
-import tempfile
 import unittest
 from collections import Counter
 from pathlib import Path
 from typing import Any
 from unittest import mock
 
-from here import TOOLS, TOP
+from here import TOOLS, TOP, room_of
 from motesim.faults import Fault
 from motesim.report import Report
 from motesim.runner import Answer
@@ -31,9 +30,7 @@ def module(name: str) -> dict[str, Any]:
 
 class Check(unittest.TestCase):
     def setUp(self) -> None:
-        room = tempfile.TemporaryDirectory()
-        self.addCleanup(room.cleanup)
-        self.room = Path(room.name)
+        self.room = room_of(self)
         self.program = self.room / 'motesim'
 
     def put(self, name: str, text: str) -> Path:

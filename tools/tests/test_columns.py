@@ -1,7 +1,6 @@
 """Reports read in large pieces, against the same texts read line by line."""
 import random
 import unittest
-from typing import Any
 from unittest import mock
 
 import here  # (it puts tools/ on the path)
@@ -36,10 +35,9 @@ medium
 9 0 1 3 1@12
 left 1
 '''
-WORDS = ['', ' ', '\n', '-', '0', '00', '1', '65535', '65536', '4611686018427387904', '1000001', 'take', 'halt',
-         'lost', 'a', 'A',
-         'send', 'all', 'true', 'null', '1@6', '@', '1@lost', 'medium', 'left 0', 'mote 3 x', 'mote 1 hearer', '\t',
-         '\r', 'é']
+WORDS = ['', ' ', '\n', '-', '0', '00', '1', '65535', '65536', '4611686018427387904', '1000001', 'take', 'halt', 'lost',
+         'a', 'A', 'send', 'all', 'true', 'null', '1@6', '@', '1@lost', 'medium', 'left 0', 'mote 3 x', 'mote 1 hearer',
+         '\t', '\r', 'é']
 
 
 def read_strictly(data: bytes) -> strict.Read | None:

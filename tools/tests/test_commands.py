@@ -30,8 +30,7 @@ class Commands(unittest.TestCase):
         for name in COMMANDS:
             with self.subTest(name):
                 source = ('import sys; sys.path.insert(0, %r); sys.argv = [%r, "--help"]\n'
-                          'from motesim.commands.%s import main\n'
-                          'try: main()\n'
+                          'from motesim.commands.%s import main\n' 'try: main()\n'
                           'finally: print("imported", *sys.modules)') % (str(TOOLS), name, name)
                 done = subprocess.run([sys.executable, '-B', '-I', '-S', '-c', source], capture_output=True, text=True)
                 self.assertEqual((done.returncode, done.stderr), (0, ''))

@@ -275,9 +275,8 @@ every = 2
         a, b = Scenario.parse(self.A), Scenario.parse(self.A.replace('end = 20', 'end = 21').replace('per = 100',
                                                                                                      'per = 9'))
         self.assertEqual(scenario_differences.in_words(a, a, 5), ['The scenarios are the same.'])
-        self.assertEqual(scenario_differences.in_words(a, b, 1), [
-            'The scenarios differ:', '  end is 20 in A and 21 in B',
-                                                              '  and 1 more lines'])
+        self.assertEqual(scenario_differences.in_words(a, b, 1), ['The scenarios differ:',
+                                                                  '  end is 20 in A and 21 in B', '  and 1 more lines'])
 
 
 class Command(unittest.TestCase):

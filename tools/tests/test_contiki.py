@@ -3,19 +3,17 @@ import random
 import re
 import shutil
 import subprocess
-import sys
 import tempfile
 import unittest
 from pathlib import Path
 
-from here import TOOLS, TOP
+from here import TOOLS, TOP, call
 from motesim.contiki.expressions import Expressions, calculated
 from motesim.contiki.folder import folder_files
 from motesim.contiki.names import Names, file_names
 from motesim.contiki.program_file import ProgramFile
 from motesim.contiki.reader import read_program
 from motesim.contiki.tree import Expression, Not, Number, Operation, Variable
-from motesim.faults import Fault
 from motesim.runner.programs import program_path
 from motesim.scenario import Scenario
 from skips import need_program
@@ -390,8 +388,7 @@ class FolderTest(unittest.TestCase):
         self.addCleanup(shutil.rmtree, self.folder)
 
     def export(self, *arguments: str) -> subprocess.CompletedProcess[str]:
-        return subprocess.run([sys.executable, str(TOOLS / 'export'), *arguments], capture_output=True, text=True,
-                              cwd=self.folder)
+        return call('export', *arguments, cwd=self.folder)
 
     def compilers(self) -> list[str]:
         found = [it for it in ('gcc', 'clang', 'tcc') if shutil.which(it)]
@@ -422,15 +419,13 @@ class FolderTest(unittest.TestCase):
             example = TOP / 'examples' / (name + '.toml')
             done = self.export(str(example), '--form', 'contiki', '--host', '-o', name)
             self.assertEqual((done.returncode, done.stderr), (0, ''))
-            subprocess.run(['make', '-s', 'host', 'HOSTCC=' + self.compilers()[-1]], cwd=self.folder / name,
-                           check=True)
+            subprocess.run(['make', '-s', 'host', 'HOSTCC=' + self.compilers()[-1]], cwd=self.folder / name, check=True)
             report = subprocess.run(['./host'], cwd=self.folder / name, capture_output=True, check=True).stdout
             wanted = subprocess.run([program_path(), str(example)], capture_output=True, check=True).stdout
             self.assertEqual(report, wanted, name)
 
     def test_files_of_a_folder(self) -> None:
-        (self.folder / 's.toml').write_bytes(scenario_of('process a; code a { body { } }').replace(b"'p'",
-                                                                                                   b"'process'")
+        (self.folder / 's.toml').write_bytes(scenario_of('process a; code a { body { } }').replace(b"'p'", b"'process'")
                                              .replace(b'\np =', b'\nprocess ='))
         done = self.export('s.toml', '--form', 'contiki', '-o', 'out')
         self.assertEqual(done.stdout.split(), ['out/process_program.c', 'out/motesim_radio.h', 'out/motesim_radio.c',

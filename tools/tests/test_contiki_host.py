@@ -143,24 +143,19 @@ def killing_processes() -> str:
 
 
 # Programs at the limits of docs/use/NOTATION.md, each with a line that its report has, but for the moment.
-AT_LIMITS = {
-    'statements': (one_process('var n = 0; body {', 'n = (n + 1);' * 4095, 'print n; }'), 'print a 4095'),
-    'processes': (killing_processes(), 'print p63 63'),
-    'events': (repeated('event eN; ', 0, 116) + one_process(
-        'body {', repeated('post a eN N; yield_until is(eN); ', 0, 116), '}'), 'post 116 a e116 116'),
-    'timers': (one_process(
-        repeated('etimer tN; ', 0, 31), repeated('ctimer tN { print N; } ', 32, 63),
-        'body {', repeated('set tN 1; ', 0, 31), repeated('set tN 2; ', 32, 63), 'while 1 { yield; } }'),
-        'print a 63'),
-    'semaphores': (repeated('semaphore sN = N; ', 0, 63) + one_process(
-        'body {', repeated('signal sN; acquire sN; print count(sN); ', 0, 63), '}'), 'print a 63'),
-    'variables': (one_process(
-        repeated('var vN = N; ', 0, 63), 'body {', repeated('print vN; ', 0, 63), '}'), 'print a 63'),
-    'levels': (one_process('body {', 'if 1 { ' * 31, 'print 7; ', '} ' * 31, '}'), 'print a 7'),
-    'threads': (one_process(
-        'thread h0 { pause; print 7; }', *('thread h%d { spawn h%d; }' % (it, it - 1) for it in range(1, 7)),
-        'body { spawn h6; print 8; }'), 'print a 8'),
-}
+AT_LIMITS = {'statements': (one_process('var n = 0; body {', 'n = (n + 1);' * 4095, 'print n; }'), 'print a 4095'),
+             'processes': (killing_processes(), 'print p63 63'), 'events': (repeated('event eN; ', 0,
+    116) + one_process('body {', repeated('post a eN N; yield_until is(eN); ', 0, 116), '}'), 'post 116 a e116 116'),
+             'timers': (one_process(repeated('etimer tN; ', 0, 31), repeated('ctimer tN { print N; } ', 32, 63),
+                                    'body {', repeated('set tN 1; ', 0, 31), repeated('set tN 2; ', 32, 63),
+                                    'while 1 { yield; } }'), 'print a 63'),
+             'semaphores': (repeated('semaphore sN = N; ', 0, 63) + one_process('body {',
+    repeated('signal sN; acquire sN; print count(sN); ', 0, 63), '}'), 'print a 63'),
+             'variables': (one_process(repeated('var vN = N; ', 0, 63), 'body {', repeated('print vN; ', 0, 63), '}'),
+                           'print a 63'), 'levels': (one_process('body {', 'if 1 { ' * 31, 'print 7; ', '} ' * 31, '}'),
+                                                     'print a 7'),
+             'threads': (one_process('thread h0 { pause; print 7; }', *('thread h%d { spawn h%d; }' % (it,
+    it - 1) for it in range(1, 7)), 'body { spawn h6; print 8; }'), 'print a 8'),}
 
 
 class Limits(unittest.TestCase):

@@ -3,7 +3,6 @@ import itertools
 import os
 import shutil
 import subprocess
-import sys
 import tempfile
 import tomllib
 import unittest
@@ -12,7 +11,7 @@ from collections.abc import Iterator
 from functools import cache
 from pathlib import Path
 
-from here import TOOLS, TOP
+from here import TOOLS, TOP, call
 from motesim.contiki import differential
 from motesim.contiki.coverage import LIMITS, Coverage
 from motesim.contiki.grammar import GRAMMAR, productions
@@ -136,9 +135,7 @@ class Command(unittest.TestCase):
         self.addCleanup(shutil.rmtree, self.folder)
 
     def run_tool(self, *arguments: str, **environment: str) -> subprocess.CompletedProcess[str]:
-        return subprocess.run([sys.executable, str(TOOLS / 'differential'), *arguments], capture_output=True,
-                              text=True,
-                              env={**os.environ, **environment}, cwd=self.folder)
+        return call('differential', *arguments, env={**os.environ, **environment}, cwd=self.folder)
 
     def test_all_agree(self) -> None:
         done = self.run_tool('--seed', '31', '--count', '12', '--jobs', '2')
@@ -153,9 +150,7 @@ class Command(unittest.TestCase):
     def test_without_a_compiler(self) -> None:
         folder = self.folder / 'bin'
         folder.mkdir()
-        done = subprocess.run([sys.executable, str(TOOLS / 'differential'), '--count', '1'], capture_output=True,
-                              text=True,
-                              env={**os.environ, 'PATH': str(folder)}, cwd=self.folder)
+        done = call('differential', '--count', '1', env={**os.environ, 'PATH': str(folder)}, cwd=self.folder)
         self.assertEqual((done.returncode, done.stderr),
                          (2, 'differential: there is no C compiler: on Debian `apt-get install tcc` installs one\n'))
 

@@ -43,8 +43,7 @@ class Grammars(unittest.TestCase):
 
     def rules(self) -> list[tuple[str, re.Pattern[str]]]:
         return [(rule['name'], re.compile(rule['match']))
-                for rule in grammar('mote.tmLanguage.json')['repository']['all']['patterns']
-                if 'name' in rule]
+                for rule in grammar('mote.tmLanguage.json')['repository']['all']['patterns'] if 'name' in rule]
 
     def first(self, text: str) -> str:
         return next(name for name, pattern in self.rules() if pattern.match(text))

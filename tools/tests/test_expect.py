@@ -6,12 +6,10 @@ import io
 import os
 import re
 import sys
-import tempfile
 import unittest
-from pathlib import Path
 from unittest import mock
 
-from here import TOOLS
+from here import TOOLS, room_of
 from motesim.commands import expect as command
 from motesim.judge import expectations, remarks, sentences
 from motesim.judge.expectations import UnknownSentence, expect, parts_of, read_all
@@ -21,9 +19,8 @@ from motesim.report import Report
 from motesim.runner import LimitMet, Limits, Runner, programs
 from motesim.runner.run import answer
 from motesim.scenario import Scenario
-from motesim.judge.sentences import (
-    EXAMPLES, Copies, Count, Does, Names, Refused, Sentence, SentenceFault, Value, names_of, read_sentence,
-)
+from motesim.judge.sentences import (EXAMPLES, Copies, Count, Does, Names, Sentence, SentenceFault, Value, names_of,
+                                     read_sentence,)
 
 # Four motes in a row, each in range of its neighbours; mote 2 loses all that mote 3 sends.
 SCENARIO = """
@@ -89,44 +86,42 @@ medium
 left 1
 """
 
-HOLDS = [
-    'mote 1 prints flood 1', 'mote 1 prints flood', 'mote 1 prints', 'mote 1 prints flood 1 at 43',
-    'mote 1 prints flood 1 by 43.', 'mote 1 prints flood 2 after 82', 'mote 1 prints flood 1 before 44',
-    'mote 1 prints flood 2 from 83 on', 'mote 1 prints flood 2 between 83 and 90',
-    'mote 1 prints flood 2 from 80 to 83', 'mote 1 prints flood 2 once', 'mote 1 prints flood exactly 2 times',
-    'mote 1 prints flood at most 1 by 60', 'mote 1 prints flood exactly once by 60',
-    'every mote but 0 prints flood 1 at 40 plus 3 for each hop from mote 0', 'every mote but 0 prints flood 1',
-    'no mote prints flood 3', 'some mote prints flood 2', 'exactly 2 motes print flood 2',
-    'motes 1 to 3 together print just flood 1, 1, 1, 2, 2',
-    'at least 1 mote but 1 prints flood 2', 'at most 1 mote halts', 'fewer than 2 motes halt',
-    'more than 0 motes halt', 'mote 3 halts at 90', 'no mote but 3 halts', 'motes 0, 1 and 2 never halt',
-    'mote 0 never prints', 'motes 0 to 2 never halt', 'all motes together send exactly 5 times',
-    'motes 1 to 3 together send exactly 3 times', 'mote 0 sends twice', 'mote 0 sends 2 at 80',
-    'mote 1 receives 1 from mote 0', 'mote 0 receives from mote 1', 'mote 0 receives at most 1',
-    'mote 1 prints just flood 1, 2', 'mote 1 prints just hears 1, 5', 'mote 1 prints just flood 2, 1 in any order',
-    'mote 1 prints just flood 1 to 2 in any order', 'mote 1 prints just flood 1 by 60',
-    'mote 1 prints flood any of 1 to 511 exactly 2 times', 'mote 1 prints flood any of 0, 2 or 9 once',
-    'mote 1 receives any of 1 and 2 from mote 0', 'mote 1 never sends any of 2 to 65535',
-    'mote 1 finally prints flood any of 2 to 5', 'mote 1 prints just flood any of 1 to 2 by 60',
-    'mote 1 finally prints hears the set of motes that it hears',
-    'mote 2 finally prints hears the set of motes that it hears',
-    'mote 2 finally prints hears the set of motes linked with it', 'mote 1 finally prints hears 1 by 45',
-    'mote 1 finally prints hears the set of motes that it hears but 2 by 48',
-    'mote 2 prints hears its distance from mote 0', 'mote 2 prints hears its number',
-    'mote 1 prints just flood its distance from mote 0 by 60', 'no mote sends the greatest mote number',
-    'mote 2 prints flood a mote that it hears, one hop nearer to mote 0 at 46', "mote 1 writes 'collide 2 0' at 49",
-    "mote 1 writes 'collide' or 'print flood' exactly 3 times", 'mote 0 starts flood', 'mote 0 never leaves flood',
-    'exactly 1 copy collides', 'exactly 1 copy collides at mote 1', 'no copy collides at mote 2',
-    'no copy overflows', 'exactly 2 copies arrive', 'some copy is lost', 'exactly 1 copy is lost at mote 2',
-    'exactly 1 copy is left', 'no copy collides before 49', 'exactly 5 packets are sent',
-    'at most 4 packets are sent in each 10 from 0 to 100', 'exactly 4 packets are sent by 49',
-    'the report has exactly 29 lines', "the medium writes '49 3 0 1 2@lost'", "the medium writes '80 0'",
-    'mote 3 can hear mote 2', 'mote 2 cannot hear mote 3', 'motes 0 cannot hear mote 2',
-    'mote 1 prints flood at most once in each 40 from 40 to 119',
-    'mote 0 sends from 40 to 79 exactly once as often as from 80 on',
-    'mote 0 sends exactly 2 times as often as mote 1',
-    'motes 0 to 1 together send more than once as often as motes 2 to 3 together',
-]
+HOLDS = ['mote 1 prints flood 1', 'mote 1 prints flood', 'mote 1 prints', 'mote 1 prints flood 1 at 43',
+         'mote 1 prints flood 1 by 43.', 'mote 1 prints flood 2 after 82', 'mote 1 prints flood 1 before 44',
+         'mote 1 prints flood 2 from 83 on', 'mote 1 prints flood 2 between 83 and 90',
+         'mote 1 prints flood 2 from 80 to 83', 'mote 1 prints flood 2 once', 'mote 1 prints flood exactly 2 times',
+         'mote 1 prints flood at most 1 by 60', 'mote 1 prints flood exactly once by 60',
+         'every mote but 0 prints flood 1 at 40 plus 3 for each hop from mote 0', 'every mote but 0 prints flood 1',
+         'no mote prints flood 3', 'some mote prints flood 2', 'exactly 2 motes print flood 2',
+         'motes 1 to 3 together print just flood 1, 1, 1, 2, 2', 'at least 1 mote but 1 prints flood 2',
+         'at most 1 mote halts', 'fewer than 2 motes halt', 'more than 0 motes halt', 'mote 3 halts at 90',
+         'no mote but 3 halts', 'motes 0, 1 and 2 never halt', 'mote 0 never prints', 'motes 0 to 2 never halt',
+         'all motes together send exactly 5 times', 'motes 1 to 3 together send exactly 3 times', 'mote 0 sends twice',
+         'mote 0 sends 2 at 80', 'mote 1 receives 1 from mote 0', 'mote 0 receives from mote 1',
+         'mote 0 receives at most 1', 'mote 1 prints just flood 1, 2', 'mote 1 prints just hears 1, 5',
+         'mote 1 prints just flood 2, 1 in any order', 'mote 1 prints just flood 1 to 2 in any order',
+         'mote 1 prints just flood 1 by 60', 'mote 1 prints flood any of 1 to 511 exactly 2 times',
+         'mote 1 prints flood any of 0, 2 or 9 once', 'mote 1 receives any of 1 and 2 from mote 0',
+         'mote 1 never sends any of 2 to 65535', 'mote 1 finally prints flood any of 2 to 5',
+         'mote 1 prints just flood any of 1 to 2 by 60', 'mote 1 finally prints hears the set of motes that it hears',
+         'mote 2 finally prints hears the set of motes that it hears',
+         'mote 2 finally prints hears the set of motes linked with it', 'mote 1 finally prints hears 1 by 45',
+         'mote 1 finally prints hears the set of motes that it hears but 2 by 48',
+         'mote 2 prints hears its distance from mote 0', 'mote 2 prints hears its number',
+         'mote 1 prints just flood its distance from mote 0 by 60', 'no mote sends the greatest mote number',
+         'mote 2 prints flood a mote that it hears, one hop nearer to mote 0 at 46',
+         "mote 1 writes 'collide 2 0' at 49", "mote 1 writes 'collide' or 'print flood' exactly 3 times",
+         'mote 0 starts flood', 'mote 0 never leaves flood', 'exactly 1 copy collides',
+         'exactly 1 copy collides at mote 1', 'no copy collides at mote 2', 'no copy overflows',
+         'exactly 2 copies arrive', 'some copy is lost', 'exactly 1 copy is lost at mote 2', 'exactly 1 copy is left',
+         'no copy collides before 49', 'exactly 5 packets are sent',
+         'at most 4 packets are sent in each 10 from 0 to 100', 'exactly 4 packets are sent by 49',
+         'the report has exactly 29 lines', "the medium writes '49 3 0 1 2@lost'", "the medium writes '80 0'",
+         'mote 3 can hear mote 2', 'mote 2 cannot hear mote 3', 'motes 0 cannot hear mote 2',
+         'mote 1 prints flood at most once in each 40 from 40 to 119',
+         'mote 0 sends from 40 to 79 exactly once as often as from 80 on',
+         'mote 0 sends exactly 2 times as often as mote 1',
+         'motes 0 to 1 together send more than once as often as motes 2 to 3 together',]
 
 # Each with the row of the report that breaks it.
 BROKEN = [
@@ -347,9 +342,7 @@ esac
 
 class Files(unittest.TestCase):
     def setUp(self) -> None:
-        room = tempfile.TemporaryDirectory()
-        self.addCleanup(room.cleanup)
-        self.room = Path(room.name)
+        self.room = room_of(self)
         self.scenario, self.expected, program = (self.room / name for name in ('a.toml', 'a.expect.toml', 'motesim'))
         self.scenario.write_text(SCENARIO)
         (self.room / 'report').write_text(REPORT)

@@ -272,8 +272,7 @@ class Deep(unittest.TestCase):
     def test_texts_that_are_nested_deeply_are_explained_within_seconds(self) -> None:
         for count in (28, 500, 20_000):
             for body in ('n = %s1%s;' % ('(' * count, ' + 1)' * count), 'n = %sn + 1;' % ('!' * count),
-                         'while 1 {' * count,
-                         'if (n == 1) ' * count + 'n++;', '{' * count, 'n = f(' * count):
+                         'while 1 {' * count, 'if (n == 1) ' * count + 'n++;', '{' * count, 'n = f(' * count):
                 text = SCENARIO.replace('{ body { print 1; } }', '{ var n = 0; body { ' + body)
                 assert text != SCENARIO
                 fault = scenario_faults.find_fault(text.encode())
@@ -325,10 +324,9 @@ class Command(unittest.TestCase):
             program, scenario = Path(room) / 'motesim', Path(room) / 's.toml'
             program.write_text(PROGRAM)
             program.chmod(0o755)
-            tried: list[tuple[dict[str, str], int, str]] = [
-                ({'print 1': 'print z', 'end = 5': 'end = 6'}, 1, EXPLAINED % scenario),
-                ({}, 0, '%s has a report, and no fault\n' % scenario),
-            ]
+            tried: list[tuple[dict[str, str], int, str]] = [({'print 1': 'print z', 'end = 5': 'end = 6'}, 1,
+                                                             EXPLAINED % scenario), ({}, 0,
+                '%s has a report, and no fault\n' % scenario),]
             for changes, status, begin in tried:
                 scenario.write_text(changed(changes))
                 said = io.StringIO()

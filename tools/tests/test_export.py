@@ -4,12 +4,10 @@ import os
 import re
 import subprocess
 import sys
-import tempfile
 import unittest
 from collections import Counter
-from pathlib import Path
 
-from here import TOOLS, TOP
+from here import TOOLS, TOP, call, room_of
 from motesim.export import pcapng, perfetto, times, vcd
 from motesim.report import Report
 from skips import interpreter_with, need_command
@@ -129,9 +127,7 @@ def read_vcd(text: str) -> dict[tuple[str, ...], list[tuple[int, int | None]]]:
 
 class ExportTest(unittest.TestCase):
     def setUp(self) -> None:
-        scratch = tempfile.TemporaryDirectory()
-        self.addCleanup(scratch.cleanup)
-        self.folder = Path(scratch.name)
+        self.folder = room_of(self)
         (self.folder / 'a.report').write_text(REPORT)
         self.report = Report.parse(REPORT)
 
@@ -234,8 +230,7 @@ class ExportTest(unittest.TestCase):
         for name, seen in (('net.plan.toml', 'net.plan.toml is a plan, not a scenario: tools/scenario net.plan.toml'),
                            ('net.csv', 'net.csv has results, not a report: tools/plot net.csv')):
             for command in ('export', '--to', 'csv', name), ('summary', name), ('compare', 'a.report', name):
-                done = subprocess.run([sys.executable, '-B', str(TOOLS / command[0]), *command[1:]], cwd=self.folder,
-                                      capture_output=True, text=True)
+                done = call(command[0], *command[1:], cwd=self.folder)
                 self.assertEqual((done.returncode, done.stdout), (2, ''), command)
                 self.assertIn(seen, done.stderr)
 

@@ -81,8 +81,7 @@ class Tools(unittest.TestCase):
     def test_the_version_is_told(self) -> None:
         seen = version_line() + '\n'
         for command in TOOLS / 'compare', TOOLS / 'dev/spec_lists', TOP / 'run':
-            done = subprocess.run([str(command), '--version'], stdin=subprocess.DEVNULL, capture_output=True,
-                                  text=True)
+            done = subprocess.run([str(command), '--version'], stdin=subprocess.DEVNULL, capture_output=True, text=True)
             self.assertEqual((done.returncode, done.stdout, done.stderr), (0, seen, ''))
         changes = (TOP / 'CHANGES.md').read_text('utf-8')
         self.assertEqual(re.findall(r'^## (\S+),', changes, re.M)[0], VERSION)
@@ -91,8 +90,7 @@ class Tools(unittest.TestCase):
     def test_a_tool_on_a_full_disk(self) -> None:
         report = TOP / 'tests/cases/nets/two_senders.expected'
         with open('/dev/full', 'w') as full:
-            done = subprocess.run([str(TOOLS / 'summary'), str(report)], stdout=full, stderr=subprocess.PIPE,
-                                  text=True)
+            done = subprocess.run([str(TOOLS / 'summary'), str(report)], stdout=full, stderr=subprocess.PIPE, text=True)
         self.assertEqual((done.returncode, done.stderr), (2, 'summary: standard output: No space left on device\n'))
 
     def test_each_command_has_no_more_than_its_lines(self) -> None:

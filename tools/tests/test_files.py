@@ -10,7 +10,7 @@ from collections.abc import Iterator
 from pathlib import Path
 from unittest import mock
 
-from here import TOOLS, TOP
+from here import TOOLS, room_of
 from motesim.faults import SHOW, Fault
 from motesim.files import NotWritten, write_whole
 from motesim.report import Report
@@ -36,9 +36,7 @@ program = "p"
 
 class Room(unittest.TestCase):
     def setUp(self) -> None:
-        room = tempfile.TemporaryDirectory()
-        self.addCleanup(room.cleanup)
-        self.room = Path(room.name)
+        self.room = room_of(self)
 
 
 class Whole(Room):

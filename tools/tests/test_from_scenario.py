@@ -1,24 +1,18 @@
 """A plan from a scenario makes the same net."""
 import subprocess
-import sys
-import tempfile
 import unittest
-from pathlib import Path
 
-from here import TOOLS, TOP
+from here import TOP, call, room_of
 from motesim.plan.plan import Plan
 from motesim.scenario import Scenario
 
 
 class FromScenario(unittest.TestCase):
     def setUp(self) -> None:
-        scratch = tempfile.TemporaryDirectory()
-        self.addCleanup(scratch.cleanup)
-        self.folder = Path(scratch.name)
+        self.folder = room_of(self)
 
     def made(self, *words: str, status: int = 0) -> subprocess.CompletedProcess[str]:
-        done = subprocess.run([sys.executable, '-B', str(TOOLS / 'scenario'), *words], cwd=self.folder,
-                              capture_output=True, text=True)
+        done = call('scenario', *words, cwd=self.folder)
         self.assertEqual(done.returncode, status, done)
         return done
 

@@ -8,7 +8,7 @@ import unittest
 from pathlib import Path
 from unittest import mock
 
-from here import TOOLS, TOP
+from here import TOOLS, TOP, room_of
 from motesim.faults import Fault
 from project import testing
 
@@ -18,9 +18,7 @@ STEPS = ['run_cases', 'check_examples', 'check_tutorial', 'spoil_bytes', 'compar
 
 class Gate(unittest.TestCase):
     def setUp(self) -> None:
-        room = tempfile.TemporaryDirectory()
-        self.addCleanup(room.cleanup)
-        self.room = Path(room.name)
+        self.room = room_of(self)
         shutil.copy(TOP / 'test', self.room / 'test')
         for name in STEPS:
             self.put('tools/dev/' + name, 'echo "2 passed, 0 failed"')
@@ -75,8 +73,7 @@ class Gate(unittest.TestCase):
         self.assertTrue(lines[-1].startswith('0 passed, '))
         self.assertIn('== tools/dev/run_cases was not run, and counts as failed: it needs Python 3.11', lines)
         lines, _ = self.run_it(path=str(bare))
-        self.assertIn('== rt_ci was not run, and counts as failed: the command rt of the Rattle kit is not here',
-                      lines)
+        self.assertIn('== rt_ci was not run, and counts as failed: the command rt of the Rattle kit is not here', lines)
         self.assertRegex(lines[-1], r'^\d+ passed, \d+ failed, \d+ skipped$')
 
 
@@ -87,11 +84,9 @@ class Packages(unittest.TestCase):
         """The lines before the first step, and the calls of apt-get, on a machine that lacks packages."""
         with tempfile.TemporaryDirectory() as folder:
             room = Path(folder)
-            for name, text in {
-                'bin/dpkg-query': 'case " %s " in *" $4 "*) echo un ;; *) echo "ii " ;; esac' % missing,
-                'bin/id': 'echo %d' % user,
-                'bin/apt-get': 'echo "$*" >>"%s/calls"; exit %d' % (room, not can_install),
-            }.items():
+            for name, text in {'bin/dpkg-query': 'case " %s " in *" $4 "*) echo un ;; *) echo "ii " ;; esac' % missing,
+                               'bin/id': 'echo %d' % user, 'bin/apt-get': 'echo "$*" >>"%s/calls"; exit %d' % (room,
+                    not can_install),}.items():
                 path = room / name
                 path.parent.mkdir(exist_ok=True)
                 path.write_text('#!/bin/sh\n%s\n' % text)

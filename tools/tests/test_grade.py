@@ -12,7 +12,6 @@ import signal
 import socket
 import subprocess
 import sys
-import tempfile
 import time
 import tomllib
 import unittest
@@ -21,8 +20,8 @@ from dataclasses import replace
 from pathlib import Path
 from unittest import mock
 
-from here import TOOLS
-from motesim.grading.command import remarks, status_of
+from here import TOOLS, call, room_of
+from motesim.grading.command import remarks
 from motesim.grading.entries import Entry, anonymous, data_of, decoded, entries_of
 from motesim.grading.marking import Task, page_name
 from motesim.grading.marks import Mark, Marks
@@ -35,7 +34,7 @@ from motesim.grading.tables import cell, csv_of
 from motesim.grading.warned import warned_of
 from motesim.grading.tables import table as table_of
 from motesim.faults import Fault
-from motesim.judge.expectations import judged, parts_of
+from motesim.judge.expectations import parts_of
 from motesim.judge.remarks import NO_COLLISIONS
 from motesim.runner import Limits, program_path
 from motesim.runner.run import Answer
@@ -70,9 +69,7 @@ class Folder(unittest.TestCase):
     """A folder of solutions in a folder of a teacher, with a program that answers short reports."""
 
     def setUp(self) -> None:
-        scratch = tempfile.TemporaryDirectory()
-        self.addCleanup(scratch.cleanup)
-        self.top = Path(scratch.name)
+        self.top = room_of(self)
         self.stub = write_stub(self.top)
         self.folder = self.top / 'class'
         self.folder.mkdir()
@@ -85,8 +82,7 @@ class Folder(unittest.TestCase):
 
     def grade(self, *words: str, status: int = 0) -> str:
         environment = {**os.environ, 'MOTESIM': str(self.stub)}
-        done = subprocess.run([sys.executable, '-B', str(TOOLS / 'grade'), 'class', 'task.expect.toml', *words],
-                              cwd=self.top, env=environment, capture_output=True, text=True, timeout=120)
+        done = call('grade', 'class', 'task.expect.toml', *words, cwd=self.top, env=environment, timeout=120)
         self.assertEqual(done.returncode, status, done.stderr)
         self.assertNotIn('Traceback', done.stderr)
         self.seen = done.stderr
@@ -106,13 +102,11 @@ class Entries(Folder):
         self.hand_in('carla.toml', net('// refuse\n' + PROGRAM % 3))
         self.hand_in('dora.toml', net((PROGRAM % 3).replace(' a', ' b')))
         self.hand_in('task.expect.toml', EXPECT)
-        self.assertEqual(self.grade(), (
-            'anna.toml   3 of 3\n'
-            'ben.toml    1 of 3  broken: 1, 2\n'
-            'carla.toml  0 of 3  the scenario is refused: motesim: out of memory\n'
-            'dora.toml   1 of 3  broken: 1, 2; no process `a` (it has `b`)\n\n'
-            '  1  1 of 4  every mote prints a 3\n  2  1 of 4  mote 1 prints a at 6\n'
-            '  3  3 of 4  no mote halts\n'))
+        self.assertEqual(self.grade(), ('anna.toml   3 of 3\n' 'ben.toml    1 of 3  broken: 1, 2\n'
+                                        'carla.toml  0 of 3  the scenario is refused: motesim: out of memory\n'
+                                        'dora.toml   1 of 3  broken: 1, 2; no process `a` (it has `b`)\n\n'
+                                        '  1  1 of 4  every mote prints a 3\n  2  1 of 4  mote 1 prints a at 6\n'
+                                        '  3  3 of 4  no mote halts\n'))
 
     def test_a_remark_on_a_sentence_that_needs_no_evidence(self) -> None:
         (self.top / 'task.expect.toml').write_text('expect = ["no copy collides", "every mote prints a 3"]\n')
@@ -297,9 +291,8 @@ class Nets(Folder):
         self.assertEqual(self.rows('--net', 'task.toml', '--net', 'hidden.toml'), {'anna.toml': '1 of 2  broken: 1'})
         words = '--net', 'net.plan.toml', '--vary', 'motes=2..5'
         self.assertEqual(self.rows(*words), {'anna.toml': '1 of 2  broken: 1'})
-        self.assertEqual(self.grade(*words, '--why', 'anna').split('\n')[:3], [
-            'broken  at most 4 motes print', '          in net.plan.toml motes=5',
-            '          5 motes do; wanted: at most 4'])
+        self.assertEqual(self.grade(*words, '--why', 'anna').split('\n')[:3], ['broken  at most 4 motes print',
+            '          in net.plan.toml motes=5', '          5 motes do; wanted: at most 4'])
 
     def test_values_for_shown_nets_leave_hidden_ones_unchanged(self) -> None:
         self.write_plan('net.plan.toml', motes=2)
@@ -754,10 +747,9 @@ class LimitsOfRuns(Folder):
     def test_all_its_processes_end_with_it(self) -> None:
         self.hand_in('wait.toml', net('// wait\n' + PROGRAM % 3))
         for number in signal.SIGTERM, signal.SIGHUP, signal.SIGKILL:
-            with self.subTest(number), subprocess.Popen(
-                    [sys.executable, '-B', str(TOOLS / 'grade'), 'class', 'task.expect.toml'], cwd=self.top,
-                    env={**os.environ, 'MOTESIM': str(self.stub)}, stdout=subprocess.DEVNULL,
-                    start_new_session=True) as made:
+            with self.subTest(number), subprocess.Popen([sys.executable, '-B', str(TOOLS / 'grade'), 'class',
+                                                         'task.expect.toml'], cwd=self.top, env={**os.environ,
+                    'MOTESIM': str(self.stub)}, stdout=subprocess.DEVNULL, start_new_session=True) as made:
                 try:
                     self.wait_for(lambda: any(str(self.stub) in it for it in commands_of(made.pid)))
                     made.send_signal(number)
@@ -778,8 +770,7 @@ class LimitsOfRuns(Folder):
             "    if '// wait'", "    if '// memory' in text:\n        much = b'1' * 400_000_000\n        "
             "time.sleep(60)\n"
                             "    if '// wait'"))
-        self.assertEqual(self.rows('--memory', '100', '--seconds', '20'), {
-            'anna.toml': '3 of 3',
+        self.assertEqual(self.rows('--memory', '100', '--seconds', '20'), {'anna.toml': '3 of 3',
             'memory.toml': '0 of 3  the run was ended: the run needs more than 100 megabytes of memory'})
 
     def test_several_run_at_once(self) -> None:

@@ -2,11 +2,9 @@
 import os
 import subprocess
 import sys
-import tempfile
 import unittest
-from pathlib import Path
 
-from here import TOOLS
+from here import TOOLS, room_of
 from motesim.faults import Fault
 from motesim.files import refuse_inputs
 from skips import interpreter_with, need_program
@@ -47,31 +45,27 @@ FILES = {'net.toml': SCENARIO, 'net.expect.toml': 'expect = ["mote 1 prints a 1"
          'measures.py': 'def one(run):\n    return 1\n', 'empty.py': '', 'solutions/anna.toml': SCENARIO,
          'README.md': SCENARIO, 'found.csv': SCENARIO, 'small_1.toml': SCENARIO}
 # Commands that would replace one of their inputs.
-WRONG = (
-    'scenario net.plan.toml -o net.plan.toml', 'scenario net.plan.toml -o a.mote',
-    'scenario net.plan.toml -o places.csv', 'scenario net.plan.toml -o link',
-    'scenario net.plan.toml -o other/../a.mote',
-    'timeline net.toml -o net.toml', 'timeline run.html', 'timeline run.html --scenario net.toml -o net.toml',
-    'export net.toml --to vcd -o net.toml', 'export run.lines.csv --to csv -o run',
-    'export README.md --form contiki -o .', 'compare run.html net.toml --html net.toml',
-    'compare run.html net.toml --html run.html',
-    'shrink net.toml -o net.toml', 'shrink net.toml -o net.expect.toml', 'shrink net.toml net.expect.toml -o net.x',
-    'search net.toml --csv net.toml', 'search net.toml --json net.expect.toml',
-    'search net.plan.toml --csv a.mote --expect mote_1_prints_a', 'search found.csv --expect mote_1_prints_a -o .',
-    'search small_1.toml --expect mote_1_prints_a -o . --shrink',
-    'grade solutions net.expect.toml --net net.toml -o net.toml', 'grade solutions net.expect.toml -o net.expect.toml',
-    'grade solutions net.expect.toml -o solutions/anna.toml',
-    'grade solutions net.expect.toml --hidden net.plan.toml --anonymous --key a.mote',
-    'sweep net.plan.toml --measure sent -o net.plan.toml', 'sweep net.plan.toml --measure sent -o a.mote',
-    'sweep net.plan.toml --measure python:_measures.py:one -o measures.py',
-    'pack solutions -o solutions/anna.toml')
+WRONG = ('scenario net.plan.toml -o net.plan.toml', 'scenario net.plan.toml -o a.mote',
+         'scenario net.plan.toml -o places.csv', 'scenario net.plan.toml -o link',
+         'scenario net.plan.toml -o other/../a.mote', 'timeline net.toml -o net.toml', 'timeline run.html',
+         'timeline run.html --scenario net.toml -o net.toml', 'export net.toml --to vcd -o net.toml',
+         'export run.lines.csv --to csv -o run', 'export README.md --form contiki -o .',
+         'compare run.html net.toml --html net.toml', 'compare run.html net.toml --html run.html',
+         'shrink net.toml -o net.toml', 'shrink net.toml -o net.expect.toml',
+         'shrink net.toml net.expect.toml -o net.x', 'search net.toml --csv net.toml',
+         'search net.toml --json net.expect.toml', 'search net.plan.toml --csv a.mote --expect mote_1_prints_a',
+         'search found.csv --expect mote_1_prints_a -o .', 'search small_1.toml --expect mote_1_prints_a -o . --shrink',
+         'grade solutions net.expect.toml --net net.toml -o net.toml',
+         'grade solutions net.expect.toml -o net.expect.toml', 'grade solutions net.expect.toml -o solutions/anna.toml',
+         'grade solutions net.expect.toml --hidden net.plan.toml --anonymous --key a.mote',
+         'sweep net.plan.toml --measure sent -o net.plan.toml', 'sweep net.plan.toml --measure sent -o a.mote',
+         'sweep net.plan.toml --measure python:_measures.py:one -o measures.py',
+         'pack solutions -o solutions/anna.toml')
 
 
 class Inputs(unittest.TestCase):
     def setUp(self) -> None:
-        room = tempfile.TemporaryDirectory()
-        self.addCleanup(room.cleanup)
-        self.room = Path(room.name)
+        self.room = room_of(self)
         for folder in 'solutions', 'other':
             (self.room / folder).mkdir()
         for name, text in FILES.items():

@@ -189,9 +189,8 @@ class Lesson(unittest.TestCase):
                     self.assertEqual(self.marks_in(hidden, sentences, program).held, 0)
 
     def test_each_of_the_pages_sentences_reveals_a_mote_that_speaks_for_others(self) -> None:
-        for value, sentence in (
-                (8, 'every mote but motes 0 and 8 never sends 8 before receiving 8'),
-                (64773, 'mote 0 prints sink 64773 exactly 1 times as often as mote 8 sends 64773')):
+        for value, sentence in ((8, 'every mote but motes 0 and 8 never sends 8 before receiving 8'), (64773,
+                'mote 0 prints sink 64773 exactly 1 times as often as mote 8 sends 64773')):
             with self.subTest(sentence):
                 self.assertIn('`%s`' % sentence, PAGE)
                 for reading, program, held in (

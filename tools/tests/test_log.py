@@ -2,14 +2,12 @@
 import csv
 import io
 import json
-import subprocess
-import sys
 import tempfile
 import unittest
 from pathlib import Path
 from typing import Any
 
-from here import TOOLS, TOP
+from here import TOP, call
 import skips
 from motesim.faults import Fault
 from motesim.report import FIELDS, Line, Report
@@ -135,8 +133,7 @@ class Runs(unittest.TestCase):
         self.assertEqual(lines(copies)[0][:2], (43, 1))
 
     def log(self, *arguments: str) -> str:
-        return subprocess.run([sys.executable, str(TOOLS / 'log'), 'examples/flooding.toml', *arguments],
-                              capture_output=True, text=True, cwd=TOP, check=True).stdout
+        return call('log', 'examples/flooding.toml', *arguments, cwd=TOP, check=True).stdout
 
     def test_a_scenario_with_an_error(self) -> None:
         hint = 'Hint: Two values with `+` between them are in parentheses: `(n + 1)`.\nWrite, as line '

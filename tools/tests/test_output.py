@@ -6,16 +6,14 @@ import unittest
 from pathlib import Path
 from unittest import mock
 
-from here import TOP
+from here import TOP, room_of
 from motesim.output import beside
 from motesim.runner import programs
 
 
 class Output(unittest.TestCase):
     def setUp(self) -> None:
-        scratch = tempfile.TemporaryDirectory()
-        self.addCleanup(scratch.cleanup)
-        self.folder = Path(scratch.name).resolve()
+        self.folder = room_of(self)
 
     def test_next_to_the_source(self) -> None:
         self.assertEqual(beside(str(self.folder / 'net.toml'), 'net.html'), self.folder / 'net.html')

@@ -14,7 +14,7 @@ import unittest
 from pathlib import Path
 from unittest import mock
 
-from here import TOP
+from here import TOP, room_of
 from motesim.experiments.results import Head
 from motesim.faults import Fault
 from motesim.version import VERSION
@@ -90,22 +90,20 @@ class Pack(unittest.TestCase):
             for words in [str(top / 'run')], [sys.executable, str(top / 'tools/summary'), str(Path(room) / 's.toml')]:
                 done = subprocess.run(words, input=SCENARIO, cwd=room, capture_output=True, text=True,
                                       env={'PATH': '/usr/bin:/bin', 'MOTESIM_SEEN': str(Path(room) / str(len(words)))})
-                self.assertEqual((done.returncode, done.stderr), (0,
-                                                                  'motesim: this program is compiled, not proved\n'))
+                self.assertEqual((done.returncode, done.stderr), (0, 'motesim: this program is compiled, not proved\n'))
             done = subprocess.run([str(top / 'run'), '--version'], capture_output=True, text=True)
             self.assertEqual((done.stdout, done.stderr), ('motesim %s, compiled, not proved\n' % VERSION, ''))
 
     def unpacked(self) -> Path:
         """An archive in which the program refuses all but an empty scenario, and its proof isn't known."""
-        room = tempfile.TemporaryDirectory()
-        self.addCleanup(room.cleanup)
-        program = Path(room.name) / 'program'
+        room = room_of(self)
+        program = room / 'program'
         program.write_text('#!/bin/sh\n[ -r "$1" ] && [ ! -s "$1" ] && exit\necho "motesim: a fault" >&2\nexit 1\n')
         program.chmod(0o755)
         with mock.patch.object(pack, 'licenses', dict), tarfile.open(
                 fileobj=io.BytesIO(pack.archive('motesim', program))) as tar:
-            tar.extractall(room.name)
-        return Path(room.name) / 'motesim'
+            tar.extractall(room)
+        return room / 'motesim'
 
     def on_terminal(self, top: Path, *words: str) -> tuple[int, list[str]]:
         """The status of an archive's ./run, and the lines on its terminal."""
@@ -180,9 +178,7 @@ class Pack(unittest.TestCase):
 
     def tree(self, known: str, others: str) -> Path:
         """A clone with files that git knows, and others."""
-        room = tempfile.TemporaryDirectory()
-        self.addCleanup(room.cleanup)
-        top = Path(room.name).resolve() / 'tree'
+        top = room_of(self) / 'tree'
         for name in (*known.split(), *others.split()):
             (top / name).parent.mkdir(parents=True, exist_ok=True)
             (top / name).write_text('')

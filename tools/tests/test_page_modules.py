@@ -7,7 +7,7 @@ import unittest
 from pathlib import Path
 from typing import Any
 
-from here import TOOLS, TOP
+from here import TOOLS, TOP, room_of
 import skips
 import test_summary
 import test_timeline
@@ -44,9 +44,7 @@ def node(test: unittest.TestCase, *words: str, **variables: str) -> str:
 
 class Bundles(unittest.TestCase):
     def setUp(self) -> None:
-        room = tempfile.TemporaryDirectory()
-        self.addCleanup(room.cleanup)
-        self.room = Path(room.name).resolve()
+        self.room = room_of(self)
 
     def write(self, **modules: str) -> Path:
         """Writes modules, and returns the path of `main`."""
@@ -137,20 +135,17 @@ def given() -> dict[str, Any]:
     chains = [{'name': 'small', **it} for it in chains_of(small, CHAINS)]
     chains += [{'name': 'dropped', **it} for it in chains_of(dropped, [(0, DROPPED)])]
     series = list(Series(Report.parse(test_summary.REPORT), 5, 10).rows())
-    return {
-        'kinds': list(KINDS), 'words': {'colours': COLOURS, 'naming': NAMING},
-        'runs': {name: run_given(run) for name, run in runs.items()},
-        'chains': chains, 'series': {'name': 'sums', 'by': 5, 'rows': series},
-    }
+    return {'kinds': list(KINDS), 'words': {'colours': COLOURS, 'naming': NAMING},
+            'runs': {name: run_given(run) for name, run in runs.items()}, 'chains': chains, 'series': {'name': 'sums',
+        'by': 5, 'rows': series},}
 
 
 def chains_of(run: Run, places: list[tuple[int, int]]) -> list[dict[str, Any]]:
     """The reasons that tools/why reports for the lines at these places."""
     assert run.scenario
     source = Source(run.name, run.report.text().encode(), run.scenario)
-    return [{'row': source.traces.row(At(*where)),
-             'because': ['mote %d: %s' % (hop.where.mote, hop.because) for hop in chain(source, At(*where))]}
-            for where in places]
+    return [{'row': source.traces.row(At(*where)), 'because': ['mote %d: %s' % (hop.where.mote,
+        hop.because) for hop in chain(source, At(*where))]} for where in places]
 
 
 def run_given(run: Run) -> dict[str, Any]:

@@ -8,13 +8,12 @@ import os
 import random
 import re
 import sys
-import tempfile
 import unittest
 from collections import Counter
 from pathlib import Path
 from unittest import mock
 
-import here  # noqa: F401
+from here import room_of  # (it puts tools/ on the path)
 from motesim import packages
 from motesim.analysis import drawing
 from motesim.commands import plot
@@ -77,9 +76,7 @@ class Study:
 
 class Plots(unittest.TestCase):
     def setUp(self) -> None:
-        scratch = tempfile.TemporaryDirectory()
-        self.addCleanup(scratch.cleanup)
-        self.folder, self.seen = Path(scratch.name), Counter[str]()
+        self.folder, self.seen = room_of(self), Counter[str]()
         for patch in (mock.patch.object(packages, 'need'), mock.patch.object(drawing, 'draw'),
                       mock.patch.object(drawing, 'draw_differences')):
             patch.start()

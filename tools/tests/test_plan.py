@@ -3,12 +3,11 @@ import hashlib
 import math
 import re
 import subprocess
-import sys
 import tempfile
 import unittest
 from pathlib import Path
 
-from here import TOOLS, TOP
+from here import TOP, call
 from motesim.plan import places
 from motesim.scenario import faults as scenario_faults
 from motesim.plan.chance import Chance
@@ -374,7 +373,7 @@ file = "a.svg"
 
 class CommandTest(unittest.TestCase):
     def run_it(self, *words: str) -> subprocess.CompletedProcess[str]:
-        return subprocess.run([sys.executable, '-B', str(TOOLS / 'scenario'), *words], capture_output=True, text=True)
+        return call('scenario', *words)
 
     def test_the_command(self) -> None:
         with tempfile.TemporaryDirectory() as name:

@@ -1,14 +1,11 @@
 """Plots: tables, pictures, comparisons, and what is refused."""
 import os
 import subprocess
-import sys
-import tempfile
 import unittest
 from collections.abc import Sequence
-from pathlib import Path
 from xml.etree import ElementTree
 
-from here import TOOLS
+from here import call, room_of
 from motesim.experiments.results import Cell, Head, line_of
 from skips import interpreter_with
 
@@ -25,9 +22,8 @@ def results(runs: Sequence[Run]) -> str:
 
 
 # Runs whose `sent` is 10 times the period and the seed, with a fault and an empty value.
-RUNS: list[Run] = [
-    (period, density, seed, 10 * period + seed, None if seed == 5 else 0.5, int(seed > 1), 1)
-    for period in (1, 2, 10) for density in ('thin', 'dense') for seed in range(1, 6)]
+RUNS: list[Run] = [(period, density, seed, 10 * period + seed, None if seed == 5 else 0.5, int(seed > 1), 1)
+                   for period in (1, 2, 10) for density in ('thin', 'dense') for seed in range(1, 6)]
 FAULTY: Run = (3, 'thin', 1, None, None, None, None, 'no answer in 60 seconds')
 
 TABLE = '''sent against period, over seed
@@ -44,17 +40,14 @@ left out: 1 run with a fault
 
 class PlotTest(unittest.TestCase):
     def setUp(self) -> None:
-        scratch = tempfile.TemporaryDirectory()
-        self.addCleanup(scratch.cleanup)
-        self.folder = Path(scratch.name)
+        self.folder = room_of(self)
         self.write([*RUNS, FAULTY])
 
     def write(self, runs: Sequence[Run]) -> None:
         (self.folder / 'net.csv').write_text(results(runs))
 
     def plot(self, words: str, *more: str) -> subprocess.CompletedProcess[str]:
-        return subprocess.run([sys.executable, '-B', str(TOOLS / 'plot'), 'net.csv', *words.split(), *more],
-                              cwd=self.folder, env=dict(os.environ), capture_output=True, text=True)
+        return call('plot', 'net.csv', *words.split(), *more, cwd=self.folder, env=dict(os.environ))
 
     def rows(self, words: str) -> list[list[str]]:
         """The table of a command, without its heading."""
@@ -67,8 +60,7 @@ class PlotTest(unittest.TestCase):
         found = done.returncode, ' '.join(done.stdout.split()), done.stderr
         self.assertEqual(found, (0, ' '.join(TABLE.split()), ''))
         one = self.plot('--measure sent --against period --where density=thin --where seed=2')
-        self.assertEqual(one.stdout.split('\n')[0],
-                         'sent against period, only runs with density=thin and seed=2')
+        self.assertEqual(one.stdout.split('\n')[0], 'sent against period, only runs with density=thin and seed=2')
 
     def test_lines_of_two_parameters(self) -> None:
         rows = self.rows('--measure sent --by density --by period --where period=1,10')
@@ -118,9 +110,8 @@ class PlotTest(unittest.TestCase):
         self.write([*RUNS, (3, 'thin', 1, 9, 0.5, 1, 1), (3, 'thin', 2, 14, 0.5, 1, 1), (3, 'thin', 3, 19, 0.5, 1, 1)])
         done = self.plot('--measure sent --pair period=1,3 --where density=thin')
         # The differences -2, 2 and 6 have the mean 2, the deviation 4, and t for 2 degrees is 4.303.
-        self.assertEqual([it.split() for it in done.stdout.splitlines()[2:]], [
-            ['3', '12.000', '14.000', '2.000', '-7.937', '11.937', 't', '2', '1'],
-            'left out: 2 pairs without a value on both sides'.split()])
+        self.assertEqual([it.split() for it in done.stdout.splitlines()[2:]], [['3', '12.000', '14.000', '2.000',
+            '-7.937', '11.937', 't', '2', '1'], 'left out: 2 pairs without a value on both sides'.split()])
 
     def test_warnings_are_counted(self) -> None:
         self.write([(*RUNS[0], None, 'same-value queue-full', 'a'), (*RUNS[1], None, 'same-value', 'a'),

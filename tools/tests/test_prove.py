@@ -4,13 +4,12 @@ import io
 import shutil
 import signal
 import subprocess
-import tempfile
 import unittest
 from pathlib import Path
 from typing import Any
 from unittest import mock
 
-import here  # (it puts tools/ on the path)
+from here import room_of  # (it puts tools/ on the path)
 from project import prove
 from project.running import started
 from unbuilt_tree import Tree, until
@@ -20,9 +19,7 @@ class Copies(unittest.TestCase):
     """A proof of two crates by a stand-in for the kit."""
 
     def setUp(self) -> None:
-        room = tempfile.TemporaryDirectory()
-        self.addCleanup(room.cleanup)
-        self.room = Path(room.name)
+        self.room = room_of(self)
 
     def test_it_has_the_crates_of_the_program_and_their_rows(self) -> None:
         for name in 'low/src/lib.rt', 'low/must-fail/a.edit', 'low/out/rlib', 'tests/src/lib.rt':

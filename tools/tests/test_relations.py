@@ -4,7 +4,7 @@ import unittest
 
 import here  # noqa: F401
 from motesim.judge.judge import Judge
-from motesim.judge.sentences import Names, SentenceFault, names_of, read_sentence
+from motesim.judge.sentences import SentenceFault, names_of, read_sentence
 from motesim.report import Report
 from motesim.scenario import Scenario
 from motesim.search.quick_judge import QuickJudge

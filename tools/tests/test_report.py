@@ -2,12 +2,11 @@
 import os
 import random
 import stat
-import tempfile
 import unittest
 from pathlib import Path
 from unittest import mock
 
-from here import TOP
+from here import TOP, room_of
 from motesim.faults import Fault
 from motesim.report import Copy, Packet, Report, ReportFault
 from motesim.report import report as report_module
@@ -123,8 +122,7 @@ class Reports(unittest.TestCase):
                 rows.append('%d %d %d 5 %s' % (number, sender, number, ' '.join(copies)))
             for place, (_, number, to) in enumerate(sorted(silent)):
                 wanted[number, to] = 'halted' if place < len(silent) - left else 'left'
-            text = ''.join('mote %d p\n%s' % (mote, ''.join(it + '\n' for it in its)) for mote,
-                           its in enumerate(lines))
+            text = ''.join('mote %d p\n%s' % (mote, ''.join(it + '\n' for it in its)) for mote, its in enumerate(lines))
             text += 'medium\n%s\nleft %d\n' % ('\n'.join(rows), left)
             with mock.patch.object(report_module, 'MANY', chance.choice([0, 1 << 30])), \
                     mock.patch.object(report_module, 'MOTES_AT_ONCE', chance.choice([1, 3, 100])):
@@ -258,11 +256,10 @@ class Scenarios(unittest.TestCase):
 
 class Runs(unittest.TestCase):
     def setUp(self) -> None:
-        self.folder = tempfile.TemporaryDirectory()
-        self.addCleanup(self.folder.cleanup)
+        self.folder = room_of(self)
 
     def write(self, name: str, text: str, mode: int = 0o644) -> Path:
-        path = Path(self.folder.name) / name
+        path = self.folder / name
         path.write_text(text, encoding='utf-8')
         path.chmod(mode)
         return path
@@ -301,7 +298,7 @@ class Runs(unittest.TestCase):
             read_run(self.write('net.txt', EXAMPLE_REPORT.replace('\n', '\r\n')))
         self.write('net.txt', '').write_bytes(EXAMPLE_REPORT.encode('utf-16'))
         with self.assertRaisesRegex(Fault, 'net.txt is not UTF-8, because of a byte in line 1. Save it as UTF-8'):
-            read_run(Path(self.folder.name) / 'net.txt')
+            read_run(self.folder / 'net.txt')
         with self.assertRaisesRegex(Fault, 'net.txt is empty: expected a report or a scenario'):
             read_run(self.write('net.txt', '\n'))
 

@@ -5,14 +5,13 @@ import os
 import signal
 import subprocess
 import sys
-import tempfile
 import threading
 import time
 import unittest
 from collections.abc import Callable, Iterator
 from pathlib import Path
 
-from here import TOOLS
+from here import TOOLS, room_of
 from motesim.faults import Fault
 from motesim.runner import LimitMet, Limits, NoReport, ProgramFault, Runner, Stopped, ending, run_each
 from motesim.runner.batch import each_part
@@ -45,9 +44,7 @@ def within(seconds: float, holds: Callable[[], bool]) -> bool:
 
 class Room(unittest.TestCase):
     def setUp(self) -> None:
-        room = tempfile.TemporaryDirectory()
-        self.addCleanup(room.cleanup)
-        self.room = Path(room.name)
+        self.room = room_of(self)
 
     def program(self, text: str, shell: str = '/bin/sh') -> Path:
         path = self.room / 'program'
@@ -207,9 +204,8 @@ class Batches(Room):
                 return [10] * 10 ** 15
             return item
         found = {it.item: it.fault for it in run_each(work, range(9), workers=2)}
-        self.assertEqual([found[it] for it in (0, 1, 2, 3, 4, 6, 7, 8)],
-                         ['', 'in a line', 'ValueError: of two lines', 'SystemExit: 4', 'out of memory',
-                          'out of memory', '', ''])
+        self.assertEqual([found[it] for it in (0, 1, 2, 3, 4, 6, 7, 8)], ['', 'in a line', 'ValueError: of two lines',
+            'SystemExit: 4', 'out of memory', 'out of memory', '', ''])
         self.assertIn('pickle', found[5])
 
     def test_what_catches_everything_is_ended_at_its_time_and_the_others_go_on(self) -> None:
@@ -287,12 +283,9 @@ class Batches(Room):
             list(run_each(squared, items(), workers=2))
 
     def test_ctrl_c_is_for_the_tool_alone(self) -> None:
-        source = ('import sys, time; sys.path.insert(0, %r)\n'
-                  'from motesim.runner import run_each\n'
-                  'try:\n'
+        source = ('import sys, time; sys.path.insert(0, %r)\n' 'from motesim.runner import run_each\n' 'try:\n'
                   '    for done in run_each(lambda it: time.sleep(0.1), range(1000), workers=2):\n'
-                  '        print("one", flush=True)\n'
-                  'except KeyboardInterrupt:\n'
+                  '        print("one", flush=True)\n' 'except KeyboardInterrupt:\n'
                   '    print("stopped")\n' % str(TOOLS))
         with subprocess.Popen([sys.executable, '-B', '-c', source], stdout=subprocess.PIPE, stderr=subprocess.PIPE,
                               start_new_session=True, text=True) as ran:
@@ -321,8 +314,7 @@ class Parts(unittest.TestCase):
         for is_much in False, True:
             found = list(each_part(lambda it: (it, os.getpid()), range(40), is_much))
             self.assertEqual([it for it, _ in found], list(range(40)))
-            self.assertEqual(os.getpid() in {process for _, process in found},
-                             not is_much or (os.cpu_count() or 1) < 2)
+            self.assertEqual(os.getpid() in {process for _, process in found}, not is_much or (os.cpu_count() or 1) < 2)
 
     def test_with_threads_this_process_works(self) -> None:
         end = threading.Event()

@@ -18,7 +18,7 @@ from pathlib import Path
 from typing import Any
 from unittest import mock
 
-from here import TOOLS, TOP
+from here import TOOLS, TOP, call
 from motesim.experiments.runs import Break
 from motesim.faults import Fault
 from motesim.judge.expectations import beside, parts_of, read_all
@@ -123,8 +123,7 @@ def folder_with(text: str = DIAMOND, sentences: Sequence[object] = (REACHED,)) -
 
 
 def search(folder: str | Path, *words: str, scenario: str = 'diamond.toml') -> tuple[int, str, str]:
-    done = subprocess.run([sys.executable, '-B', str(TOOLS / 'search'), scenario, *words], cwd=folder,
-                          capture_output=True, text=True)
+    done = call('search', scenario, *words, cwd=folder)
     return done.returncode, done.stdout, done.stderr
 
 
@@ -578,8 +577,7 @@ class Searches(unittest.TestCase):
             self.assertEqual((folder / 'here/found.csv').read_text(), (folder / 'found.csv').read_text())
             text = (folder / 'here/diamond_silent_0.toml').read_text()
             self.assertTrue(text.startswith('# diamond.toml with a fault: mote 0 is silent.\n# This breaks:\n'), text)
-            done = subprocess.run([sys.executable, '-B', str(TOOLS / 'expect'), 'here/diamond_silent_0.toml'],
-                                  cwd=folder, capture_output=True, text=True)
+            done = call('expect', 'here/diamond_silent_0.toml', cwd=folder)
             self.assertEqual(done.returncode, 1, done.stderr)
             self.assertIn('broken  mote 3 prints flood 7', done.stdout)
 
@@ -959,8 +957,7 @@ code flood {
         words = ['--faults', 'links,motes,every', '--at-most', '3']
         with folder_with() as folder:
             whole = minimal_sets(folder, *words, '-o', 'whole')[0]
-            begun = subprocess.Popen([sys.executable, '-B', str(TOOLS / 'search'), 'diamond.toml', *words, '-o',
-                                      'part',
+            begun = subprocess.Popen([sys.executable, '-B', str(TOOLS / 'search'), 'diamond.toml', *words, '-o', 'part',
                                       '--jobs', '1'], cwd=folder, stdout=subprocess.PIPE, stderr=subprocess.PIPE,
                                      text=True)
             tried = folder / 'part/tried.txt'

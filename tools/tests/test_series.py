@@ -1,12 +1,10 @@
 """The output of summary --by. The rows of small reports are worked out by hand; sums have to equal the summary."""
 import csv
 import io
-import subprocess
-import sys
 import unittest
 from unittest import mock
 
-from here import TOOLS, TOP
+from here import TOP, call
 import skips
 import test_summary
 from motesim.faults import Fault
@@ -57,8 +55,7 @@ class Intervals(unittest.TestCase):
             {'posted': 3, 'queue': 3}, {'queue': 2, 'waited': 9.0}, {'queue': 1, 'waited': 22.0}])
 
     def test_intervals(self) -> None:
-        self.assertEqual([(it['from'], it['to']) for it in Series(Report.parse(QUEUE), 20).rows()],
-                         [(0, 19), (20, 39)])
+        self.assertEqual([(it['from'], it['to']) for it in Series(Report.parse(QUEUE), 20).rows()], [(0, 19), (20, 39)])
         for by in 0, -1, 1_000_001:
             with self.assertRaises(Fault):
                 Series(Report.parse(QUEUE), by)
@@ -84,9 +81,8 @@ class Runs(unittest.TestCase):
     def test_flows_by_interval(self) -> None:
         """Messages of flooding begin at 40, 80 and 120. The nearest of 24 motes are 3 moments away, the farthest
         24."""
-        shown = subprocess.run([sys.executable, str(TOOLS / 'summary'), 'examples/flooding.toml', '--by', '60',
-                                '--flow',
-                                'print flood', '--csv'], capture_output=True, text=True, cwd=TOP, check=True).stdout
+        shown = call('summary', 'examples/flooding.toml', '--by', '60', '--flow', 'print flood', '--csv', cwd=TOP,
+                     check=True).stdout
         found = list(csv.DictReader(io.StringIO(shown)))
         self.assertEqual([(it['from'], it['to'], it['sent'], it['delivered'], it['least'], it['most'])
                           for it in found],
@@ -111,8 +107,7 @@ class Runs(unittest.TestCase):
         self.assertLess(seen, 10 * len(found))
 
     def test_the_command(self) -> None:
-        shown = subprocess.run([sys.executable, str(TOOLS / 'summary'), 'examples/small_network.toml', '--by', '5',
-                                '--csv'], capture_output=True, text=True, cwd=TOP, check=True).stdout
+        shown = call('summary', 'examples/small_network.toml', '--by', '5', '--csv', cwd=TOP, check=True).stdout
         found = list(csv.DictReader(io.StringIO(shown)))
         self.assertEqual(list(found[0]), NAMES)
         self.assertEqual([it['sent'] for it in found], ['3', '1', '0', '1', '0'])

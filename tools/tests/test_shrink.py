@@ -11,7 +11,7 @@ from pathlib import Path
 from typing import Any
 from unittest import mock
 
-from here import TOOLS, TOP
+from here import TOOLS, TOP, call
 from motesim.faults import Fault
 from motesim.judge.judge import Judge
 from motesim.judge.sentences import Names, motes_named, names_of, read_sentence
@@ -222,29 +222,25 @@ class Shrinks(unittest.TestCase):
     def test_the_command(self) -> None:
         text = DIAMOND + '[[loss]]\nfrom = 0\nto = 1\nevery = 1\n[[loss]]\nfrom = 2\nto = 3\nevery = 1\n'
         with folder_with(text) as folder:
-            done = subprocess.run([sys.executable, '-B', str(TOOLS / 'shrink'), 'diamond.toml', '--steps'], cwd=folder,
-                                  capture_output=True, text=True)
+            done = call('shrink', 'diamond.toml', '--steps', cwd=folder)
             self.assertEqual(done.returncode, 0, done.stderr)
             self.assertIn('no further step is possible', done.stdout)
             self.assertIn('before: 4 motes, 2 losses, 1 program, 11 statements, end = 100', done.stdout)
-            again = subprocess.run([sys.executable, '-B', str(TOOLS / 'expect'), 'diamond.small.toml'], cwd=folder,
-                                   capture_output=True, text=True)
+            again = call('expect', 'diamond.small.toml', cwd=folder)
             self.assertEqual((again.returncode, again.stdout.split()[0]), (1, 'broken'), again.stderr)
-            wrong = subprocess.run([sys.executable, '-B', str(TOOLS / 'shrink'), 'diamond.toml', 'mote 3 prints lynx'],
-                                   cwd=folder, capture_output=True, text=True)
+            wrong = call('shrink', 'diamond.toml', 'mote 3 prints lynx', cwd=folder)
             self.assertEqual(wrong.returncode, 2)
             self.assertIn('sentence 1 is not known', wrong.stderr)
             (Path(folder) / 'others.toml').write_text('expect = ["mote 0 sends", "mote 3 never halts", "mote 9 sends"]')
-            words = [sys.executable, '-B', str(TOOLS / 'shrink'), '-o', 's.toml', 'diamond.toml']
-            wrong = subprocess.run([*words, 'others.toml'], cwd=folder, capture_output=True, text=True)
+            words = ['-o', 's.toml', 'diamond.toml']
+            wrong = call('shrink', *words, 'others.toml', cwd=folder)
             self.assertIn('sentence 3', wrong.stderr)
             (Path(folder) / 'others.toml').write_text('expect = ["mote 0 sends", "mote 3 halts"]')
-            done = subprocess.run([*words, 'others.toml'], cwd=folder, capture_output=True, text=True)
+            done = call('shrink', *words, 'others.toml', cwd=folder)
             self.assertEqual(done.returncode, 0, done.stderr)
             self.assertIn('s.toml breaks: mote 1 halts\n  in diamond.toml, mote 0 was 2, mote 1 was 3\n', done.stdout)
             self.assertIn('In the small run, the end is 0 and no mote sends a packet. So it may break', done.stdout)
-            done = subprocess.run([*words, 'others.toml', '--keep', 'some packet is sent'], cwd=folder,
-                                  capture_output=True, text=True)
+            done = call('shrink', *words, 'others.toml', '--keep', 'some packet is sent', cwd=folder)
             self.assertNotIn('no mote sends a packet', done.stdout)
             self.assertEqual(done.returncode, 0, done.stderr)
 
@@ -258,14 +254,14 @@ class Shrinks(unittest.TestCase):
 
     def test_the_command_with_a_fault(self) -> None:
         with folder_with() as folder:
-            words = [sys.executable, '-B', str(TOOLS / 'shrink'), 'diamond.toml', REACHED, '--fault']
-            done = subprocess.run([*words, 'silent 0'], cwd=folder, capture_output=True, text=True)
+            words = ['diamond.toml', REACHED, '--fault']
+            done = call('shrink', *words, 'silent 0', cwd=folder)
             self.assertEqual(done.returncode, 0, done.stderr)
             self.assertIn('now:    2 motes, 1 loss, 1 program', done.stdout)
             for fault, wanted in (('silent 9', 'is not a MOTE'), ('lynx 0', 'there is no fault `lynx 0`'),
                                   ('lose 0 1', 'must have the form lose SENDER RECEIVER EVERY'),
                                   ('lose 0 1 1', 'with these faults, or breaks it even without them')):
-                done = subprocess.run([*words, fault], cwd=folder, capture_output=True, text=True)
+                done = call('shrink', *words, fault, cwd=folder)
                 self.assertEqual((done.returncode, done.stdout), (2, ''))
                 self.assertIn(wanted, done.stderr)
 
@@ -277,9 +273,8 @@ class Shrinks(unittest.TestCase):
         text = text.replace(PROGRAM, program)
         text = text.replace('[programs]\n', "[programs]\nq = '''\n%s'''\n" % PROGRAM.replace('7', '8'))
         with folder_with(text) as folder:
-            words = [sys.executable, '-B', str(TOOLS / 'shrink'), 'diamond.toml', REACHED, '--fault', 'silent 0',
-                     '--keep-programs']
-            done = subprocess.run(words, cwd=folder, capture_output=True, text=True)
+            words = ['diamond.toml', REACHED, '--fault', 'silent 0', '--keep-programs']
+            done = call('shrink', *words, cwd=folder)
             self.assertIn('before: 5 motes, 2 losses, 2 programs', done.stdout, done.stderr)
             self.assertIn('now:    2 motes, 1 loss, 1 program', done.stdout)
             self.assertIn('; no further step is possible without a change of a program\n', done.stdout)
@@ -289,33 +284,31 @@ class Shrinks(unittest.TestCase):
             # (a text that can't be a literal string)
             text = text.replace("'''\n%s'''" % program, '"""// \'\'\'\n%s"""' % program)
             (folder / 'diamond.toml').write_text(text)
-            subprocess.run(words, cwd=folder, capture_output=True, text=True)
+            call('shrink', *words, cwd=folder)
             small = Scenario.parse((folder / 'diamond.small.toml').read_text())
             self.assertEqual(small.programs, {'p': "// '''\n" + program})
 
     def test_a_limit_ends_it(self) -> None:
         with folder_with() as folder:
-            words = [sys.executable, '-B', str(TOOLS / 'shrink'), 'diamond.toml', REACHED, '--fault', 'silent 0']
+            words = ['diamond.toml', REACHED, '--fault', 'silent 0']
             calls, program, small = folder / 'calls', folder / 'counting', folder / 'diamond.small.toml'
             program.write_text('#!/bin/sh\necho >>%s\nexec %s "$@"\n' % (calls, program_path()))
             program.chmod(0o755)
             here = {**os.environ, 'MOTESIM': str(program)}
             for limit, ran in (1, 0), (3, 2):
-                done = subprocess.run([*words, '--most-runs', str(limit)], cwd=folder, env=here, capture_output=True,
-                                      text=True)
+                done = call('shrink', *words, '--most-runs', str(limit), cwd=folder, env=here)
                 self.assertEqual((done.returncode, done.stdout, done.stderr, small.exists()), (
                     2, '', 'shrink: the limit of %d runs was reached before the first step, after %d runs, so no file '
                     'is written\n' % (limit, ran), False))
             calls.unlink()
-            done = subprocess.run([*words, '--most-runs', '20'], cwd=folder, env=here, capture_output=True, text=True)
+            done = call('shrink', *words, '--most-runs', '20', cwd=folder, env=here)
             self.assertEqual(done.returncode, 0, done.stderr)
             self.assertRegex(done.stdout, r'steps, (19|20) runs; STOPPED: more steps may be possible \(the limit of 20 '
                                           r'runs was reached\)\n')
             self.assertLessEqual(calls.read_text().count('\n'), 20)
-            again = subprocess.run([sys.executable, '-B', str(TOOLS / 'expect'), small.name], cwd=folder,
-                                   capture_output=True, text=True)
+            again = call('expect', small.name, cwd=folder)
             self.assertEqual((again.returncode, again.stdout.split()[0]), (1, 'broken'), again.stderr)
-            done = subprocess.run([*words, '--most-seconds', '0'], cwd=folder, capture_output=True, text=True)
+            done = call('shrink', *words, '--most-seconds', '0', cwd=folder)
             self.assertEqual((done.returncode, done.stderr), (
                 2, 'shrink: the limit of 0 seconds was reached before the first step, after 0 runs, so no file is '
                 'written\n'))
@@ -325,7 +318,7 @@ class Shrinks(unittest.TestCase):
     def test_the_helps_list_the_forms_of_a_fault(self) -> None:
         self.assertEqual({*FORMS, 'parameter'}, {*EFFECTS})
         for tool in 'search', 'shrink':
-            done = subprocess.run([sys.executable, '-B', str(TOOLS / tool), '--help'], capture_output=True, text=True)
+            done = call(tool, '--help')
             for name, (_, words) in FORMS.items():
                 self.assertRegex(done.stdout, '\n  %s +%s\n' % (form_of(name), words))
 
@@ -358,11 +351,9 @@ class Shrinks(unittest.TestCase):
             slow.chmod(0o755)
             source = SOURCE % ('import os\nos.environ["MOTESIM"] = "./slow"\n'
                                'from motesim.search.shrink import Shrinking\nrun = Shrinking.seen\n'
-                               'def seen(self, text):\n'
-                               '    if len(self.taken) == int(os.environ["STEPS"]):\n'
+                               'def seen(self, text):\n' '    if len(self.taken) == int(os.environ["STEPS"]):\n'
                                '        open("hang", "w").close()\n        print("now", flush=True)\n'
-                               '    return run(self, text)\n'
-                               'Shrinking.seen = seen\n')
+                               '    return run(self, text)\n' 'Shrinking.seen = seen\n')
             words = REACHED, '--fault', 'silent 0', '--seconds', '60'
             for steps in 0, 1:
                 with self.subTest(steps), mock.patch.dict(os.environ, STEPS=str(steps)):
@@ -390,15 +381,15 @@ class Shrinks(unittest.TestCase):
 
     def test_motes_with_other_numbers_are_mapped_to_those_of_the_scenario(self) -> None:
         with folder_with() as folder:
-            words = [sys.executable, '-B', str(TOOLS / 'shrink'), 'diamond.toml', REACHED, '--fault', 'silent 0']
-            done = subprocess.run(words, cwd=folder, capture_output=True, text=True)
+            words = ['diamond.toml', REACHED, '--fault', 'silent 0']
+            done = call('shrink', *words, cwd=folder)
             self.assertRegex(done.stdout, r'small.toml breaks: mote 1 prints flood 7\n  in diamond.toml, mote 1 was 3'
                                           r'\n')
             text = (Path(folder) / 'diamond.small.toml').read_text()
             self.assertIn('\n# Mote 0 is mote 0 of diamond.toml, at 0, 0 there.\n'
                           '# Mote 1 is mote 3 of diamond.toml, at 12, 0 there.\nversion', text)
             # (the mote that is left has the number that it had)
-            done = subprocess.run([*words[:4], 'mote 0 halts'], cwd=folder, capture_output=True, text=True)
+            done = call('shrink', *words[:1], 'mote 0 halts', cwd=folder)
             self.assertIn('breaks: mote 0 halts\nIn the small run', done.stdout)
             text = (Path(folder) / 'diamond.small.toml').read_text()
             self.assertIn('\n# Mote 0 is mote 0 of diamond.toml, at 0, 0 there.\nversion', text)
@@ -409,12 +400,11 @@ class Shrinks(unittest.TestCase):
                 'version = 2\nend = 9\nmedium = { range = 9, base = 2, per = 100, collide = false }\n'
                 'mote = [{ x = 0, y = 0, program = "p" }, { x = 5, y = 0, program = "p" }]\n'
                 '[programs]\np = "process p; autostart p; code p { body { print (5 + 2); } }"\n')
-            words = [sys.executable, '-B', str(TOOLS / 'shrink'), 'p.toml']
-            done = subprocess.run([*words, 'mote 1 prints just p 8'], cwd=folder, capture_output=True, text=True)
+            words = ['p.toml']
+            done = call('shrink', *words, 'mote 1 prints just p 8', cwd=folder)
             self.assertIn('so the cause may be another one:\n  before: mote 1 prints 7 instead of 8\n'
                           '  now:    mote 1 prints 1 instead of 8\n', done.stdout)
-            done = subprocess.run([*words, 'mote 1 prints exactly 3 times'], cwd=folder, capture_output=True,
-                                  text=True)
+            done = call('shrink', *words, 'mote 1 prints exactly 3 times', cwd=folder)
             self.assertNotIn('another one', done.stdout)
 
     def test_a_search_shrinks_what_it_finds(self) -> None:

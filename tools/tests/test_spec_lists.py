@@ -2,12 +2,10 @@
 import contextlib
 import io
 import sys
-import tempfile
 import unittest
-from pathlib import Path
 from unittest import mock
 
-import here  # (it puts tools/ on the path)
+from here import TOP, room_of
 from project import spec_lists
 
 MARKS = '<!-- written by tools/dev/spec_lists -->\n<!-- end -->\n'
@@ -63,9 +61,7 @@ All `specs/` together have 7 files.
 
 class Lists(unittest.TestCase):
     def setUp(self) -> None:
-        room = tempfile.TemporaryDirectory()
-        self.addCleanup(room.cleanup)
-        self.top = Path(room.name)
+        self.top = room_of(self)
         for name, text in FILES.items():
             self.put(name, text)
 
@@ -119,13 +115,13 @@ class Lists(unittest.TestCase):
 
 class ThisTree(unittest.TestCase):
     def test_its_pages_are_up_to_date(self) -> None:
-        outdated = [str(it) for it in spec_lists.outdated(here.TOP)]
+        outdated = [str(it) for it in spec_lists.outdated(TOP)]
         self.assertEqual(outdated, [], 'these pages have other lists; tools/dev/spec_lists writes them')
 
     def test_the_headline_rests_on_files_that_come_behind_it(self) -> None:
-        rests = spec_lists.Rests(here.TOP)
+        rests = spec_lists.Rests(TOP)
         self.assertGreater(len(rests.files), 20)
-        places = {path: rests.crates.index(spec_lists.crate_of(here.TOP, path)) for path in rests.files}
+        places = {path: rests.crates.index(spec_lists.crate_of(TOP, path)) for path in rests.files}
         for path, below in rests.files.items():
             for it in below:
                 self.assertLessEqual(places[it], places[path])

@@ -3,11 +3,10 @@ import csv
 import os
 import subprocess
 import sys
-import tempfile
 import unittest
 from pathlib import Path
 
-from here import TOOLS, TOP
+from here import TOOLS, TOP, call, room_of
 from motesim.analysis.command import table_path
 from motesim.analysis.of_plan import plots_of
 from motesim.plan.plan import Plan
@@ -18,9 +17,7 @@ STUDIES = TOP / 'examples/studies'
 
 class StudiesTest(unittest.TestCase):
     def setUp(self) -> None:
-        scratch = tempfile.TemporaryDirectory()
-        self.addCleanup(scratch.cleanup)
-        self.folder = Path(scratch.name)
+        self.folder = room_of(self)
 
     def study(self, name: str, *words: str) -> list[dict[str, str]]:
         """The rows of a study with fewer values. Its pictures are drawn too, or shown as tables."""
@@ -78,8 +75,7 @@ class StudiesTest(unittest.TestCase):
     def test_trickle_in_phase_collides_more(self) -> None:
         need_program(self)
         words = [it for name in ('phases=1,256', 'seed=1,2', 'enough=1', 'step=20') for it in ('--vary', name)]
-        done = subprocess.run([sys.executable, '-B', str(TOOLS / 'sweep'), str(STUDIES / 'trickle.plan.toml'), *words],
-                              cwd=self.folder, capture_output=True, text=True, env=dict(os.environ))
+        done = call('sweep', str(STUDIES / 'trickle.plan.toml'), *words, cwd=self.folder, env=dict(os.environ))
         self.assertEqual(done.returncode, 0, done)
         found = {(int(row['phases']), row['seed']): int(row['collided']) for row in self.rows('trickle')}
         for seed in '1', '2':

@@ -17,7 +17,7 @@ from pathlib import Path
 from typing import Any
 from unittest import mock
 
-from here import TOOLS, TOP
+from here import TOOLS, TOP, room_of
 import stand_in
 from motesim.faults import Fault
 from motesim.plan.plan import Plan
@@ -93,8 +93,7 @@ class Edits(unittest.TestCase):
 
     def test_a_program_text_that_looks_like_tables_is_left_alone(self) -> None:
         text = NET.replace('  var n = 0;', '  var n = 0;\n// [[mote]]\n// x = 8\n[[mote]]\nx = 8')
-        self.assertEqual(self.edited(text, what='move', mote=1, x=9, y=0),
-                         text.replace('x = 8\ny = 0', 'x = 9\ny = 0'))
+        self.assertEqual(self.edited(text, what='move', mote=1, x=9, y=0), text.replace('x = 8\ny = 0', 'x = 9\ny = 0'))
 
     def test_motes_of_an_inline_array_are_moved_added_and_removed(self) -> None:
         for between in ', ', ',\n  ', ', # {x = 7, y = 7}\n', ' , ':
@@ -144,9 +143,8 @@ class Edits(unittest.TestCase):
         dotted = 'version = 1\nend = 1\nmote = [{x.y = 1}, {x = 3, y = 2, program = "p"}]\n'
         self.assertIn('cannot change', self.refused(dotted, what='move', mote=0, x=1, y=1))
         self.assertIn('has an error', self.refused(NET + '[', what='move', mote=0, x=1, y=1))
-        wishes: list[dict[str, Any]] = [
-            {'mote': 3, 'x': 0, 'y': 0}, {'mote': 0, 'x': 30_001, 'y': 0}, {'mote': 0, 'x': 0.5, 'y': 0},
-            {'mote': True, 'x': 0, 'y': 0}, {'mote': 0, 'x': 0}]
+        wishes: list[dict[str, Any]] = [{'mote': 3, 'x': 0, 'y': 0}, {'mote': 0, 'x': 30_001, 'y': 0}, {'mote': 0,
+            'x': 0.5, 'y': 0}, {'mote': True, 'x': 0, 'y': 0}, {'mote': 0, 'x': 0}]
         for wish in wishes:
             self.assertIn('is a whole number', self.refused(NET, what='move', **wish))
         self.assertIn('has no program', self.refused(NET, what='add', x=0, y=0, program='q'))
@@ -158,9 +156,7 @@ class Edits(unittest.TestCase):
 
 class Files(unittest.TestCase):
     def setUp(self) -> None:
-        room = tempfile.TemporaryDirectory()
-        self.addCleanup(room.cleanup)
-        self.room = Path(room.name).resolve()
+        self.room = room_of(self)
         self.file = self.room / 'net.toml'
         self.file.write_text(NET)
         self.desk = Desk(self.file)
@@ -359,9 +355,7 @@ class Answering(unittest.TestCase):
         program = stand_in.program()
         program.__enter__()
         self.addCleanup(program.__exit__, None, None, None)
-        room = tempfile.TemporaryDirectory()
-        self.addCleanup(room.cleanup)
-        self.file = Path(room.name, 'net.toml')
+        self.file = room_of(self) / 'net.toml'
         self.file.write_text(NET)
         self.file.with_suffix('.expect.toml').write_text(EXPECTED)
         self.server = Server(Session(Desk(self.file), Runs(Limits())))

@@ -1,16 +1,13 @@
 """The page of tools/studio in a headless browser, where there is one: what is typed, shown, dragged and clicked."""
 import contextlib
 import json
-import sys
-import tempfile
 import threading
-import unittest
 from pathlib import Path
 from typing import Any
 
-from here import TOP
+from here import TOP, room_of
 import stand_in
-from browser import Browser
+from browser import InBrowser
 from motesim.studio.desk import Desk
 from motesim.studio.runs import Limits, Runs
 from motesim.studio.server import CODEMIRROR, Server, has_editor
@@ -62,29 +59,14 @@ expect = ["mote 1 prints talker 9"]
 READY = 'window.motesim && motesim.ready && (motesim.studio.judged || document.body.classList.contains("stale"))'
 
 
-class Page(unittest.TestCase):
+class Page(InBrowser):
     """The page of a small net, run by a program that stands in for the built one."""
-    browser: Any
     server: Any
-
-    @classmethod
-    def setUpClass(cls) -> None:
-        cls.browser, why = Browser.start()
-        if cls.browser is None:
-            said = 'the page of tools/studio is not tried: ' + why
-            with contextlib.suppress(OSError):
-                print(said, file=sys.stderr)
-            raise unittest.SkipTest('browser: %s' % said)
-
-    @classmethod
-    def tearDownClass(cls) -> None:
-        if cls.browser is not None:
-            cls.browser.close()
 
     def setUp(self) -> None:
         self.stack = contextlib.ExitStack()
         self.addCleanup(self.stack.close)
-        self.room = Path(self.stack.enter_context(tempfile.TemporaryDirectory()))
+        self.room = room_of(self)
         self.program = self.stack.enter_context(stand_in.program())
         self.file = self.room / 'net.toml'
         self.file.write_text(NET)

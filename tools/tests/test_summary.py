@@ -4,13 +4,10 @@ import io
 import json
 import re
 import subprocess
-import sys
-import tempfile
 import unittest
-from pathlib import Path
 from unittest import mock
 
-from here import TOOLS
+from here import call, room_of
 from motesim.summary import counts as summary
 from motesim.faults import Fault
 from motesim.summary.flows import FlowFault, flow_rows, read_flow
@@ -81,24 +78,19 @@ y = 0
 program = "talker"
 '''
 
-MOTES = [
-    {'mote': 0, 'program': 'talker', 'sent': 6, 'copies': 0, 'received': 0, 'lost': 0, 'ring': 0, 'collided': 0,
-     'halted': 0, 'late': 0, 'ratio': None, 'posted': 1, 'taken': 2, 'dropped': 1, 'refused': 0, 'prints': 0,
-     'halt': None},
-    {'mote': 1, 'program': 'hearer', 'sent': 0, 'copies': 7, 'received': 1, 'lost': 1, 'ring': 1, 'collided': 2,
-     'halted': 1, 'late': 1, 'ratio': 0.166666666667, 'posted': 1, 'taken': 1, 'dropped': 0, 'refused': 1, 'prints': 2,
-     'halt': 8},
-    {'mote': 2, 'program': 'talker', 'sent': 1, 'copies': 0, 'received': 0, 'lost': 0, 'ring': 0, 'collided': 0,
-     'halted': 0, 'late': 0, 'ratio': None, 'posted': 0, 'taken': 0, 'dropped': 0, 'refused': 0, 'prints': 0,
-     'halt': None}]
+MOTES = [{'mote': 0, 'program': 'talker', 'sent': 6, 'copies': 0, 'received': 0, 'lost': 0, 'ring': 0, 'collided': 0,
+          'halted': 0, 'late': 0, 'ratio': None, 'posted': 1, 'taken': 2, 'dropped': 1, 'refused': 0, 'prints': 0,
+          'halt': None}, {'mote': 1, 'program': 'hearer', 'sent': 0, 'copies': 7, 'received': 1, 'lost': 1, 'ring': 1,
+                          'collided': 2, 'halted': 1, 'late': 1, 'ratio': 0.166666666667, 'posted': 1, 'taken': 1,
+                          'dropped': 0, 'refused': 1, 'prints': 2, 'halt': 8}, {'mote': 2, 'program': 'talker',
+    'sent': 1, 'copies': 0, 'received': 0, 'lost': 0, 'ring': 0, 'collided': 0, 'halted': 0, 'late': 0, 'ratio': None,
+    'posted': 0, 'taken': 0, 'dropped': 0, 'refused': 0, 'prints': 0, 'halt': None}]
 NET = {'mote': 'net', 'program': '', 'sent': 7, 'copies': 7, 'received': 1, 'lost': 1, 'ring': 1, 'collided': 2,
        'halted': 1, 'late': 1, 'ratio': 0.166666666667, 'posted': 2, 'taken': 3, 'dropped': 1, 'refused': 1, 'prints': 2,
        'halt': 1}
-LINKS = [
-    {'from': 0, 'to': 1, 'copies': 6, 'received': 1, 'lost': 1, 'ring': 1, 'collided': 1, 'halted': 1, 'late': 1,
-     'ratio': 0.2, 'delay': 3},
-    {'from': 2, 'to': 1, 'copies': 1, 'received': 0, 'lost': 0, 'ring': 0, 'collided': 1, 'halted': 0, 'late': 0,
-     'ratio': 0.0, 'delay': 4}]
+LINKS = [{'from': 0, 'to': 1, 'copies': 6, 'received': 1, 'lost': 1, 'ring': 1, 'collided': 1, 'halted': 1, 'late': 1,
+          'ratio': 0.2, 'delay': 3}, {'from': 2, 'to': 1, 'copies': 1, 'received': 0, 'lost': 0, 'ring': 0,
+                                      'collided': 1, 'halted': 0, 'late': 0, 'ratio': 0.0, 'delay': 4}]
 SILENT = {'copies': 0, 'received': 0, 'lost': 0, 'ring': 0, 'collided': 0, 'halted': 0, 'late': 0, 'ratio': None}
 
 
@@ -127,9 +119,7 @@ class Counts(unittest.TestCase):
 
 class Forms(unittest.TestCase):
     def setUp(self) -> None:
-        self.folder = tempfile.TemporaryDirectory()
-        self.addCleanup(self.folder.cleanup)
-        self.path = Path(self.folder.name) / 'report'
+        self.path = room_of(self) / 'report'
         self.path.write_text(REPORT, encoding='ascii')
 
     def say(self, *words: str) -> str:
@@ -138,8 +128,7 @@ class Forms(unittest.TestCase):
         return done.stdout
 
     def run_it(self, *words: str) -> subprocess.CompletedProcess[str]:
-        command = [sys.executable, '-B', str(TOOLS / 'summary'), str(self.path), *words]
-        return subprocess.run(command, capture_output=True, text=True)
+        return call('summary', str(self.path), *words)
 
     def test_text_has_columns(self) -> None:
         self.assertEqual(self.say('--links'), '''\

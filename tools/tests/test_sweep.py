@@ -1,19 +1,16 @@
 """Sweeps: what is measured, what the rows say, what is run again, faults, and Ctrl-C."""
-import contextlib
 import csv
 import gc
-import io
 import os
 import signal
 import subprocess
 import sys
-import tempfile
 import time
 import unittest
 from pathlib import Path
 from unittest import mock
 
-from here import TOOLS
+from here import TOOLS, room_of
 from motesim.faults import Fault
 from motesim.experiments.measures import Bench, MeasureFault, imports_of, read_measure
 from motesim.experiments.one_run import digest, run_job
@@ -108,9 +105,8 @@ MEASURES: list[tuple[str, str, Cell]] = [
 ]
 WRONG = ['speed', 'moment: mote 1 never prints a', 'moment: no mote halts', 'moment: no copy collides',
          'delivery: mote 0 sends -> every mote prints a twice', 'count: every mote sends exactly 3 times',
-         'last: mote 1 prints a twice', 'motes: motes 1 and 2 together print a',
-         'delay: mote 0 sends', 'delivery: mote 0 sends', 'moment: mote 0 sends -> mote 1 sends',
-         'flow fast: print a', 'flow most: halt',
+         'last: mote 1 prints a twice', 'motes: motes 1 and 2 together print a', 'delay: mote 0 sends',
+         'delivery: mote 0 sends', 'moment: mote 0 sends -> mote 1 sends', 'flow fast: print a', 'flow most: halt',
          'python: mine.py:none', 'python: no.py:x', "holds: the scenario is refused with 'medium fault 2'"]
 # Mote 0 sends the messages 7 and 8. Mote 1 prints both, mote 2 one of them, and mote 3 none.
 FLOOD = '''mote 0 p
@@ -295,9 +291,7 @@ class Bed(unittest.TestCase):
     """A folder with a plan and a program that answers short reports."""
 
     def setUp(self) -> None:
-        scratch = tempfile.TemporaryDirectory()
-        self.addCleanup(scratch.cleanup)
-        self.folder = Path(scratch.name)
+        self.folder = room_of(self)
         self.stub = write_stub(self.folder)
         (self.folder / 'net.plan.toml').write_text(PLAN)
         (self.folder / 'a.mote').write_text(MOTE)
@@ -699,10 +693,9 @@ class SweepTest(Bed):
             '                pass\n        except BaseException:\n            pass\n    return 1\n')
         # (it is ended when it has taken the time that a busy machine may need; here the machine counts as idle)
         source = 'from motesim.experiments import runs; runs.BUSY = 1; from motesim.commands.sweep import main; main()'
-        done = subprocess.run(
-            [sys.executable, '-B', '-c', source, *self.command('--vary', 'motes=1..3', '--measure',
-                                                               'python: mine.py:lines', '--seconds', '0.3')[3:]],
-            cwd=self.folder, env={**self.here(), 'PYTHONPATH': str(TOOLS)}, capture_output=True, text=True)
+        done = subprocess.run([sys.executable, '-B', '-c', source, *self.command('--vary', 'motes=1..3', '--measure',
+            'python: mine.py:lines', '--seconds', '0.3')[3:]], cwd=self.folder, env={**self.here(),
+            'PYTHONPATH': str(TOOLS)}, capture_output=True, text=True)
         self.assertEqual((done.returncode, [bool(row['fault']) for row in self.rows()]), (1, [False, True, False]),
                          done.stderr)
         self.assertRegex(self.rows()[1]['fault'], 'not finished after [0-9.]+ seconds')

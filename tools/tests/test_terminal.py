@@ -1,11 +1,9 @@
 """What tools print never commands a terminal, whatever names somebody else chose."""
 import subprocess
 import sys
-import tempfile
 import unittest
-from pathlib import Path
 
-from here import TOOLS
+from here import TOOLS, room_of
 from motesim.terminal import one_line, plain
 from skips import need_program
 
@@ -14,9 +12,7 @@ ERASE = '\r\x1b[2K'
 
 class Terminal(unittest.TestCase):
     def setUp(self) -> None:
-        scratch = tempfile.TemporaryDirectory()
-        self.addCleanup(scratch.cleanup)
-        self.top = Path(scratch.name)
+        self.top = room_of(self)
 
     def printed(self, tool: str, *words: str) -> str:
         """The output and the errors of a tool."""

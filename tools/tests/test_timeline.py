@@ -1,19 +1,13 @@
 """The pages of tools/timeline: their data, and in a headless browser, where there is one, what they show."""
 import base64
-import contextlib
-import io
 import json
 import re
-import subprocess
-import sys
-import tempfile
 import unittest
 import zlib
-from pathlib import Path
 from typing import Any
 
-from here import TOP
-from browser import Browser
+from here import TOP, call, room_of
+from browser import InBrowser
 from motesim.faults import Fault
 from motesim.report import KINDS, Report
 from motesim.runner.run import Run
@@ -120,53 +114,30 @@ class Data(unittest.TestCase):
 
 
 class Command(unittest.TestCase):
-    def tool(self, room: str, *words: str, given: str = '') -> subprocess.CompletedProcess[str]:
-        return subprocess.run([sys.executable, '-B', str(TOP / 'tools/timeline'), *words], cwd=room, input=given,
-            capture_output=True,
-                              text=True)
-
     def test_the_page_stands_in_the_current_folder(self) -> None:
-        with tempfile.TemporaryDirectory() as room:
-            Path(room, 'a.txt').write_text(SILENT)
-            done = self.tool(room, 'a.txt')
-            self.assertEqual((done.returncode, done.stdout, done.stderr), (0, 'a.html\n', ''))
-            self.assertIn('<h1>a</h1>', Path(room, 'a.html').read_text())
-            done = self.tool(room, '-', '-o', 'b.html', '--title', 'Two motes', given=SILENT)
-            self.assertEqual((done.returncode, done.stdout), (0, 'b.html\n'))
-            self.assertIn('<h1>Two motes</h1>', Path(room, 'b.html').read_text())
+        room = room_of(self)
+        (room / 'a.txt').write_text(SILENT)
+        done = call('timeline', 'a.txt', cwd=room)
+        self.assertEqual((done.returncode, done.stdout, done.stderr), (0, 'a.html\n', ''))
+        self.assertIn('<h1>a</h1>', (room / 'a.html').read_text())
+        done = call('timeline', '-', '-o', 'b.html', '--title', 'Two motes', cwd=room, input=SILENT)
+        self.assertEqual((done.returncode, done.stdout), (0, 'b.html\n'))
+        self.assertIn('<h1>Two motes</h1>', (room / 'b.html').read_text())
 
     def test_a_fault_is_one_line(self) -> None:
-        with tempfile.TemporaryDirectory() as room:
-            for words in (['-'], ['nowhere.txt'], ['-', '--scenario', 'nowhere.toml']):
-                done = self.tool(room, *words, given='nothing')
-                self.assertEqual((done.returncode, done.stdout), (2, ''))
-                self.assertRegex(done.stderr, r'\Atimeline: .+\n\Z')
-            self.assertEqual(list(Path(room).iterdir()), [])
+        room = room_of(self)
+        for words in (['-'], ['nowhere.txt'], ['-', '--scenario', 'nowhere.toml']):
+            done = call('timeline', *words, cwd=room, input='nothing')
+            self.assertEqual((done.returncode, done.stdout), (2, ''))
+            self.assertRegex(done.stderr, r'\Atimeline: .+\n\Z')
+        self.assertEqual(list(room.iterdir()), [])
 
 
-class Pages(unittest.TestCase):
+class Pages(InBrowser):
     """A page in a browser."""
-    browser: Any
-    room: Any
-
-    @classmethod
-    def setUpClass(cls) -> None:
-        cls.browser, why = Browser.start()
-        if cls.browser is None:
-            said = 'the pages of tools/timeline are not tried: ' + why
-            with contextlib.suppress(OSError):
-                print(said, file=sys.stderr)
-            raise unittest.SkipTest('browser: %s' % said)
-        cls.room = tempfile.TemporaryDirectory()
-
-    @classmethod
-    def tearDownClass(cls) -> None:
-        if cls.browser is not None:
-            cls.browser.close()
-            cls.room.cleanup()
 
     def open(self, *runs: Any, fragment: str = '', **words: Any) -> None:
-        page = Path(self.room.name, 'page.html')
+        page = room_of(self) / 'page.html'
         write_page(page, 'A page', runs, **words)
         self.browser.faults.clear()
         self.browser.size(1280, 800)
@@ -467,7 +438,7 @@ class Pages(unittest.TestCase):
         self.browser.size(390, 800)
         self.browser.settle()
         self.assertLessEqual(self.value('document.documentElement.scrollWidth'), 390)
-        pdf = Path(self.room.name, 'page.pdf')
+        pdf = room_of(self) / 'page.pdf'
         self.browser.print(pdf)
         self.assertEqual(pdf.read_bytes()[:5], b'%PDF-')
 

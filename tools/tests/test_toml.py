@@ -3,12 +3,10 @@ import itertools
 import os
 import subprocess
 import sys
-import tempfile
 import time
 import unittest
-from pathlib import Path
 
-from here import TOOLS
+from here import TOOLS, call, room_of
 from motesim.toml import NoToml, pieces, read_toml
 from stub import processes_of, run_whole, write_stub
 
@@ -85,9 +83,7 @@ class Tools(unittest.TestCase):
     """Each tool on each text: one line on standard error or an explanation, and never a traceback."""
 
     def setUp(self) -> None:
-        scratch = tempfile.TemporaryDirectory()
-        self.addCleanup(scratch.cleanup)
-        self.folder = Path(scratch.name)
+        self.folder = room_of(self)
         self.stub = write_stub(self.folder)
         (self.folder / 'plain.expect.toml').write_text(PLAIN)
         for name, text in TEXTS.items():
@@ -132,8 +128,7 @@ class Tools(unittest.TestCase):
 
     def test_a_file_of_expectations(self) -> None:
         (self.folder / 'net.toml').write_text('x = 1\n')
-        done = subprocess.run([sys.executable, '-B', str(TOOLS / 'expect'), 'net.toml', 'deep.toml'], cwd=self.folder,
-                              env={**os.environ, 'MOTESIM': str(self.stub)}, capture_output=True, text=True)
+        done = call('expect', 'net.toml', 'deep.toml', cwd=self.folder, env={**os.environ, 'MOTESIM': str(self.stub)})
         self.assertEqual((done.returncode, done.stdout), (2, ''))
         self.assertIn('deep.toml is not TOML: Arrays or tables are nested too deeply', done.stderr)
         self.assertEqual(done.stderr.count('\n'), 1)

@@ -2,10 +2,9 @@
 import json
 import re
 import subprocess
-import sys
 import unittest
 
-from here import TOOLS, TOP
+from here import TOP, call
 import skips
 import test_why
 from motesim.faults import Fault
@@ -118,8 +117,7 @@ class Runs(unittest.TestCase):
         self.assertGreater(compared, 20)
 
     def why(self, *arguments: str) -> subprocess.CompletedProcess[str]:
-        return subprocess.run([sys.executable, str(TOOLS / 'why'), *arguments], capture_output=True, text=True,
-                              cwd=TOP)
+        return call('why', *arguments, cwd=TOP)
 
     def test_the_command(self) -> None:
         got = self.why('examples/flooding.toml', '--json', '--watch', 'mote', '3', 'newest')

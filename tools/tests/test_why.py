@@ -1,20 +1,16 @@
 """The causes of lines that tools/why reports. The chains are worked out by hand from the scenarios."""
 import json
 import os
-import re
 import subprocess
-import sys
 import tempfile
 import time
 import unittest
 from contextlib import redirect_stdout
 from io import StringIO
 from pathlib import Path
-from types import SimpleNamespace
 from typing import cast
-from unittest.mock import patch
 
-from here import TOOLS, TOP
+from here import TOP, call
 import skips
 import test_summary
 from motesim.contiki.random_scenario import random_scenario
@@ -28,7 +24,7 @@ from motesim.why.fate import after_post, fate_of
 from motesim.why.lines_of_file import ScenarioFile
 from motesim.why.miss import Miss, _Misses, misses
 from motesim.why.question import Asked, Asker, Missing, Unasked
-from motesim.why.replay import Parted, Reached, Replay
+from motesim.why.replay import Parted
 from motesim.why.source import At, Source
 from motesim.why.translate import translated
 
@@ -334,8 +330,7 @@ class Causes(unittest.TestCase):
         self.assertEqual(because(found, At(0, 12)), 'b, line 19: `send 8`; b was polled by a in line 10: `poll b`')
         self.assertEqual(because(found, At(0, 9)),
                          'c, line 39: `print data`; c was called by a with msg 7 in line 12: `synch c msg 7`')
-        self.assertEqual(because(found, At(0, 10)),
-                         'c, line 33: `print 3`; c was killed by a in line 13: `kill c`')
+        self.assertEqual(because(found, At(0, 10)), 'c, line 33: `print 3`; c was killed by a in line 13: `kill c`')
         self.assertEqual(because(found, At(0, 17)), 'c, line 30: `print 2`; the callback of timer late')
         self.assertEqual(because(found, At(0, 15)),
                          'timer late was due 2 moments after c set it in line 36: `set late 2`')
@@ -597,11 +592,10 @@ class Misses(unittest.TestCase):
         """Six thousand packets that meet at one mote are looked up in linear work: square work would need 20 s."""
         count = 6000
         packets = range(count)
-        text = '\n'.join([
-            'mote 0 talker', *('0 send %d 7' % it for it in packets),
-            'mote 1 hearer', *('0 start %s' % it for it in ('etimer', 'ctimer', 'radio', 'h')),
-            *('4 collide 0 %d' % it for it in packets),
-            'medium', *('0 0 %d 7 1@4' % it for it in packets), 'left 0\n'])
+        text = '\n'.join(['mote 0 talker', *('0 send %d 7' % it for it in packets), 'mote 1 hearer',
+                          *('0 start %s' % it for it in ('etimer', 'ctimer', 'radio', 'h')),
+                          *('4 collide 0 %d' % it for it in packets), 'medium',
+                          *('0 0 %d 7 1@4' % it for it in packets), 'left 0\n'])
         asker = Asker(source(report=text))
         missing = asker.about('mote 1 prints h 7')
         assert isinstance(missing, Missing)
@@ -771,8 +765,7 @@ class Runs(unittest.TestCase):
                       self.near('small_network.toml', 'mote 1 receives 40'))
         self.assertIn('it halted at 0; line 6: `while 1` repeated 4998 times in this call, and nothing in its block '
                       'waited: if the loop waits for something, write a `yield_until` in it; if it calculates, write a '
-                      '`pause` in it, after which it continues at once',
-                      self.near('runaway.toml', 'mote 0 prints a 9'))
+                      '`pause` in it, after which it continues at once', self.near('runaway.toml', 'mote 0 prints a 9'))
 
     def test_an_event_for_a_process_that_is_not_on_the_process_list(self) -> None:
         run = self.run_of('broadcast.toml')
@@ -799,8 +792,7 @@ class Runs(unittest.TestCase):
                          '`synch reading msg (data % 100)`')
 
     def why(self, *arguments: str) -> subprocess.CompletedProcess[str]:
-        return subprocess.run([sys.executable, str(TOOLS / 'why'), *arguments], capture_output=True, text=True,
-                              cwd=TOP, env=dict(os.environ))
+        return call('why', *arguments, cwd=TOP, env=dict(os.environ))
 
     def test_a_question_without_quotes(self) -> None:
         shown = self.why('examples/flooding.toml', 'mote', '3', 'prints', 'flood', '2', '--short')

@@ -1,14 +1,12 @@
 """The causes in the page of a run: in a headless browser, what the chain and the plots show."""
-import tempfile
 import unittest
 import xml.etree.ElementTree
-from pathlib import Path
 
-from here import TOP
+from here import TOP, room_of
 import skips
 import test_summary
 import test_why
-from browser import Browser
+from browser import InBrowser
 from motesim.judge.judge import Judge
 from motesim.judge.sentences import names_of, read_sentence
 from motesim.report import Report
@@ -99,26 +97,9 @@ class Notes(unittest.TestCase):
         self.assertEqual(note_of(small_run(), 'the report', None, ('line 3: x',)).lines, (Line('line 3: x'),))
 
 
-class Pages(unittest.TestCase):
-    browser: Browser
-
-    room: tempfile.TemporaryDirectory[str]
-
-    @classmethod
-    def setUpClass(cls) -> None:
-        browser, why = Browser.start()
-        if browser is None:
-            raise unittest.SkipTest('browser: %s' % why)
-        cls.browser = browser
-        cls.room = tempfile.TemporaryDirectory()
-
-    @classmethod
-    def tearDownClass(cls) -> None:
-        cls.browser.close()
-        cls.room.cleanup()
-
+class Pages(InBrowser):
     def open(self, run: Run, fragment: str = '') -> None:
-        path = Path(self.room.name, 'page.html')
+        path = room_of(self) / 'page.html'
         write_page(path, 'page', [run])
         self.browser.open(path, fragment)
 

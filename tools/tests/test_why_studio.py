@@ -1,15 +1,13 @@
 """Causes, states, values and the log in the studio, on runs of the built program."""
 import json
-import tempfile
 import threading
 import unittest
-from pathlib import Path
 from typing import Any
 
-from here import TOP
+from here import TOP, room_of
 import skips
 import test_why
-from browser import Browser
+from browser import InBrowser
 from motesim.report import Report
 from motesim.runner.run import Run
 from motesim.scenario import Scenario
@@ -76,26 +74,10 @@ class Answers(unittest.TestCase):
         self.assertIn('no variable', self.ask('values', names='x')['said'])
 
 
-class Page(unittest.TestCase):
-    browser: Browser
-    room: tempfile.TemporaryDirectory[str]
-
-    @classmethod
-    def setUpClass(cls) -> None:
-        browser, why = Browser.start()
-        if browser is None:
-            raise unittest.SkipTest(why)
-        cls.browser = browser
-
-    @classmethod
-    def tearDownClass(cls) -> None:
-        cls.browser.close()
-
+class Page(InBrowser):
     def setUp(self) -> None:
         skips.need_program(self)
-        self.room = room = tempfile.TemporaryDirectory()
-        self.addCleanup(room.cleanup)
-        file = Path(room.name, 'flooding.toml')
+        self.file = file = room_of(self) / 'flooding.toml'
         file.write_text((TOP / 'examples/flooding.toml').read_text())
         file.with_suffix('.expect.toml').write_text('expect = ["mote 0 prints flood 1"]\n')
         self.server = Server(Session(Desk(file), Runs(Limits())), CODEMIRROR)
@@ -190,7 +172,7 @@ class Page(unittest.TestCase):
         self.wait('cards', 'Runs now\n%s\n' % runs)
 
     def open_steps(self, text: str) -> None:
-        (Path(self.room.name) / 'flooding.toml').write_text(text)
+        self.file.write_text(text)
         self.browser.run('motesim.studio.asks = false')
         self.browser.visit(self.server.address, READY)
         self.tab('steps')

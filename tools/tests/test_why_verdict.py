@@ -98,8 +98,7 @@ def report_of(chance: random.Random) -> str:
             medium.append((at, mote, number, '%d %d %d %d%s' % (at, mote, number, value, copies)))
     lines = []
     for mote, trace in enumerate(traces):
-        lines += ['mote %d p' % mote,
-                  *('%d %s' % (at, words) for at, _, words in sorted(trace, key=lambda it: it[:2]))]
+        lines += ['mote %d p' % mote, *('%d %s' % (at, words) for at, _, words in sorted(trace, key=lambda it: it[:2]))]
         if chance.random() < 0.3:
             lines.append('%d halt' % END)
     return '\n'.join([*lines, 'medium', *(it[3] for it in sorted(medium)), 'left 0', ''])

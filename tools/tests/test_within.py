@@ -1,13 +1,9 @@
 """Runs of tools/explain and tools/expect that reach a limit: the message names the process that prints, pauses or
 posts most."""
 import os
-import subprocess
-import sys
-import tempfile
 import unittest
-from pathlib import Path
 
-from here import TOOLS
+from here import call, room_of
 from motesim.explain.within import answer_within, busiest
 from motesim.runner import Limits, ProgramFault
 from skips import need_program
@@ -66,15 +62,12 @@ program = "p"
 class Endless(unittest.TestCase):
     def setUp(self) -> None:
         need_program(self)
-        scratch = tempfile.TemporaryDirectory()
-        self.addCleanup(scratch.cleanup)
-        self.folder = Path(scratch.name)
+        self.folder = room_of(self)
         (self.folder / 'net.expect.toml').write_text('expect = ["no mote halts"]\n')
 
     def said(self, tool: str, word: str, *words: str) -> str:
         (self.folder / 'net.toml').write_text(NET % PROGRAM % word)
-        done = subprocess.run([sys.executable, '-B', str(TOOLS / tool), 'net.toml', *words], cwd=self.folder,
-                              env=dict(os.environ), capture_output=True, text=True, timeout=120)
+        done = call(tool, 'net.toml', *words, cwd=self.folder, env=dict(os.environ), timeout=120)
         self.assertEqual((done.returncode, done.stdout), (2, ''), done)
         return done.stderr
 

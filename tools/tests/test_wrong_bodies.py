@@ -10,7 +10,7 @@ from types import SimpleNamespace
 from typing import Any
 from unittest import mock
 
-import here  # (it puts tools/ on the path)
+from here import TOP, room_of
 from motesim.faults import Fault
 from project import kit, wrong_bodies
 from project.mutants import checks, log
@@ -79,9 +79,7 @@ class Functions(unittest.TestCase):
 
 class Edits(unittest.TestCase):
     def setUp(self) -> None:
-        room = tempfile.TemporaryDirectory()
-        self.addCleanup(room.cleanup)
-        self.room = Path(room.name)
+        self.room = room_of(self)
         self.crate = crate_at(self.room, {'src/lib.rt': CODE, 'src/other.rt': 'fn four() -> u8 {\n    3\n}\n'})
         patch = mock.patch('project.mutants.edits.edited', self.edited)
         patch.start()
@@ -155,10 +153,8 @@ def crate_at(room: Path, files: dict[str, str]) -> Any:
 
 class WhatACheckSays(unittest.TestCase):
     def setUp(self) -> None:
-        room = tempfile.TemporaryDirectory()
-        self.addCleanup(room.cleanup)
-        crate_at(Path(room.name), {'proofs/q/post/Answers.antt': 'pub returns : goal.returns\nreturns c = c.new\n'})
-        self.room = Path(room.name)
+        self.room = room_of(self)
+        crate_at(self.room, {'proofs/q/post/Answers.antt': 'pub returns : goal.returns\nreturns c = c.new\n'})
 
     def verdict(self, *lines: str) -> Verdict | None:
         return next(iter(refused_in(lines, self.room).values()), None)
@@ -291,9 +287,7 @@ class Trials(unittest.TestCase):
 
 class Log(unittest.TestCase):
     def setUp(self) -> None:
-        room = tempfile.TemporaryDirectory()
-        self.addCleanup(room.cleanup)
-        self.room, self.kit = Path(room.name), 'one'
+        self.room, self.kit = room_of(self), 'one'
         for name, value in ('KEPT', self.room / 'log/kept.tsv'), ('version', lambda: self.kit):
             patch = mock.patch.object(log, name, value)
             patch.start()
@@ -305,8 +299,7 @@ class Log(unittest.TestCase):
         self.note({a: first, b: first, gone: first}, '1', [a, b, gone])
         self.note({b: last}, '2', [a, b])
         found = log.noted()
-        self.assertEqual((list(found), found['low/a'].verdict, found['low/b'].digest), (['low/a', 'low/b'], first,
-                                                                                        '2'))
+        self.assertEqual((list(found), found['low/a'].verdict, found['low/b'].digest), (['low/a', 'low/b'], first, '2'))
         self.assertTrue(found['low/b'].verdict.why.startswith('an error xxx'))
 
     def note(self, found: dict[Edit, Verdict], digest: str, edits: Sequence[Edit]) -> None:
@@ -357,7 +350,7 @@ class Log(unittest.TestCase):
 @unittest.skipUnless(shutil.which('rt'), 'the command rt of the Rattle kit is not here')
 class OfThisTree(unittest.TestCase):
     def test_each_mutant_can_be_applied(self) -> None:
-        edits = [it for crate in kit.crates_below(here.TOP) for it in edits_of(crate)]
+        edits = [it for crate in kit.crates_below(TOP) for it in edits_of(crate)]
         self.assertGreater(len(edits), 200)
         self.assertEqual(['%s: %s' % (it.name, it.trouble) for it in edits if it.trouble], [])
 
