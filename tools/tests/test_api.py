@@ -14,11 +14,7 @@ from stub import write_stub
 
 SCENARIO = '''version = 2
 end = 100
-[medium]
-range = 10
-base = 2
-per = 100
-collide = false
+medium = { range = 10, base = 2, per = 100, collide = false }
 [programs]
 p = "process a; autostart a; code a { body { print 7; } }"
 ''' + ''.join('[[mote]]\nx = %d\ny = 0\nprogram = "p"\n' % (10 * number) for number in range(3))
@@ -51,11 +47,6 @@ class Calls(unittest.TestCase):
         self.assertEqual([str(mote.lines[-1]) for mote in run.report.motes], ['7 print a 7', '14 print a 7',
                                                                               '21 print a 7'])
         self.assertEqual(run.scenario and run.scenario.motes, 3)
-
-    def test_a_file_is_run(self) -> None:
-        path = self.room / 'net.toml'
-        path.write_text(SCENARIO)
-        self.assertEqual(motesim.run(path).report.text(), motesim.run(str(path)).report.text())
 
     def test_a_plan_is_run_with_its_parameters(self) -> None:
         (self.room / 'net.plan.toml').write_text(PLAN)
@@ -93,14 +84,6 @@ class Calls(unittest.TestCase):
             motesim.run(b'[')
         with self.assertRaises(AttributeError):
             motesim.nothing
-
-    def test_nothing_is_imported_before_it_is_asked_for(self) -> None:
-        source = 'import sys; sys.path.insert(0, %r); import motesim; print(len(sys.modules)); motesim.run' % str(TOOLS)
-        done = subprocess.run([sys.executable, '-B', '-S', '-c',
-                               source + '; print("motesim.judge.judge" in sys.modules)'],
-                              capture_output=True, text=True, check=True)
-        self.assertEqual(done.stdout.splitlines()[1], 'True')
-        self.assertLess(int(done.stdout.splitlines()[0]), 80)
 
 
 class Installed(unittest.TestCase):

@@ -95,14 +95,6 @@ class Command(unittest.TestCase):
         self.assertIn('No line was changed: the first error has no corrected line.', out)
         self.assertIn('o.toml, line 11, which is line 5 of program p:', out)
 
-    def test_a_file_in_another_encoding_is_refused(self) -> None:
-        path = self.folder / 'wide.mote'
-        path.write_bytes(BROKEN.encode('utf-16'))
-        status, _, err = self.run_on(str(path), '--apply', str(self.folder / 'wide.toml'))
-        self.assertEqual(status, 2)
-        self.assertIn('UTF-8', err)
-        self.assertFalse((self.folder / 'wide.toml').exists())
-
     def test_a_file_that_is_there_already_is_kept_under_another_name(self) -> None:
         output, name = self.folder / 'net.toml', self.written('b.mote', BROKEN)
         output.write_text('# my net\n')

@@ -49,12 +49,6 @@ class Check(unittest.TestCase):
 
 
 class Commands(Check):
-    def test_each_describes_itself(self) -> None:
-        for command in ('run_cases', 'check_examples', 'check_tutorial', 'spoil_bytes', 'compare_workers',
-                        'refuse_memory'):
-            done = subprocess.run([str(TOOLS / 'dev' / command), '--help'], capture_output=True, text=True)
-            self.assertIn('tools/dev/' + command, done.stdout)
-
     def test_without_a_program_they_fail(self) -> None:
         self.assertIn('there is no program', self.check('spoil_bytes')[0])
 

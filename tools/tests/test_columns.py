@@ -93,13 +93,6 @@ class Reading(unittest.TestCase):
         # (not all changes make the text a wrong one)
         self.assertGreater(kept, 200)
 
-    def test_a_trace_in_pieces_has_its_order_and_its_end(self) -> None:
-        for size in 1, 16, 40:
-            with mock.patch.object(fast, 'PIECE', size):
-                self.assertTrue(self.check(SMALL.encode()))
-                self.assertFalse(self.check(SMALL.replace('9 drop', '3 drop').encode()))
-                self.assertFalse(self.check(SMALL.replace('7 deaf', '7 halt\n7 deaf').encode()))
-
     def test_names_with_digits_stay_apart(self) -> None:
         text = SMALL.replace('4 full all msg', '4 full a1 a1').replace('4 take 0 talk', '4 take 0 a11').replace(
             '4 print talk', '4 print a_1').replace('0 start busy', '0 start b').replace('9 drop 1 busy', '9 drop 1 b2')
@@ -122,13 +115,6 @@ class Reading(unittest.TestCase):
             self.assertEqual(self.check(SMALL.replace('9 0 1 3', '9 0 %d 3' % number).encode()), is_one, number)
         for moment, is_one in ((1_000_000, True), (1_000_001, False)):
             self.assertEqual(self.check(SMALL.replace('8 halt', '%d halt' % moment).encode()), is_one)
-
-    def test_a_log_in_pieces_has_its_order(self) -> None:
-        for size in 1, 12, 25:
-            with mock.patch.object(fast, 'PIECE', size):
-                self.assertTrue(self.check(SMALL.encode()))
-                self.assertFalse(self.check(SMALL.replace('9 0 1 3 1@12', '4 2 0 3 1@12').encode()))
-                self.assertFalse(self.check(SMALL.replace('9 0 1 3 1@12', '3 0 1 3 1@12').encode()))
 
     def test_several_processes_read_the_same(self) -> None:
         rows = ['mote %d p%s' % (mote, '\n%d start %s' % (mote, 'abcdef'[mote % 6])) for mote in range(40)]

@@ -121,10 +121,6 @@ class Differences(unittest.TestCase):
             self.assertEqual(compare.only_in((a, b), differences), counts, texts)
         self.assertGreater(found, 200)
 
-    def test_the_first_difference_is_by_moments(self) -> None:
-        found = compare.differences(Report.parse(A), Report.parse(B))
-        self.assertEqual([tuple(it) for it in found], [(5, 2, 1), (5, MEDIUM, 2), (8, 1, 3)])
-
     def test_equal_reports_are_the_same(self) -> None:
         text, first, is_same = compared(A, A)
         self.assertEqual((first, is_same), (None, True))

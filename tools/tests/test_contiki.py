@@ -14,9 +14,7 @@ from motesim.contiki.names import Names, file_names
 from motesim.contiki.program_file import ProgramFile
 from motesim.contiki.reader import read_program
 from motesim.contiki.tree import Expression, Not, Number, Operation, Variable
-from motesim.runner.programs import program_path
 from motesim.scenario import Scenario
-from skips import need_program
 
 STRICT = ['-std=c99', '-Wall', '-Wextra', '-Werror']
 OPERATORS = ['+', '-', '*', '/', '%', '==', '!=', '<', '<=', '>', '>=', '&&', '||']
@@ -411,18 +409,6 @@ class FolderTest(unittest.TestCase):
                     done = subprocess.run([compiler, *STRICT, '-I..', '-I.', '-c', source.name, '-o', 'x.o'],
                                           cwd=source.parent, capture_output=True, text=True)
                     self.assertEqual((done.returncode, done.stderr), (0, ''), (example.name, compiler))
-
-    def test_the_host_writes_the_report(self) -> None:
-        need_program(self)
-        self.compilers()
-        for name in 'processes', 'small_network', 'collection_tree', 'runaway':
-            example = TOP / 'examples' / (name + '.toml')
-            done = self.export(str(example), '--form', 'contiki', '--host', '-o', name)
-            self.assertEqual((done.returncode, done.stderr), (0, ''))
-            subprocess.run(['make', '-s', 'host', 'HOSTCC=' + self.compilers()[-1]], cwd=self.folder / name, check=True)
-            report = subprocess.run(['./host'], cwd=self.folder / name, capture_output=True, check=True).stdout
-            wanted = subprocess.run([program_path(), str(example)], capture_output=True, check=True).stdout
-            self.assertEqual(report, wanted, name)
 
     def test_files_of_a_folder(self) -> None:
         (self.folder / 's.toml').write_bytes(scenario_of('process a; code a { body { } }').replace(b"'p'", b"'process'")

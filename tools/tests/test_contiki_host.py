@@ -47,10 +47,6 @@ class Host(unittest.TestCase):
         for option in '-O0', '-O2':
             self.assertEqual(self.report('gcc', option), report_on_page('REPORT.md'))
 
-    def test_tcc_compiles_it_too(self) -> None:
-        need_command(self, 'tcc', 'tcc')
-        self.assertEqual(self.report('tcc'), report_on_page('REPORT.md'))
-
     def test_no_read_or_write_is_out_of_place(self) -> None:
         need_command(self, 'gcc', 'gcc')
         report = self.report('gcc', '-g', '-fsanitize=address,undefined', '-fno-sanitize-recover=all')
@@ -122,53 +118,3 @@ class Rules(unittest.TestCase):
             with self.subTest(mutant['rule']):
                 wrong = self.reports_with(mutant['file'], mutant['from'], mutant['to'])
                 self.assertNotEqual(wrong, right)
-
-
-def repeated(text: str, first: int, last: int) -> str:
-    """The text for each of the numbers, which replaces each N in it."""
-    return ''.join(text.replace('N', str(it)) for it in range(first, last + 1))
-
-
-def one_process(*parts: str) -> str:
-    return 'process a; autostart a; code a { %s }' % ' '.join(parts)
-
-
-def killing_processes() -> str:
-    """Each of 64 processes kills the next one as it exits."""
-    loop = 'body { while 1 { yield; } }'
-    names = 'p0' + repeated(', pN', 1, 63)
-    between = ''.join('code p%d { onexit { kill p%d; } %s }' % (it, it + 1, loop) for it in range(1, 63))
-    return 'process %s; autostart %s; code p0 { body { yield; kill p1; } } %s code p63 { onexit { print 63; } %s }' % (
-        names, names, between, 'body { post p0 msg 1; while 1 { yield; } }')
-
-
-# Programs at the limits of docs/use/NOTATION.md, each with a line that its report has, but for the moment.
-AT_LIMITS = {'statements': (one_process('var n = 0; body {', 'n = (n + 1);' * 4095, 'print n; }'), 'print a 4095'),
-             'processes': (killing_processes(), 'print p63 63'), 'events': (repeated('event eN; ', 0,
-    116) + one_process('body {', repeated('post a eN N; yield_until is(eN); ', 0, 116), '}'), 'post 116 a e116 116'),
-             'timers': (one_process(repeated('etimer tN; ', 0, 31), repeated('ctimer tN { print N; } ', 32, 63),
-                                    'body {', repeated('set tN 1; ', 0, 31), repeated('set tN 2; ', 32, 63),
-                                    'while 1 { yield; } }'), 'print a 63'),
-             'semaphores': (repeated('semaphore sN = N; ', 0, 63) + one_process('body {',
-    repeated('signal sN; acquire sN; print count(sN); ', 0, 63), '}'), 'print a 63'),
-             'variables': (one_process(repeated('var vN = N; ', 0, 63), 'body {', repeated('print vN; ', 0, 63), '}'),
-                           'print a 63'), 'levels': (one_process('body {', 'if 1 { ' * 31, 'print 7; ', '} ' * 31, '}'),
-                                                     'print a 7'),
-             'threads': (one_process('thread h0 { pause; print 7; }', *('thread h%d { spawn h%d; }' % (it,
-    it - 1) for it in range(1, 7)), 'body { spawn h6; print 8; }'), 'print a 8'),}
-
-
-class Limits(unittest.TestCase):
-    def test_programs_at_the_limits_have_the_report_of_motesim(self) -> None:
-        need_command(self, 'make', 'make')
-        need_command(self, 'tcc', 'tcc')
-        need_program(self)
-        for name, (program, line) in AT_LIMITS.items():
-            with self.subTest(name), tempfile.TemporaryDirectory() as room:
-                scenario = Path(room) / 'limit.toml'
-                scenario.write_text('version = 1\nend = 40\n[medium]\nrange = 1\nbase = 1\nper = 1\n'
-                                    '[programs]\np = "%s"\n[[mote]]\nx = 0\ny = 0\nprogram = "p"\n' % program)
-                export(scenario, Path(room) / 'c')
-                report = host_report(Path(room) / 'c')
-                self.assertEqual(report, motesim_report(scenario))
-                self.assertRegex(report, r'(?m)^\d+ %s$' % line)

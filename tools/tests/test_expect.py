@@ -11,48 +11,26 @@ from unittest import mock
 
 from here import TOOLS, room_of
 from motesim.commands import expect as command
-from motesim.judge import expectations, remarks, sentences
+from motesim.judge import remarks, sentences
 from motesim.judge.expectations import UnknownSentence, expect, parts_of, read_all
 from motesim.judge.judge import Judge
 from motesim.judge.links import Links
 from motesim.report import Report
-from motesim.runner import LimitMet, Limits, Runner, programs
+from motesim.runner import programs
 from motesim.runner.run import answer
 from motesim.scenario import Scenario
-from motesim.judge.sentences import (EXAMPLES, Copies, Count, Does, Names, Sentence, SentenceFault, Value, names_of,
-                                     read_sentence,)
+from motesim.judge.sentences import EXAMPLES, Names, SentenceFault, Value, names_of, read_sentence
 
 # Four motes in a row, each in range of its neighbours; mote 2 loses all that mote 3 sends.
 SCENARIO = """
 version = 2
 end = 100
-[medium]
-range = 10
-base = 3
-per = 1000
-collide = true
+medium = { range = 10, base = 3, per = 1000, collide = true }
+mote = [{ x = 0, y = 0, program = "p" }, { x = 10, y = 0, program = "p" }, { x = 20, y = 0, program = "p" },
+        { x = 30, y = 0, program = "p" }]
+loss = [{ from = 3, to = 2, every = 1 }]
 [programs]
 p = 'process flood, hears; // process other;'
-[[mote]]
-x = 0
-y = 0
-program = "p"
-[[mote]]
-x = 10
-y = 0
-program = "p"
-[[mote]]
-x = 20
-y = 0
-program = "p"
-[[mote]]
-x = 30
-y = 0
-program = "p"
-[[loss]]
-from = 3
-to = 2
-every = 1
 """
 
 REPORT = """mote 0 p
@@ -86,64 +64,33 @@ medium
 left 1
 """
 
-HOLDS = ['mote 1 prints flood 1', 'mote 1 prints flood', 'mote 1 prints', 'mote 1 prints flood 1 at 43',
-         'mote 1 prints flood 1 by 43.', 'mote 1 prints flood 2 after 82', 'mote 1 prints flood 1 before 44',
-         'mote 1 prints flood 2 from 83 on', 'mote 1 prints flood 2 between 83 and 90',
-         'mote 1 prints flood 2 from 80 to 83', 'mote 1 prints flood 2 once', 'mote 1 prints flood exactly 2 times',
-         'mote 1 prints flood at most 1 by 60', 'mote 1 prints flood exactly once by 60',
-         'every mote but 0 prints flood 1 at 40 plus 3 for each hop from mote 0', 'every mote but 0 prints flood 1',
-         'no mote prints flood 3', 'some mote prints flood 2', 'exactly 2 motes print flood 2',
-         'motes 1 to 3 together print just flood 1, 1, 1, 2, 2', 'at least 1 mote but 1 prints flood 2',
-         'at most 1 mote halts', 'fewer than 2 motes halt', 'more than 0 motes halt', 'mote 3 halts at 90',
-         'no mote but 3 halts', 'motes 0, 1 and 2 never halt', 'mote 0 never prints', 'motes 0 to 2 never halt',
-         'all motes together send exactly 5 times', 'motes 1 to 3 together send exactly 3 times', 'mote 0 sends twice',
-         'mote 0 sends 2 at 80', 'mote 1 receives 1 from mote 0', 'mote 0 receives from mote 1',
-         'mote 0 receives at most 1', 'mote 1 prints just flood 1, 2', 'mote 1 prints just hears 1, 5',
-         'mote 1 prints just flood 2, 1 in any order', 'mote 1 prints just flood 1 to 2 in any order',
-         'mote 1 prints just flood 1 by 60', 'mote 1 prints flood any of 1 to 511 exactly 2 times',
+# (test_page_judge.py has sentences by chance, and the verdicts of a second judge)
+HOLDS = ['mote 1 prints', 'mote 1 prints flood 1 by 43.', 'mote 1 prints flood 2 between 83 and 90',
+         'mote 1 prints flood at most 1 by 60', 'every mote but 0 prints flood 1 at 40 plus 3 for each hop from mote 0',
+         'at most 1 mote halts', 'fewer than 2 motes halt', 'more than 0 motes halt', 'motes 0, 1 and 2 never halt',
          'mote 1 prints flood any of 0, 2 or 9 once', 'mote 1 receives any of 1 and 2 from mote 0',
-         'mote 1 never sends any of 2 to 65535', 'mote 1 finally prints flood any of 2 to 5',
-         'mote 1 prints just flood any of 1 to 2 by 60', 'mote 1 finally prints hears the set of motes that it hears',
-         'mote 2 finally prints hears the set of motes that it hears',
-         'mote 2 finally prints hears the set of motes linked with it', 'mote 1 finally prints hears 1 by 45',
-         'mote 1 finally prints hears the set of motes that it hears but 2 by 48',
-         'mote 2 prints hears its distance from mote 0', 'mote 2 prints hears its number',
-         'mote 1 prints just flood its distance from mote 0 by 60', 'no mote sends the greatest mote number',
-         'mote 2 prints flood a mote that it hears, one hop nearer to mote 0 at 46',
-         "mote 1 writes 'collide 2 0' at 49", "mote 1 writes 'collide' or 'print flood' exactly 3 times",
-         'mote 0 starts flood', 'mote 0 never leaves flood', 'exactly 1 copy collides',
-         'exactly 1 copy collides at mote 1', 'no copy collides at mote 2', 'no copy overflows',
-         'exactly 2 copies arrive', 'some copy is lost', 'exactly 1 copy is lost at mote 2', 'exactly 1 copy is left',
-         'no copy collides before 49', 'exactly 5 packets are sent',
-         'at most 4 packets are sent in each 10 from 0 to 100', 'exactly 4 packets are sent by 49',
-         'the report has exactly 29 lines', "the medium writes '49 3 0 1 2@lost'", "the medium writes '80 0'",
+         'mote 1 never sends any of 2 to 65535', 'mote 1 prints just flood 1 to 2 in any order',
+         'mote 1 finally prints hears the set of motes that it hears but 2 by 48', "mote 1 writes 'collide 2 0' at 49",
+         "mote 1 writes 'collide' or 'print flood' exactly 3 times", 'mote 0 starts flood', 'mote 0 never leaves flood',
+         'no copy overflows', 'some copy is lost', 'exactly 1 copy is left', 'the report has exactly 29 lines',
+         'at most 4 packets are sent in each 10 from 0 to 100', "the medium writes '49 3 0 1 2@lost'",
          'mote 3 can hear mote 2', 'mote 2 cannot hear mote 3', 'motes 0 cannot hear mote 2',
-         'mote 1 prints flood at most once in each 40 from 40 to 119',
-         'mote 0 sends from 40 to 79 exactly once as often as from 80 on',
-         'mote 0 sends exactly 2 times as often as mote 1',
-         'motes 0 to 1 together send more than once as often as motes 2 to 3 together',]
+         'motes 0 to 1 together send more than once as often as motes 2 to 3 together']
 
 # Each with the row of the report that breaks it.
 BROKEN = [
-    ('mote 1 prints flood 2 by 60', 13), ('mote 1 prints flood 3', None), ('mote 1 never prints flood', 8),
-    ('mote 1 prints flood at most 1', 13), ('mote 1 prints flood at least 3', None), ('no mote halts', 22),
-    ('no mote sends', 3), ('no mote sends at least 2 times', 5), ('every mote prints flood 1', None),
-    ('every mote but 0 prints flood 1 by 45', 15), ('exactly 1 mote prints flood 2', 13),
-    ('at least 3 motes print flood 2', None), ('some mote prints flood 3', None),
-    ('mote 1 prints just flood 1', 13), ('mote 1 prints just flood 2', 8),
+    ('mote 1 prints flood 2 by 60', 13), ('mote 1 never prints flood', 8), ('mote 1 prints flood at most 1', 13),
+    ('no mote halts', 22), ('every mote but 0 prints flood 1 by 45', 15), ('exactly 1 mote prints flood 2', 13),
+    ('some mote prints flood 3', None), ('mote 1 prints just flood 1', 13), ('mote 1 prints just flood 2', 8),
     ('mote 1 prints just flood any of 1 to 2', 13), ('mote 1 finally prints flood any of 0 to 1', 13),
-    ('mote 1 prints flood any of 3 to 9 or 511', None), ('mote 1 never sends any of 0 to 3', 10),
-    ('mote 1 prints just flood 1, 2, 3', None), ('mote 1 prints just flood 2, 2 in any order', 8),
-    ('mote 1 prints just flood 1, 2, 3 in any order', None),
+    ('mote 1 never sends any of 0 to 3', 10), ('mote 1 prints just flood 1, 2, 3', None),
+    ('mote 1 prints just flood 2, 2 in any order', 8),
     ('mote 2 finally prints hears the set of motes that it hears but 1', 16),
     ('mote 1 prints just hears its distance from mote 0', 11), ('mote 2 prints just flood its number', 15),
-    ('mote 0 prints just flood its number', None),
-    ('mote 2 finally prints hears the greatest mote number', 16),
-    ('mote 0 finally prints hears 1', None), ('no copy collides', 12), ('no copy is lost', 27),
-    ('no copy is left', 29), ('at most 3 packets are sent', 27), ("mote 3 writes 'halt halt'", None),
-    ('no copy arrives at mote 0', 4),
-    ('the report has fewer than 20 lines', None), ("the medium writes '49 3 0 2'", 23),
-    ('mote 2 can hear mote 3', None), ('mote 0 sends from 0 to 50 more than once as often as from 51 on', 3),
+    ('mote 2 finally prints hears the greatest mote number', 16), ('no copy collides', 12), ('no copy is lost', 27),
+    ('no copy is left', 29), ('at most 3 packets are sent', 27), ('no copy arrives at mote 0', 4),
+    ("the medium writes '49 3 0 2'", 23), ('mote 2 can hear mote 3', None),
+    ('mote 0 sends from 0 to 50 more than once as often as from 51 on', 3),
     ('mote 0 sends at most once as often as mote 1', 5),
     ('mote 0 prints flood 1 at 3 plus 3 for each hop from mote 3', None),
     ("the scenario is refused with 'scenario fault 1'", None),
@@ -222,7 +169,7 @@ class Sentences(unittest.TestCase):
         self.assertNotEqual(named, plain)
 
     def test_remarks_on_sentences_that_say_nothing(self) -> None:
-        whole, free = Scenario.parse(SCENARIO), Scenario.parse(SCENARIO.partition('[[loss]]')[0])
+        whole, free = Scenario.parse(SCENARIO), Scenario.parse(re.sub('loss = .*', '', SCENARIO))
         apart = Scenario.parse(SCENARIO.replace('collide = true', 'collide = false'))
         early = Scenario.parse(SCENARIO.replace('end = 100', 'end = 20'))
         for sentence, scenario, remark in (
@@ -293,43 +240,6 @@ p = "process near; autostart near; receiver near; code near { body { if (self ==
         with self.assertRaisesRegex(SentenceFault, 'Allowed here: ", one hop nearer to mote"'):
             read_sentence('every mote prints flood a mote that it hears', self.names)
 
-    def test_counting_finds_what_the_lines_show(self) -> None:
-        """Sentences that only count, judged by the columns alone and by the lines."""
-        class ByLines(Judge):
-            def is_plainly_kept(self, it: Does, motes: tuple[int, ...]) -> bool:
-                return False
-
-            def count_copies(self, it: Copies) -> int:
-                return len(self.of_copies(it))
-        by_lines = ByLines(self.judge.report, self.judge.scenario)
-        deeds = ['mote 1 %s', 'every mote %s', 'motes 1 to 3 together %s', 'some mote %s', 'at least 2 motes %s']
-        verbs = ['print', 'print flood', 'print flood 2', 'print flood its number', 'send', 'send 1', 'receive 1',
-                 'receive 2 from mote 1', "write 'post 0 flood'", "write 'lost' or 'recv'", "write 'recv 1 0 01'",
-                 'start flood']
-        times = ['at least %d times', 'at most %d', 'exactly %d', 'at least %d times from 41 to 46',
-                 'at most %d by 43', 'at least %d times in each 10 from 30 to 59', 'exactly %d after 46']
-        found = [deed % '%s %s' % (verb, time % count) for deed in deeds for verb in verbs for time in times
-                 for count in (0, 1, 2)]
-        found += ['%s copies %s%s' % (count, how, at)
-                  for count in ('at least 1', 'at most 2', 'exactly 3', 'at least 50 % of', 'exactly 0 % of')
-                  for how in ('arrive', 'collide', 'overflow', 'are lost') for at in ('', ' at motes 1 to 2')]
-        holds = 0
-        for sentence in found:
-            meant = read_sentence(sentence, self.names)
-            broken = self.judge.broken(meant)
-            self.assertEqual(broken, by_lines.broken(meant), sentence)
-            holds += broken is None
-        self.assertTrue(200 < holds < len(found) - 200, (holds, len(found)))
-
-    def test_counts_have_ends(self) -> None:
-        for compare, least, most in [
-            ('at least', 3, None), ('at most', 0, 3), ('exactly', 3, 3), ('more than', 4, None), ('fewer than', 0, 2),
-        ]:
-            count = Count(compare, 3)
-            self.assertEqual((count.least, count.most), (least, most))
-            admitted = [number for number in range(6) if count.admits(number)]
-            self.assertEqual(admitted, list(range(least, 6 if most is None else most + 1)))
-
 
 PROGRAM = """#!/bin/sh
 text=$(cat)
@@ -372,13 +282,6 @@ class Files(unittest.TestCase):
     def test_all_hold(self) -> None:
         said = self.said('expect = ["mote 0 sends twice"]', str(self.expected))
         self.assertEqual(said, ('holds   mote 0 sends twice\n1 passed, 0 failed\n', '', 0))
-
-    def test_a_run_that_meets_a_limit_is_told_of_the_scenario(self) -> None:
-        with mock.patch.object(Runner, 'answer', side_effect=LimitMet('report', Limits())):
-            out, err, code = self.said('expect = ["no mote halts"]')
-        self.assertEqual((out, code), ('', 2))
-        self.assertEqual(err, 'expect: %s: the run was ended: the report is longer than 1,073,741,824 bytes. '
-                         'A larger --report raises the limit\n' % self.scenario)
 
     def test_a_change_is_refused_as_expected(self) -> None:
         text = """expect = ["mote 0 sends"]
@@ -423,8 +326,7 @@ class Files(unittest.TestCase):
         for text, seen in [
             ('expect = ["mote 9 halts"]', 'sentence 1 is not known'),
             ('expect = ["mote 0 prnts x 1"]', 'Did you mean: prints\n'),
-            ('expect = ["evry mote halts"]', 'Did you mean: every\n'),
-            ('expect = ["mote 0 sends twise"]', 'Did you mean: twice\n'), ('expect = [', 'is not TOML'),
+            ('expect = [', 'is not TOML'),
             ('', 'expects nothing: write sentences, such as `expect = ["mote 0 sends twice", "no mote halts"]`'),
             ('no mote halts', 'each sentence is in quotes, with commas between them: `expect = ["mote 0 sends'),
             ('expect = "x"', 'is not an array'), ('wanted = []', 'has a key wanted'),
@@ -448,12 +350,6 @@ class Files(unittest.TestCase):
                 'about = "a late end"\n', r'change 2 of /.*/a.expect.toml \(a late end\)'):
             text = 'expect = ["mote 0 sends"]\n' + change % ('', 'sends') + change % (about, 'hops')
             self.assertRegex(self.said(text)[1].splitlines()[0], '^expect: %s: sentence 1 is not known$' % place)
-
-    def test_a_sentence_that_cannot_be_read_is_known_by_its_number(self) -> None:
-        with self.assertRaises(UnknownSentence) as raised:
-            read_all(['mote 0 sends', 'mote 0 hops'], Names())
-        self.assertEqual(raised.exception.which, 'sentence 2 is not known')
-        self.assertEqual(str(raised.exception).split('\n')[0], 'sentence 2 is not known')
 
     def test_all_sentences_that_cannot_be_read_are_shown(self) -> None:
         text = 'expect = ["mote 0 hops", "mote 0 sends", "mote 0 sends twise"]'

@@ -228,10 +228,6 @@ class Scenarios(unittest.TestCase):
         self.assertEqual(mark_of(lines)[0], 1)
         self.assertTrue(any('UTF-8' in it and it.startswith('Hint') for it in lines))
 
-    def test_bytes_that_are_no_text(self) -> None:
-        lines = explain.explanation('s', b'version = 1\nx = "\xff"\n', 'motesim: scenario is not UTF-8')
-        self.assertEqual(mark_of(lines)[0], 2)
-
     def test_a_text_that_is_too_long(self) -> None:
         lines = explain.explanation('s', b'#\n' * 524_289, 'motesim: scenario too long')
         self.assertEqual(mark_of(lines)[0], 524_289)
@@ -326,7 +322,7 @@ class Command(unittest.TestCase):
             program.chmod(0o755)
             tried: list[tuple[dict[str, str], int, str]] = [({'print 1': 'print z', 'end = 5': 'end = 6'}, 1,
                                                              EXPLAINED % scenario), ({}, 0,
-                '%s has a report, and no fault\n' % scenario),]
+                '%s has a report, and no fault\n' % scenario)]
             for changes, status, begin in tried:
                 scenario.write_text(changed(changes))
                 said = io.StringIO()

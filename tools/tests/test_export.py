@@ -7,7 +7,7 @@ import sys
 import unittest
 from collections import Counter
 
-from here import TOOLS, TOP, call, room_of
+from here import TOOLS, TOP, room_of
 from motesim.export import pcapng, perfetto, times, vcd
 from motesim.report import Report
 from skips import interpreter_with, need_command
@@ -223,16 +223,6 @@ class ExportTest(unittest.TestCase):
         self.assertEqual(done.stdout.split('\n'), [
             '38 [5, 6, 13]', "182 {'collided': 2, 'halted': 1, 'left': 1, 'lost': 1, 'received': 1}", '[[1, 10, 22]]',
             ''], done.stderr)
-
-    def test_plans_and_results_are_no_reports(self) -> None:
-        (self.folder / 'net.plan.toml').write_text('end = 9\n[[places]]\nrule = "line"\n')
-        (self.folder / 'net.csv').write_text('period,sent,fault,note,plan,plan_sha256,parameters\n')
-        for name, seen in (('net.plan.toml', 'net.plan.toml is a plan, not a scenario: tools/scenario net.plan.toml'),
-                           ('net.csv', 'net.csv has results, not a report: tools/plot net.csv')):
-            for command in ('export', '--to', 'csv', name), ('summary', name), ('compare', 'a.report', name):
-                done = call(command[0], *command[1:], cwd=self.folder)
-                self.assertEqual((done.returncode, done.stdout), (2, ''), command)
-                self.assertIn(seen, done.stderr)
 
     def test_what_is_wrong_is_told(self) -> None:
         (self.folder / 'late.report').write_text(REPORT.replace('1@21', '1@4000000000000000000'))

@@ -58,15 +58,6 @@ class Studies(unittest.TestCase):
         self.assertIn('no sentence is broken any more by: mote 1 is silent\n', said)
         self.assertIn('a sentence is broken unexpectedly by: mote 0 is silent\n', said)
 
-    def test_copies_that_no_fault_loses_singly_are_named(self) -> None:
-        need_program(self)
-        text = ('scenario = "diamond.toml"\n[[study]]\nfaults = "links,packets"\nexpect = ["no mote halts"]\n'
-                'breaks = []\nreplace = { "send 7;" = "send 7; send 8;" }\n')
-        passed, failed, said = self.check(text)
-        self.assertEqual((passed, failed), (1, 0), said)
-        self.assertRegex(said, r'holds   study.toml: a study\n +left out: [0-9]+ of [0-9]+ copies, such as packet ')
-        self.assertNotIn('left out', self.check(text.replace(',packets', ''))[2])
-
     def test_a_sentence_that_cannot_be_read_is_at_its_study(self) -> None:
         wrong = STUDY.replace(REACHED, 'mote 0 hops').replace('mote 0 hops', REACHED, 1)
         for text, place in ((wrong, 'study 2 of /.*/study.toml \\(but for mote 1\\): sentence 1 is not known\n'),

@@ -21,16 +21,10 @@ from stub import write_stub
 REPORT = 'mote 0 p\n0 start etimer\n0 start ctimer\n0 start radio\n0 start a\nmedium\nleft 0\n'
 SCENARIO = '''version = 1
 end = 9
-[medium]
-range = 10
-base = 2
-per = 100
+medium = { range = 10, base = 2, per = 100 }
+mote = [{ x = 0, y = 0, program = "p" }]
 [programs]
 p = "process a; autostart a; code a { body { print 7; } }"
-[[mote]]
-x = 0
-y = 0
-program = "p"
 '''
 
 

@@ -16,7 +16,6 @@ import time
 import tomllib
 import unittest
 from collections.abc import Callable
-from dataclasses import replace
 from pathlib import Path
 from unittest import mock
 
@@ -362,13 +361,6 @@ class Nets(Folder):
                             (net(PROGRAM % 9, motes=4) + lost, [2, 3]), (net(PROGRAM % 9, motes=1), [])):
             self.assertEqual(cut_off(Scenario.parse(text)), motes)
 
-    def test_motes_that_no_packet_can_reach_are_remarked_on(self) -> None:
-        self.hand_in('ben.toml', net(PROGRAM % 3))
-        (self.top / 'lossy.toml').write_text(net(PROGRAM % 9, motes=4) + loss(2, 3))
-        self.grade('--net', 'task.toml', '--hidden', 'lossy.toml')
-        self.assertEqual(self.seen, 'grade: in these nets no packet of the other motes reaches some motes: '
-                                    'lossy.toml (mote 3)\n')
-
     def test_only_motes_to_which_each_link_loses_everything_are_cut_off(self) -> None:
         four = net(PROGRAM % 9, motes=4)
         for losses, motes in ((loss(3, 2), []), (loss(2, 3, 2), []), (loss(1, 2), []), (loss(2, 3), [3]),
@@ -410,13 +402,6 @@ class Nets(Folder):
         self.grade('--net', 'secret.toml', '-o', 'marks.html')
         self.assertEqual(sorted(os.listdir(self.top / 'marks_runs')), [
             'anna.toml_in_secret.toml.html', 'ben.toml_in_secret.toml.html', 'pages.txt'])
-
-    def test_a_run_page_shows_the_net_that_is_not_hidden(self) -> None:
-        (self.top / 'secret.toml').write_text(net(PROGRAM % 9, motes=5))
-        self.hand_in('ben.toml', net(PROGRAM % 4))
-        self.grade('--hidden', 'secret.toml', '--net', 'task.toml', '-o', 'marks.html')
-        self.assertIn('<pre>in task.toml\nmote 0 has 0 such lines', self.page())
-        self.assertIn('href="marks_runs/ben.toml_in_task.toml.html"', self.page())
 
     def test_a_later_sentence_that_fails_in_a_shown_net_has_the_link(self) -> None:
         (self.top / 'secret.toml').write_text(net(PROGRAM % 9, motes=5))
@@ -523,40 +508,6 @@ class Nets(Folder):
         self.grade('--hidden', 'task.toml', '-o', 'marks.html')
         self.assertIn(wanted[0], self.page())
         self.assertNotIn(wanted[1], self.page())
-
-    def test_loops_that_halted_and_broadcasts_meant_as_packets_are_named(self) -> None:
-        need_program(self)
-        self.stub = program_path()
-        head = 'process a;\nautostart a;\n'
-        self.hand_in('ben.mote', head + 'code a {\nvar x = 3; etimer t; body { wait_until (x == 3);\n'
-                     'while 1 { wait_until (x == 3);\nif (x > 9) { set t 1; yield_until fired(t); } } } }\n')
-        self.hand_in('cem.mote', 'event news; ' + head + 'receiver a;\ncode a { body {\nbroadcast news 1;\n'
-                     'yield_until is(packet); print data; } }\n')
-        self.hand_in('dan.mote', head + 'receiver a;\ncode a { body { while 1 {\n'
-                     'if (self < 9) { print 1; } else { yield; } } } }\n')
-        for name, wanted in (
-                ('ben', 'Warning (used-up): mote 0 halts at 0'), ('cem', 'Warning (broadcast-stays): '),
-                ('dan', 'The loop on line 4 of program task repeated')):
-            with self.subTest(name):
-                shown = self.grade('--net', 'task.toml', '--why', name)
-                self.assertIn(wanted, shown)
-                self.assertEqual(shown.count(wanted), 1, shown)
-        self.grade('--net', 'task.toml', '-o', 'marks.html')
-        self.assertIn('Warning (used-up)', self.page())
-        self.grade('--hidden', 'task.toml', '-o', 'marks.html')
-        self.assertNotIn('Warning (used-up)', self.page())
-
-    def test_a_process_that_nothing_starts_is_named(self) -> None:
-        need_program(self)
-        self.stub = program_path()
-        starts = 'Warning (no-autostart): no process starts at boot'
-        self.hand_in('ben.mote', 'process a;\ncode a { body { print 3; } }\n')
-        self.hand_in('cem.mote', 'process a;\nautostart a;\ncode a { body { yield_until is(packet); print 3; } }\n')
-        self.assertIn(starts, self.grade('--net', 'task.toml', '--why', 'ben'))
-        self.assertIn('but no process is the `receiver`', self.grade('--net', 'task.toml', '--why', 'cem'))
-        self.assertNotIn('Warning', self.grade('--net', 'task.toml', '--why', 'anna'))
-        self.grade('--net', 'task.toml', '-o', 'marks.html')
-        self.assertIn(starts, self.page())
 
     def test_programs_of_a_solution_that_are_not_used_are_named(self) -> None:
         def with_program(text: str, name: str, program: str, mote: int = 0) -> str:

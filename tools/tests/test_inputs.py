@@ -11,20 +11,10 @@ from skips import interpreter_with, need_program
 
 SCENARIO = '''version = 1
 end = 50
-[medium]
-range = 10
-base = 2
-per = 100
+medium = { range = 10, base = 2, per = 100 }
+mote = [{ x = 0, y = 0, program = "p" }, { x = 5, y = 0, program = "p" }]
 [programs]
 p = "process a; autostart a; receiver a; code a { body { if (self == 0) { send 1; } yield; print data; } }"
-[[mote]]
-x = 0
-y = 0
-program = "p"
-[[mote]]
-x = 5
-y = 0
-program = "p"
 '''
 PLAN = '''end = 50
 [medium]

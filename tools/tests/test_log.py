@@ -10,10 +10,10 @@ from typing import Any
 from here import TOP, call
 import skips
 from motesim.faults import Fault
-from motesim.report import FIELDS, Line, Report
+from motesim.report import FIELDS
 from motesim.runner.run import answer
 from motesim.scenario import Scenario
-from motesim.why.log import Filter, Log, filtered, kinds_of, numbers_of, of_sentence, sums
+from motesim.why.log import Filter, Log, filtered, kinds_of, numbers_of, of_sentence
 from motesim.why.source import Source, Traces, read_traces
 
 # Both motes write lines at moment 2; the program of mote 0 has a process that is called `take`.
@@ -50,21 +50,6 @@ class Logs(unittest.TestCase):
             (2, 0, 5, 'print take 3'), (2, 1, 9, 'print b 7'), (2, 1, 10, 'full b com 3'), (5, 0, 6, 'send 0 3'),
             (9, 1, 11, 'recv 0 0 3')])
 
-    def test_filters(self) -> None:
-        self.assertEqual(self.of(motes=frozenset([1])), [8, 9, 10, 11])
-        self.assertEqual(self.of(kinds=('print', 'send')), [5, 9, 6])
-        self.assertEqual(self.of(kinds=('take',)), [4])
-        self.assertEqual(self.of(process='take'), [2, 3, 4, 5])
-        self.assertEqual(self.of(value=3), [5, 10, 6, 11])
-        self.assertEqual(self.of(value=3, process='b'), [10])
-        self.assertEqual(self.of(span=(1, 2)), [8, 3, 4, 5, 9, 10])
-        self.assertEqual(self.of(kinds=('halt',)), [])
-
-    def test_counts(self) -> None:
-        self.assertEqual(sums(filtered(Traces(REPORT.encode()), ALL)),
-                         '9 of 9 lines: start 2, post 1, full 1, take 1, print 2, send 1, recv 1')
-        self.assertEqual(sums(filtered(Traces(REPORT.encode()), ALL._replace(value=9))), '0 of 9 lines')
-
     def test_lists(self) -> None:
         self.assertEqual(numbers_of('3,5-7', 9, '--mote'), {3, 5, 6, 7})
         for text in '', 'a', '7-5', '3,', '10':
@@ -76,10 +61,8 @@ class Logs(unittest.TestCase):
 
 SCENARIO_OF_ONE = """version = 1
 end = 9
-[medium]
-range = 10
-base = 1
-per = 100
+medium = { range = 10, base = 1, per = 100 }
+mote = [{ x = 0, y = 0, program = "a" }]
 [programs]
 a = '''
 process a;
@@ -91,27 +74,12 @@ code a {
   }
 }
 '''
-[[mote]]
-x = 0
-y = 0
-program = "a"
 """
 
 
 class Runs(unittest.TestCase):
     def setUp(self) -> None:
         skips.need_program(self)
-
-    def test_an_example_in_order(self) -> None:
-        data = (TOP / 'examples/trickle.toml').read_bytes()
-        report = answer(data).report
-        parsed = Report.parse(report)
-        wanted: list[tuple[int, int, int, Line]] = []
-        for mote in parsed.motes:
-            wanted += [(line.at, mote.number, row, line) for row, line in enumerate(mote.lines, mote.row + 1)]
-        wanted.sort(key=lambda it: it[0])
-        self.assertEqual(lines(filtered(Traces(report), ALL)),
-                         [(at, mote, row, str(line).partition(' ')[2]) for at, mote, row, line in wanted])
 
     def test_sentences(self) -> None:
         """Message 2 of flooding reaches motes 3 to 7 at 80 plus 3 for each hop, but for the loss from 0 to 1."""

@@ -139,11 +139,6 @@ class Tables(unittest.TestCase):
 
 
 class Readme(unittest.TestCase):
-    def test_those_who_know_contiki_and_those_with_an_error_find_their_page(self) -> None:
-        text = (TOP / 'README.md').read_text()
-        for page in 'docs/use/FROM_CONTIKI.md', 'docs/use/EXPLAIN.md':
-            self.assertIn('](%s)' % page, text)
-
     def test_what_it_shows_of_a_search_is_what_the_page_on_searches_shows(self) -> None:
         shown = re.search(r'```console\n(.*?)```', (TOP / 'README.md').read_text(), re.S)
         assert shown

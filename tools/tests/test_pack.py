@@ -23,16 +23,10 @@ from stub import write_stub
 
 SCENARIO = '''version = 1
 end = 9
-[medium]
-range = 1
-base = 1
-per = 1
+medium = { range = 1, base = 1, per = 1 }
+mote = [{ x = 0, y = 0, program = "p" }]
 [programs]
 p = "process a; autostart a; code a { body { print 3; } }"
-[[mote]]
-x = 0
-y = 0
-program = "p"
 '''
 
 
@@ -78,22 +72,6 @@ class Pack(unittest.TestCase):
                 done = subprocess.run(words, cwd='/', capture_output=True, text=True)
                 self.assertEqual((name, done.returncode), (name, 0), done.stderr)
 
-    def test_an_archive_says_that_its_program_is_not_proved(self) -> None:
-        with tempfile.TemporaryDirectory() as room:
-            program = write_stub(Path(room))
-            with mock.patch.object(pack, 'licenses', dict), tarfile.open(
-                    fileobj=io.BytesIO(pack.archive('motesim', program))) as tar:
-                tar.extractall(room)
-            top = Path(room) / 'motesim'
-            (Path(room) / 's.toml').write_text(SCENARIO)
-            self.assertFalse((top / 'PROVED.md').exists())
-            for words in [str(top / 'run')], [sys.executable, str(top / 'tools/summary'), str(Path(room) / 's.toml')]:
-                done = subprocess.run(words, input=SCENARIO, cwd=room, capture_output=True, text=True,
-                                      env={'PATH': '/usr/bin:/bin', 'MOTESIM_SEEN': str(Path(room) / str(len(words)))})
-                self.assertEqual((done.returncode, done.stderr), (0, 'motesim: this program is compiled, not proved\n'))
-            done = subprocess.run([str(top / 'run'), '--version'], capture_output=True, text=True)
-            self.assertEqual((done.stdout, done.stderr), ('motesim %s, compiled, not proved\n' % VERSION, ''))
-
     def unpacked(self) -> Path:
         """An archive in which the program refuses all but an empty scenario, and its proof isn't known."""
         room = room_of(self)
@@ -123,6 +101,8 @@ class Pack(unittest.TestCase):
         (top / 'empty.toml').write_text('')
         self.assertEqual(self.on_terminal(top, 'empty.toml'), (0, ['motesim: this program is compiled, not proved']))
         self.assertEqual(self.on_terminal(top, 'empty.toml'), (0, []))
+        self.assertEqual(self.on_terminal(top, '--version'), (0, ['motesim %s, compiled, not proved' % VERSION]))
+        self.assertFalse((top / 'PROVED.md').exists())
         self.assertEqual(self.on_terminal(top, 'run'), (1, [
             'motesim: a fault', 'motesim: ./tools/explain run says more']))
         for name in 'none.toml', 'docs':
@@ -132,14 +112,6 @@ class Pack(unittest.TestCase):
             done = subprocess.run(['./run', 'run'], cwd=top, stdout=stdout, stderr=subprocess.PIPE, text=True,
                                   env={'PATH': '/usr/bin:/bin', 'MOTESIM_SEEN': str(top / 'said')})
             self.assertEqual((done.returncode, done.stdout or '', done.stderr), (1, '', 'motesim: a fault\n' + more))
-
-    def test_a_file_of_another_kind_has_the_line_of_the_clone(self) -> None:
-        top = self.unpacked()
-        (top / 'said').touch()
-        for name in 'net.plan.toml', 'anna.c':
-            (top / name).write_text('[places]\n')
-            self.assertEqual(self.on_terminal(top, name), (1, [
-                'motesim: a fault', 'motesim: ./tools/explain %s says more' % name]))
 
     def test_no_link_of_an_archive_is_dead(self) -> None:
         top = self.unpacked()

@@ -137,7 +137,7 @@ def given() -> dict[str, Any]:
     series = list(Series(Report.parse(test_summary.REPORT), 5, 10).rows())
     return {'kinds': list(KINDS), 'words': {'colours': COLOURS, 'naming': NAMING},
             'runs': {name: run_given(run) for name, run in runs.items()}, 'chains': chains, 'series': {'name': 'sums',
-        'by': 5, 'rows': series},}
+        'by': 5, 'rows': series}}
 
 
 def chains_of(run: Run, places: list[tuple[int, int]]) -> list[dict[str, Any]]:

@@ -93,11 +93,6 @@ class PlacesTest(unittest.TestCase):
     def test_a_ring_of_four(self) -> None:
         self.assertEqual(places.ring(4, 30_000), [(30_000, 0), (0, 30_000), (-30_000, 0), (0, -30_000)])
 
-    def test_a_ring_of_twelve_is_symmetric(self) -> None:
-        ring = places.ring(12, 100)
-        self.assertEqual(ring[1], (86, 50))
-        self.assertEqual({(-x, -y) for x, y in ring}, set(ring))
-
     def test_no_place_of_a_ring_is_farther_away_than_its_radius(self) -> None:
         for count in range(1, 30):
             for radius in (0, 1, 7, 10, 12_345):
@@ -281,7 +276,6 @@ FAULTS = [
     ('step = 10', '"a b" = 1', 8, '"a b"', 'is not allowed'),
     ('to = 1', 'to = 0', 15, '[[loss]]', 'two motes of the plan'),
     ('to = 1', 'to = 25', 15, '[[loss]]', '0 to 24'),
-    ('every = 2', 'every = 0', 19, '0', '1 to 1,000,000'),
     ('rule = "link"\n', '', 15, '[[loss]]', 'needs a `rule`'),
     ('every = 2\n', 'every = 2\n[queue]\nsink = 3\n', 21, 'sink', 'No mote runs'),
     ('every = 2\n', 'every = 2\n[[other]]\nmotes = "0, 25"\nprogram = "sink.mote"', 21, '"0, 25"', '0 to 24'),

@@ -62,15 +62,6 @@ class PlotTest(unittest.TestCase):
         one = self.plot('--measure sent --against period --where density=thin --where seed=2')
         self.assertEqual(one.stdout.split('\n')[0], 'sent against period, only runs with density=thin and seed=2')
 
-    def test_lines_of_two_parameters(self) -> None:
-        rows = self.rows('--measure sent --by density --by period --where period=1,10')
-        self.assertEqual([row[:3] for row in rows[1:]], [
-            ['dense', '1', '5'], ['dense', '10', '5'], ['thin', '1', '5'], ['thin', '10', '5']])
-
-    def test_empty_values_are_left_out(self) -> None:
-        done = self.plot('--measure late --against density --over seed --over period')
-        self.assertIn('left out: 6 runs without a value of late\n', done.stdout)
-
     def test_means_of_yes_or_no_have_wilsons_interval(self) -> None:
         for measure, name in ('ok', 'Wilson'), ('sent', 't'), ('mine', 'none'):
             row = self.rows('--measure %s --where density=thin --where period=1 --show mean' % measure)[1]
@@ -80,14 +71,6 @@ class PlotTest(unittest.TestCase):
         # (a function in Python is yes or no if the file has both)
         self.write([*RUNS[:4], (*RUNS[4][:6], 0)])
         self.assertEqual(self.rows('--measure mine --show mean')[1][-1], 'Wilson')
-
-    def test_points_have_the_parameters_of_their_runs(self) -> None:
-        rows = self.rows('--measure sent --against period --show points --where density=thin --where period=1,2')
-        self.assertEqual(rows[:3], [['period', 'sent', 'seed'], ['1', '11', '1'], ['1', '12', '2']])
-
-    def test_a_curve_of_shares_ends_at_the_share_with_a_value(self) -> None:
-        rows = self.rows('--measure late --show cdf --where density=thin --where period=1')
-        self.assertEqual(rows[:2], [['late', 'part', 'of', 'runs'], ['0.500', '0.800']])
 
     def test_points_of_two_measures_are_in_the_order_of_the_parameter(self) -> None:
         rows = self.rows('--measure sent --against ok --where density=thin --show mean')
@@ -104,15 +87,6 @@ class PlotTest(unittest.TestCase):
         # (with --over, a seed is a treatment unless it is named)
         self.assertIn('differ in seed (', self.plot('--measure sent --against period --over density').stderr)
 
-    def test_pairs_by_hand(self) -> None:
-        rows = self.rows('--measure sent --pair period=1,2 --by density')
-        self.assertEqual(rows[1], ['dense', '5', '13.000', '23.000', '10.000', 'none', '5', '0'])
-        self.write([*RUNS, (3, 'thin', 1, 9, 0.5, 1, 1), (3, 'thin', 2, 14, 0.5, 1, 1), (3, 'thin', 3, 19, 0.5, 1, 1)])
-        done = self.plot('--measure sent --pair period=1,3 --where density=thin')
-        # The differences -2, 2 and 6 have the mean 2, the deviation 4, and t for 2 degrees is 4.303.
-        self.assertEqual([it.split() for it in done.stdout.splitlines()[2:]], [['3', '12.000', '14.000', '2.000',
-            '-7.937', '11.937', 't', '2', '1'], 'left out: 2 pairs without a value on both sides'.split()])
-
     def test_warnings_are_counted(self) -> None:
         self.write([(*RUNS[0], None, 'same-value queue-full', 'a'), (*RUNS[1], None, 'same-value', 'a'),
                     (*RUNS[2], None, None, 'b')])
@@ -128,13 +102,11 @@ class PlotTest(unittest.TestCase):
         for words, said in (
                 ('--against period', '`measure` is missing'), ('--measure snt', '`measure` names snt, and the results have: '
                                                                'sent, late, ok, mine, rejected'),
-                ('--measure sent --by sent', '`by` names sent, and the results have: period, density, seed'),
                 ('--measure sent --against period --show heat', '`show` is median, mean, points, cdf, and not'),
                 ('--measure sent --confidence 20', '`confidence` is 50 to 99.9, and not 20'),
                 ('--measure sent --against period --show cdf', 'a cdf has the measure on its horizontal axis'),
                 ('--measure sent --pair period=1,2 --show points', 'a comparison shows means'),
                 ('--measure sent --pair period=1', '--pair needs NAME=ONE,OTHER'),
-                ('--measure sent --pair period=1,7', 'no run has period = 7; there are: 1, 2, 10'),
                 ('--measure sent --where period=7', 'no run has period = 7; there are: 1, 2, 3, 10'),
                 ('--measure sent --where period=3', 'there is no value of sent to show in 1 run, 1 of them with a fault'),
                 ('--measure sent --against period -o a.jpg', 'a picture is SVG, PDF or PNG'),

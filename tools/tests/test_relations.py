@@ -7,16 +7,11 @@ from motesim.judge.judge import Judge
 from motesim.judge.sentences import SentenceFault, names_of, read_sentence
 from motesim.report import Report
 from motesim.scenario import Scenario
-from motesim.search.quick_judge import QuickJudge
 
 SCENARIO = """
 version = 2
 end = 100
-[medium]
-range = 10
-base = 3
-per = 1000
-collide = false
+medium = { range = 10, base = 3, per = 1000, collide = false }
 [programs]
 p = 'process a, b;'
 """ + ''.join('[[mote]]\nx = %d\ny = 0\nprogram = "p"\n' % (10 * number) for number in range(4))
@@ -51,170 +46,90 @@ left 1
 """
 # Sentences, each with what breaks it, worked out by hand; None of one that holds.
 SENTENCES: list[tuple[str, str | None, int | None]] = [
-    ('mote 1 prints a 1 after mote 0 sends', None, None),
-    ('mote 1 prints a 1 after mote 0 sends 1', None, None),
     ('mote 2 prints a 1 after mote 0 sends',
      'this line of mote 2 is not after the first `mote 0 sends`, at 10 (line 3)', 14),
-    ('mote 2 prints a 1 once after mote 0 sends', None, None),
     ('mote 2 prints a 1 twice after mote 0 sends', 'mote 2 has 1 such line after `mote 0 sends`; wanted: exactly 2',
      None),
     ('mote 2 never prints a 1 before mote 0 sends',
      'mote 2 has 1 such line before `mote 0 sends`; wanted: at most 0', 14),
-    ('mote 1 never prints a 1 before mote 0 sends', None, None),
-    ('mote 1 prints a 1 after mote 2', None, None),
     ('mote 2 prints a 1 after mote 1', 'this line of mote 2 is not after the first `mote 1`, at 13 (line 9)', 14),
     ('mote 3 prints a 1 after mote 2', 'mote 3 has 0 such lines; wanted: at least 1', None),
     ('mote 1 prints a after mote 3', 'this line of mote 1 is there, but no line shows `mote 3`', 9),
-    ('mote 1 prints a before mote 3', None, None),
     ('mote 0 sends 1 before mote 1', 'this line of mote 0 is not before the first `mote 1`, at 13 (line 10)', 4),
-    ('mote 0 sends 1 at most once before mote 1', None, None),
-    ('mote 1 sends 1 after receiving 1', None, None),
-    ('mote 1 prints a 1 before sending', None, None),
     ('mote 1 sends before printing a', 'this line of mote 1 is not before the first `printing a`, at 13 (line 9)', 10),
     ('mote 1 sends 1 within 10 of receiving 1',
      'this line of mote 1 is 17 moments after the last `receiving 1`, at 63 (line 11); wanted: at most 10', 12),
-    ('mote 1 sends 1 within 17 moments of receiving 1', None, None),
-    ('mote 1 sends 1 at least once within 10 of it receives 1', None, None),
     ('mote 1 sends 1 exactly twice within 10 of receiving 1',
      'mote 1 has 1 such line within 10 of `receiving 1`; wanted: exactly 2\n'
      'this line of mote 1 is 17 moments after the last `receiving 1`, at 63 (line 11); wanted: at most 10', 12),
     ('mote 2 prints a within 3 of mote 1 sends',
      'this line of mote 2 has no `mote 1 sends` before it: the first is at 13 (line 10)', 14),
-    ('mote 1 sends 1 within 17 of each time it receives 1', None, None),
     ('mote 1 sends 1 within 16 of each time it receives 1',
      '`it receives 1` at 63 is this line, and mote 1 has no such line up to 79: the next is at 80 (line 12)', 11),
     ('mote 2 prints a within 5 of each time it receives',
      '`it receives` at 83 is this line, and mote 2 has no such line up to 88', 17),
-    ('mote 2 prints a within 20 of each time it receives', None, None),
     ('mote 3 prints a within 5 of each time mote 2 halts', 'no line shows `mote 2 halts`', None),
-    ('mote 1 receives within 3 of each time mote 0 sends 1', None, None),
     # With a period, only the events in it need a line, perhaps a later one.
-    ('mote 1 sends 1 by 13 within 16 of each time it receives 1', None, None),
-    ('mote 1 sends 1 within 16 of each time it receives 1 by 62', None, None),
-    ('mote 1 sends 1 from 63 on within 17 of each time it receives 1', None, None),
-    ('mote 1 sends 1 from 63 to 70 within 17 of each time it receives 1', None, None),
-    ('mote 1 sends 1 from 63 to 70 within 16 of each time it receives 1',
-     '`it receives 1` at 63 is this line, and mote 1 has no such line up to 79: the next is at 80 (line 12)', 11),
     ('mote 1 sends 1 from 64 on within 17 of each time it receives 1',
      'no line from 64 on shows `it receives 1`', None),
-    ('mote 1 sends 1 in each 50 from 0 to 99 within 17 of each time it receives 1', None, None),
     ('mote 1 sends 1 in each 30 from 0 to 89 within 17 of each time it receives 1',
      'no line from 30 to 59 shows `it receives 1`', None),
-    ('mote 1 prints a 7 within 3 of each time mote 2 sends', 'no line shows `mote 2 sends`', None),
     # Events whose moments go past the end, at 100: one counts if a line follows in time; not all may be left out.
-    ('mote 2 receives within 60 of each time mote 0 sends', None, None),
-    ('mote 2 receives within 60 of each time mote 0 sends 1', None, None),
-    ('mote 2 receives within 50 of each time mote 0 sends', None, None),
-    ('mote 3 prints a within 40 of each time mote 0 sends',
-     '`mote 0 sends` at 10 is this line, and mote 3 has no such line up to 50', 3),
     ('mote 3 prints a within 91 of each time mote 0 sends',
      'the run ends at 100, within 91 of each `mote 0 sends`: write a smaller number, or set a later `end`', 3),
-    ('mote 3 prints a within 2 of each time mote 0 sends 2',
-     'the run ends at 100, within 2 of each `mote 0 sends 2`: write a smaller number, or set a later `end`', 5),
-    ('mote 3 prints a within 1 of each time mote 0 sends 2',
-     '`mote 0 sends 2` at 99 is this line, and mote 3 has no such line up to 100', 5),
-    ('mote 0 receives within 91 of each time mote 0 sends',
-     'the run ends at 100, within 91 of each `mote 0 sends`: write a smaller number, or set a later `end`', 3),
-    ('every mote but 0 receives within 91 of each time mote 0 sends',
-     'the run ends at 100, within 91 of each `mote 0 sends`: write a smaller number, or set a later `end`', 3),
-    ('no mote but 1 and 2 receives within 91 of each time mote 0 sends', None, None),
     ('some mote sends 1 after mote 2 receives', 'no mote does', None),
-    ('some mote sends 1 at least once after mote 2 receives', None, None),
-    ('no mote but 2 prints a before mote 0 sends', None, None),
-    ('motes 1 and 2 receive after some mote sends', None, None),
     # In each period: an order and a comparison look at the lines of one period.
-    ('mote 0 sends in each 50 from 10 to 99 after mote 0 starts a', None, None),
     ('mote 0 sends in each 25 from 10 to 99 after mote 0 starts a',
      'mote 0 has 0 such lines from 35 to 59; wanted: at least 1; the next is', 4),
     ('mote 0 sends once in each 25 from 10 to 99 after mote 0 starts a',
      'mote 0 has 0 such lines from 35 to 59 after `mote 0 starts a`; wanted: exactly 1', None),
-    ('mote 0 sends in each 50 from 10 to 99 at least 30 % as often as by 99', None, None),
     ('mote 0 sends in each 25 from 10 to 99 at least 30 % as often as by 99',
      'mote 0: 0 lines from 35 to 59, compared with 3; wanted: at least 30 % as many', None),
     ('mote 2 prints a by 10 after mote 0 starts a',
      'this line of mote 2 is not after the first `mote 0 starts a`, at 0 (line 2)', 14),
-    ('mote 1 prints a by 10 after mote 0 starts a',
-     'mote 1 has 0 such lines from 0 to 10; wanted: at least 1; the next is', 9),
     # In each period a number of motes: mote 0 sends in each 50, mote 1 in the second one only once.
-    ('exactly 1 mote sends at 10', None, None),
-    ('exactly 2 motes send in each 50 from 0 to 99', None, None),
     ('exactly 1 mote sends twice in each 50 from 0 to 99',
      'from 0 to 49: 0 motes do; wanted: exactly 1\nmotes 0, 1, 2, 3 don\'t; the first that doesn\'t is\n'
      'mote 0 has 1 such line from 0 to 49; wanted: exactly 2; the next is', 4),
-    ('some mote sends in each 40 from 10 to 89', None, None),
     ('some mote sends in each 20 from 10 to 89', 'from 30 to 49: no mote does', None),
     ('no mote sends more than once in each 50 from 0 to 99', 'from 50 to 99: mote 0 does', 5),
-    ('at least 50 % of motes send in each 50 from 0 to 99', None, None),
     ('at least 50 % of motes print a in each 50 from 0 to 99',
      'from 50 to 99: 0 of 4 motes do; wanted: at least 50 %\nmotes 0, 1, 2, 3 don\'t; the first that doesn\'t is\n'
      'mote 0 has 0 such lines from 50 to 99; wanted: at least 1', None),
     # Parts of motes: 1, 2 of 4 print a; 3 of 4 have a line `start`.
-    ('at least 50 % of motes print a', None, None),
     ('at least 51% of motes print a',
      '2 of 4 motes do; wanted: at least 51 %\nmotes 1, 2 do; motes 0, 3 don\'t; the first that doesn\'t is\n'
      'mote 0 has 0 such lines; wanted: at least 1', None),
     ('at least 3 motes print a',
      '2 motes do; wanted: at least 3\nmotes 1, 2 do; motes 0, 3 don\'t; the first that doesn\'t is\n'
      'mote 0 has 0 such lines; wanted: at least 1', None),
-    ('exactly 1 mote prints a 77',
-     '0 motes do; wanted: exactly 1\nmotes 0, 1, 2, 3 don\'t; the first that doesn\'t is\n'
-     'mote 0 has 0 such lines; wanted: at least 1', None),
-    ('at most 50 % of the motes print a', None, None),
-    ('at least 66 % of motes but 0 print a', None, None),
-    ('exactly 100 % of motes 1 to 2 print a', None, None),
     # (mote 2 prints first, at 0, and mote 1 at 13)
-    ('fewer than 50 percent of motes print a', '2 of 4 motes do; wanted: fewer than 50 %', 9),
     ('at most 1 mote prints a', '2 motes do; wanted: at most 1', 9),
     ('no mote prints a', 'mote 2 does', 14),
     # Copies: 7 in all, of which 1 is late, 4 arrive and 2 are lost.
-    ('at least 66 % of copies arrive', None, None),
     ('at least 67 % of copies arrive', '4 of 6 copies that were due do (66.7 %); wanted: at least 67 %', None),
-    ('at most 33 % of copies are lost', '2 of 6 copies that were due do (33.3 %); wanted: at most 33 %', None),
-    ('every copy arrives', '4 of 6 copies that were due do (66.7 %); wanted: at least 100 %', None),
-    ('all copies arrive at motes 1 to 2', None, None),
     # Counts compared with others: mote 1 sends 2, mote 0 sends 3, mote 1 receives 2.
-    ('mote 1 sends at least 66 % as often as mote 0', None, None),
     ('mote 1 sends at least 67 % as often as mote 0',
      'mote 1: 2 lines, compared with 3; wanted: at least 67 % as many; the last such line is', 12),
     ('mote 0 sends fewer than 1 times as often as mote 0 sends',
      'mote 0: 3 lines, compared with 3; wanted: fewer than 1 times as many', 5),
     ('mote 3 sends fewer than 1 times as often as mote 3 receives',
      'mote 3: 0 lines, compared with 0; wanted: fewer than 1 times as many', None),
-    ('mote 1 sends exactly 100 % as often as it receives', None, None),
-    ('mote 1 sends exactly 100 % as often as receiving', None, None),
-    ('mote 2 receives at least 2 times as often as mote 1 prints a', None, None),
-    ('mote 2 receives at least 100 % as often as mote 0 sends 1 by 60', None, None),
-    # Each mote has its own moment: 13 of mote 1, 16 of mote 2.
-    ('mote 1 receives twice as often as mote 2 receives at 10 plus 3 for each hop from mote 0', None, None),
-    ('mote 0 sends 2 exactly 1 times as often as mote 2 prints a at 10 plus 3 for each hop from mote 0', None, None),
-    ('mote 2 receives exactly 1 times as often as motes 1 and 2 together at 10 plus 3 for each hop from mote 0', None,
-     None),
     # One, and several.
     ('exactly 2 copies are left', 'there is 1 such copy; wanted: exactly 2', 26),
     ('at least 2 packets are sent by 10', 'there is 1 packet; wanted: at least 2', None),
     ('all motes together send exactly 1', 'the motes together have 5 such lines; wanted: exactly 1', 10),
     # Another value than the wanted one.
     ('mote 1 prints a 2', 'mote 1 has 0 such lines; wanted: at least 1; it prints a 1 at moment 13', None),
-    ('mote 1 prints a 2 within 0 of receiving',
-     'mote 1 has 0 such lines; wanted: at least 1; it prints a 1 at moment 13', None),
-    ('mote 2 prints a 2 after 10',
-     'mote 2 has 0 such lines from 11 on; wanted: at least 1; it prints a 1 at moment 16', None),
     ('mote 0 sends 7', 'mote 0 has 0 such lines; wanted: at least 1; it sends 1 at moment 10, and 2 others', None),
     ('mote 2 receives 9 from mote 1',
      'mote 2 has 0 such lines; wanted: at least 1; it receives 1 from mote 1 at moment 16, and 1 other', None),
     ('motes 1 to 3 together print a 5',
      'the motes together have 0 such lines; wanted: at least 1; mote 2 prints a 1 at moment 0, and 2 others', None),
-    # Each, all.
-    ('each mote sends at most 3', None, None),
-    ('all motes send at most 3', None, None),
     ('all motes but 3 send', 'mote 2 has 0 such lines; wanted: at least 1', None),
-    ('each of motes 0 to 1 sends', None, None),
-    ('all motes together send exactly 5', None, None),
     # (the line at 0 is the first one, though it is below that of mote 1, at 13)
     ('motes 1 and 2 together print just a 1 in any order',
      'the motes together print 1, more often than the list has it', 9),
-    ('motes 1 and 2 together print just a 2 in any order',
-     'the motes together print 1, which is not in the list', 14),
 ]
 REFUSED = [
     ('mote 1 sends within 10', 'of'),
@@ -239,29 +154,6 @@ class Sentences(unittest.TestCase):
             with self.subTest(sentence):
                 broken = judge.broken(read_sentence(sentence, names))
                 self.assertEqual((broken.why, broken.row) if broken else (None, None), (why, row))
-
-    def test_the_quick_judge_has_the_same_verdicts(self) -> None:
-        names = names_of(self.scenario)
-        quick = QuickJudge([read_sentence(sentence, names) for sentence, _, _ in SENTENCES])
-        self.assertEqual([SENTENCES[number][0] for number in quick.broken(REPORT.encode(), self.scenario)],
-                         [sentence for sentence, why, _ in SENTENCES if why])
-
-    def test_first_lines_of_several_motes(self) -> None:
-        """Motes 1 and 2 have an event at moment 3, and another line before and after it."""
-        report = Report.parse('\n'.join([
-            'mote 0 p', '0 start a', 'mote 1 p', '3 recv 0 0 1', '3 print a 1', '3 send 0 1',
-            'mote 2 p', '3 recv 0 0 1', '3 print a 1', '3 send 0 1', 'mote 3 p', '0 start a', 'medium', 'left 0\n']))
-        judge, names = Judge(report, self.scenario), names_of(self.scenario)
-        for sentence, row in (
-                ('mote 1 sends after some mote prints a', None), ('mote 2 sends after some mote prints a', None),
-                ('mote 2 never sends after some mote prints a', 10),
-                ('mote 2 sends after mote 1 prints a', 10), ('mote 1 sends after mote 2 prints a', 6),
-                ('mote 1 receives before some mote prints a', 4), ('mote 2 receives before some mote prints a', 8),
-                ('mote 1 receives before mote 1 prints a', None), ('mote 0 starts a before some mote prints a', None),
-                ('motes 1 and 2 together send after printing a', None)):
-            with self.subTest(sentence):
-                broken = judge.broken(read_sentence(sentence, names))
-                self.assertEqual(broken.row if broken else None, row)
 
     def test_many_lines_of_one_moment(self) -> None:
         """Eight thousand packets come and go in one moment: square work would need 15 s."""

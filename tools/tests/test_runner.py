@@ -162,8 +162,6 @@ class Runs(Room):
         for path in self.room / 'none', self.room:
             with self.assertRaisesRegex(ProgramFault, "can't be run: "):
                 Runner(path).answer(b'')
-
-    def test_an_argument_with_a_zero_is_refused(self) -> None:
         with self.assertRaisesRegex(ProgramFault, "can't be run: "):
             Runner(self.program('true')).answer(b'', 'a\0b')
 
@@ -304,7 +302,6 @@ class Batches(Room):
         finally:
             done.set()
             other.join()
-
 
 
 class Parts(unittest.TestCase):

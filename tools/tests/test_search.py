@@ -2,7 +2,6 @@
 fate of interrupted searches, hostile programs and texts that can't be changed."""
 import contextlib
 import csv
-import io
 import itertools
 import json
 import os
@@ -35,7 +34,6 @@ from motesim.search.faults import Asked, FaultyPart, change_of, faults_of
 from motesim.search.halting import without_halts
 from motesim.search.kept import Kept
 from motesim.search.one_program import Limits, OneProgram
-from motesim.search.progress import Progress
 from motesim.search.quick_judge import QuickJudge
 from motesim.search.search import Bounds, Search
 from motesim.search.sets import Known, count_of
@@ -149,16 +147,28 @@ class Texts(unittest.TestCase):
         changed = base.text(change)
         return *lines_changed(text, changed), Scenario.parse(changed)
 
-    def test_link(self) -> None:
-        gone, came, read = self.one('link 0 to 1 loses everything', kinds=('links',))
-        self.assertEqual((gone, came), ([], ['[[loss]]', 'from = 0', 'to = 1', 'every = 1']))
-        self.assertEqual(read.losses, {(0, 1): 1})
-
-    def test_link_that_loses_some_already(self) -> None:
-        text = DIAMOND + '[[loss]]\nfrom = 0 # here\nto = 1\nevery = 5 # of five\n'
-        gone, came, read = self.one('link 0 to 1 loses everything', text, kinds=('links',))
-        self.assertEqual((gone, came), (['every = 5 # of five'], ['every = 1 # of five']))
-        self.assertEqual(read.losses, {(0, 1): 1})
+    def test_each_kind_changes_a_few_lines(self) -> None:
+        """The kind and more that is asked, the lines that go and come, and what the scenario has then."""
+        lossy = DIAMOND + '[[loss]]\nfrom = 0 # here\nto = 1\nevery = 5 # of five\n'
+        link = '[[loss]]\nfrom = %d\nto = %d\nevery = 1'
+        loss, both = link % (0, 1), link % (1, 3) + '\n' + link % (3, 1)
+        cases: list[tuple[str, str, str, dict[str, Any], str, str, dict[str, Any]]] = [
+            ('link 0 to 1 loses everything', DIAMOND, 'links', {}, '', loss, {'losses': {(0, 1): 1}}),
+            ('link 0 to 1 loses everything', lossy, 'links', {}, 'every = 5 # of five', 'every = 1 # of five',
+             {'losses': {(0, 1): 1}}),
+            ('links 1 to 3 and 3 to 1 lose everything', DIAMOND, 'both-ways', {}, '', both,
+             {'losses': {(1, 3): 1, (3, 1): 1}}),
+            ('packets collide', DIAMOND, 'collisions', {}, 'version = 1', 'version = 2\ncollide = true',
+             {'collide': True}),
+            ('the event queue of p has room for 4', DIAMOND, 'queues', {'queues': (4,)}, 'version = 1',
+             'version = 2\ncollide = false\n[queue]\np = 4', {'queue': {'p': 4}, 'collide': False}),
+            ('range is 8', DIAMOND, 'values', {'values': {'range': (8,)}}, 'range = 10   # neighbours only',
+             'range = 8   # neighbours only', {'range': 8})]
+        for words, text, kind, more, gone, came, seen in cases:
+            with self.subTest(words, kind=kind):
+                found = self.one(words, text, kinds=(kind,), **more)
+                self.assertEqual([*map('\n'.join, found[:2])], [gone, came])
+                self.assertEqual({name: getattr(found[2], name) for name in seen}, seen)
 
     def test_link_that_loses_all_already_has_no_fault(self) -> None:
         base = base_of(DIAMOND + '[[loss]]\nfrom = 0\nto = 1\nevery = 1\n')
@@ -167,11 +177,6 @@ class Texts(unittest.TestCase):
         self.assertIn('link 1 to 0 loses everything', found)
         # (the other link of mote 0 is left)
         self.assertIn('mote 0 is silent', found)
-
-    def test_both_ways(self) -> None:
-        _, came, read = self.one('links 1 to 3 and 3 to 1 lose everything', kinds=('both-ways',))
-        self.assertEqual(read.losses, {(1, 3): 1, (3, 1): 1})
-        self.assertEqual(len(came), 8)
 
     def test_every(self) -> None:
         found = faults_by_words(base_of(), kinds=('every',), every=(2, 3))
@@ -195,9 +200,6 @@ class Texts(unittest.TestCase):
         found = [it for it in faults_of(base, Asked(('packets',), sent=(4, 0, 0, 0)))]
         self.assertEqual({(it.slot[1:], it.effect[3]) for it in found}, {((0, 1), 3), ((0, 1), 4), ((0, 2), 3),
                                                                         ((0, 2), 4)})
-
-    def test_silent_mote(self) -> None:
-        self.assertEqual(self.one('mote 3 is silent', kinds=('motes',))[2].losses, {(3, 1): 1, (3, 2): 1})
 
     def test_a_silent_mote_is_silent_for_motes_that_come_into_range(self) -> None:
         base = base_of()
@@ -239,24 +241,6 @@ class Texts(unittest.TestCase):
             base = base_of(text)
             found = faults_by_words(base, kinds=('links', 'motes', 'values'), values={'range': (5,)})
             self.assertEqual(cut_of([found[it] for it in words], base), wanted)
-
-    def test_collisions_take_version_2(self) -> None:
-        gone, came, read = self.one('packets collide', kinds=('collisions',))
-        self.assertEqual((gone, came), (['version = 1'], ['version = 2', 'collide = true']))
-        self.assertTrue(read.collide)
-
-    def test_queue(self) -> None:
-        gone, came, read = self.one('the event queue of p has room for 4', kinds=('queues',), queues=(4,))
-        self.assertEqual((gone, came), (['version = 1'], ['version = 2', 'collide = false', '[queue]', 'p = 4']))
-        self.assertEqual((read.queue, read.collide), ({'p': 4}, False))
-
-    def test_value(self) -> None:
-        gone, came, read = self.one('range is 8', kinds=('values',), values={'range': (8,)})
-        self.assertEqual((gone, came), (['range = 10   # neighbours only'], ['range = 8   # neighbours only']))
-
-    def test_place(self) -> None:
-        _, _, read = self.one('mote 1 is at 9, 6', kinds=('places',), step=3)
-        self.assertEqual((read.places[1].x, read.places[1].y), (9, 6))
 
     def test_failing_mote(self) -> None:
         gone, came, read = self.one('mote 1 fails at 50', kinds=('deaths',), moments=(50,))
@@ -616,13 +600,6 @@ class Searches(unittest.TestCase):
                     found = answer((folder / 'diamond.search' / (name + '.toml')).read_bytes())
                     self.assertEqual((found.status, found.fault), (0, b''))
 
-    def test_all_hold(self) -> None:
-        with folder_with() as folder:
-            status, said, _ = search(folder, '--faults', 'links')
-            self.assertEqual(status, 0)
-            self.assertIn('all 8 single faults: 8 run', said)
-            self.assertIn('1 of 1 expectations hold in every run; 8 runs\n', said)
-
     def test_failing_and_late_motes(self) -> None:
         with folder_with(sentences=[REACHED, 'no mote halts']) as folder:
             sets, found, said = minimal_sets(folder, '--faults', 'deaths,late', '--moments', '5,90')
@@ -722,18 +699,6 @@ class Searches(unittest.TestCase):
             status, said, _ = search(folder, '--faults', 'deaths')
             self.assertIn('there is no fault of the kind deaths in this scenario', said)
 
-    def test_copies_that_are_not_lost_alone_are_counted(self) -> None:
-        # (mote 0 sends two packets, of which only the second can be lost alone; the others send one packet)
-        program = PROGRAM.replace('send 7', 'send 7; send 7')
-        with folder_with(DIAMOND.replace(PROGRAM, program)) as folder:
-            words = '--faults', 'packets', '--expect', 'mote 0 sends'
-            status, said, _ = search(folder, *words)
-            self.assertIn('left out: 8 of 10 copies, such as packet 0 of mote 0 on its way to mote 1: no `every` '
-                          'above 1 loses only this packet. Use `--faults links,every`, or let the receiver ignore', said)
-            self.assertIn('1 of 1 expectations hold in every run; 2 runs', said)
-            search(folder, *words, '--json', 'f.json')
-            self.assertIn('left out: 8 of 10 copies', json.loads((folder / 'f.json').read_text())['notes'][0])
-
     def test_motes_and_losses_in_inline_arrays_can_be_changed(self) -> None:
         head, *motes = DIAMOND.split('[[mote]]')
         array = ', '.join('{ %s }' % ', '.join(it.strip().split('\n')) for it in motes)
@@ -741,12 +706,6 @@ class Searches(unittest.TestCase):
             status, said, seen = search(folder, '--faults', 'links,motes,deaths,late,places', '--moments', '5')
             self.assertIn('all 36 single faults: 36 run\n', said, seen)
             self.assertNotIn('NOT MADE', said)
-
-    def test_a_shorter_queue_and_a_failing_mote_are_combined(self) -> None:
-        with folder_with() as folder:
-            status, said, _ = search(folder, '--faults', 'queues,deaths', '--moments', '5', '--at-most', '2',
-                                     '--expect', 'no mote halts')
-            self.assertIn('all 22 pairs: 22 run\n', said)
 
     def test_search_without_a_run_has_no_result(self) -> None:
         # (each mote sends one packet, which can't be lost alone)
@@ -756,13 +715,6 @@ class Searches(unittest.TestCase):
             self.assertIn('no run was made, so nothing is known about 1 expectation:', said)
             self.assertNotIn('holds in', said)
             self.assertEqual(json.loads((folder / 'f.json').read_text())['holds'], [])
-
-    def test_kind_without_a_fault(self) -> None:
-        # (each mote sends one packet, which can't be lost alone)
-        with folder_with() as folder:
-            status, said, _ = search(folder, '--faults', 'packets,links')
-            self.assertIn('there is no fault of the kind packets in this scenario: a link loses only packet n if its '
-                          'sender sends n + 1 to 2n + 1 packets, n is at least 1', said)
 
     def test_broken_without_a_fault(self) -> None:
         with folder_with(sentences=['mote 0 prints', REACHED]) as folder:
@@ -841,14 +793,10 @@ program = "flood.mote"
             self.assertNotIn('in every run;', said)
             status, said, _ = search(folder, '--faults', 'links', '--at-most', '2', '--resume')
             self.assertIn('all 28 pairs: 28 run', said)
-
-    def test_limit_on_runs_is_exact(self) -> None:
-        with folder_with() as folder:
-            _, said, _ = search(folder, '--faults', 'links', '--most-runs', '3')
-            self.assertIn('; 3 runs\nNOT ALL WAS TRIED: the limit of 3 runs was reached', said)
-            _, said, _ = search(folder, '--faults', 'links', '--most-runs', '8')
-            self.assertIn('; 8 runs', said)
-            self.assertNotIn('NOT ALL WAS TRIED', said)
+            for limit, is_all in ('3', False), ('8', True):
+                status, said, _ = search(folder, '--faults', 'links', '--most-runs', limit)
+                self.assertIn('; %s runs' % limit, said)
+                self.assertEqual((status, 'NOT ALL WAS TRIED' not in said), (0, is_all))
 
     def test_the_limits_also_end_the_shrinking(self) -> None:
         with folder_with() as folder:
@@ -875,22 +823,10 @@ program = "flood.mote"
             lines = [json.loads(row) for row in seen.splitlines()]
             self.assertTrue(all(it['small'] == 'small_1.toml' and it['runs'] >= it['steps']
                                 for it in lines if 'small' in it), seen)
-            shown = io.StringIO()
-            with contextlib.redirect_stderr(shown):
-                progress = Progress()
-                progress.every = 0
-                for bounds in Bounds(), Bounds(runs=5000), Bounds(runs=5000, seconds=60.0):
-                    allowance = Allowance(Search(Known([], 0), bounds, Kept()), Break())
-                    allowance.runs = 1000
-                    progress.show_shrinking('small_1.toml', 2, 1234, allowance.limit())
-            self.assertEqual(shown.getvalue().splitlines(), ['small_1.toml: 2 steps, 1,234 runs (%s)' % it for it in (
-                'no limit: --most-runs sets one', 'at most 4,000 runs', 'at most 4,000 runs and 60 seconds')])
 
     def test_sample_is_called_one(self) -> None:
         with folder_with() as folder:
             sets, found, said = minimal_sets(folder, '--faults', 'links', '--random', '40', '--seed', '3')
-            self.assertIn('a sample of', said)
-            self.assertIn('drawn with the seed 3 (a sample covers no size completely)', said)
             # (whatever was drawn, what is found is minimal: two links, one of each way)
             self.assertTrue(sets[REACHED])
             self.assertEqual({len(it) for it in sets[REACHED]}, {2})

@@ -30,7 +30,7 @@ from motesim.search.shrink_found import chosen
 from motesim.search.smaller import smaller_numbers
 from motesim.search.tree import program_text, read_program
 from skips import need_program
-from test_search import DIAMOND, PROGRAM, REACHED, folder_with, search
+from test_search import DIAMOND, PROGRAM, REACHED, folder_with
 
 # The command, in a process of its own, after other lines.
 SOURCE = 'import sys\nsys.path.insert(0, %r)\n%%sfrom motesim.commands.shrink import main\nmain()\n' % str(TOOLS)
@@ -406,13 +406,6 @@ class Shrinks(unittest.TestCase):
                           '  now:    mote 1 prints 1 instead of 8\n', done.stdout)
             done = call('shrink', *words, 'mote 1 prints exactly 3 times', cwd=folder)
             self.assertNotIn('another one', done.stdout)
-
-    def test_a_search_shrinks_what_it_finds(self) -> None:
-        with folder_with() as folder:
-            status, said, _ = search(folder, '--faults', 'motes', '--shrink')
-            self.assertEqual(status, 1)
-            self.assertRegex(said, r'small_1.toml breaks: mote 1 prints flood 7\n  made from: mote 0 is silent[^\n]*\n'
-                                   '  2 motes, 1 loss, 1 program')
 
     def test_it_says_which_set_it_makes_small(self) -> None:
         part = FaultyPart('motes', 'mote 0 is silent', (), ())

@@ -377,6 +377,8 @@ class Page(InBrowser):
         self.value('document.querySelector("#notice button").click()')
         self.wait('document.getElementById("notice").hidden && run.text(run.traceStart[2] - 1).endsWith("packet 6") || '
                   'run.text(run.traceStart[2] - 1).startsWith("23 take")')
+        self.wait('m.studio.judged === m.studio.number && !m.differs.first')
+        self.assertIn('The same report as that of the previous run', self.shown('change'))
         self.value('[...document.querySelectorAll("#faults-found button")].find('
                    'it => it.textContent === "Shrink").click()')
         self.wait('document.getElementById("notice").innerText.includes("smallest scenario")')
@@ -431,17 +433,6 @@ class Page(InBrowser):
         self.assertEqual(self.value('document.querySelector("#guide pre.comment").textContent'),
                          'Two motes hear each other, and one stands apart.')
 
-    def test_a_run_with_a_fault_leaves_no_difference(self) -> None:
-        """Back at the text nothing has changed, so nothing is marked as changed."""
-        self.open()
-        self.value('document.getElementById("faults-search").click()')
-        self.wait('m.faults.found')
-        self.value('document.querySelector("#faults-found td button").click()')
-        self.wait('m.differs.first && document.getElementById("notice").innerText.includes("run with a fault")')
-        self.value('document.querySelector("#notice button").click()')
-        self.wait('m.studio.judged === m.studio.number && !m.differs.first')
-        self.assertIn('The same report as that of the previous run', self.shown('change'))
-
     def test_what_is_hardly_meant_is_warned_of(self) -> None:
         self.open()
         self.assertIn('Warning (timer-never-set): ', self.shown('warnings'))
@@ -451,13 +442,6 @@ class Page(InBrowser):
             self.assertEqual(self.value('m.editor().mirror.getSelection()'), 'beat')
         self.value('m.editor().replace("etimer beat;", "")')
         self.wait('!document.getElementById("warnings").innerText.includes("beat")')
-
-    def test_a_fault_of_the_tables_is_shown_too(self) -> None:
-        self.open()
-        self.value('m.editor().replace("end = 60", "end = 2_000_000")')
-        self.wait('!document.getElementById("fault").hidden')
-        self.assertIn('scenario fault 5', self.shown('fault'))
-        self.assertIn('line 3', self.shown('state'))
 
     def test_the_first_difference_is_named_and_marked(self) -> None:
         self.open()
@@ -605,15 +589,6 @@ class Page(InBrowser):
         self.assertEqual(self.value('run.text(m.chosen().line)'), '23 recv 0 1 6')
         self.assertIn('Stop 1 of 1', self.shown('steps'))
 
-    def test_breakpoints_are_searches(self) -> None:
-        self.open()
-        for words, found in [('stop where mote 3 prints', [['mote', '3', 'print']]),
-                             ('a packet collides', [['collide']]),
-                             ('a packet is lost', [['lost']]), ('a mote halts', [['halt']]),
-                             ('mote 2 takes packet or mote 1 sends 7', [['mote', '2', 'take', 'packet'],
-                                                                        ['mote', '1', 'send', '7']])]:
-            self.assertEqual(self.value('m.searchesOf(%s)' % json.dumps(words)), found, words)
-
     def test_a_run_past_its_limit_is_stopped(self) -> None:
         self.open(Limits(seconds=5))
         self.value('m.editor().replace("# Two", "# never_ends Two")')
@@ -699,15 +674,6 @@ class Page(InBrowser):
         box = self.value('(it => [it.x, it.right])(%s.getBoundingClientRect())' % numbers)
         self.assertLessEqual(box[1], self.value('m.editor().area.getBoundingClientRect().x'))
 
-    def test_a_newer_text_stops_the_run_before(self) -> None:
-        self.open(Limits(seconds=30))
-        self.value('m.editor().replace("# Two", "# never_ends Two")')
-        self.wait('document.getElementById("state").textContent === "running"')
-        self.browser.wait('true')
-        self.value('m.editor().replace("never_ends", "ends")')
-        self.wait('m.studio.judged === m.studio.number && document.getElementById("state").dataset.is === "good"')
-        self.assertIsNone(self.server.session.runs.running)
-
     def test_a_lost_connection_says_so_and_comes_back(self) -> None:
         self.open()
         session, port, token = self.server.session, self.server.port, self.server.token
@@ -748,21 +714,6 @@ class Page(InBrowser):
                    'document.querySelector(\'#question button[value="Save"]\').click(); })()')
         self.wait('m.studio.document.name === "mine.toml"')
         self.assertEqual((self.room / 'mine.toml').read_bytes(), (TOP / 'examples/flooding.toml').read_bytes())
-
-    def test_the_page_without_its_token_is_refused(self) -> None:
-        self.open()
-        for address in ('/', '/wrong/', '/wrong/studio/page/studio.js'):
-            self.visit('http://127.0.0.1:%d%s' % (self.server.port, address), 'document.body')
-            self.browser.wait('document.body.innerText.includes("Not allowed")')
-            self.assertNotIn('motesim studio', self.browser.run('document.documentElement.outerHTML'))
-        self.visit(self.server.address, READY)
-
-    def test_nothing_comes_from_a_network(self) -> None:
-        self.open()
-        names = self.value('performance.getEntriesByType("resource").map(it => it.name)')
-        self.assertTrue(names)
-        for name in names:
-            self.assertTrue(name.startswith(self.server.address) or name.startswith('data:'), name)
 
     def test_it_works_with_a_plain_text_area(self) -> None:
         self.open(codemirror=None)

@@ -56,26 +56,12 @@ left 1
 
 SCENARIO = '''version = 2
 end = 10
-[medium]
-range = 10
-base = 2
-per = 100
-collide = true
+medium = { range = 10, base = 2, per = 100, collide = true }
+mote = [{ x = 0, y = 0, program = "talker" }, { x = 10, y = 0, program = "hearer" },
+        { x = 20, y = 0, program = "talker" }]
 [programs]
 talker = ""
 hearer = ""
-[[mote]]
-x = 0
-y = 0
-program = "talker"
-[[mote]]
-x = 10
-y = 0
-program = "hearer"
-[[mote]]
-x = 20
-y = 0
-program = "talker"
 '''
 
 MOTES = [{'mote': 0, 'program': 'talker', 'sent': 6, 'copies': 0, 'received': 0, 'lost': 0, 'ring': 0, 'collided': 0,
@@ -91,7 +77,6 @@ NET = {'mote': 'net', 'program': '', 'sent': 7, 'copies': 7, 'received': 1, 'los
 LINKS = [{'from': 0, 'to': 1, 'copies': 6, 'received': 1, 'lost': 1, 'ring': 1, 'collided': 1, 'halted': 1, 'late': 1,
           'ratio': 0.2, 'delay': 3}, {'from': 2, 'to': 1, 'copies': 1, 'received': 0, 'lost': 0, 'ring': 0,
                                       'collided': 1, 'halted': 0, 'late': 0, 'ratio': 0.0, 'delay': 4}]
-SILENT = {'copies': 0, 'received': 0, 'lost': 0, 'ring': 0, 'collided': 0, 'halted': 0, 'late': 0, 'ratio': None}
 
 
 class Counts(unittest.TestCase):
@@ -100,21 +85,6 @@ class Counts(unittest.TestCase):
         self.assertEqual(motes, MOTES)
         self.assertEqual(net, NET)
         self.assertEqual(links, LINKS)
-
-    def test_a_scenario_shows_silent_links_and_their_delays(self) -> None:
-        # (with all three in one another's range, motes 1 and 2 at one place)
-        near = SCENARIO.replace('x = 20', 'x = 10')
-        cases = (SCENARIO, {(1, 0): 3, (1, 2): 3}), (near, {(0, 2): 3, (1, 0): 3, (1, 2): 2, (2, 0): 3})
-        for text, pairs in cases:
-            _, _, links = summary.summary(Run('', Report.parse(REPORT), Scenario.parse(text)))
-            found = {(row['from'], row['to']): row for row in links}
-            self.assertEqual(set(found), {(0, 1), (2, 1), *pairs})
-            for pair, delay in pairs.items():
-                self.assertEqual(found[pair], {'from': pair[0], 'to': pair[1], **SILENT, 'delay': delay})
-
-    def test_nothing_sent_is_no_ratio(self) -> None:
-        motes, net, links = summary.summary(Run('', Report.parse('mote 0 a\nmedium\nleft 0\n'), None))
-        self.assertEqual((net['copies'], net['ratio'], links), (0, None, []))
 
 
 class Forms(unittest.TestCase):
@@ -236,9 +206,6 @@ from to copies received lost ring collided halted late ratio delay
         talker = Report.parse(REPORT.replace('talker', 'a').replace('mote 0 a', 'mote 0 talker'))
         with self.assertRaisesRegex(Fault, 'has no process talker; talker is a program, with: a, b$'):
             flow_rows(talker, scenario, 'print talker')
-
-    def test_the_help_says_which_events_are_dropped(self) -> None:
-        self.assertIn("events whose process wasn't on the process list", self.run_it('--help').stdout)
 
     def test_what_is_no_report_has_status_2(self) -> None:
         self.path.write_text(REPORT[:-2], encoding='ascii')

@@ -171,37 +171,6 @@ class Pages(InBrowser):
         self.value('pane.canvas.focus()')
         self.browser.key(key, **words)
 
-    def test_the_lines_of_the_report_come_back(self) -> None:
-        for run in [small_network(), case('ring_overflows'), case('nine_copies_collide'),
-            case('runaway_beside_another')]:
-            self.open(run)
-            rows = self.value('''(() => {
-              const rows = [];
-              for (let mote = 0; mote < run.begins.length; mote++) {
-                rows.push(`mote ${mote} ${run.programs[run.begins[mote]]}`);
-                for (let i = run.traceStart[mote]; i < run.traceStart[mote + 1]; i++) {
-                  rows.push(run.text(i));
-                  if (run.numberOf(i, mote) !== rows.length) rows.push('a wrong number');
-                }
-              }
-              rows.push('medium');
-              for (let k = 0; k < run.packets; k++) {
-                rows.push(run.packetText(k));
-                if (run.numberOfPacket(k) !== rows.length) rows.push('a wrong number');
-              }
-              return rows.concat([`left ${run.left}`]);
-            })()''')
-            self.assertEqual('\n'.join(rows) + '\n', run.report.text())
-
-    def test_copies_become_what_the_report_says(self) -> None:
-        words = {'received': [0, 1, 2, 8], 'full': [3], 'collided': [4], 'lost': [5], 'halted': [6], 'left': [7]}
-        for run in [small_network(), case('ring_overflows'), case('nine_copies_collide'), case('copy_past_the_end')]:
-            self.open(run)
-            fates, outcomes = self.value('Array.from(run.copyFate)'), run.report.outcomes()
-            self.assertEqual(len(fates), len(outcomes))
-            for fate, outcome in zip(fates, outcomes):
-                self.assertIn(fate, words[outcome.what])
-
     def test_a_run_whose_lines_are_all_at_its_beginning_opens_there(self) -> None:
         text = (TOP / 'examples/small_network.toml').read_text()
         report, last = small_network().report, 20
@@ -321,9 +290,7 @@ class Pages(InBrowser):
 
     def test_a_search_finds_lines(self) -> None:
         self.open(small_network())
-        for words, found in [('print', 2), ('print echo', 1), ('30', 7), ('mote 2', 9), ('from 2 collide', 1),
-            ('timer', 6), ('lost', 1),
-                             ('at 4..8 send', 2), ('all', None), ('nonsense', None)]:
+        for words, found in ('print', 2), ('at 4..8 send', 2), ('all', None), ('nonsense', None):
             self.value('document.getElementById("words").value = %s' % json.dumps(words))
             self.value('document.querySelector("#search button").click()')
             self.browser.settle()
@@ -365,6 +332,8 @@ class Pages(InBrowser):
         self.assertEqual(self.selected(), '10 recv 0 2 30')
         self.assertAlmostEqual(self.value('pane.moment(pane.gutter)'), 4, places=6)
         self.assertFalse(self.value('document.querySelector("aside").offsetHeight'))
+        self.open(small_network(), fragment='#mote=2')
+        self.assertEqual(self.value('m.chosen().mote'), 2)
 
     def test_a_note_leads_to_its_line(self) -> None:
         note = Note('mote 1 sends 41', 'mote 1 has 0 such lines', (Line('nothing'), Line('19 send 1 40', 38)))
@@ -397,21 +366,6 @@ class Pages(InBrowser):
         self.assertEqual(self.selected(), '8 leave sender')
         self.open(small_network(), note=Note('this fails', ''))
         self.assertIsNone(self.selected())
-
-    def test_a_line_outside_of_the_moments_is_shown(self) -> None:
-        self.open(small_network(), fragment='#from=0&to=5&line=38')
-        self.assertEqual(self.selected(), '19 send 1 40')
-        self.assertTrue(self.value('pane.x(19) > pane.gutter && pane.x(19) < pane.canvas.clientWidth'))
-
-    def test_an_address_selects_a_mote(self) -> None:
-        self.open(small_network(), fragment='#mote=2')
-        self.assertEqual(self.value('m.chosen().mote'), 2)
-
-    def test_the_count_of_lines_is_that_of_the_report(self) -> None:
-        run = small_network()
-        self.open(run)
-        lines = run.report.text().count('\n')
-        self.assertIn('a report of %d lines' % lines, self.value('document.getElementById("about").textContent'))
 
     def test_labels_are_apart_where_the_page_is_narrow(self) -> None:
         self.open(small_network())

@@ -12,15 +12,13 @@ from typing import cast
 
 from here import TOP, call
 import skips
-import test_summary
 from motesim.contiki.random_scenario import random_scenario
 from motesim.faults import Fault
 from motesim.runner.run import answer
 from motesim.scenario import Scenario
-from motesim.why.chain import MOST_CALLS, Explainer, as_json, cause_of, chain, on_values, path_of, places
+from motesim.why.chain import MOST_CALLS, Explainer, as_json, cause_of, chain, on_values, places
 from motesim.why.command import show_chain
-from motesim.why.diverge import diverged
-from motesim.why.fate import after_post, fate_of
+from motesim.why.fate import after_post
 from motesim.why.lines_of_file import ScenarioFile
 from motesim.why.miss import Miss, _Misses, misses
 from motesim.why.question import Asked, Asker, Missing, Unasked
@@ -315,16 +313,6 @@ class Causes(unittest.TestCase):
                          [it for it in CAUSES_OF_HEARER if it is not None])
         self.assertEqual(causes[4], At(0, 12))
 
-    def test_a_chain_goes_back_to_the_start_of_a_mote(self) -> None:
-        self.assertEqual(lines_of(source(), At(1, 7)), [
-            '1: 7 print h 8', '1: 7 take 0 h', '1: 7 post 0 h packet 8', '1: 7 recv 0 0 8', '0: 4 send 0 8',
-            '0: 4 take 0 a', '0: 4 post 0 a timer 0', '0: 0 start a', '0: mote 0 talker'])
-
-    def test_what_a_chain_waited_for(self) -> None:
-        path = path_of(chain(source(), At(1, 7)))
-        self.assertEqual(path.waits, {'timer': (4, 1), 'medium': (3, 1), 'queue': (0, 0), 'full': (0, 0)})
-        self.assertEqual(str(path), '7 moments: 4 waiting for 1 timer, 3 on the way, over 1 hop')
-
     def test_calls_without_a_line_are_named(self) -> None:
         found = source()
         self.assertEqual(because(found, At(0, 12)), 'b, line 19: `send 8`; b was polled by a in line 10: `poll b`')
@@ -578,16 +566,6 @@ class Misses(unittest.TestCase):
                       'this time, and was never true', [it.words for it in self.misses(
                           'mote 0 prints worker 1', source(CALLED, REPORT_OF_CALLED))])
 
-    def test_what_became_of_copies(self) -> None:
-        """The six packets of mote 0 in the report of test_summary, and one that collides."""
-        text = test_summary.REPORT
-        found = Source('fates', text.encode(), Scenario.parse(test_summary.SCENARIO.replace(
-            'talker = ""', "talker = 'process t; code t { body { } }'").replace(
-            'hearer = ""', "hearer = 'process t; code t { body { } }'")))
-        fates = [fate_of(found, row, line.split(' '), 1) for row, line in list(found.traces.packets())[1:]]
-        self.assertEqual([it.how for it in fates], ['lost', 'collided', 'collided', 'ring', 'halted', 'late'])
-        self.assertEqual([it.row for it in fates], [28, 21, 20, 22, 23, 33])
-
     def test_many_collisions(self) -> None:
         """Six thousand packets that meet at one mote are looked up in linear work: square work would need 20 s."""
         count = 6000
@@ -634,16 +612,6 @@ class Misses(unittest.TestCase):
         self.assertLess(time.process_time() - begun, 2)
         self.assertEqual(first.words, '`send 0 7`, at 4: 1 moment too late, because the sentence allows up to 3')
 
-    def test_the_first_point_at_which_chains_diverge(self) -> None:
-        other = source(SCENARIO + '[[loss]]\nfrom = 0\nto = 1\nevery = 1\n',
-                       REPORT[:REPORT.index('7 recv')] + 'medium\n4 0 0 8 1@lost\nleft 0\n')
-        found = diverged(source(), other, At(1, 7))
-        assert found is not None
-        self.assertEqual((found.last.where, found.hop.where), (At(0, 12), At(1, 4)))
-        self.assertEqual(found.words, 'the medium lost it, because it loses all packets from 0 to 1')
-        self.assertIsNone(diverged(source(), source(), At(1, 7)))
-
-
 
 def runs() -> list[Path]:
     """The scenarios of the examples and of the cases."""
@@ -683,29 +651,6 @@ class Runs(unittest.TestCase):
                 steps[at] = 1 + (0 if cause.place < 0 else steps[cause])
                 lines += 1
         self.assertGreater(lines, 25_000)
-
-    def test_flooding(self) -> None:
-        """Message 1 goes from mote 0 by mote 1 to mote 6: 1 is the least sender of the two that are heard at 46."""
-        found = self.run_of('flooding.toml')
-        asked = Asker(found).about('mote 6 prints flood 1')
-        assert isinstance(asked, Asked)
-        self.assertEqual([it.partition(' ')[0] + ' ' + it.partition(' ')[2] for it in lines_of(found, asked.where)], [
-            '6: 46 print flood 1', '6: 46 take 0 flood', '6: 46 post 0 flood packet 1', '6: 46 recv 1 0 1',
-            '1: 43 send 0 1', '1: 43 take 0 flood', '1: 43 post 0 flood packet 1', '1: 43 recv 0 0 1',
-            '0: 40 send 0 1', '0: 40 take 0 flood', '0: 40 post 0 flood timer 0', '0: 0 start flood',
-            '0: mote 0 flood'])
-        self.assertEqual(str(path_of(chain(found, asked.where))),
-                         '46 moments: 40 waiting for 1 timer, 6 on the way, over 2 hops')
-
-    def test_flooding_around_a_loss(self) -> None:
-        """Message 2 is lost from 0 to 1, and comes through 5 and 6; its timer was reset when the one before fired."""
-        found = self.run_of('flooding.toml')
-        asked = Asker(found).about('mote 1 prints flood 2')
-        assert isinstance(asked, Asked)
-        hops = [it for it in chain(found, asked.where) if it.wait]
-        self.assertEqual([(it.where.mote, it.at, it.waited, it.wait) for it in hops], [
-            (1, 89, 3, 'medium'), (6, 86, 3, 'medium'), (5, 83, 3, 'medium'), (0, 80, 40, 'timer'),
-            (0, 40, 40, 'timer')])
 
     def test_sentences_on_two_events(self) -> None:
         found = self.run_of('flooding.toml')
@@ -750,46 +695,12 @@ class Runs(unittest.TestCase):
             assert isinstance(asked, Asked)
             self.assertTrue(chain(found, asked.where)[0].because.endswith(led), question)
 
-    def near(self, name: str, question: str) -> list[str]:
-        asker = Asker(self.run_of(name))
-        missing = asker.about(question)
-        assert isinstance(missing, Missing)
-        return [it.words for _, its in misses(asker, missing) for it in its]
-
-    def test_near_misses_of_the_examples(self) -> None:
-        self.assertIn('packet 1 of mote 0, with the value 2, was sent at 80: the medium lost it, because it loses one '
-                      'packet in 2 from 0 to 1', self.near('flooding.toml', 'mote 1 prints flood 2 by 85'))
-        self.assertIn('packet 0 of mote 2, with the value 12, was sent at 0: it collided at 2 with packet 0 of mote 0',
-                      self.near('small_network.toml', 'mote 1 receives 12'))
-        self.assertIn('packet 1 of mote 2, with the value 40, was sent at 19: it would arrive at 21, after the end',
-                      self.near('small_network.toml', 'mote 1 receives 40'))
-        self.assertIn('it halted at 0; line 6: `while 1` repeated 4998 times in this call, and nothing in its block '
-                      'waited: if the loop waits for something, write a `yield_until` in it; if it calculates, write a '
-                      '`pause` in it, after which it continues at once', self.near('runaway.toml', 'mote 0 prints a 9'))
-
     def test_an_event_for_a_process_that_is_not_on_the_process_list(self) -> None:
         run = self.run_of('broadcast.toml')
         self.assertEqual(because(run, At(0, 10)), 'event 0 was dropped: b was not on the process list')
         left = source(report=REPORT.replace('7 take 0 h', '7 drop 0 h'))
         self.assertEqual(after_post(left, At(1, 5)).words,
                          'its event was dropped at 7, because h was not on the process list')
-
-    def test_the_tree(self) -> None:
-        """The reading of mote 9 goes by 3 and 6 to the root.
-
-        Mote 9 is at (-39, -5), 3 at (-22, -12), 6 at (-13, -3). The squares of the ways are 17*17 + 7*7 = 338,
-        9*9 + 9*9 = 162 and 13*13 + 3*3 = 178, so they last 2 + 5, 2 + 2 and 2 + 2 moments. Mote 9 measures at
-        300 + 5*9 = 345.
-        """
-        found = self.run_of('collection_tree.toml')
-        asked = Asker(found).about('mote 0 prints reading 9')
-        assert isinstance(asked, Asked)
-        hops = [it for it in chain(found, asked.where) if it.wait]
-        self.assertEqual([(it.where.mote, it.at, it.waited, it.wait) for it in hops], [
-            (0, 360, 4, 'medium'), (6, 356, 4, 'medium'), (3, 352, 7, 'medium'), (9, 345, 345, 'timer')])
-        self.assertEqual(chain(found, asked.where)[0].because,
-                         'reading, line 62: `print data`; reading was called by tree with msg 9 in line 32: '
-                         '`synch reading msg (data % 100)`')
 
     def why(self, *arguments: str) -> subprocess.CompletedProcess[str]:
         return call('why', *arguments, cwd=TOP, env=dict(os.environ))
@@ -819,15 +730,6 @@ class Runs(unittest.TestCase):
         shown = self.why('examples/flooding.toml', 'mote 3 prints flood 99', '--other', 'examples/drift.toml')
         self.assertIn('why: examples/drift.toml: ', shown.stderr)
 
-    def test_a_second_run_that_has_the_line(self) -> None:
-        with tempfile.TemporaryDirectory() as room:
-            path = Path(room, 'lossy.toml')
-            path.write_text((TOP / 'examples/flooding.toml').read_text().replace('every = 2', 'every = 1'))
-            shown = self.why(str(path), 'mote 1 prints flood 1 by 45', '--other', 'examples/flooding.toml')
-        self.assertEqual(shown.returncode, 1)
-        self.assertIn('examples/flooding.toml has the line: mote 1, line 41: 43 print flood 1', shown.stdout)
-        self.assertIn('lossy.toml: the medium lost it, because it loses all packets from 0 to 1', shown.stdout)
-
     def test_the_first_mote_without_the_line_is_the_one_of_the_second_run(self) -> None:
         """Mote 0 never prints. Motes 1 and 3 lack the line if the links from mote 0 are lost."""
         with tempfile.TemporaryDirectory() as room:
@@ -838,7 +740,9 @@ class Runs(unittest.TestCase):
                           'at least 90 % of motes but 0 print', 'at least 3 motes print'):
                 for question in (motes + ' p 7', motes + ' p 7 by 30'):
                     with self.subTest(question=question):
-                        said = self.why(str(bad), question, '--other', str(good)).stdout
+                        shown = self.why(str(bad), question, '--other', str(good))
+                        said = shown.stdout
+                        self.assertEqual(shown.returncode, 1)
                         self.assertIn('good.toml has the line: mote 1, line 28: 18 print p 7\n', said)
                         self.assertIn('bad.toml: the medium lost it, because it loses all packets from 0 to 1\n', said)
                         self.assertEqual('good.toml does not have the line of mote 0 either.\n' in said,
@@ -870,24 +774,6 @@ class Runs(unittest.TestCase):
         self.assertIn('renamed.toml has all of this chain too.', both)
         self.assertRegex(lossy, r'mote 0: 40 send 0 1 \(line 8 in .*\)\nThen they diverge:')
         self.assertIn('lossy.toml: the medium lost it, because it loses all packets from 0 to 1', lossy)
-
-    def test_numbers_of_events_and_packets_do_not_part_two_runs(self) -> None:
-        """Mote 1 gets a packet more in the first run, and sends one more: later events and packets have other numbers."""
-        program = ('process p; autostart p; receiver p; code p { etimer t; body { set t 20; if (self == 0) { send 1; } '
-                   'while 1 { yield; if is(packet) { print data; if (data == 1) { send 2; } } '
-                   'if (fired(t) && (self == 1)) { send 9; } } } }')
-        text = ('version = 2\nend = 60\nmedium = { range = 10, base = 2, per = 100, collide = false }\n'
-                'mote = [{ x = 0, y = 0, program = "p" }, { x = 5, y = 0, program = "p" }]\n'
-                'programs = { p = "%s" }\n' % program)
-        dead = '[[loss]]\nfrom = 0\nto = 1\nevery = 1\n'
-        with tempfile.TemporaryDirectory() as room:
-            paths = [Path(room, name) for name in ('one.toml', 'without.toml', 'lost.toml')]
-            for path, more in zip(paths, ('', dead, dead + dead.replace('from = 0\nto = 1', 'from = 1\nto = 0'))):
-                path.write_text(text + more)
-            both, lost = (self.why(str(paths[0]), 'mote 0 prints p 9', '--other', str(it)).stdout for it in paths[1:])
-        self.assertIn('without.toml has all of this chain too.', both)
-        self.assertIn('lost.toml: the medium lost it, because it loses all packets from 1 to 0', lost)
-        self.assertRegex(lost, r'mote 1: 20 send 1 9 \(line [0-9]+ in .*\)\nThen they diverge:')
 
     def test_the_test_that_led_the_other_run_elsewhere_is_named(self) -> None:
         text = ('version = 2\nend = 9\nmedium = { range = 10, base = 2, per = 100, collide = false }\n'

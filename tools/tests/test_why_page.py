@@ -1,10 +1,8 @@
 """The causes in the page of a run: in a headless browser, what the chain and the plots show."""
 import unittest
-import xml.etree.ElementTree
 
 from here import TOP, room_of
 import skips
-import test_summary
 import test_why
 from browser import InBrowser
 from motesim.judge.judge import Judge
@@ -14,10 +12,8 @@ from motesim.runner.run import Run, answer, read_run
 from motesim.scenario import Scenario
 from motesim.timeline.html import write_page
 from motesim.timeline.note import Line, Note, note_of
-from motesim.why.chain import chain
 from motesim.why.pages import Causes, causes_of
-from motesim.summary.series import Series
-from motesim.why.source import At, Source
+from motesim.why.source import Source
 
 
 def small_run() -> Run:
@@ -128,26 +124,6 @@ class Pages(InBrowser):
         self.script("document.querySelector('.chart circle[data-hop=\"6\"]').dispatchEvent(new MouseEvent('click'))")
         self.assertEqual(self.script('motesim.chosen().line'), 5)
 
-    def test_the_reasons_are_those_of_the_command(self) -> None:
-        source = Source('small', test_why.REPORT.encode(), Scenario.parse(test_why.SCENARIO))
-        self.open(small_run())
-        for mote, place in (0, 12), (0, 9), (0, 17), (0, 15), (1, 7), (1, 4):
-            where = At(mote, place)
-            row = source.traces.row(where)
-            wanted = ['mote %d: %s' % (hop.where.mote, hop.because) for hop in chain(source, where)]
-            self.open(small_run(), '#line=%d' % row)
-            self.ask()
-            shown = "[...document.querySelectorAll('#why-chain .what')].map(it => it.textContent)"
-            self.assertEqual(self.script(shown), wanted)
-
-    def test_the_chart_is_an_svg(self) -> None:
-        self.open(small_run(), '#line=28')
-        self.ask()
-        svg = xml.etree.ElementTree.fromstring(str(self.script("document.querySelector('.chart').innerHTML")))
-        texts = [it.text for it in svg.iter('{http://www.w3.org/2000/svg}text')]
-        self.assertIn('recv 0 0 8  (3 on the way)', texts)
-        self.assertEqual([it for it in texts if it and it.startswith('mote ')][:2], ['mote 0', 'mote 1'])
-
     def test_the_style_of_the_chart_is_its_own(self) -> None:
         self.open(small_run(), '#line=28')
         weight = "getComputedStyle(document.getElementById('about')).fontWeight"
@@ -155,26 +131,6 @@ class Pages(InBrowser):
         self.ask()
         self.assertEqual(self.script("getComputedStyle(document.querySelector('.chart .name')).fontWeight"), '700')
         self.assertEqual(self.script(weight), before)
-
-    def test_a_run_without_its_scenario_says_so(self) -> None:
-        self.open(small_run()._replace(scenario=None), '#line=28')
-        self.ask()
-        self.assertIn("doesn't say what caused its lines",
-                      str(self.script("document.getElementById('why-chain').innerText")))
-
-    def test_plots_have_the_values_of_the_summary(self) -> None:
-        text, program = test_summary.SCENARIO, '"process t; code t { body { } }"'
-        for name in 'talker', 'hearer':
-            text = text.replace('%s = ""' % name, '%s = %s' % (name, program))
-        scenario = Scenario.parse(text)
-        self.open(Run('sums', Report.parse(test_summary.REPORT), scenario))
-        rows = list(Series(Report.parse(test_summary.REPORT), 5, 10).rows())
-        script = '(() => {const its = %s; return %s;})()'
-        shown = self.script("(() => {document.getElementById('over-time').open = true; return true;})()")
-        self.assertTrue(shown)
-        for name in 'sent', 'received', 'lost', 'ring', 'collided', 'halted', 'late', 'queue':
-            got = self.script(script % ('motesim.seriesOf(motesim.panes[0].run, 5)', 'Array.from(its.%s)' % name))
-            self.assertEqual(got, [row[name] for row in rows], name)
 
 
 class Runs(unittest.TestCase):

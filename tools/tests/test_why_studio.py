@@ -61,11 +61,6 @@ class Answers(unittest.TestCase):
         for asked in {'mote': 0, 'row': 28}, {'mote': 7, 'at': 3}, {'mote': 0}, {'row': 9}:
             self.assertIn('said', self.ask('state', **asked))
 
-    def test_the_call_that_runs(self) -> None:
-        """After a's post it is still a that is called, and after the last line of a call no process is."""
-        self.assertEqual(self.ask('state', mote=0, row=9)['call']['process'], 'a')
-        self.assertIsNone(self.ask('state', mote=0, at=4)['call'])
-
     def test_lines_of_a_sentence(self) -> None:
         self.assertEqual(self.ask('lines', sentence='mote 0 prints'), {'rows': [11, 12, 16, 19]})
         self.assertIn('said', self.ask('lines', sentence='mote 0 frobs'))

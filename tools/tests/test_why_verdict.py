@@ -18,10 +18,7 @@ MOTES, END = 5, 30
 # Motes 0 to 3 are a chain; mote 4 hears no one.
 SCENARIO = '''version = 1
 end = %d
-[medium]
-range = 10
-base = 2
-per = 1000
+medium = { range = 10, base = 2, per = 1000 }
 [programs]
 p = 'process a, b;'
 ''' % END + ''.join('[[mote]]\nx = %d\ny = 0\nprogram = "p"\n' % x for x in (0, 10, 20, 30, 900))
