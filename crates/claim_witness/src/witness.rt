@@ -9,14 +9,15 @@ use crate::shown::{shown_in, spare_line};
 use claims::{Case, Claim, Found, holding};
 use mote_net::Report;
 
-/// A test that doesn't hold: its place in its case, and the first line too many, or `None` if the lines aren't too many.
+/// A test that doesn't hold: its place in its case, and the first line too many, counted mote by mote and not in time,
+/// or `None` if the lines aren't too many.
 #[derive(Clone, Copy)]
 pub struct BrokenTest {
     pub test: usize,
     pub line: Option<Found>,
 }
 
-/// A case that doesn't hold: its place in its claim, and its first test that doesn't hold.
+/// A case that doesn't hold: its place in its claim, and a test of it that doesn't hold.
 #[derive(Clone, Copy)]
 pub struct Witness {
     pub case: usize,
@@ -35,7 +36,7 @@ pub struct Spare {
 pub enum Break {
     /// Too few cases hold. This one doesn't.
     Missing(Witness),
-    /// Too many cases hold. This one is the first too many.
+    /// Too many cases hold. This is one of them.
     Spare(Spare),
     /// The claim wants more cases than it has.
     Fewer,

@@ -10,8 +10,8 @@ use radio_medium::Medium;
 use radio_packet::{Fate, Sent};
 use std::alloc::AllocError;
 
-/// The fates of the copies of a packet in the medium with these faults, one for each mote that hears the sender, sorted
-/// by the receiver's number.
+/// The fates of the copies of a packet in the medium with these faults, one for each mote that hears the sender,
+/// sorted by the receiver's number.
 ///
 /// # Errors
 /// If an allocation failed.

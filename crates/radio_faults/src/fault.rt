@@ -10,7 +10,7 @@ pub enum Fault {
     Link(u16, u16),
     /// The links between two motes, in both directions, are broken.
     BothWays(u16, u16),
-    /// The mote is silent: it hears other motes, but no mote hears it.
+    /// The mote is silent: it hears other motes, and the medium loses every packet of its own.
     Silent(u16),
 }
 

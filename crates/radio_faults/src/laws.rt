@@ -2,7 +2,7 @@
 
 ghost use Rattle.radio_faults.specs.Laws.{FaultsKeepTheMedium, BrokenLinksLoseAll};
 
-/// Faults make no error in a medium: with faults it is a medium as a scenario can describe it.
+/// Faults put no error into a medium. (With faults it may have more losses than a scenario may list.)
 pub fn faults_keep_the_medium()
     ensures faults_keep_the_medium { FaultsKeepTheMedium }
 {}

@@ -1,5 +1,6 @@
-//! Surveys of the reports of a net with faults: the smallest sets of faults with which a claim about the report doesn't
-//! hold. Both are given by traits: the run that has a report with each list of faults, and the judge who knows the claims.
+//! Surveys of reports: the minimal sets of faults with which a claim about the report doesn't hold. Two traits stand
+//! for a run, which has a report with each list of faults, and for a judge, who knows the claims. No contract says
+//! here that the run is that of a net in the medium with these faults.
 #![tactic(auto)]
 
 mod faulty_run;

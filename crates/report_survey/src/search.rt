@@ -15,11 +15,11 @@ use std::thread::Threads;
 use survey::{Limits, Survey};
 use survey_workers::survey_in_threads;
 
-/// Finds the smallest sets of these faults with which a claim about the report doesn't hold, within the limits. The runs
-/// are made in threads.
+/// Finds the minimal sets of these faults with which a claim about the report doesn't hold, within the limits. The
+/// runs are made in threads, which the function joins, so it may wait.
 ///
 /// # Errors
-/// `AllocError` if an allocation fails.
+/// `AllocError` if an allocation fails or a thread can't be started.
 pub fn survey_reports<R: Threads + Sync, N: FaultyRun + Sync, J: Judge + Sync>(
     rt: &R,
     alloc: Global,
@@ -42,12 +42,12 @@ pub fn survey_reports<R: Threads + Sync, N: FaultyRun + Sync, J: Judge + Sync>(
     ensures minimal { let holds = holds_with (N.report net.now) (J.holds judge.now) candidates.now in
         IfOk result (λ s. IsMinimal (length candidates.now) holds (breaks_of s.broken.items)) }
     ensures once { IfOk result (λ s. IsListedOnce (breaks_of s.broken.items)) }
-    // The number of runs is that of the covered sets that need a run.
+    // The reported number of runs is that of the covered sets that need a run.
     ensures count { let holds = holds_with (N.report net.now) (J.holds judge.now) candidates.now in
         IfOk result (λ s. IsCount (length candidates.now) (IsCovered limits.faults s.stopped_at) holds
         (J.claim_count judge.now) s.trials) }
     ensures limit { IfOk result (λ s. s.trials ≤ limits.trials) }
-    // The survey stops before the end only when all runs that are allowed have been made.
+    // The survey stops before the end only when as many runs as allowed are reported.
     ensures stopped { IfOk result (λ s. IfSome s.stopped_at (λ set. (s.trials ≡ limits.trials)
         × IsSet (length candidates.now) set.items × (length set.items ≤ limits.faults))) }
 {

@@ -1,4 +1,4 @@
-//! Surveys: the smallest sets of faults that break a claim.
+//! Surveys: the minimal sets of faults that break a claim. No other set within a minimal one breaks it.
 //!
 //! A survey tries the sets of at most so many faults: the smallest sets first, and those of one size in lexicographic
 //! order. A set needs no run if for each claim a set within it is known to break the claim.

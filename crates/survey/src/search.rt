@@ -34,8 +34,8 @@ struct Step {
     more: bool,
 }
 
-/// Tries the next sets of this size, at most `room` at a time. `set` is the first that comes into question, and becomes
-/// the first that was left for later.
+/// Tries the next sets of this size, at most `room` at a time. `set` is the first that comes into question, and
+/// becomes the first that was left for later.
 ///
 /// # Errors
 /// `AllocError` if an allocation fails.
@@ -165,7 +165,7 @@ fn search_size<T: Trial, F: Fn(&[Vec<u16>]) -> Result<Vec<Vec<bool>>, AllocError
     }
 }
 
-/// Finds the smallest sets of faults that break claims, within the limits. The runs are made one after another.
+/// Finds the minimal sets of faults that break claims, within the limits. The runs are made one after another.
 ///
 /// # Errors
 /// `AllocError` if an allocation fails.
@@ -193,7 +193,7 @@ pub fn survey<T: Trial>(alloc: Global, trial: &T, limits: Limits) -> Result<Surv
     )
 }
 
-/// Finds the smallest sets of faults that break claims, within the limits. `try_all` runs with each of some sets, and
+/// Finds the minimal sets of faults that break claims, within the limits. `try_all` runs with each of some sets, and
 /// answers in their order.
 ///
 /// # Errors

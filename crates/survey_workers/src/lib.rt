@@ -16,8 +16,8 @@ use std::thread;
 use std::thread::Threads;
 use survey::{Limits, Survey, Trial, survey_with};
 
-/// Finds the smallest sets of faults that break claims, within the limits. Runs are made at the same time, each in a
-/// thread of its own.
+/// Finds the minimal sets of faults that break claims, within the limits. Runs are made at the same time, each in a
+/// thread of its own; no clause speaks of threads. The function joins its threads, so it may wait.
 ///
 /// # Errors
 /// `AllocError` if an allocation fails or a thread can't be started.
