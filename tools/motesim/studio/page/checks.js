@@ -1,3 +1,4 @@
+// @ts-check
 // Warnings, the sentences that hold or don't, and the sums of a run.
 import {byId, element, makeButton} from '../../timeline/page/dom.js';
 import {chooseRow} from '../../timeline/page/rows.js';

@@ -1,3 +1,4 @@
+// @ts-check
 // The lines of a run in chronological order, and steps along them.
 import {DROP, HALT, LEAVE, PRINT, START, TAKE} from '../../timeline/page/data.js';
 import {findLines} from '../../timeline/page/query.js';
@@ -32,7 +33,7 @@ export function placeOf(run, line, moment) {
 export const nextPlace = (place, by) => by > 0 ? Math.floor(place) + 1 : Math.ceil(place) - 1;
 
 /** The next line from a place on, or back, that passes a test; or -1. */
-export function nextLine(run, place, by, test = () => true) {
+export function nextLine(run, place, by, test = _ => true) {
   const {order} = orderOf(run);
   for (let next = nextPlace(place, by); next >= 0 && next < order.length; next += by) {
     if (test(order[next])) return order[next];

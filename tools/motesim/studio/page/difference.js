@@ -1,3 +1,4 @@
+// @ts-check
 // The effect of the last change: the first difference between two runs, in words.
 import {byId, element} from '../../timeline/page/dom.js';
 import {redraw} from '../../timeline/page/draw.js';

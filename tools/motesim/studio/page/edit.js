@@ -1,3 +1,4 @@
+// @ts-check
 // Changes of the text that the map asks for, made as the server says.
 import {byId} from '../../timeline/page/dom.js';
 import {Lost, Refused, ask} from './link.js';

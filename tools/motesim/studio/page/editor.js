@@ -1,5 +1,6 @@
+// @ts-check
 // The editor of the text: CodeMirror, if Debian's package is installed, otherwise a text area with colours behind it.
-import {byId} from '../../timeline/page/dom.js';
+import {byId, focused} from '../../timeline/page/dom.js';
 import {defineMode} from './notation.js';
 import {Tint} from './tint.js';
 import {differing, movedOffset, offsetOf, replacements} from './text.js';
@@ -96,7 +97,7 @@ export class Editor {
   /** Writes a piece of the plain text area as if the reader typed it, so that Ctrl-Z undoes it. */
   write({begin, end, text}) {
     if (begin === end && !text) return;
-    const {area} = this, before = document.activeElement;
+    const {area} = this, before = focused();
     area.focus({preventScroll: true});
     area.setSelectionRange(begin, end);
     // (the browser sends the event `input` for what it writes)
@@ -112,7 +113,7 @@ export class Editor {
   /** Undoes the last change of the text, or makes it again: `name` is undo or redo. */
   again(name) {
     if (this.mirror) return void this.mirror[name]();
-    const before = document.activeElement;
+    const before = focused();
     this.area.focus({preventScroll: true});
     document.execCommand(name);
     if (before !== this.area && before) before.focus({preventScroll: true});

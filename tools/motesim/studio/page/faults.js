@@ -1,3 +1,4 @@
+// @ts-check
 // The search for faults that break expectations: it runs while the reader works, and shows its results.
 import {byId, element, makeButton, table} from '../../timeline/page/dom.js';
 import {count} from '../../timeline/page/words.js';

@@ -1,3 +1,4 @@
+// @ts-check
 // Files: opening, saving, and the page of the run as one file.
 import {byId, element, handOut} from '../../timeline/page/dom.js';
 import {goToDifference} from './flag.js';

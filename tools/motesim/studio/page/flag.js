@@ -1,3 +1,4 @@
+// @ts-check
 // The first difference between two runs on the lanes: a line, a flag, and a stroke in each lane.
 import {lowerBound} from '../../timeline/page/data.js';
 import {chooseLine, chooseMote} from '../../timeline/page/details.js';

@@ -1,3 +1,4 @@
+// @ts-check
 // The guide of an example: things to look at, and things to try.
 import {byId, element, makeButton} from '../../timeline/page/dom.js';
 import {say} from './notices.js';

@@ -1,3 +1,4 @@
+// @ts-check
 // Asks the studio's server, and reports when it can't be reached.
 import {say, showState, unsay} from './notices.js';
 

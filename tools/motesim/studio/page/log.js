@@ -1,3 +1,4 @@
+// @ts-check
 // The tab *Log*: the lines of all motes in chronological order, filtered by the words of a search or by a sentence.
 import {KINDS} from '../../timeline/page/data.js';
 import {chooseLine} from '../../timeline/page/details.js';

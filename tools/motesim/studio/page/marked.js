@@ -1,3 +1,4 @@
+// @ts-check
 // Messages that show a line of the text with marks below it. Such a line isn't wrapped: it scrolls with its marks.
 import {element} from '../../timeline/page/dom.js';
 

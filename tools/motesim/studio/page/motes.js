@@ -1,6 +1,7 @@
+// @ts-check
 // The map as a way to change the scenario: motes are moved, added and removed, and links lose packets. Each of these
 // changes the text.
-import {byId, element, makeButton} from '../../timeline/page/dom.js';
+import {byId, element, focused, makeButton} from '../../timeline/page/dom.js';
 import {redraw} from '../../timeline/page/draw.js';
 import {colours, path, stroke} from '../../timeline/page/forms.js';
 import {delayOf, findHearers} from '../../timeline/page/index.js';
@@ -131,7 +132,7 @@ export function renewMotes() {
   const map = maps[0];
   map.edits = map.run.places ? groundEdits : null;
   ground.held = null;
-  const {way} = ground, typing = byId('way').contains(document.activeElement) && document.activeElement.dataset.way;
+  const {way} = ground, typing = byId('way').contains(focused()) && focused().dataset.way;
   const isThere = way && Math.max(...way) < map.run.begins.length && map.run.hearers[way[0]].includes(way[1]);
   showWay(isThere ? way : null);
   const again = typing && byId('way').querySelector(`[data-way="${typing}"]`);

@@ -1,3 +1,4 @@
+// @ts-check
 // The colours of a scenario's text: TOML by the editor's own mode, and the notation of programs in its strings. A
 // statement has the colour of its marks on the lanes.
 

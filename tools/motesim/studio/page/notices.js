@@ -1,3 +1,4 @@
+// @ts-check
 // Messages to the reader: notices, the state of the run, and questions.
 import {byId, element, makeButton} from '../../timeline/page/dom.js';
 

@@ -1,3 +1,4 @@
+// @ts-check
 // Runs the text, and shows its run, its error, or the limit that it reached.
 import {Run} from '../../timeline/page/data.js';
 import {selectNothing} from '../../timeline/page/details.js';

@@ -1,3 +1,4 @@
+// @ts-check
 // Separators that the reader drags, or moves by arrow keys: between the text and the run, and below the lanes.
 import {byId} from '../../timeline/page/dom.js';
 
@@ -21,7 +22,7 @@ function beginSplit({id, box, property, least, most, share}, moved) {
     const wanted = share(document.querySelector(box).getBoundingClientRect(), x, y);
     const percent = (100 * Math.min(most, Math.max(least, wanted))).toFixed(1);
     style.setProperty(property, `${percent}%`);
-    split.setAttribute('aria-valuenow', Math.round(percent));
+    split.setAttribute('aria-valuenow', String(Math.round(Number(percent))));
     moved();
   };
   let isHeld = false;

@@ -1,3 +1,4 @@
+// @ts-check
 // The state of the studio: the open document, the runs that the server keeps, and the editor.
 
 /** `number` is the run that is shown, `before` the one that it is compared with unless one is `pinned`; `asked` counts

@@ -1,3 +1,4 @@
+// @ts-check
 // The state of a mote at a step, from the server's replay: variables, waits, timers and the queue; and values of
 // variables on the lanes.
 import {byId, element, makeButton, withPlaces} from '../../timeline/page/dom.js';

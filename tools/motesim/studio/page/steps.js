@@ -1,3 +1,4 @@
+// @ts-check
 // Steps along the lines of a run, and the state of a mote there.
 import {START, lowerBound} from '../../timeline/page/data.js';
 import {chooseLine, walk} from '../../timeline/page/details.js';

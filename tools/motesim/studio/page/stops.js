@@ -1,3 +1,4 @@
+// @ts-check
 // The words of a stop: `mote 3 prints` is the search `mote 3 print`.
 const VERBS = {
   prints: 'print', printed: 'print', sends: 'send', sent: 'send', receives: 'recv', received: 'recv', hears: 'recv',

@@ -1,5 +1,6 @@
+// @ts-check
 // The studio: the text is run when no key was pressed for a while, and its run is shown.
-import {byId, file, handOut} from '../../timeline/page/dom.js';
+import {byId, file, focused, handOut} from '../../timeline/page/dom.js';
 import {readColours} from '../../timeline/page/forms.js';
 import {refit, room} from '../../timeline/page/main.js';
 import {chosen, page} from '../../timeline/page/stage.js';
@@ -64,7 +65,7 @@ function beginButtons() {
   byId('fault-correct').addEventListener('click', correctFault);
   document.addEventListener('keydown', event => {
     if (!(event.ctrlKey || event.metaKey) || event.altKey) return;
-    const key = event.key.toLowerCase(), isTyping = event.target.closest && event.target.closest('input, textarea');
+    const key = event.key.toLowerCase(), isTyping = focused().matches('input, textarea');
     const does = key === 's' ? save : isTyping ? null : key === 'y' || key === 'z' && event.shiftKey ?
       () => studio.editor.again('redo') : key === 'z' ? () => studio.editor.again('undo') : null;
     if (!does) return;

@@ -1,3 +1,4 @@
+// @ts-check
 // The tabs below the lanes.
 import {byId, element, makeButton} from '../../timeline/page/dom.js';
 import {redraw} from '../../timeline/page/draw.js';

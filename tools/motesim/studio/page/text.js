@@ -1,3 +1,4 @@
+// @ts-check
 // Places and pieces of a text.
 
 /** The line and the column of an offset, from 0. */

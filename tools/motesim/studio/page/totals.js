@@ -1,3 +1,4 @@
+// @ts-check
 // The totals of a run as tables, with small plots over time.
 import {element, table} from '../../timeline/page/dom.js';
 import {showSeries} from '../../timeline/page/plots.js';

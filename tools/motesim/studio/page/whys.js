@@ -1,3 +1,4 @@
+// @ts-check
 // The tab *Why*: questions about the run, which the server answers.
 import {chooseLine} from '../../timeline/page/details.js';
 import {byId, element, lineButton, withPlaces} from '../../timeline/page/dom.js';

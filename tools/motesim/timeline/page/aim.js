@@ -1,3 +1,4 @@
+// @ts-check
 // The place on the lanes that stays there when a key or a button zooms time.
 import {play} from './stage.js';
 import {time} from './time.js';

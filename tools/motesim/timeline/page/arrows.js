@@ -1,3 +1,4 @@
+// @ts-check
 // Packets: an arrow for each copy, from its sender's lane at the moment of sending to its receiver's at arrival.
 import {RECV, SEND, lowerBound} from './data.js';
 import {byId} from './dom.js';

@@ -1,3 +1,4 @@
+// @ts-check
 // The frame of a pane's lanes: axis, grid, bands, the names of motes, and the moment that the map shows.
 import {colours, fill, path} from './forms.js';
 import {AXIS, SMALL_LANE} from './layout.js';

@@ -1,3 +1,4 @@
+// @ts-check
 // The causes of a run's lines, and the chains that they make.
 import {COLLIDE, DROP, LOST, RECV, TAKE, unpacked} from './data.js';
 import {count} from './words.js';

@@ -1,3 +1,4 @@
+// @ts-check
 // The sequence chart of a chain: a lifeline for each mote, from top to bottom, and an arrow for each packet. It is an
 // SVG with its own colours, so that it can be saved and printed.
 // (in two parts: a search of the page for addresses to fetch from finds none)

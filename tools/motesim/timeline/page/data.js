@@ -1,3 +1,4 @@
+// @ts-check
 // The columns of a run, as motesim.timeline.columns packs them, and the lines of the report that they hold.
 export const KINDS = ['start', 'leave', 'post', 'full', 'take', 'drop', 'print', 'busy', 'send', 'recv', 'lost',
   'collide', 'deaf', 'halt'];
@@ -5,6 +6,7 @@ export const [START, LEAVE, POST, FULL, TAKE, DROP, PRINT, BUSY, SEND, RECV, LOS
 /** The number of the process `all`. */
 export const ALL = 0xffff;
 const ARRAYS = {u8: Uint8Array, u16: Uint16Array, u32: Uint32Array};
+const NONE = new Uint32Array(0), NO_NAMES = /** @type {string[]} */ ([]);
 
 /** The bytes that were compressed by zlib and written in base64. */
 export async function unpacked(text) {
@@ -26,6 +28,15 @@ export function lowerBound(array, value, low = 0, high = array.length) {
 /** A run: for each line of a trace its moment (at), kind, process or sender (p), serial or number (x), event (e) and
     value (w); for each packet its moment, sender, number, value and copies. */
 export class Run {
+  // (those of motes, of lines, of packets, of copies, and the names; then what `indexRun` adds)
+  begins = NONE; traceStart = NONE;
+  at = NONE; kind = NONE; p = NONE; x = NONE; e = NONE; w = NONE;
+  packetAt = NONE; packetSender = NONE; packetValue = NONE; copyCount = NONE;
+  copyTo = NONE; copyAfter = NONE;
+  processes = NO_NAMES; events = NO_NAMES; programs = NO_NAMES;
+  sentStart = NONE; sentPackets = NONE; postStart = NONE; postLines = NONE;
+
+  /** @param {any} said the names and the columns, each with its kind of numbers @param {ArrayBuffer} buffer */
   constructor(said, buffer) {
     Object.assign(this, said);
     let place = 0;

@@ -1,3 +1,4 @@
+// @ts-check
 // The selection: its lines of the report, and related ones. Each line is a button that selects that line.
 import {COLLIDE, DEAF, DROP, KINDS, LOST, POST, RECV, SEND, TAKE, lowerBound} from './data.js';
 import {byId, element, lineButton, list, makeButton, table} from './dom.js';

@@ -1,7 +1,12 @@
+// @ts-check
 // Elements of the page.
 
 /** @type {(id: string) => any} */
 export const byId = id => document.getElementById(id);
+
+/** The element that has the keyboard.
+ * @type {() => any} */
+export const focused = () => document.activeElement;
 
 /** A new element with a text and with others inside. */
 export function element(name, text, inside = []) {

@@ -1,3 +1,4 @@
+// @ts-check
 // Draws all panes and maps.
 import {sayDrawn} from './drawn.js';
 import {drawPane} from './lanes.js';

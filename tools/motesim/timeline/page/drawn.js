@@ -1,3 +1,4 @@
+// @ts-check
 // The contents of the panes, in words.
 import {byId} from './dom.js';
 import {momentsInWords} from './time.js';

@@ -1,3 +1,4 @@
+// @ts-check
 // The forms of lines and copies, each drawn around a point. No two differ only by colour.
 import {byId, element} from './dom.js';
 import {COLLIDED, GONE, HANDED, LEFT, MEDIUM, RECEIVED, REFUSED, RING, UNHEARD} from './index.js';

@@ -1,3 +1,4 @@
+// @ts-check
 // The heads of islands: how many packets each sent, and when.
 import {colours} from './forms.js';
 import {AXIS, HEAD} from './layout.js';

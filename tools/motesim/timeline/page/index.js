@@ -1,3 +1,4 @@
+// @ts-check
 // Facts that follow from a run's lines, computed once when the page opens: the fate of each copy, which lines belong
 // together, which motes hear each other, and an overview for zooming out.
 import {BUSY, COLLIDE, DEAF, DROP, FULL, HALT, KINDS, LOST, POST, PRINT, RECV, SEND, START, TAKE} from './data.js';

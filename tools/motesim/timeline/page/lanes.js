@@ -1,3 +1,4 @@
+// @ts-check
 // The lanes of a pane: a mark for each line. Marks closer than a pixel or two are thinned, and counted.
 import {drawArrows, drawChosen} from './arrows.js';
 import {drawAxis, drawBands, drawColumn, drawCursor, drawCursorHead, drawGrid, drawNames} from './axis.js';

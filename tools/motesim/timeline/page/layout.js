@@ -1,3 +1,4 @@
+// @ts-check
 // The layout of a pane: the places of its motes, moments and lines.
 import {DEAF, DROP, FULL, POST, PRINT, RECV, SEND, TAKE, lowerBound} from './data.js';
 import {time} from './time.js';

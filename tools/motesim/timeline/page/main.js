@@ -1,3 +1,4 @@
+// @ts-check
 // The page of runs: shows them, and reacts to mouse, keys and buttons.
 import {aim, followMouse} from './aim.js';
 import {chooseAgain, chooseCopy, chooseLine, chooseMote, chosenInWords, follow, selectNothing, walk, walkLanes
@@ -203,7 +204,7 @@ export function refit() {
 /** Reacts to mouse, keys and buttons. */
 export function listen() {
   document.addEventListener('keydown', onKey);
-  for (const button of document.querySelectorAll('[data-do]'))
+  for (const button of /** @type {NodeListOf<HTMLElement>} */ (document.querySelectorAll('[data-do]')))
     button.addEventListener('click', () => act(button.dataset.do));
   byId('search').addEventListener('submit', event => {
     event.preventDefault();

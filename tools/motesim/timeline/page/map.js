@@ -1,3 +1,4 @@
+// @ts-check
 // The map of a run: motes at their places, who hears whom, which links lose packets, and the packets on their way.
 import {COLLIDE, DEAF, KINDS, LOST, RECV, SEND, lowerBound} from './data.js';
 import {chooseMote} from './details.js';
@@ -244,7 +245,7 @@ export class MapView extends MapLayout {
   /** The mote or the link at a point, in words. */
   wordsAt(x, y) {
     const mote = this.moteNear(x, y), link = mote < 0 && this.linkNear(x, y);
-    return mote >= 0 ? moteInWords(this.run, mote) : link ? linkInWords(this.run, ...link) : '';
+    return mote >= 0 ? moteInWords(this.run, mote) : link ? linkInWords(this.run, link[0], link[1]) : '';
   }
 
   listen() {

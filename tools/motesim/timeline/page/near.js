@@ -9,7 +9,7 @@ import {count} from './words.js';
 
 /** The item at a point of the lanes: a copy of a packet, a line, or a mote by its name; null if there is none.
  * @param {any} pane @param {number} x @param {number} y
- * @returns {{k: number, copy: number}|{line: number}|{mote: number}|null} */
+ * @returns {{k?: number, copy?: number, line?: number, mote?: number}|null} */
 export function itemAt(pane, x, y) {
   const mote = pane.moteAt(y);
   if (x < pane.gutter) return mote >= 0 ? {mote} : null;

@@ -1,3 +1,4 @@
+// @ts-check
 // Opens the page of tools/timeline on the runs that it holds.
 import {Run, lowerBound, unpacked} from './data.js';
 import {chooseLine, chooseMote} from './details.js';

@@ -1,3 +1,4 @@
+// @ts-check
 // Lanes with too many lines for forms: as colours of pixels, or as strokes.
 import {lowerBound} from './data.js';
 import {colours} from './forms.js';
@@ -56,6 +57,7 @@ function pixelOf(colour) {
   return (0xff000000 | (number & 255) << 16 | number & 0xff00 | number >> 16) >>> 0;
 }
 
+/** @type {[number, string][]} */
 const CLASS_COLOURS = [[HALTED, 'ink'], [TROUBLE, 'trouble'], [PRINTED, 'print'], [SENT, 'send'], [SILENT, 'quiet'],
   [HEARD, 'recv'], [OTHER, 'run']];
 
@@ -93,6 +95,7 @@ export function drawOverview(pane, from, to) {
 }
 
 /** The strokes of a lane with a great many lines: class, colour, and the heights of its row. */
+/** @type {[number, string, number, number][]} */
 const STROKES = [[OTHER, 'run', 0.45, 0.55], [HEARD, 'recv', 0.66, 0.94], [SILENT, 'quiet', 0.3, 0.6],
   [SENT, 'send', 0.16, 0.6], [PRINTED, 'print', 0.08, 0.3], [TROUBLE, 'trouble', 0.04, 0.96], [HALTED, 'ink', 0, 1]];
 

@@ -1,3 +1,4 @@
+// @ts-check
 // The canvas of a run's lanes.
 import {Layout} from './layout.js';
 

@@ -1,3 +1,4 @@
+// @ts-check
 // The places of a run's motes on the map.
 import {lowerBound} from './data.js';
 
@@ -29,6 +30,7 @@ export function shortened(values, most) {
 export class MapLayout {
   constructor(run) {
     this.zoom = 1;
+    this.backX = this.backY = /** @type {(where: number) => number} */ (Number);
     this.dx = this.dy = 0;
     this.take(run);
   }

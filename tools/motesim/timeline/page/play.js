@@ -1,3 +1,4 @@
+// @ts-check
 // The moment that the maps show, and playing from moment to moment.
 import {byId, element} from './dom.js';
 import {lowerBound} from './data.js';

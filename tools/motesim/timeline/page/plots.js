@@ -1,3 +1,4 @@
+// @ts-check
 // The counts of each interval of a run, as small plots.
 import {element} from './dom.js';
 import {colours} from './forms.js';

@@ -1,9 +1,12 @@
+// @ts-check
 // Searches: words that must all fit one line of a trace.
 import {ALL, DEAF, KINDS, RECV, SEND} from './data.js';
 import {MEDIUM} from './index.js';
 
 /** The test that a word is, as a function of a line and its mote, with how many words belong to it; null if the word
-    means nothing in this run. */
+    means nothing in this run.
+ * @param {any} run @param {string} word @param {string} next
+ * @returns {[((line: number, mote: number) => boolean)|null, number]} */
 function asks(run, word, next) {
   const {kind, e, w, p, at, silent} = run, number = /^\d+$/.test(word) ? Number(word) : -1;
   if (word === 'mote' && /^\d+$/.test(next)) return [(i, mote) => mote === Number(next), 2];

@@ -1,3 +1,4 @@
+// @ts-check
 // Rows of the report.
 import {chooseLine, chooseMote} from './details.js';
 import {SMALL_LANE} from './layout.js';

@@ -1,3 +1,4 @@
+// @ts-check
 // The search: its results, ringed on the lanes and listed as buttons.
 import {chooseLine} from './details.js';
 import {byId, element, lineButton, list} from './dom.js';

@@ -1,3 +1,4 @@
+// @ts-check
 // The counts of each interval of a run.
 import {DROP, POST, TAKE} from './data.js';
 import {COLLIDED, GONE, LEFT, MEDIUM, RING} from './index.js';

@@ -1,3 +1,4 @@
+// @ts-check
 // What the page shows: its panes and maps, and the selection, the search results and the playback on them.
 
 export const panes = [];

@@ -1,3 +1,4 @@
+// @ts-check
 // The stretch of time in view, which all panes share.
 
 const MOST_SCALE = 600;

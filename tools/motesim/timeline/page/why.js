@@ -1,3 +1,4 @@
+// @ts-check
 // Why a line is there: the chain of its causes, on the lanes, on the map, and as a list of lines.
 import {chainOf, pathOf} from './causes.js';
 import {chartOf} from './chart.js';

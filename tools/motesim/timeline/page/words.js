@@ -1,3 +1,4 @@
+// @ts-check
 // Words for readers: numbers with their nouns.
 
 /** A number with its noun, in the plural unless it is 1: `3 packets`, `1 copy`, `2 copies`. */

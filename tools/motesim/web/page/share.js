@@ -4,7 +4,6 @@
 /** Links that are longer than this get lost in chats and mails. */
 export const LONGEST_LINK = 8000;
 const LONGEST_TEXT = 1 << 20;
-const {CompressionStream, DecompressionStream} = /** @type {any} */ (globalThis);
 
 /** @param {Uint8Array} bytes @param {any} through a stream that packs or unpacks @param {number} most */
 async function piped(bytes, through, most = Infinity) {

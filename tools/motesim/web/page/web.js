@@ -357,7 +357,7 @@ function beginButtons() {
 /** The module, unpacked and compiled. */
 async function moduleOf() {
   const letters = atob(byId('module').textContent.trim()), bytes = Uint8Array.from(letters, it => it.charCodeAt(0));
-  const plain = new Blob([bytes]).stream().pipeThrough(new (/** @type {any} */ (window)).DecompressionStream('gzip'));
+  const plain = new Blob([bytes]).stream().pipeThrough(new DecompressionStream('gzip'));
   return WebAssembly.compile(await new Response(plain).arrayBuffer());
 }
 
@@ -404,7 +404,7 @@ function offerRun({text, name, from}) {
   web.isWaiting = page.ready = true;
 }
 
-/** @type {any} */ (window).motesim = Object.assign(page, {web, differs, ground});
+window.motesim = Object.assign(page, {web, differs, ground});
 begin().catch(fault => {
   byId('said').textContent = `This page can't run here: ${fault.message}`;
   console.error(fault);

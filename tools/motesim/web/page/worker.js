@@ -21,7 +21,7 @@ function answerTo(text) {
     streams[stream].push(bytes);
   };
   try {
-    const {status} = globalThis.runModule(module, new TextEncoder().encode(text), write);
+    const {status} = runModule(module, new TextEncoder().encode(text), write);
     const took = performance.now() - begin;
     if (status) return {line: textOf(streams[2]).trimEnd()};
     return {...columnsOf(textOf(streams[1])), took};
