@@ -6,11 +6,11 @@
     for mote in run.report.motes:
         print(mote.number, [line.value for line in mote.lines if line.kind == 'print'])
     for kept in motesim.expect(run, ['mote 6 prints flood 1 by 60', 'no mote halts']):
-        print(kept.sentence, kept.holds, kept.why)
+        print(kept.expectation, kept.holds, kept.why)
     print(motesim.compare(run, motesim.run('examples/tdma.toml')).text)
 
     run       runs a scenario: a `Run` with `report` and `scenario`        Limits    the limits of a run
-    expect    checks which sentences hold for a run: a list of `Kept`      Fault     an error, with its message
+    expect    checks which expectations hold: a list of `Kept`             Fault     an error, with its message
     compare   shows how two runs diverge: a `Comparison`                   Plan      makes scenarios by rule
     Scenario  motes, places, who hears whom, losses                        Report    traces and the log of the medium
 

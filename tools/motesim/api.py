@@ -25,14 +25,14 @@ MOST_ROWS = 20
 
 @dataclass(frozen=True)
 class Kept:
-    """A sentence, and whether it holds for a run.
+    """An expectation, and whether it holds for a run.
 
-    sentence  the text, as the caller wrote it
-    holds     whether the sentence holds
-    why       the reason why it doesn't hold; empty if it holds
-    row       the first line of the report that shows this, counted from 1, or None
+    expectation  the text, as the caller wrote it
+    holds        whether the expectation holds
+    why          the reason why it doesn't hold; empty if it holds
+    row          the first line of the report that shows this, counted from 1, or None
     """
-    sentence: str
+    expectation: str
     holds: bool
     why: str = ''
     row: int | None = None
@@ -80,9 +80,9 @@ def run(scenario: str | Path | bytes | Plan, parameters: Mapping[str, Value] | N
 
 
 def expect(found: Run, sentences: Sequence[str] | str) -> list[Kept]:
-    """Checks which sentences hold for a run: docs/use/EXPECTATIONS.md has their forms.
+    """Checks which expectations hold for a run: docs/use/EXPECTATIONS.md has their forms.
 
-    Raises a `Fault` for a sentence that can't be read, and for a run whose scenario isn't known.
+    Raises a `Fault` for an expectation that can't be read, and for a run whose scenario isn't known.
     """
     if found.scenario is None:
         raise Fault('expect needs the scenario of the run: run the scenario, or read the report together with it')

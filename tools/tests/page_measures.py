@@ -10,9 +10,9 @@ from typing import Any
 
 Number = float | None
 Row = dict[str, Any]
-FATES = ('received', 'lost', 'ring', 'collided', 'halted', 'late')
+FATES = ('received', 'lost', 'overflowed', 'collided', 'halted', 'left')
 OF_MOTE = {'sent': 'send', 'posted': 'post', 'taken': 'take', 'dropped': 'drop', 'refused': 'full', 'prints': 'print'}
-SENT = ('sent', 'lost', 'late')
+SENT = ('sent', 'lost', 'left')
 NEVER = 1 << 40
 
 
@@ -112,11 +112,11 @@ class PageMeasures:
         if there == 'lost':
             return int(to), NEVER, 'lost'
         if int(there) > self.end:
-            return int(to), int(there), 'late'
+            return int(to), int(there), 'left'
         for line in self.traces[int(to)]:
             if line.at == int(there) and line.words[1:3] == (str(sender), str(number)):
                 if line.words[0] in ('recv', 'lost', 'collide'):
-                    return int(to), int(there), {'recv': 'received', 'lost': 'ring'}.get(line.words[0], 'collided')
+                    return int(to), int(there), {'recv': 'received', 'lost': 'overflowed'}.get(line.words[0], 'collided')
         return int(to), int(there), 'halted'
 
     # -- tools/summary
@@ -124,7 +124,7 @@ class PageMeasures:
     def fates(self, copies: Iterable[Copy]) -> Row:
         counts = Counter(copy.fate for copy in copies)
         row: Row = {fate: counts[fate] for fate in FATES}
-        return {'copies': sum(row.values()), **row, 'ratio': share(row['received'], sum(row.values()) - row['late'])}
+        return {'copies': sum(row.values()), **row, 'ratio': share(row['received'], sum(row.values()) - row['left'])}
 
     def mote_row(self, motes: Sequence[int]) -> Row:
         kinds = Counter(line.words[0] for mote in motes for line in self.traces[mote])
@@ -176,7 +176,7 @@ class PageMeasures:
         lines = Counter(line.words[0] for trace in self.traces for line in trace if first <= line.at <= last)
         counts = Counter(copy.fate for copy in self.copies
                          if first <= (copy.at if copy.fate in SENT else copy.there) <= last)
-        due = sum(counts[fate] for fate in FATES if fate != 'late')
+        due = sum(counts[fate] for fate in FATES if fate != 'left')
         waits = [gone - at for _, at, gone in self.waits() if first <= gone <= last]
         return {'from': first, 'to': last, **{name: lines[kind] for name, kind in OF_MOTE.items()},
                 **{fate: counts[fate] for fate in FATES}, 'ratio': share(counts['received'], due),
@@ -224,7 +224,7 @@ class PageMeasures:
 
     def loss(self) -> Number:
         counts = Counter(copy.fate for copy in self.copies)
-        return share(counts['lost'], len(self.copies) - counts['late'])
+        return share(counts['lost'], len(self.copies) - counts['left'])
 
     def reachable(self) -> Number:
         net, self.net = self.net, {**self.net, 'loss': []}

@@ -100,7 +100,7 @@ class PagePlot:
         text, values = texts[asked.measure], {run[asked.measure] for run in runs} - {''}
         self.is_yes_or_no = text.startswith('holds:') or text.startswith('python:') and values == {'0', '1'}
         self.runs = [run for run in runs if all(run[name] in those for name, those in asked.where)]
-        self.good = [run for run in self.runs if not run['fault']]
+        self.good = [run for run in self.runs if not run['error']]
         self.sides = [asked.pair[0]] if asked.pair else []
         free = [it for it in parameters if it not in (*asked.by, asked.against, *self.sides)]
         for name in free:
@@ -120,7 +120,7 @@ class PagePlot:
         return found
 
     def left_out(self) -> tuple[int, int]:
-        """The numbers of runs with a fault, and of others without a value."""
+        """The numbers of runs with an error, and of others without a value."""
         return len(self.runs) - len(self.good), sum(not run[self.asked.measure] for run in self.good)
 
     def table(self) -> Table:

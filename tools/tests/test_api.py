@@ -65,7 +65,7 @@ class Calls(unittest.TestCase):
         self.assertEqual([(it.holds, bool(it), it.row) for it in kept], [(True, True, None), (False, False, 18)])
         self.assertIn('wanted: ', kept[1].why)
         self.assertTrue(motesim.expect(run, 'no mote halts')[0])
-        with self.assertRaisesRegex(motesim.Fault, 'sentence 1 is not known'):
+        with self.assertRaisesRegex(motesim.Fault, 'expectation 1 is not known'):
             motesim.expect(run, 'mote 1 sings')
         with self.assertRaisesRegex(motesim.Fault, 'needs the scenario'):
             motesim.expect(run._replace(scenario=None), 'no mote halts')

@@ -43,7 +43,7 @@ class Sweeps(test_sweep.Bed):
         with cluster(self, 2, self.here()) as address:
             done = self.sweep(*self.words, '-o', 'dask.csv', '--dask', address)
         self.assertEqual((done.returncode, done.stdout, done.stderr),
-                         (0, 'dask.csv: 6 runs, 6 of them now, 0 with a fault\n', ''))
+                         (0, 'dask.csv: 6 runs, 6 of them now, 0 with an error\n', ''))
         self.assertEqual((self.folder / 'dask.csv').read_bytes(), (self.folder / 'net.csv').read_bytes())
         gone = self.sweep(*self.words, '-o', 'gone.csv', '--dask', address)
         self.assertEqual(gone.returncode, 2)
@@ -55,7 +55,8 @@ class Sweeps(test_sweep.Bed):
         other.chmod(0o755)
         with cluster(self, 2, {**self.here(), 'MOTESIM': str(other)}) as address:
             done = self.sweep(*self.words, '--dask', address)
-        self.assertEqual((done.returncode, done.stdout.split('\n')[0]), (1, 'net.csv: 6 runs, 6 of them now, 6 with a fault'))
+        self.assertEqual((done.returncode, done.stdout.split('\n')[0]),
+                         (1, 'net.csv: 6 runs, 6 of them now, 6 with an error'))
         self.assertIn('differs from the motesim of the command', done.stdout)
 
     def test_a_scheduler_without_workers_is_reported(self) -> None:

@@ -324,11 +324,11 @@ class Files(unittest.TestCase):
     def test_faults_have_status_2(self) -> None:
         change = 'expect = ["mote 0 sends"]\n[[change]]\nexpect = ["mote 0 sends"]\n'
         for text, seen in [
-            ('expect = ["mote 9 halts"]', 'sentence 1 is not known'),
+            ('expect = ["mote 9 halts"]', 'expectation 1 is not known'),
             ('expect = ["mote 0 prnts x 1"]', 'Did you mean: prints\n'),
             ('expect = [', 'is not TOML'),
-            ('', 'expects nothing: write sentences, such as `expect = ["mote 0 sends twice", "no mote halts"]`'),
-            ('no mote halts', 'each sentence is in quotes, with commas between them: `expect = ["mote 0 sends'),
+            ('', 'expects nothing: write expectations, such as `expect = ["mote 0 sends twice", "no mote halts"]`'),
+            ('no mote halts', 'each expectation is in quotes, with commas between them: `expect = ["mote 0 sends'),
             ('expect = "x"', 'is not an array'), ('wanted = []', 'has a key wanted'),
             ('expct = []', 'did you mean expect?'),
             ('version = 1', 'has a key version, as a scenario has;'),
@@ -341,7 +341,7 @@ class Files(unittest.TestCase):
 
     def test_a_sentence_that_cannot_be_read_is_marked(self) -> None:
         err = self.said('expect = ["mote 0 sends", "mote 0 hops"]')[1].splitlines()
-        self.assertRegex(err[0], '^expect: /.*/a.expect.toml: sentence 2 is not known$')
+        self.assertRegex(err[0], '^expect: /.*/a.expect.toml: expectation 2 is not known$')
         self.assertEqual(err[1].index('hops'), err[2].index('^'))
 
     def test_a_sentence_of_a_change_that_cannot_be_read_is_at_its_change(self) -> None:
@@ -349,22 +349,22 @@ class Files(unittest.TestCase):
         for about, place in ('', 'change 2 of /.*/a.expect.toml'), (
                 'about = "a late end"\n', r'change 2 of /.*/a.expect.toml \(a late end\)'):
             text = 'expect = ["mote 0 sends"]\n' + change % ('', 'sends') + change % (about, 'hops')
-            self.assertRegex(self.said(text)[1].splitlines()[0], '^expect: %s: sentence 1 is not known$' % place)
+            self.assertRegex(self.said(text)[1].splitlines()[0], '^expect: %s: expectation 1 is not known$' % place)
 
     def test_all_sentences_that_cannot_be_read_are_shown(self) -> None:
         text = 'expect = ["mote 0 hops", "mote 0 sends", "mote 0 sends twise"]'
         err = self.said(text)[1].splitlines()
-        self.assertRegex(err[0], '^expect: /.*/a.expect.toml: sentence 1 is not known$')
-        self.assertIn('sentence 3 is not known', err)
+        self.assertRegex(err[0], '^expect: /.*/a.expect.toml: expectation 1 is not known$')
+        self.assertIn('expectation 3 is not known', err)
         self.assertIn('  Did you mean: twice', err)
         with self.assertRaises(UnknownSentence) as raised:
             read_all(['mote 0 hops', 'mote 0 sends', 'mote 0 jumps'], Names())
-        self.assertEqual(raised.exception.which, 'sentences 1, 3 are not known')
-        for count, seen in (11, '1 more sentence is not known'), (15, '5 more sentences are not known'):
+        self.assertEqual(raised.exception.which, 'expectations 1, 3 are not known')
+        for count, seen in (11, '1 more expectation is not known'), (15, '5 more expectations are not known'):
             with self.assertRaises(UnknownSentence) as raised:
                 read_all(['mote 0 hops'] * count, Names())
             self.assertEqual(str(raised.exception).split('\n')[-1], seen)
-            self.assertEqual(raised.exception.which, 'sentences 1, 2, 3, 4, 5, 6, 7, 8, 9, 10, .. are not known')
+            self.assertEqual(raised.exception.which, 'expectations 1, 2, 3, 4, 5, 6, 7, 8, 9, 10, .. are not known')
 
     def test_a_program_that_is_not_compiled_is_no_fault_of_the_expectations(self) -> None:
         # (an earlier test of this process may have found a program)
@@ -394,7 +394,7 @@ class Page(unittest.TestCase):
     # For each table, by the title of its first column, the sentences in which its forms are tried.
     FRAMES = {'MOTES': ('%s halt', '%s halts'), 'DEED': ('mote 1 %s',), 'VALUE': ('mote 1 prints p %s',),
               'TIMES': ('mote 1 sends %s',), 'WHEN': ('mote 1 sends %s',), 'ORDER': ('mote 1 sends 1 %s',),
-              'Sentence': ('%s',)}
+              'Expectation': ('%s',)}
 
     def setUp(self) -> None:
         page = (TOOLS.parent / 'docs/use/EXPECTATIONS.md').read_text('utf-8')

@@ -322,7 +322,7 @@ class Command(unittest.TestCase):
             program.chmod(0o755)
             tried: list[tuple[dict[str, str], int, str]] = [({'print 1': 'print z', 'end = 5': 'end = 6'}, 1,
                                                              EXPLAINED % scenario), ({}, 0,
-                '%s has a report, and no fault\n' % scenario)]
+                '%s has a report, and no error\n' % scenario)]
             for changes, status, begin in tried:
                 scenario.write_text(changed(changes))
                 said = io.StringIO()
@@ -367,4 +367,4 @@ class Failing(unittest.TestCase):
         with mock.patch.object(explain, 'all_warnings', side_effect=IndexError('of a tuple')):
             with mock.patch.object(explain, 'read_file', return_value=program), contextlib.redirect_stdout(said):
                 self.assertEqual(explain.explain('a.toml', lambda data: Answer(0, b'', b'')), 0)
-        self.assertIn('a.toml has a report, and no fault\nIts warnings aren\'t shown', said.getvalue())
+        self.assertIn('a.toml has a report, and no error\nIts warnings aren\'t shown', said.getvalue())

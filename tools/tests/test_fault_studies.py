@@ -55,14 +55,14 @@ class Studies(unittest.TestCase):
         passed, failed, said = self.check(STUDY)
         self.assertEqual((passed, failed), (2, 1))
         self.assertIn('holds   study.toml: no link is needed\nwrong   study.toml: but for mote 1\n', said)
-        self.assertIn('no sentence is broken any more by: mote 1 is silent\n', said)
-        self.assertIn('a sentence is broken unexpectedly by: mote 0 is silent\n', said)
+        self.assertIn('no expectation is broken any more by: mote 1 is silent\n', said)
+        self.assertIn('an expectation is broken unexpectedly by: mote 0 is silent\n', said)
 
     def test_a_sentence_that_cannot_be_read_is_at_its_study(self) -> None:
         wrong = STUDY.replace(REACHED, 'mote 0 hops').replace('mote 0 hops', REACHED, 1)
-        for text, place in ((wrong, 'study 2 of /.*/study.toml \\(but for mote 1\\): sentence 1 is not known\n'),
+        for text, place in ((wrong, 'study 2 of /.*/study.toml \\(but for mote 1\\): expectation 1 is not known\n'),
                             (wrong.replace('about = "but for mote 1"\n', ''),
-                             'study 2 of /.*/study.toml: sentence 1 is not known\n')):
+                             'study 2 of /.*/study.toml: expectation 1 is not known\n')):
             need_program(self)
             with self.assertRaisesRegex(Fault, place):
                 self.check(text)

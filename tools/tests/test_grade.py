@@ -215,8 +215,8 @@ class Entries(Folder):
         rows = self.rows('--net', 'task.toml', '--hidden', str(self.top / 'task.toml'))
         self.assertTrue(rows['GOOD.TOML'].endswith(': write the ending in small letters'))
         self.assertEqual(self.seen.splitlines(), [
-            'grade: these hidden nets equal a shown net, so a page of marks shows them: task.toml',
-            'grade: hidden files, expectations and marks have no row: .ben.mote, x.expect.toml'])
+            'grade: these hidden nets equal a shown net, so a page of grades shows them: task.toml',
+            'grade: hidden files, expectations and grades have no row: .ben.mote, x.expect.toml'])
 
     def test_long_names_and_many_names_spoil_no_table(self) -> None:
         name = 'b%sn.toml' % ('e' * 238)
@@ -250,7 +250,7 @@ class Entries(Folder):
                          ([1], 0, [1, 2]))
         self.assertIn('<td class="number none">0 of 3</td>', self.page())
         self.assertIn('<td>every mote prints a 3 (required)</td>', self.page())
-        self.assertIn('If a required sentence doesn\'t hold, the mark is 0, whatever else holds.</p>', self.page())
+        self.assertIn('If a required expectation doesn\'t hold, the grade is 0, whatever else holds.</p>', self.page())
 
     def test_solutions_that_are_not_in_a_folder(self) -> None:
         file = self.top / 'anna.toml'
@@ -302,7 +302,7 @@ class Nets(Folder):
         self.assertEqual(self.seen, '')
         self.assertIn('in secret.plan.toml\n          5 motes do', self.grade(*words, '--why', 'anna'))
         self.assertEqual(self.rows(*words, '--vary-hidden', 'motes=1..3'), {'anna.toml': '2 of 2'})
-        self.assertEqual(self.seen, 'grade: these hidden nets equal a shown net, so a page of marks shows them: '
+        self.assertEqual(self.seen, 'grade: these hidden nets equal a shown net, so a page of grades shows them: '
                                     'secret.plan.toml motes=2, secret.plan.toml motes=3\n')
         self.assertIn('in net.plan.toml motes=6\n', self.grade(
             *words[:5], 'net.plan.toml', '--vary-hidden', 'motes=6', '--why', 'anna'))
@@ -376,15 +376,15 @@ class Nets(Folder):
             self.assertIn(seen, self.seen)
         (self.top / 'task.expect.toml').write_text('expect = ["mote 7 halts"]\n')
         self.grade('--net', 'task.toml', status=2)
-        self.assertIn('sentence 1 is not known', self.seen)
+        self.assertIn('expectation 1 is not known', self.seen)
         (self.top / 'task.expect.toml').write_text('expect = ["mote 0 prunts"]\n')
         self.grade(status=2)
 
     def test_a_sentence_that_fits_no_solution_is_told_beside_the_table(self) -> None:
         (self.top / 'task.expect.toml').write_text('expect = ["no mote halts", "mote 0 prints c"]\n')
         self.assertEqual(self.rows(), {'anna.toml': '1 of 2  broken: 2; no process `c` (it has `a`)'})
-        self.assertIn('sentence 2 names something that no solution has (mote 0 prints c): anna.toml has no process `c`',
-                      self.seen)
+        self.assertIn('expectation 2 names something that no solution has (mote 0 prints c): anna.toml has no '
+                      'process `c`', self.seen)
 
     def test_a_page_shows_nothing_of_a_hidden_net(self) -> None:
         (self.top / 'secret.toml').write_text(net(PROGRAM % 9, motes=5))
@@ -474,7 +474,7 @@ class Nets(Folder):
     def test_marks_for_excel(self) -> None:
         self.grade('--excel', '-o', 'class/marks.csv')
         data = (self.folder / 'marks.csv').read_bytes()
-        self.assertTrue(data.startswith(b'\xef\xbb\xbf"scenario";"holds";"of";"fault";'), data)
+        self.assertTrue(data.startswith(b'\xef\xbb\xbf"scenario";"holds";"of";"error";'), data)
         self.assertIn(b'\n"anna.toml";3;3;"";1;1;1\n', data)
         self.assertEqual(list(self.rows()), ['anna.toml'])
 
@@ -582,7 +582,7 @@ class Pages(Folder):
         (self.folder / 'ben.toml').unlink()
         self.grade('-o', 'marks.html')
         self.assertEqual(sorted(os.listdir(folder)), ['mine.html', 'other_net.toml_2.html', 'pages.txt'])
-        self.assertIn('Marked on 20', self.page())
+        self.assertIn('Graded on 20', self.page())
 
     def test_the_pages_of_a_marking_that_was_killed_are_removed_by_the_next(self) -> None:
         self.hand_in('ben.toml', net(PROGRAM % 4))
@@ -650,7 +650,7 @@ class Pages(Folder):
             progress = Progress(2)
             progress.add('anna.toml')
             progress.end()
-        self.assertEqual(seen.getvalue(), 'grade: 1 of 2 solutions are marked; the last one is anna.toml\n')
+        self.assertEqual(seen.getvalue(), 'grade: 1 of 2 solutions are graded; the last one is anna.toml\n')
 
 
 def commands_of(session: int) -> list[str]:
@@ -684,12 +684,12 @@ class LimitsOfRuns(Folder):
 
     def test_a_run_that_waits_for_a_busy_machine_has_no_mark(self) -> None:
         self.hand_in('wait.toml', net('// wait\n' + PROGRAM % 3))
-        why = ('not marked, run it again: no answer in 5 seconds, though the program had used less processor time than '
+        why = ('not graded, run it again: no answer in 5 seconds, though the program had used less processor time than '
                'it may')
         words = '--net', 'task.toml', '--seconds', '0.5'
         self.grade(*words, '-o', 'marks.toml', '-o', 'marks.html', status=1)
         marks = tomllib.loads((self.top / 'marks.toml').read_text())['solution']
-        self.assertEqual(marks[1], {'name': 'wait.toml', 'of': 3, 'fault': why})
+        self.assertEqual(marks[1], {'name': 'wait.toml', 'of': 3, 'error': why})
         self.assertIn('>- of 3<', (self.top / 'marks.html').read_text())
         waiting = Marks('wait.toml', why=why, is_open=True)
         self.assertEqual(csv_of([waiting], ['a', 'b']).split('\n')[1], '"wait.toml","",2,"%s","",""' % why)

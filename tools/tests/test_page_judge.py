@@ -30,4 +30,4 @@ class Verdicts(unittest.TestCase):
                     self.assertEqual(judge.broken(sentence) is None, holds, report)
                     self.assertEqual(QuickJudge([sentence]).broken(report.encode(), its) == [], holds, report)
                     found[holds] += 1
-        self.assertGreater(min(found), sum(found) / 4, 'too few sentences hold, or too few are broken')
+        self.assertGreater(min(found), sum(found) / 4, 'too few expectations hold, or too few are broken')

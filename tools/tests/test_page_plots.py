@@ -45,7 +45,7 @@ class Study:
                 fault = 'no answer' if chance.random() < faults else ''
                 measures = {name: '' if fault or chance.random() < empty else repr(chance.choice(form))
                             for name, form in forms.items()}
-                self.rows.append({**dict(zip(self.parameters, its)), **measures, 'fault': fault})
+                self.rows.append({**dict(zip(self.parameters, its)), **measures, 'error': fault})
         chance.shuffle(self.rows)
 
     def write(self, path: Path) -> None:
@@ -121,7 +121,7 @@ class Plots(unittest.TestCase):
                     self.assertTrue(math.isclose(float(row[name]), value, rel_tol=1e-7, abs_tol=1e-9),
                                     '%s: %s: %s, and by the page %r' % (about, name, row[name], value))
         if not asked.pair:
-            found = [re.search(r'left out: (\d+) runs? ' + it, lines) for it in ('with a fault', 'without')]
+            found = [re.search(r'left out: (\d+) runs? ' + it, lines) for it in ('with an error', 'without')]
             self.assertEqual(tuple(int(it[1]) if it else 0 for it in found), page.left_out(), about)
 
     def test_the_tables_are_those_of_the_page(self) -> None:

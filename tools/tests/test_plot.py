@@ -10,7 +10,7 @@ from motesim.experiments.results import Cell, Head, line_of
 from skips import interpreter_with
 
 HEAD = Head('a.plan.toml', ['period', 'density', 'seed'],
-            {'sent': 'sent', 'late': 'late', 'ok': 'holds: no mote halts', 'mine': 'python: m.py:mine'}, {}, '1', 'a', '')
+            {'sent': 'sent', 'left': 'left', 'ok': 'holds: no mote halts', 'mine': 'python: m.py:mine'}, {}, '1', 'a', '')
 Run = tuple[Cell, ...]
 
 
@@ -21,7 +21,7 @@ def results(runs: Sequence[Run]) -> str:
     return HEAD.text() + ''.join(map(line_of, lines))
 
 
-# Runs whose `sent` is 10 times the period and the seed, with a fault and an empty value.
+# Runs whose `sent` is 10 times the period and the seed, with an error and an empty value.
 RUNS: list[Run] = [(period, density, seed, 10 * period + seed, None if seed == 5 else 0.5, int(seed > 1), 1)
                    for period in (1, 2, 10) for density in ('thin', 'dense') for seed in range(1, 6)]
 FAULTY: Run = (3, 'thin', 1, None, None, None, None, 'no answer in 60 seconds')
@@ -34,7 +34,7 @@ density period runs first quartile median third quartile
    thin      1    5         12.000 13.000         14.000
    thin      2    5         22.000 23.000         24.000
    thin     10    5        102.000 103.000        104.000
-left out: 1 run with a fault
+left out: 1 run with an error
 '''
 
 
@@ -101,14 +101,14 @@ class PlotTest(unittest.TestCase):
     def test_what_is_refused(self) -> None:
         for words, said in (
                 ('--against period', '`measure` is missing'), ('--measure snt', '`measure` names snt, and the results have: '
-                                                               'sent, late, ok, mine, rejected'),
+                                                               'sent, left, ok, mine, rejected'),
                 ('--measure sent --against period --show heat', '`show` is median, mean, points, cdf, and not'),
                 ('--measure sent --confidence 20', '`confidence` is 50 to 99.9, and not 20'),
                 ('--measure sent --against period --show cdf', 'a cdf has the measure on its horizontal axis'),
                 ('--measure sent --pair period=1,2 --show points', 'a comparison shows means'),
                 ('--measure sent --pair period=1', '--pair needs NAME=ONE,OTHER'),
                 ('--measure sent --where period=7', 'no run has period = 7; there are: 1, 2, 3, 10'),
-                ('--measure sent --where period=3', 'there is no value of sent to show in 1 run, 1 of them with a fault'),
+                ('--measure sent --where period=3', 'there is no value of sent to show in 1 run, 1 of them with an error'),
                 ('--measure sent --against period -o a.jpg', 'a picture is SVG, PDF or PNG'),
                 ('--plan a.plan.toml --measure sent', 'with --plan, the plan\'s `plot` has all options but --where')):
             done = self.plot(words)
@@ -140,7 +140,7 @@ class PlotTest(unittest.TestCase):
     def test_the_texts_of_a_picture(self) -> None:
         interpreter_with(self, 'matplotlib')
         done = self.plot('--measure sent --by density --against period -o a.svg --title', 'How it goes', '--y', 'packets')
-        self.assertEqual(done.stdout.splitlines(), ['a.svg', 'left out: 1 run with a fault'])
+        self.assertEqual(done.stdout.splitlines(), ['a.svg', 'left out: 1 run with an error'])
         texts = [it.text for it in ElementTree.parse(self.folder / 'a.svg').iter() if it.tag.endswith('}text')]
         self.assertLess({'How it goes', 'density thin', 'density dense', 'period', 'packets'}, set(texts))
         wrong = self.plot('--measure sent --against density --by period --log -o b.svg')

@@ -105,13 +105,13 @@ class Reports(unittest.TestCase):
                 for to in range(motes):
                     if to == sender:
                         continue
-                    what = chance.choice(['received', 'received', 'lost', 'full', 'collided', 'silent'])
+                    what = chance.choice(['received', 'received', 'lost', 'overflowed', 'collided', 'silent'])
                     wanted[number, to] = what
                     copies.append('%d@%s' % (to, 'lost' if what == 'lost' else number + 1 + to))
                     if what == 'silent':
                         silent.append((number + 1 + to, number, to))
                     elif what != 'lost':
-                        kind = {'received': 'recv %d %d 5', 'full': 'lost %d %d', 'collided': 'collide %d %d'}[what]
+                        kind = {'received': 'recv %d %d 5', 'overflowed': 'lost %d %d', 'collided': 'collide %d %d'}[what]
                         lines[to].append('%d %s' % (number, kind % (sender, number)))
                 rows.append('%d %d %d 5 %s' % (number, sender, number, ' '.join(copies)))
             for place, (_, number, to) in enumerate(sorted(silent)):

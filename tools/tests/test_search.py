@@ -503,7 +503,7 @@ class Searches(unittest.TestCase):
             status, _, seen = search(folder, '--at-most', '0')
             self.assertEqual(status, 2)
             self.assertIn('with at most 0 faults nothing is tried', seen)
-            self.assertIn('there is no file mote 3 prints data: if this is a sentence, write --expect before it',
+            self.assertIn('there is no file mote 3 prints data: if this is an expectation, write --expect before it',
                           search(folder, 'mote 3 prints data')[2])
             self.assertIn(search(folder, '--at-most', '0', '--random', '2')[0], (0, 1))
 
@@ -835,11 +835,11 @@ program = "flood.mote"
             # (of the 154 sets of 2 to 4 links, no set is drawn twice)
             sample = found['sample']
             self.assertEqual((sample['sets'], sample['run'] + sample['decided']), (40, 40))
-            self.assertIn('a sample of 40 larger sets, drawn with the seed 3 (a sample covers no size completely): 40 '
+            self.assertIn('a sample of 40 larger sets, with the seed 3 (a sample covers no size completely): 40 '
                           'run\n', said)
             _, found, said = minimal_sets(folder, '--faults', 'links', '--random', '200')
             self.assertEqual(found['sample']['sets'], 154)
-            self.assertIn('completely; no other sets were drawn in 20,000 attempts)', said)
+            self.assertIn('completely; no other sets were found in 20,000 attempts)', said)
 
     def test_a_search_that_never_began_is_not_continued(self) -> None:
         with folder_with() as folder:
@@ -924,7 +924,7 @@ code flood {
                                   (('--faults', 'links', '--set', 'range=5'),
                                    '--set range is for the kind `values`: --faults links,values'),
                                   (('--every', '1', '--faults', 'every'), 'whole numbers from 2 on'),
-                                  (('--expect', 'mote 9 sends'), 'sentence 1 is not known')):
+                                  (('--expect', 'mote 9 sends'), 'expectation 1 is not known')):
                 status, said, seen = search(folder, *words)
                 self.assertEqual((status, said), (2, ''), seen)
                 self.assertIn(wanted, seen)

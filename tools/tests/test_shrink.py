@@ -230,11 +230,11 @@ class Shrinks(unittest.TestCase):
             self.assertEqual((again.returncode, again.stdout.split()[0]), (1, 'broken'), again.stderr)
             wrong = call('shrink', 'diamond.toml', 'mote 3 prints lynx', cwd=folder)
             self.assertEqual(wrong.returncode, 2)
-            self.assertIn('sentence 1 is not known', wrong.stderr)
+            self.assertIn('expectation 1 is not known', wrong.stderr)
             (Path(folder) / 'others.toml').write_text('expect = ["mote 0 sends", "mote 3 never halts", "mote 9 sends"]')
             words = ['-o', 's.toml', 'diamond.toml']
             wrong = call('shrink', *words, 'others.toml', cwd=folder)
-            self.assertIn('sentence 3', wrong.stderr)
+            self.assertIn('expectation 3', wrong.stderr)
             (Path(folder) / 'others.toml').write_text('expect = ["mote 0 sends", "mote 3 halts"]')
             done = call('shrink', *words, 'others.toml', cwd=folder)
             self.assertEqual(done.returncode, 0, done.stderr)

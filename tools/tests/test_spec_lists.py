@@ -12,7 +12,7 @@ MARKS = '<!-- written by tools/dev/spec_lists -->\n<!-- end -->\n'
 FILES = {
     'crates/low/specs/Lib.antt': 'pub mod Near\n',
     'crates.txt': '# Each crate.\nlow: std\nother:\nsimulation may_wait=1: low\n',
-    'crates/simulation/specs/Simulation.antt': '''-- What a simulation answers. It has a second sentence.
+    'crates/simulation/specs/Simulation.antt': '''-- What a simulation answers. It has a second expectation.
 use Rattle.std.specs.Prelude.{List}
 use Rattle.simulation.specs.Input.{IsText}
 use Rattle.low.specs.Ways.Far.{far}
@@ -29,7 +29,7 @@ use Rattle.simulation.specs.declared.input.InputError.TheVariants as fault
 pub use Rattle.low.specs.Near.{near}
 use Rattle.low.specs.declared.place.TheConstants.{MOST}
 ''',
-    'crates/low/specs/Near.antt': '-- What is near. `near` is in a second sentence.\nuse lib.ListN.{get}\n',
+    'crates/low/specs/Near.antt': '-- What is near. `near` is in a second expectation.\nuse lib.ListN.{get}\n',
     'crates/low/src/place.rt': '',
     'docs/proof/HEADLINE.md': 'before\n%sbehind\n' % MARKS,
 }

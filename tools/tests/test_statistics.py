@@ -69,11 +69,11 @@ class Frames(unittest.TestCase):
                 (3, None, None, 'no answer', None, None, 0, 'abc')]
         script = ('from motesim.analysis import frame\nruns = frame("net.csv")\n'
                   'print(len(runs), runs.ratio.mean(), runs.sent.dtype, runs.plan_sha256[0] + "")\n'
-                  'print(len(frame("net.csv", with_faults=True)))')
+                  'print(len(frame("net.csv", with_errors=True)))')
         with tempfile.TemporaryDirectory() as folder:
             (Path(folder) / 'net.csv').write_text(head.text() + ''.join(
                 line_of([*row, None, None, None]) for row in rows))
             done = subprocess.run([interpreter, '-B', '-c', script], cwd=folder, capture_output=True, text=True,
                                   env={**os.environ, 'PYTHONPATH': str(TOOLS)})
         self.assertEqual(done.stdout, '2 0.375 Int64 1234567890123456\n3\n', done.stderr)
-        self.assertIn('frame: net.csv: left out: 1 of 3 runs, which have a fault', done.stderr)
+        self.assertIn('frame: net.csv: left out: 1 of 3 runs, which have an error', done.stderr)

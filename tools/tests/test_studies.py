@@ -48,7 +48,7 @@ class StudiesTest(unittest.TestCase):
     def test_density(self) -> None:
         rows = self.study('density', '--vary', 'seed=1,2', '--vary', 'motes=20,50', '--vary', 'period=20,40')
         found = {(int(row['motes']), int(row['period']), int(row['seed'])): row for row in rows}
-        self.assertEqual((len(found), {row['fault'] for row in rows}), (8, {''}))
+        self.assertEqual((len(found), {row['error'] for row in rows}), (8, {''}))
         for (motes, period, seed), row in found.items():
             # In a denser net less arrives, and with a longer period more.
             if motes == 20:
@@ -60,7 +60,7 @@ class StudiesTest(unittest.TestCase):
     def test_trickle(self) -> None:
         rows = self.study('trickle', '--vary', 'seed=1,2', '--vary', 'enough=1,4', '--vary', 'step=20,8')
         found = {(int(row['step']), int(row['enough']), int(row['seed'])): row for row in rows}
-        self.assertEqual((len(found), {row['fault'] for row in rows}), (8, {''}))
+        self.assertEqual((len(found), {row['error'] for row in rows}), (8, {''}))
         for seed in (1, 2):
             def of(step: int, enough: int, name: str) -> int:
                 return int(found[step, enough, seed][name])
@@ -84,7 +84,7 @@ class StudiesTest(unittest.TestCase):
     def test_flooding(self) -> None:
         rows = self.study('flooding', '--vary', 'seed=1,2', '--vary', 'jitter=1,32', '--vary', 'range=10,25')
         found = {(int(row['range']), int(row['jitter']), int(row['seed'])): row for row in rows}
-        self.assertEqual((len(found), {row['fault'] for row in rows}), (8, {''}))
+        self.assertEqual((len(found), {row['error'] for row in rows}), (8, {''}))
         for reach in (10, 25):
             for seed in (1, 2):
                 soon, late = found[reach, 1, seed], found[reach, 32, seed]

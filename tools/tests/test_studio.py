@@ -475,7 +475,7 @@ class Answering(unittest.TestCase):
         self.file.with_suffix('.expect.toml').write_text('expect = ["no mote sends from 90 to 99"]')
         checks = self.judge(self.run_text(NET)['number'], 0)['checks']
         self.assertEqual([(it['holds'], it['remark']) for it in checks['marks']], [
-            (True, 'the run ends at 60, before the period of this sentence, which begins at 90')])
+            (True, 'the run ends at 60, before the interval of this expectation, which begins at 90')])
 
 
 class Guides(unittest.TestCase):

@@ -64,19 +64,22 @@ talker = ""
 hearer = ""
 '''
 
-MOTES = [{'mote': 0, 'program': 'talker', 'sent': 6, 'copies': 0, 'received': 0, 'lost': 0, 'ring': 0, 'collided': 0,
-          'halted': 0, 'late': 0, 'ratio': None, 'posted': 1, 'taken': 2, 'dropped': 1, 'refused': 0, 'prints': 0,
-          'halt': None}, {'mote': 1, 'program': 'hearer', 'sent': 0, 'copies': 7, 'received': 1, 'lost': 1, 'ring': 1,
-                          'collided': 2, 'halted': 1, 'late': 1, 'ratio': 0.166666666667, 'posted': 1, 'taken': 1,
-                          'dropped': 0, 'refused': 1, 'prints': 2, 'halt': 8}, {'mote': 2, 'program': 'talker',
-    'sent': 1, 'copies': 0, 'received': 0, 'lost': 0, 'ring': 0, 'collided': 0, 'halted': 0, 'late': 0, 'ratio': None,
-    'posted': 0, 'taken': 0, 'dropped': 0, 'refused': 0, 'prints': 0, 'halt': None}]
-NET = {'mote': 'net', 'program': '', 'sent': 7, 'copies': 7, 'received': 1, 'lost': 1, 'ring': 1, 'collided': 2,
-       'halted': 1, 'late': 1, 'ratio': 0.166666666667, 'posted': 2, 'taken': 3, 'dropped': 1, 'refused': 1, 'prints': 2,
-       'halt': 1}
-LINKS = [{'from': 0, 'to': 1, 'copies': 6, 'received': 1, 'lost': 1, 'ring': 1, 'collided': 1, 'halted': 1, 'late': 1,
-          'ratio': 0.2, 'delay': 3}, {'from': 2, 'to': 1, 'copies': 1, 'received': 0, 'lost': 0, 'ring': 0,
-                                      'collided': 1, 'halted': 0, 'late': 0, 'ratio': 0.0, 'delay': 4}]
+MOTES = [{'mote': 0, 'program': 'talker', 'sent': 6, 'copies': 0, 'received': 0, 'lost': 0, 'overflowed': 0,
+          'collided': 0, 'halted': 0, 'left': 0, 'ratio': None, 'posted': 1, 'taken': 2, 'dropped': 1, 'refused': 0,
+          'prints': 0, 'halt': None},
+         {'mote': 1, 'program': 'hearer', 'sent': 0, 'copies': 7, 'received': 1, 'lost': 1, 'overflowed': 1,
+          'collided': 2, 'halted': 1, 'left': 1, 'ratio': 0.166666666667, 'posted': 1, 'taken': 1, 'dropped': 0,
+          'refused': 1, 'prints': 2, 'halt': 8},
+         {'mote': 2, 'program': 'talker', 'sent': 1, 'copies': 0, 'received': 0, 'lost': 0, 'overflowed': 0,
+          'collided': 0, 'halted': 0, 'left': 0, 'ratio': None, 'posted': 0, 'taken': 0, 'dropped': 0, 'refused': 0,
+          'prints': 0, 'halt': None}]
+NET = {'mote': 'net', 'program': '', 'sent': 7, 'copies': 7, 'received': 1, 'lost': 1, 'overflowed': 1, 'collided': 2,
+       'halted': 1, 'left': 1, 'ratio': 0.166666666667, 'posted': 2, 'taken': 3, 'dropped': 1, 'refused': 1, 'prints':
+       2, 'halt': 1}
+LINKS = [{'from': 0, 'to': 1, 'copies': 6, 'received': 1, 'lost': 1, 'overflowed': 1, 'collided': 1, 'halted': 1,
+          'left': 1, 'ratio': 0.2, 'delay': 3},
+         {'from': 2, 'to': 1, 'copies': 1, 'received': 0, 'lost': 0, 'overflowed': 0, 'collided': 1, 'halted': 0,
+          'left': 0, 'ratio': 0.0, 'delay': 4}]
 
 
 class Counts(unittest.TestCase):
@@ -102,9 +105,9 @@ class Forms(unittest.TestCase):
 
     def test_text_has_columns(self) -> None:
         self.assertEqual(self.say('--links'), '''\
-from to copies received lost ring collided halted late ratio delay
-   0  1      6        1    1    1        1      1    1 0.200     3
-   2  1      1        0    0    0        1      0    0 0.000     4
+from to copies received lost overflowed collided halted left ratio delay
+   0  1      6        1    1          1        1      1    1 0.200     3
+   2  1      1        0    0          0        1      0    0 0.000     4
 ''')
         rows = self.say().split('\n')
         self.assertEqual(rows[1].split(), '0 talker 6 0 0 0 0 0 0 0 - 1 2 1 0 0 -'.split())

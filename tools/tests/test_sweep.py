@@ -71,7 +71,7 @@ MEASURES: list[tuple[str, str, Cell]] = [
     ('sent', 'sent', 2),
     ('sent of mote 1', 'sent of mote 1', 1),
     ('part = ratio', 'part', 1.0),
-    ('late', 'late', 1),
+    ('left', 'left', 1),
     ('holds: no mote halts', 'holds: no mote halts', 1),
     ('holds: mote 0 halts', 'holds: mote 0 halts', 0),
     ('done = moment: every mote but 0 prints a 7', 'done', 6),
@@ -160,7 +160,7 @@ class MeasuresTest(unittest.TestCase):
         for words, seen in ('rato', 'did you mean ratio?'), (
                 'flow raeched: print a', 'a flow has no raeched; there are: .*did you mean reached?'), (
                 'moment: at least 90 % of motes print a', 'print a. is about a number of motes, and has no moment: '), (
-                'motes: every mote finally prints a 4', 'measure `motes:` has a sentence about lines, .* Write `every '
+                'motes: every mote finally prints a 4', 'measure `motes:` has an expectation on lines, .* Write `every '
                 'mote prints a 4`, .* `holds: every mote finally prints a 4` is 1 '):
             with self.assertRaisesRegex(MeasureFault, seen.replace('?', r'\?')):
                 read_measure(words, self.names)
@@ -230,9 +230,9 @@ class Bed(unittest.TestCase):
 class SweepTest(Bed):
     def test_a_sweep_and_its_rows(self) -> None:
         done = self.sweep(*self.words)
-        self.assertEqual((done.returncode, done.stdout), (0, 'net.csv: 6 runs, 6 of them now, 0 with a fault\n'), done)
+        self.assertEqual((done.returncode, done.stdout), (0, 'net.csv: 6 runs, 6 of them now, 0 with an error\n'), done)
         rows = self.rows()
-        found = [(row['period'], row['motes'], row['name'], row['end'], row['prints'], row['fault']) for row in rows]
+        found = [(row['period'], row['motes'], row['name'], row['end'], row['prints'], row['error']) for row in rows]
         self.assertEqual(found[:3], [('1', '2', 'a', '2', '2', ''), ('1', '3', 'a', '3', '3', ''),
                                      ('2', '2', 'a', '4', '2', '')])
         head = read_results(self.folder / 'net.csv')[0]
@@ -273,16 +273,16 @@ class SweepTest(Bed):
         self.sweep(*self.words)
         before = (self.folder / 'net.csv').read_bytes()
         again = self.sweep(*self.words)
-        self.assertEqual(again.stdout, 'net.csv: 6 runs, 0 of them now, 0 with a fault\n')
+        self.assertEqual(again.stdout, 'net.csv: 6 runs, 0 of them now, 0 with an error\n')
         self.assertEqual((self.folder / 'net.csv').read_bytes(), before)
         # (half a row, as of a machine that lost its power)
         rows = before.split(b'\n')
         (self.folder / 'net.csv').write_bytes(b'\n'.join(rows[:4]) + b'\n' + rows[4][:9])
         again = self.sweep(*self.words, '--jobs', '1')
-        self.assertEqual(again.stdout, 'net.csv: 6 runs, 4 of them now, 0 with a fault\n')
+        self.assertEqual(again.stdout, 'net.csv: 6 runs, 4 of them now, 0 with an error\n')
         self.assertEqual((self.folder / 'net.csv').read_bytes(), before)
         more = self.sweep('--vary', 'period=0..4', *self.words[2:])
-        self.assertEqual(more.stdout, 'net.csv: 10 runs, 4 of them now, 0 with a fault\n')
+        self.assertEqual(more.stdout, 'net.csv: 10 runs, 4 of them now, 0 with an error\n')
 
     def test_rows_that_others_made_are_in_the_way(self) -> None:
         self.sweep(*self.words)
@@ -291,7 +291,7 @@ class SweepTest(Bed):
         self.assertEqual(again.returncode, 2)
         self.assertIn('net.csv has rows from before a change of the plan or a file next to it: --renew', again.stderr)
         anew = self.sweep(*self.words, '--renew')
-        self.assertEqual(anew.stdout, 'net.csv: 6 runs, 6 of them now, 0 with a fault\n')
+        self.assertEqual(anew.stdout, 'net.csv: 6 runs, 6 of them now, 0 with an error\n')
         other = self.sweep(*self.words, '--measure', 'sent')
         self.assertEqual(other.returncode, 2)
         self.assertIn('name, end, prints, and this sweep makes ', other.stderr)
@@ -322,7 +322,7 @@ class SweepTest(Bed):
         other = PLAN.replace('period = 4', 'period = 5  # moments') + words % ('1..5', 'Another')
         (self.folder / 'net.plan.toml').write_text(other)
         done = self.sweep()
-        self.assertEqual(done.stdout, 'net.csv: 5 runs, 2 of them now, 0 with a fault\n', done)
+        self.assertEqual(done.stdout, 'net.csv: 5 runs, 2 of them now, 0 with an error\n', done)
         self.assertEqual(self.rows()[:3], before)
         (self.folder / 'net.plan.toml').write_text(other.replace('step = 10', 'step = 9'))
         self.assertIn('a change of the plan or a file next to it:', self.sweep().stderr)
@@ -368,21 +368,21 @@ class SweepTest(Bed):
         done = subprocess.run(self.command('--vary', 'period=1', '--measure',
                                            'delay: mote 0 prints a -> mote 0 prints a'),
                               cwd=self.folder, capture_output=True, text=True)
-        self.assertIn('both sentences are the same, so they are fulfilled at the same moment', done.stderr)
+        self.assertIn('both expectations are the same, so they are fulfilled at the same moment', done.stderr)
 
     def test_faults_are_rows(self) -> None:
         for name, line in ('long', '// long'), ('refuse', '// refuse'), ('text', 'code a'):
             (self.folder / (name + '.mote')).write_text(MOTE + line + '\n')
         done = self.sweep('--vary', 'name=a,refuse,text,no', '--measure', 'prints')
         self.assertEqual(done.returncode, 1, done)
-        faults = {row['name']: row['fault'] for row in self.rows()}
+        faults = {row['name']: row['error'] for row in self.rows()}
         self.assertEqual((faults['a'], faults['refuse']), ('', 'motesim: out of memory'))
         self.assertRegex(faults['text'], '^text.mote, with its parameters, line 4: ')
         self.assertRegex(faults['no'], 'no.mote: No such file')
         self.assertEqual(self.sweep('--vary', 'name=a,refuse', '--measure', 'prints').stdout.split('\n')[0],
-                         'net.csv: 2 runs, 0 of them now, 1 with a fault')
+                         'net.csv: 2 runs, 0 of them now, 1 with an error')
         self.assertEqual(self.sweep('--vary', 'name=a,refuse', '--measure', 'prints', '--retry').stdout.split('\n')[0],
-                         'net.csv: 2 runs, 1 of them now, 1 with a fault')
+                         'net.csv: 2 runs, 1 of them now, 1 with an error')
 
     def fault_of_one(self, name: str, seconds: float, busy: float) -> str:
         """The fault of the run of a program, which this process makes with so much time on the clock."""
@@ -398,7 +398,7 @@ class SweepTest(Bed):
     def test_a_report_without_end_is_stopped(self) -> None:
         (self.folder / 'long.mote').write_text(MOTE + '// long\n')
         self.sweep('--vary', 'name=long', '--measure', 'prints', '--bytes', '1000000')
-        self.assertEqual(self.rows()[0]['fault'], 'the report is longer than 1,000,000 bytes')
+        self.assertEqual(self.rows()[0]['error'], 'the report is longer than 1,000,000 bytes')
 
     def test_a_job_takes_the_files_along(self) -> None:
         with mock.patch.dict(os.environ, MOTESIM=str(self.stub)):
@@ -411,9 +411,9 @@ class SweepTest(Bed):
         words = '--vary', 'motes=2,3', '--measure', 'python: mine.py:wrong', '--measure', 'prints'
         note = 'wrong: wrong of mine.py: line 8: ZeroDivisionError: division by zero'
         done = self.sweep(*words)
-        self.assertEqual((done.returncode, done.stdout), (1, 'net.csv: 2 runs, 2 of them now, 0 with a fault\n2 of '
+        self.assertEqual((done.returncode, done.stdout), (1, 'net.csv: 2 runs, 2 of them now, 0 with an error\n2 of '
                                                              '2 runs lack a measure; the first: %s\n' % note), done)
-        self.assertEqual([(row['wrong'], row['prints'], row['fault'], row['note']) for row in self.rows()],
+        self.assertEqual([(row['wrong'], row['prints'], row['error'], row['note']) for row in self.rows()],
                          [('', '2', '', note), ('', '3', '', note)])
         self.assertIn('0 of them now', self.sweep(*words).stdout)
         self.assertIn('2 of them now', self.sweep(*words, '--retry').stdout)
@@ -486,13 +486,13 @@ class SweepTest(Bed):
     def test_runs_that_make_no_scenario_are_rows_wherever_they_are(self) -> None:
         done = self.sweep('--vary', 'motes=0,3,5000', '--measure', 'motes: every mote prints a', '-o', 'odd.csv')
         self.assertEqual(done.returncode, 1, done.stderr)
-        self.assertIn('odd.csv: 3 runs, 3 of them now, 2 with a fault', done.stdout)
-        self.assertEqual([bool(row['fault']) for row in self.rows('odd.csv')], [True, False, True])
+        self.assertIn('odd.csv: 3 runs, 3 of them now, 2 with an error', done.stdout)
+        self.assertEqual([bool(row['error']) for row in self.rows('odd.csv')], [True, False, True])
 
     def test_what_the_plan_says_itself(self) -> None:
         sweep = '[sweep]\nvary = { period = "1..2", motes = [2, 3] }\nmeasure = ["prints"]\n'
         (self.folder / 'net.plan.toml').write_text(PLAN + sweep)
-        self.assertEqual(self.sweep().stdout, 'net.csv: 4 runs, 4 of them now, 0 with a fault\n')
+        self.assertEqual(self.sweep().stdout, 'net.csv: 4 runs, 4 of them now, 0 with an error\n')
         self.sweep('--vary', 'period=3', '--measure', 'sent', '-o', 'more.csv')
         self.assertEqual([(row['period'], row['motes'], row['prints'], 'sent' in row) for row in self.rows('more.csv')],
                          [('3', '2', '2', True), ('3', '3', '3', True)])
@@ -524,7 +524,7 @@ class SweepTest(Bed):
         with mock.patch.object(results, 'file', mock.Mock(write=mock.Mock(side_effect=OSError(28, 'no space')))):
             with self.assertRaisesRegex(Fault, '/x.csv: no space$'):
                 results.add({'x': 1})
-        for name, text in ('mine.txt', 'a diary'), ('old.csv', 'period,sent,fault,note,plan\n'):
+        for name, text in ('mine.txt', 'a diary'), ('old.csv', 'period,sent,error,note,plan\n'):
             (self.folder / name).write_text(text)
             with self.assertRaisesRegex(Fault, 'isn.t a file that this version of tools/sweep wrote'):
                 Results(self.folder / name, head)
@@ -583,5 +583,5 @@ progress.add(True)
 '''
         done = subprocess.run([sys.executable, '-B', '-c', source], capture_output=True, text=True,
                               env={**os.environ, 'PYTHONPATH': str(TOOLS)})
-        self.assertEqual(done.stderr.split('\n'), ['1 of 3 runs, 0 with a fault, 2:00 left',
-                                                   '2 of 3 runs, 1 with a fault, 0:30 left', ''])
+        self.assertEqual(done.stderr.split('\n'), ['1 of 3 runs, 0 with an error, 2:00 left',
+                                                   '2 of 3 runs, 1 with an error, 0:30 left', ''])

@@ -287,7 +287,7 @@ class Page(unittest.TestCase):
         self.assertIn('You stopped the run.', self.said())
         begin = time.monotonic()
         self.put(ENDLESS + '\n')
-        self.wait('by("sentence").textContent.includes("was stopped")')
+        self.wait('by("expectation").textContent.includes("was stopped")')
         # (5 seconds on a machine that has nothing else to do)
         self.assertLess(time.monotonic() - begin, 60)
         self.put(FLOODING)

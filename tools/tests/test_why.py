@@ -555,7 +555,7 @@ class Misses(unittest.TestCase):
 
     def test_words(self) -> None:
         self.assertEqual(self.misses('mote 1 prints h 8 by 6')[0].words,
-                         '`print h 8`, at 7: 1 moment too late, because the sentence allows up to 6')
+                         '`print h 8`, at 7: 1 moment too late, because the expectation allows up to 6')
         scenario = SCENARIO.replace('    yield_until is(packet);\n    print data;',
                                     '    while 1 {\n      yield;\n      if (data > 8) {\n        print data;\n      }\n    }')
         report = REPORT.replace('7 print h 8\n7 leave h\n', '')
@@ -610,7 +610,7 @@ class Misses(unittest.TestCase):
         begun = time.process_time()
         first = next(_Misses(asker, missing, 0).found())
         self.assertLess(time.process_time() - begun, 2)
-        self.assertEqual(first.words, '`send 0 7`, at 4: 1 moment too late, because the sentence allows up to 3')
+        self.assertEqual(first.words, '`send 0 7`, at 4: 1 moment too late, because the expectation allows up to 3')
 
 
 def runs() -> list[Path]:
@@ -719,7 +719,7 @@ class Runs(unittest.TestCase):
         self.assertEqual(self.why('examples/flooding.toml', '--short', 'mote 6 prints flood 1').stdout, shown.stdout)
         near = self.why('examples/flooding.toml', 'mote 1 prints flood 2 by 85').stdout
         self.assertIn('line 22 (flooding.toml:35): `print newest`', near)
-        self.assertIn('4 moments too late, because the sentence allows up to 85 (line 52 of the report)\n', near)
+        self.assertIn('4 moments too late, because the expectation allows up to 85 (line 52 of the report)\n', near)
         got = json.loads(self.why('examples/flooding.toml', 'mote 6 prints flood 1', '--json').stdout)
         self.assertEqual([it['at'] for it in got['chain']], [46] * 4 + [43] * 4 + [40] * 3 + [0, 0])
         self.assertEqual(got['path']['medium'], {'moments': 6, 'times': 2})

@@ -113,7 +113,7 @@ class Verdicts(unittest.TestCase):
             found = asker.about(text)
         except Unasked as fault:
             self.assertEqual(fault.holds, holds, text)
-            self.assertEqual(str(fault).startswith('the sentence holds, '), holds, (text, str(fault)))
+            self.assertEqual(str(fault).startswith('the expectation holds, '), holds, (text, str(fault)))
             return 'holds, no line' if holds else 'broken, no line'
         self.assertEqual(isinstance(found, Asked) and found.holds, holds, (text, found))
         is_of_number = isinstance(sentence, Does) and sentence.motes.kind in ('no', 'count')

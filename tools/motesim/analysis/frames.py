@@ -9,14 +9,14 @@ from motesim import packages
 from motesim.experiments.results import read_results
 
 
-def frame(path: str | Path, with_faults: bool = False) -> Any:
-    """A DataFrame with a row for each run of a sweep's file; it has runs with a fault only if the caller asks for them.
+def frame(path: str | Path, with_errors: bool = False) -> Any:
+    """A DataFrame with a row for each run of a sweep's file, and runs with an error only if the caller asks for them.
     Standard error has the number of omitted rows."""
     head, rows = read_results(Path(path))
     pandas: Any = packages.load('pandas')
-    kept = [row for row in rows if with_faults or not row['fault']]
+    kept = [row for row in rows if with_errors or not row['error']]
     if len(kept) < len(rows):
-        print('frame: %s: left out: %d of %d runs, which have a fault; frame(.., with_faults=True) has them' % (
+        print('frame: %s: left out: %d of %d runs, which have an error; frame(.., with_errors=True) has them' % (
             path, len(rows) - len(kept), len(rows)), file=sys.stderr)
     # (pandas would convert whole numbers to real numbers in a column with gaps)
     kinds = {name: {type(row[name]) for row in kept} for name in head.columns}

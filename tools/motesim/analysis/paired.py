@@ -53,7 +53,7 @@ def compare(head: Head, rows: Sequence[Row], plot: Plot) -> Compared:
     """Compares the two sides of a pair."""
     if plot.against and plot.against not in head.parameters:
         raise Fault('a comparison has a parameter on the horizontal axis, and %s is a measure' % plot.against)
-    rows = [row for row in chosen(rows, plot.where) if not row['fault']]
+    rows = [row for row in chosen(rows, plot.where) if not row['error']]
     name, sides, names = sides_of(rows, plot.pair)
     kept = [it for it in head.parameters if it != name]
     over = [it for it in varying([*sides[0], *sides[1]], kept) if it not in (*plot.by, plot.against)]

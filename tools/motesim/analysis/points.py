@@ -126,13 +126,13 @@ def estimate_of(head: Head, rows: Sequence[Row], measure: str, plot: Plot) -> Ca
 def shown_of(head: Head, rows: Sequence[Row], plot: Plot) -> Shown:
     """The points that are to be shown."""
     selected = chosen(rows, plot.where)
-    good = [row for row in selected if not row['fault']]
+    good = [row for row in selected if not row['error']]
     has_two = bool(plot.against) and plot.against not in head.parameters
     measures = [plot.against, plot.measure] if has_two else [plot.measure]
     full = [row for row in good if None not in [number_of(row, it) for it in measures]]
     counted = full if plot.show != 'cdf' else good
     if not full:
-        raise Fault('there is no value of %s to show in %s, %d of them with a fault' % (
+        raise Fault('there is no value of %s to show in %s, %d of them with an error' % (
             ' and '.join(measures), some(len(selected)), len(selected) - len(good)))
     free = [it for it in varying(good, head.parameters) if it not in plot.by and it != plot.against]
     # (with a measure on each axis, the runs of a point differ only in repetitions, and those of a line in a parameter)
@@ -164,7 +164,7 @@ def _values(rows: Sequence[Row], measure: str) -> list[float]:
 def left_out(selected: Sequence[Row], good: Sequence[Row], full: Sequence[Row], measures: Sequence[str]) -> list[str]:
     """The lines about runs that are left out."""
     return ['left out: %s %s' % (some(count), why) for count, why in (
-        (len(selected) - len(good), 'with a fault'),
+        (len(selected) - len(good), 'with an error'),
         (len(good) - len(full), 'without a value of %s' % ' or '.join(measures))) if count]
 
 

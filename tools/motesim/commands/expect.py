@@ -1,16 +1,16 @@
-"""Checks which sentences hold for a run of a scenario: tools/expect SCENARIO [EXPECTATIONS]
+"""Checks which expectations hold for a run of a scenario: tools/expect SCENARIO [EXPECTATIONS]
 
-The expectations are a TOML file with sentences. If no file is named, the tool reads NAME.expect.toml, next to the
+The expectations are in a TOML file. If no file is named, the tool reads NAME.expect.toml, next to the
 scenario NAME.toml:
 
     expect = ["mote 6 prints flood 1 by 60", "no mote halts", "every mote but 0 receives at least 3"]
 
-The scenario is run. For each sentence a line says whether the sentence holds. If it doesn't, further lines have the
-reason, and the first line of the report that breaks it. docs/use/EXPECTATIONS.md has all forms of sentences. The last
+The scenario is run. For each expectation a line says whether it holds. If it doesn't, further lines have the reason,
+and the first line of the report that breaks it. docs/use/TESTING.md has all forms of expectations. The last
 line is `N passed, M failed`.
 
-The tool ends with status 0 if all sentences hold, 1 if one is broken, and 2 if there is no result: if a sentence or a
-file can't be read, if the run reaches a limit, or if `motesim` isn't built. To use another `motesim`, name its file in
+The tool ends with status 0 if all expectations hold, 1 if one is broken, and 2 if there is no result: if an expectation
+or a file can't be read, if the run reaches a limit, or if `motesim` isn't built. To use another `motesim`, name its file in
 the environment variable MOTESIM.
 """
 from __future__ import annotations
@@ -26,7 +26,7 @@ def main() -> int:
     words = words_of(__doc__)
     words.add_argument('scenario', metavar='SCENARIO', help='a scenario, NAME.toml')
     words.add_argument('expectations', nargs='?', metavar='EXPECTATIONS',
-                       help='the sentences (NAME.expect.toml next to the scenario)')
+                       help='the expectations (NAME.expect.toml next to the scenario)')
     add_limits(words)
     asked = words.parse_intermixed_args()
     from motesim.explain.within import runs_within

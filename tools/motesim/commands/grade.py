@@ -2,28 +2,28 @@
 
   tools/grade answers task.expect.toml                                 each solution in its own net
   tools/grade answers task.expect.toml --net task.toml                 only each solution's program, in your net
-  tools/grade answers task.expect.toml --net task.toml --hidden hidden.toml -o marks.html
+  tools/grade answers task.expect.toml --net task.toml --hidden hidden.toml -o grades.html
   tools/grade answers task.expect.toml --net task.plan.toml --vary seed=1..5 \\
     --hidden task.plan.toml --vary-hidden seed=77..79
 
 A solution is a scenario NAME.toml. With --net, a solution may also be a program NAME.mote. Of a scenario, the tool then
 uses only the text of one program: the program that --program names, or the only one. So nobody gains by changing the
 net.
-With several nets, a sentence counts only if it holds in each of them. A net that --hidden names counts like the other
-nets, but a page of marks doesn't show it.
+With several nets, an expectation counts only if it holds in each of them. A net that --hidden names counts like the
+other nets, but a page of grades doesn't show it.
 
-The tool prints a table of marks, with a row for each entry of the folder. An error in one entry doesn't affect the
+The tool prints a table of grades, with a row for each entry of the folder. An error in one entry doesn't affect the
 others. Each run has limits (--seconds of processor time, --memory, --report), and several runs are made at once
-(--jobs). On a busy machine, a run may last 10 times its --seconds in real time. Then the solution isn't marked: grade
+(--jobs). On a busy machine, a run may last 10 times its --seconds in real time. Then the solution isn't graded: grade
 it again.
 
 The tool ignores tables `[[change]]` of EXPECTATIONS, because they replace texts of one particular solution. -o writes
-the marks to a file: NAME.csv for a spreadsheet, NAME.toml, or a page NAME.html. The page links the first broken
-sentence of each solution to a timeline. --why NAME shows, for one solution, what breaks each sentence. If `motesim`
-refuses the solution, --why shows the place of the error. --write FOLDER writes each program in each net as a scenario,
-such as FOLDER/anna.toml_in_hidden.toml, for the studio and the other tools.
+the grades to a file: NAME.csv for a spreadsheet, NAME.toml, or a page NAME.html. The page links the first broken
+expectation of each solution to a timeline. --why NAME shows, for one solution, what breaks each expectation. If
+`motesim` refuses the solution, --why shows the place of the error. --write FOLDER writes each program in each net as a
+scenario, such as FOLDER/anna.toml_in_hidden.toml, for the studio and the other tools.
 
-The tool ends with status 0; with 1 if a solution isn't marked; with 2 if the sentences or the nets can't be read.
+The tool ends with status 0; with 1 if a solution isn't graded; with 2 if the expectations or the nets can't be read.
 """
 from __future__ import annotations
 
@@ -41,11 +41,11 @@ SECONDS, MEGABYTES = 20.0, 1024
 def arguments() -> argparse.Namespace:
     words = words_of(__doc__)
     words.add_argument('folder', metavar='FOLDER', type=Path, help='a folder with solutions')
-    words.add_argument('expectations', metavar='EXPECTATIONS', type=Path, help='a file of sentences, NAME.expect.toml')
+    words.add_argument('expectations', metavar='EXPECTATIONS', type=Path, help='NAME.expect.toml')
     words.add_argument('--net', action='append', default=[], metavar='NET', type=Path,
                        help='run the programs in this net, a scenario or a plan; you can repeat the option')
     words.add_argument('--hidden', action='append', default=[], metavar='NET', type=Path,
-                       help="run the programs in this net too, but don't show it on a page of marks")
+                       help="run the programs in this net too, but don't show it on a page of grades")
     words.add_argument('--vary', action='append', default=[], metavar='NAME=VALUES',
                        help='for the plans that --net names: the values of a parameter, such as seed=1..5')
     words.add_argument('--vary-hidden', action='append', default=[], metavar='NAME=VALUES',
@@ -60,17 +60,17 @@ def arguments() -> argparse.Namespace:
     words.add_argument('--jobs', type=int, metavar='N',
                        help='the number of simultaneous runs (one for each processor)')
     words.add_argument('-o', dest='output', action='append', default=[], metavar='FILE', type=Path,
-                       help='write the marks: NAME.csv, NAME.toml or NAME.html')
+                       help='write the grades: NAME.csv, NAME.toml or NAME.html')
     words.add_argument('--anonymous', action='store_true',
-                       help='show numbers instead of the names of solutions; each call of the tool draws new numbers')
+                       help='show numbers instead of the names of solutions; each call of the tool chooses new numbers')
     words.add_argument('--key', metavar='FILE', type=Path,
                        help='with --anonymous: write the number of each solution to this file, which is only for you')
     words.add_argument('--write', metavar='FOLDER', type=Path,
                        help='also write each program in each net as a scenario, which the studio can open')
     words.add_argument('--excel', action='store_true',
                        help='write NAME.csv with a byte order mark, and with `;` between the cells')
-    words.add_argument('--csv', action='store_true', help='print the marks in CSV')
-    words.add_argument('--why', metavar='NAME', help='show what breaks the sentences in one solution')
+    words.add_argument('--csv', action='store_true', help='print the grades in CSV')
+    words.add_argument('--why', metavar='NAME', help='show what breaks the expectations in one solution')
     asked = words.parse_args()
     if asked.seconds <= 0 or asked.memory < 1 or asked.report < 1 or (asked.jobs or 1) < 1:
         words.error('limits and --jobs are greater than 0')
@@ -78,7 +78,7 @@ def arguments() -> argparse.Namespace:
         words.error('--key needs --anonymous')
     for path in asked.output:
         if path.suffix not in FORMATS:
-            words.error('%s: a file of marks ends in .csv, .toml or .html' % path)
+            words.error('%s: a file of grades ends in .csv, .toml or .html' % path)
     return asked
 
 

@@ -1,7 +1,7 @@
 """Shows the lines of all motes in one chronological log.
 
-Each line shows the moment, the mote, the line number in the report, and what happened. SENTENCE, such as "motes 3 to 7
-print flood 2", selects the lines that it is about. Without SENTENCE and options the tool shows all lines."""
+Each line shows the moment, the mote, the line number in the report, and what happened. EXPECTATION, such as "motes 3 to
+7 print flood 2", selects the lines that it is about. Without EXPECTATION and options the tool shows all lines."""
 from __future__ import annotations
 
 from motesim.faults import command
@@ -12,8 +12,8 @@ from motesim.words import words_of
 def main() -> int:
     words = words_of(__doc__, 'log')
     words.add_argument('file', metavar='FILE', help='a scenario, or a report; - is standard input')
-    words.add_argument('sentence', metavar='SENTENCE', nargs='?', help='show the lines that this sentence is about')
-    words.add_argument('--scenario', metavar='FILE', help="if FILE is a report: its scenario, which SENTENCE needs")
+    words.add_argument('sentence', metavar='EXPECTATION', nargs='?', help='show the lines that this is about')
+    words.add_argument('--scenario', metavar='FILE', help="if FILE is a report: its scenario, which EXPECTATION needs")
     words.add_argument('--mote', metavar='LIST', help='show the lines of these motes, such as 3,5-7')
     words.add_argument('--kind', metavar='LIST', help='show the lines of these kinds, such as send,recv')
     words.add_argument('--process', metavar='NAME', help='show the lines that name this process')

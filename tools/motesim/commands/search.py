@@ -4,7 +4,7 @@
 
 The tool tries all single faults, then all pairs, and so on, up to --at-most faults at once. For each minimal set of
 faults that breaks an expectation, it writes a scenario and its expectations into the folder NAME.search, or into the
-folder that -o names. The expectations are sentences of tools/expect. If no file is named, they are in NAME.expect.toml
+folder that -o names. The expectations are those of tools/expect. If no file is named, they are in NAME.expect.toml
 next to the scenario NAME.toml.
 
 Kinds of faults, for --faults:
@@ -43,8 +43,8 @@ def arguments() -> argparse.ArgumentParser:
     words = words_of(with_forms(__doc__))
     words.add_argument('scenario', nargs='?', metavar='SCENARIO', help='a scenario, NAME.toml, or a plan')
     words.add_argument('expectations', nargs='?', metavar='EXPECTATIONS',
-                       help='the sentences (NAME.expect.toml next to the scenario)')
-    words.add_argument('--expect', action='append', default=[], metavar='SENTENCE',
+                       help='the expectations (NAME.expect.toml next to the scenario)')
+    words.add_argument('--expect', action='append', default=[], metavar='EXPECTATION',
                        help='an expectation, instead of a file of expectations')
     words.add_argument('--faults', default='', metavar='KINDS',
                        help='the kinds of faults. Without this option: links,motes or, with --set, the kinds of the '
@@ -59,10 +59,10 @@ def arguments() -> argparse.ArgumentParser:
     words.add_argument('--step', type=int, default=0, metavar='N',
                        help='for `places`: the distance by which a mote is moved (a quarter of the range)')
     words.add_argument('--random', type=int, default=0, metavar='N',
-                       help='after all sets up to --at-most, try N larger sets, drawn at random')
+                       help='after all sets up to --at-most, try N larger sets, chosen at random')
     words.add_argument('--seed', type=int, default=1, metavar='S', help='the seed of --random (1)')
     words.add_argument('--most-runs', type=int, metavar='N',
-                       help='try sets in at most N runs; with --random, the runs that make a drawn set minimal don\'t '
+                       help='try sets in at most N runs; with --random, the runs that make such a set minimal don\'t '
                             'count. With --shrink, the runs that make a scenario small count too')
     words.add_argument('--most-seconds', type=float, metavar='N',
                        help='begin no more runs after N seconds, also with --shrink')

@@ -7,11 +7,11 @@ step it runs the scenario, and keeps the step only if the expectation is still b
 too few lines. But the reason may then differ from the reason in your scenario. Three options make this less likely:
 
   --fault          the expectation has to hold without the fault, and to be broken with it
-  --keep           these sentences have to hold after each step
+  --keep           these expectations have to hold after each step
   --keep-programs  the tool changes no program, not even its comments and lines
 
-If motes get other numbers, the tool changes their numbers in sentences and faults too. If EXPECTATION is a file, the
-tool uses the first broken sentence in this file. Without EXPECTATION, the file is NAME.expect.toml, next to the
+If motes get other numbers, the tool changes their numbers in expectations and faults too. If EXPECTATION is a file, the
+tool uses the first broken expectation in this file. Without EXPECTATION, the file is NAME.expect.toml, next to the
 scenario NAME.toml.
 
 The tool writes the result to NAME.small.toml, with its expectation next to it. In the result no single further step is
@@ -46,10 +46,10 @@ def main() -> int:
     words = words_of(with_forms(__doc__))
     words.add_argument('scenario', metavar='SCENARIO', help='a scenario, NAME.toml')
     words.add_argument('expectation', nargs='?', metavar='EXPECTATION',
-                       help='a sentence of tools/expect, or a file of sentences')
+                       help='an expectation of tools/expect, or a file of expectations')
     words.add_argument('-o', dest='output', metavar='FILE', help='the result; by default NAME.small.toml')
-    words.add_argument('--keep', action='append', default=[], metavar='SENTENCE',
-                       help='a sentence that has to hold after each step')
+    words.add_argument('--keep', action='append', default=[], metavar='EXPECTATION',
+                       help='an expectation that has to hold after each step')
     words.add_argument('--fault', action='append', default=[], metavar='FAULT',
                        help='add this fault to the scenario, such as `lose 0 1 1` (the forms are above); the '
                             'expectation has to hold without the fault, and to be broken with it')

@@ -16,20 +16,20 @@ and 100). With `name = MEASURE` the column of a measure gets this name. The meas
                                 if no packet is lost
   loss                          the share of the copies that are lost by the scenario's losses
   flow most: print sink         a column of tools/summary --flow, for the net
-  holds: no mote halts          1 if this sentence of tools/expect holds, otherwise 0
+  holds: no mote halts          1 if this expectation of tools/expect holds, otherwise 0
   moment: every mote prints flood 1
                                 the first moment at which each mote has printed it
-  last: SENTENCE                the moment of the last line that the sentence is about
-  count: SENTENCE               the number of lines that the sentence is about
-  motes: SENTENCE               the number of motes that do what the sentence says
+  last: EXPECTATION             the moment of the last line that the expectation is about
+  count: EXPECTATION            the number of lines that the expectation is about
+  motes: EXPECTATION            the number of motes that do what the expectation says
   delay: mote 0 sends 1 -> every mote but 0 prints flood 1
                                 the time from the first event to the second event; lines of the second event that are
                                 earlier than the first event don't count
   delivery: motes 1 to 9 print source -> mote 0 prints sink
-                                the share of the messages that are delivered. Each line of the first sentence is a
-                                message. It is delivered if a line of the second sentence with the same value follows.
+                                the share of the messages that are delivered. Each line of the first expectation is a
+                                message. It is delivered if a line of the second one with the same value follows.
                                 Messages on the way at the end count as lost. With `every mote` or `motes 1 to 9` in
-                                the second sentence, each pair of a message and a mote counts; with `some mote`, a
+                                the second expectation, each pair of a message and a mote counts; with `some mote`, a
                                 message needs a line from only one of the motes
   python: measures.py:energy    the result of your function in a file next to the plan; its argument is the run
 

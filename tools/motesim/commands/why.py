@@ -1,8 +1,8 @@
 """Explains the cause of a line of a report: the chain of causes, back to the start of a mote.
 
-QUESTION is a sentence, such as "mote 24 prints flood 2", or a line of the report. A line has one of these forms: 977,
-its number in the report; 24:977, its mote and its number; or "24:64 print flood 1", its mote and its text, which begins
-with the moment, 64."""
+QUESTION is an expectation, such as "mote 24 prints flood 2", or a line of the report. A line has one of these forms:
+977, its number in the report; 24:977, its mote and its number; or "24:64 print flood 1", its mote and its text, which
+begins with the moment, 64."""
 from __future__ import annotations
 
 import shlex
@@ -15,7 +15,7 @@ from motesim.words import words_of
 def main() -> int:
     words = words_of(__doc__, 'why')
     words.add_argument('file', metavar='FILE', help='a scenario, or a report; - is standard input')
-    words.add_argument('question', metavar='QUESTION', nargs='?', help='a sentence, or a line of the report')
+    words.add_argument('question', metavar='QUESTION', nargs='?', help='an expectation, or a line of the report')
     words.add_argument('--scenario', metavar='FILE', help='if FILE is a report: its scenario')
     words.add_argument('--other', metavar='FILE',
                        help='a second scenario or report: show the first line of the chain that the second run lacks')

@@ -20,7 +20,7 @@ MEANINGS = {
 def of_full(net: Mapping[str, Any], report: Report) -> Iterator[str]:
     """Yields the codes about copies and packets for which there was no room; `net` is the run's row of tools/summary
     for the net."""
-    if net['ring']:
+    if net['overflowed']:
         yield RECEIVER_FULL
     if net['refused'] and any(line.event == 'packet' for mote in report.motes for line in mote.lines
                               if line.kind == 'full'):

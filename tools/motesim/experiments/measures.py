@@ -33,13 +33,13 @@ from motesim.summary.shares import share
 from motesim.judge.judge import Event, Judge
 from motesim.plan.parameters import PARAMETER
 from motesim.plan.tables import Value
-from motesim.report import Line
+from motesim.report import OUTCOMES, Line
 from motesim.runner.run import Run
 from motesim.scenario import Scenario
 from motesim.scenario.scenario import hops_over
 from motesim.judge.sentences import Copies, Does, Motes, Names, Packets, Refused, Sentence, read_sentence
 
-SUMMARY = ('sent', 'copies', *summary.BECAME.values(), 'ratio', *summary.COUNTED.values(), 'halt')
+SUMMARY = ('sent', 'copies', *OUTCOMES, 'ratio', *summary.COUNTED.values(), 'halt')
 REACHABLE, LOSS = 'reachable', 'loss'
 FLOWS = tuple(FLOW_NAMES[1:])
 # Measures of one sentence, and those of two, `A -> B`.
@@ -57,7 +57,7 @@ NO_PARAMETERS = (
     '%r: a measure has no parameters, so `%s` isn\'t replaced by a value: write the value itself, or write a measure '
     'with `python:`, whose function may have the values of the parameters as its second argument')
 NO_DELAY = (
-    '%s: both sentences are the same, so they are fulfilled at the same moment, and the delay is always 0: name the '
+    '%s: both expectations are the same, so they are fulfilled at the same moment, and the delay is always 0: name the '
     'line that begins the message first, and then the line that ends it')
 
 
@@ -124,7 +124,7 @@ def loss(bench: Bench) -> float | None:
     """The share of the copies that the medium lost by the scenario's losses; copies on the way at the end don't
     count."""
     net = bench.summary[1]
-    return share(net['lost'], net['copies'] - net['late'])
+    return share(net['lost'], net['copies'] - net['left'])
 
 
 def _of_flow(name: str, words: str) -> Callable[[Bench], Cell]:
@@ -224,9 +224,9 @@ def _no_moment(kind: str, sentence: Sentence, words: str) -> MeasureFault:
     is_last = isinstance(sentence, Does) and sentence.deed.way == 'finally' and not sentence.relation
     other = ' Write `%s`, which is about each such line, also if it isn\'t the last line.' % re.sub(
         r'\bfinally\s+', '', words, count=1) if is_last else ''
-    return MeasureFault('%r has no moment: a measure `%s:` has a sentence about lines, such as `mote 3 prints flood 1` '
+    return MeasureFault('%r has no moment: a measure `%s:` has an expectation on lines, such as `mote 3 prints flood 1` '
                         'and `every mote sends`, without `finally`, `just`, an order or a comparison.%s A measure '
-                        '`holds: %s` is 1 if the sentence holds, otherwise 0' % (words, kind, other, words))
+                        '`holds: %s` is 1 if the expectation holds, otherwise 0' % (words, kind, other, words))
 
 
 def _plain(kind: str, sentence: Sentence, words: str) -> Does:
@@ -264,7 +264,7 @@ def _guarded(work: Callable[[Judge], Cell]) -> Callable[[Bench], Cell]:
 def _of_sentence(kind: str, words: str, names: Names) -> Callable[[Bench], Cell]:
     parts = [part.strip() for part in words.split('->')]
     if len(parts) != (2 if kind in OF_TWO else 1):
-        raise MeasureFault('%s need two sentences, `A -> B`%s' % (
+        raise MeasureFault('%s need two expectations, `A -> B`%s' % (
             ' and '.join(OF_TWO), '; other measures need one' if '->' in words else ''))
     sentences = [read_sentence(part, names) for part in parts]
     first = sentences[0]

@@ -28,7 +28,7 @@ class Progress:
 
     def show(self, now: float) -> None:
         left = round((now - self.begin) / self.done * (self.runs - self.done))
-        text = '%d of %d runs, %d with a fault, %d:%02d left' % (
+        text = '%d of %d runs, %d with an error, %d:%02d left' % (
             self.done, self.runs, self.faults, left // 60, left % 60)
         write_over(text) if self.is_terminal else print(text, file=sys.stderr, flush=True)
 

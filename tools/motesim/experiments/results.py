@@ -1,7 +1,7 @@
 """The file of a sweep: CSV with a row for each run. Its first line has what all rows have in common:
 
     #{"plan": "net.plan.toml", "parameters": ["period", "seed"], "measures": {"ratio": "ratio"}, ..}
-    period,seed,ratio,fault,note,warnings,..
+    period,seed,ratio,error,note,warnings,..
 
 A row is saved as soon as it exists. In CSV all values are texts; a text that has the form of a number is read as a
 number.
@@ -30,7 +30,7 @@ REAL = re.compile(r'-?[0-9]+(\.[0-9]+)?(e[-+][0-9]+)?')
 BEGIN = b'#{'
 # The columns behind parameters and measures: why a run has no result, why measures failed, the codes of warnings, how
 # many nets were rejected before the run's net, and digests.
-MADE = ('fault', 'note', 'warnings', 'rejected', 'plan_sha256', 'scenario_sha256', 'places_sha256', 'report_sha256')
+MADE = ('error', 'note', 'warnings', 'rejected', 'plan_sha256', 'scenario_sha256', 'places_sha256', 'report_sha256')
 
 
 @dataclass(frozen=True)

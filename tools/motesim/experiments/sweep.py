@@ -70,7 +70,7 @@ class Sweeper:
                     '--renew makes them again, and -o names another file'))
             if place is None:
                 self.others.append(row)
-            elif not change and not (retries and (row['fault'] or row['note'])):
+            elif not change and not (retries and (row['error'] or row['note'])):
                 self.rows[place] = row
         if len(self.rows) + len(self.others) < len(self.file.rows) or self.file.found != self.head:
             self.write()
@@ -109,7 +109,7 @@ class Sweeper:
         plan = ''
         with contextlib.suppress(Fault):
             plan = self.plan.digest(given)[:DIGITS]
-        return {**parameters, **dict.fromkeys(self.head.measures), **result.measures, 'fault': result.fault or None,
+        return {**parameters, **dict.fromkeys(self.head.measures), **result.measures, 'error': result.fault or None,
                 'note': result.note or None, 'warnings': result.warnings or None, 'rejected': result.rejected,
                 'plan_sha256': plan or None, 'scenario_sha256': result.scenario or None,
                 'places_sha256': result.places or None, 'report_sha256': result.report or None}
@@ -136,10 +136,10 @@ class Sweeper:
 def said(sweeper: Sweeper, ran: int) -> int:
     """Reports the contents of the file; returns the status."""
     rows = [sweeper.rows[place] for place in sorted(sweeper.rows)]
-    faults, notes = ([row for row in rows if row[name]] for name in ('fault', 'note'))
-    print('%s: %d runs, %d of them now, %d with a fault' % (sweeper.path, len(rows), ran, len(faults)))
+    faults, notes = ([row for row in rows if row[name]] for name in ('error', 'note'))
+    print('%s: %d runs, %d of them now, %d with an error' % (sweeper.path, len(rows), ran, len(faults)))
     if faults:
-        print('the first fault: %s' % faults[0]['fault'])
+        print('the first error: %s' % faults[0]['error'])
     if notes:
         print('%d of %d runs lack a measure; the first: %s' % (len(notes), len(rows), notes[0]['note']))
     codes = Counter(code for row in rows for code in text_of(row['warnings']).split())

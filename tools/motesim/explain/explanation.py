@@ -135,7 +135,7 @@ def rule_of(line: str) -> str:
     program = PROGRAM.fullmatch(line)
     if program and int(program[2]) in program_faults.RULES:
         return '%s: %s' % program_faults.RULES[int(program[2])]
-    return scenario_faults.RULES.get('program' if program else line, 'docs/use/SCENARIO.md has the faults.')
+    return scenario_faults.RULES.get('program' if program else line, 'docs/use/SCENARIO.md has the errors.')
 
 
 def rule_of_program(its: program_faults.ProgramError) -> list[str]:
@@ -262,7 +262,7 @@ def shown_explanation(name: str, data: bytes, run: Callable[[bytes], Answer], si
     if line is None:
         lines = tried(lambda: all_warnings(name, data, got.report, silent),
                       lambda words: wrapped('Its warnings aren\'t shown, because of %s.' % words))
-        print('\n'.join(['%s has a report, and no fault' % one_line(name), *lines]))
+        print('\n'.join(['%s has a report, and no error' % one_line(name), *lines]))
         return 0
     print('\n'.join([line, *explanation(name, data, line)]))
     return 1

@@ -26,7 +26,7 @@ from motesim.report import Report
 
 USER0 = 147
 VERSION = 1
-KINDS = {'sent': 0, 'received': 1, 'lost': 2, 'full': 3, 'collided': 4, 'halted': 5, 'left': 6}
+KINDS = {'sent': 0, 'received': 1, 'lost': 2, 'overflowed': 3, 'collided': 4, 'halted': 5, 'left': 6}
 ALL, NEVER = 0xFFFF, 2 ** 64 - 1
 SECTION, INTERFACE, RECORD = 0x0A0D0D0A, 1, 6
 NANOSECONDS = 9

@@ -16,7 +16,7 @@ from motesim.report import Mote, Report
 Event = dict[str, Any]
 THREADS = 100
 NOTED = {'full', 'drop', 'busy', 'deaf', 'collide', 'lost', 'halt'}
-OUTCOMES = {'received': 'recv', 'full': 'lost', 'collided': 'collide'}
+OUTCOMES = {'received': 'recv', 'overflowed': 'lost', 'collided': 'collide'}
 
 
 def microseconds(time: int) -> float:

@@ -70,7 +70,7 @@ def spoken_of_by_none(marked: Sequence[Marks], sentences: Sequence[str]) -> list
     lines = []
     for number, (sentence, *lacks) in enumerate(zip(sentences, *(it.lacks for it in known)), 1):
         if lacks and all(lacks):
-            lines.append('sentence %d names something that no solution has (%s): %s has %s' % (
+            lines.append('expectation %d names something that no solution has (%s): %s has %s' % (
                 number, sentence, known[0].name, lacks[0]))
     return lines
 
@@ -83,7 +83,7 @@ def write(path: Path, marked: Sequence[Marks], sentences: Sequence[str], task: T
     elif path.suffix == '.toml':
         text = tables.toml_of(marked, sentences, one_line(str(expectations)), [net.name for net in task.nets])
     else:
-        text = page.page_of(marked, sentences, 'Marks: %s' % one_line(expectations.name), pages_of(path).name,
+        text = page.page_of(marked, sentences, 'Grades: %s' % one_line(expectations.name), pages_of(path).name,
                             time.strftime('%Y-%m-%d at %H:%M'), bool(task.nets))
     replace_whole(path, [text.encode('utf-8')])
     print(path)
@@ -148,9 +148,9 @@ def remarks(asked: argparse.Namespace, nets: Sequence[Net], skipped: Sequence[st
     and shown, motes that are cut off, and files without a row."""
     lines = [*without_nets(asked.vary), *without_nets(asked.vary_hidden, True)]
     for remark, names in (
-            ('these hidden nets equal a shown net, so a page of marks shows them', hidden_and_shown(nets)),
+            ('these hidden nets equal a shown net, so a page of grades shows them', hidden_and_shown(nets)),
             ('in these nets no packet of the other motes reaches some motes', nets_with_cut_off(nets)),
-            ('hidden files, expectations and marks have no row', skipped)):
+            ('hidden files, expectations and grades have no row', skipped)):
         if names:
             more = ' and {:,} more'.format(len(names) - MOST_LISTED) if len(names) > MOST_LISTED else ''
             lines.append('%s: %s%s' % (remark, ', '.join(names[:MOST_LISTED]), more))

@@ -68,7 +68,7 @@ class Task:
         except Fault as fault:
             return Marks(entry.name, why=str(fault))
         return tried(lambda: self.of_data(number, entry, data),
-                     lambda words: Marks(entry.name, why='not marked: ' + words, is_open=True))
+                     lambda words: Marks(entry.name, why='not graded: ' + words, is_open=True))
 
     def of_data(self, number: int, entry: Entry, data: bytes) -> Marks:
         """The marks of an entry that has these bytes."""

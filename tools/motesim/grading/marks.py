@@ -144,7 +144,7 @@ def over_nets(found: Sequence[InNet], required: int) -> tuple[Mark, ...]:
 
 def unmarked(name: str, why: str) -> Marks:
     """A solution that has to be marked again, because the reason isn't in the solution."""
-    return Marks(name, why='not marked, run it again: %s' % why, is_open=True)
+    return Marks(name, why='not graded, run it again: %s' % why, is_open=True)
 
 
 def shown_of(failed: Sequence[tuple[InNet, Mark]]) -> tuple[str, ...]:

@@ -12,7 +12,7 @@ from motesim.toml import MARK
 OF_TOML = '# Written by tools/grade.'
 OF_PAGE = '<!DOCTYPE html>\n<html lang="en">\n<head>\n<meta name="generator" content="tools/grade">\n'
 OF_KEY = '"number","solution"\n'
-COLUMNS = ('scenario', 'holds', 'of', 'fault')
+COLUMNS = ('scenario', 'holds', 'of', 'error')
 HEADS = {'.toml': (OF_TOML + '\n',), '.html': (OF_PAGE,), '.csv': (
     *(begin + sign.join([*('"%s"' % it for it in COLUMNS), '']) for begin, sign in (('', ','), (MARK, ';'))), OF_KEY)}
 

@@ -29,7 +29,7 @@ pre { margin: 2px 0 0; font: 12.5px/1.4 ui-monospace, "DejaVu Sans Mono", monosp
 </head>
 <body>
 """
-OF_REQUIRED = ' If a required sentence doesn\'t hold, the mark is 0, whatever else holds.'
+OF_REQUIRED = ' If a required expectation doesn\'t hold, the grade is 0, whatever else holds.'
 
 
 def _colour(marks: Marks, count: int) -> str:
@@ -83,9 +83,9 @@ def page_of(marked: Sequence[Marks], sentences: Sequence[str], title: str, folde
         for number, (count, sentence) in enumerate(zip(held, sentences), 1)]
     return '\n'.join([
         HEAD % escape(title) + '<h1>%s</h1>' % escape(title),
-        '<p>%s ● means that a sentence holds%s, ○ that it doesn\'t.%s</p>' % (
-            'Marked on %s.' % date if date else '', ' in all nets' if has_nets else '', OF_REQUIRED * bool(required)),
-        '<table><thead><tr><th>Solution</th><th class="number">Mark</th><th>Sentences</th><th>First that '
+        '<p>%s ● means that an expectation holds%s, ○ that it doesn\'t.%s</p>' % (
+            'Graded on %s.' % date if date else '', ' in all nets' if has_nets else '', OF_REQUIRED * bool(required)),
+        '<table><thead><tr><th>Solution</th><th class="number">Grade</th><th>Expectations</th><th>First that '
         'fails</th></tr>'
         '</thead><tbody>', *rows, '</tbody></table>',
-        '<h2>Sentences</h2>', '<table><tbody>', *below, '</tbody></table>', '</body>', '</html>', ''])
+        '<h2>Expectations</h2>', '<table><tbody>', *below, '</tbody></table>', '</body>', '</html>', ''])

@@ -24,7 +24,7 @@ class Progress:
         if now < self.next:
             return
         self.next = now if self.is_terminal else now + SHOWN_EVERY
-        text = 'grade: %d of %d solutions are marked; the last one is %s' % (self.done, self.solutions, name)
+        text = 'grade: %d of %d solutions are graded; the last one is %s' % (self.done, self.solutions, name)
         self.is_shown = True
         write_over(text[:100]) if self.is_terminal else print(text, file=sys.stderr, flush=True)
 

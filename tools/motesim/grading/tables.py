@@ -17,7 +17,7 @@ from motesim.toml import MARK
 MOST_NAMED = 3
 # Some spreadsheets treat a cell with this beginning as a formula.
 OF_FORMULA = ('=', '+', '-', '@', '\t', '\r', '|', '%')
-RENAMED = 'Hint: sentences use the names of the task: if a process was renamed, rename it back, and grade again'
+RENAMED = 'Hint: expectations use the names of the task: if a process was renamed, rename it back, and grade again'
 UNUSED = ('Hint: in a net of --net or --hidden the motes run only one program of a solution. Move the code of the '
           'other motes into this program, below tests such as `if (self == 0)`, and grade again')
 USED_UP = '%s: it used up its work there, maybe in a loop without a wait'
@@ -117,7 +117,7 @@ def holds(marks: Marks, number: int) -> bool:
 def toml_of(marked: Sequence[Marks], sentences: Sequence[str], expectations: str, nets: Sequence[str]) -> str:
     """The marks as a TOML document."""
     lines = [OF_TOML, 'expectations = %s' % quoted(expectations),
-             'nets = [%s]' % ', '.join(map(quoted, nets)), 'sentences = [',
+             'nets = [%s]' % ', '.join(map(quoted, nets)), 'expect = [',
              *('  %s,' % quoted(it) for it in sentences), ']']
     required = required_of(marked)
     lines += ['required = [%s]' % ', '.join(map(str, required))] if required else []
@@ -128,7 +128,7 @@ def toml_of(marked: Sequence[Marks], sentences: Sequence[str], expectations: str
             lines.append('holds = %d' % it.held)
             lines.append('broken = [%s]' % ', '.join(map(str, broken)))
         lines.append('of = %d' % len(sentences))
-        lines += ['fault = %s' % quoted(it.fault)] if it.fault else []
+        lines += ['error = %s' % quoted(it.fault)] if it.fault else []
         failed = it.first_failed
         if failed is not None and it.marks[failed].more:
             lines.append('first_failed = %s' % quoted('\n'.join(it.marks[failed].more)))

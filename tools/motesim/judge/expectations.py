@@ -32,8 +32,8 @@ KEYS = {'expect': list, 'required': list, 'report': str, 'change': list, 'about'
 EXAMPLE = '`expect = ["mote 0 sends twice", "no mote halts"]`'
 # For each key, the kind of its value, and its form.
 WRITTEN = {
-    'expect': 'an array of sentences, such as %s' % EXAMPLE, 'report': 'a text',
-    'required': 'an array of sentences, such as `required = ["every mote prints"]`',
+    'expect': 'an array of expectations, such as %s' % EXAMPLE, 'report': 'a text',
+    'required': 'an array of expectations, such as `required = ["every mote prints"]`',
     'change': 'an array of tables: each begins with a line `[[change]]`',
     'about': 'a text, such as `about = "a late end"`',
     'replace': 'a table, such as `replace = { "end = 9" = "end = 99" }`',
@@ -91,7 +91,7 @@ def part_of(table: dict[str, Any], name: str, keys: set[str]) -> Part:
     if other is not None:
         raise Fault('%s must contain only texts, which are in quotes, but has %s' % (name, other))
     if not sentences and 'report' not in table:
-        raise Fault('%s expects nothing: write sentences, such as %s' % (name, EXAMPLE))
+        raise Fault('%s expects nothing: write expectations, such as %s' % (name, EXAMPLE))
     return Part(table.get('about', name), sentences, table.get('report'), replace, len(required))
 
 
@@ -100,7 +100,7 @@ def parts_of(text: str, name: str) -> list[Part]:
     try:
         tables = read_toml(text)
     except NoToml as fault:
-        raise Fault('%s is not TOML: %s; each sentence is in quotes, with commas between them: %s' % (
+        raise Fault('%s is not TOML: %s; each expectation is in quotes, with commas between them: %s' % (
             name, fault, EXAMPLE)) from None
     parts = [part_of(tables, name, {'expect', 'required', 'report', 'change'})]
     for number, table in enumerate(tables.get('change', []), 1):
@@ -133,10 +133,11 @@ class UnknownSentence(Fault):
     def __init__(self, unknown: Sequence[tuple[int, str]]):
         numbers = [str(number) for number, _ in unknown[:MOST_UNKNOWN]]
         left = len(unknown) - MOST_UNKNOWN
-        rows = ['sentence %s is not known\n%s' % (number, explained)
+        rows = ['expectation %s is not known\n%s' % (number, explained)
                 for number, (_, explained) in zip(numbers, unknown)]
-        rows += ['{:,} more {} not known'.format(left, 'sentence is' if left == 1 else 'sentences are')] * (left > 0)
-        self.which = ('sentence %s is not known' if len(unknown) == 1 else 'sentences %s are not known') % (
+        rows += ['{:,} more {} not known'.format(left, 'expectation is' if left == 1 else 'expectations are')] * (
+            left > 0)
+        self.which = ('expectation %s is not known' if len(unknown) == 1 else 'expectations %s are not known') % (
             ', '.join(numbers) + ', ..' * (left > 0))
         super().__init__('\n'.join(rows))
 

@@ -27,7 +27,7 @@ from motesim.report import LOST, Line, Report, Rows
 from motesim.scenario import Scenario
 
 DOES = {'print': 'prints', 'send': 'sends', 'recv': 'receives'}
-BECAME = {'collided': 'collide', 'received': 'recv', 'full': 'lost'}
+BECAME = {'collided': 'collide', 'received': 'recv', 'overflowed': 'lost'}
 
 
 class Lack(NamedTuple):

@@ -5,12 +5,12 @@ from __future__ import annotations
 from motesim.judge.judge import Apart, Judge
 from motesim.judge.sentences import Copies, Does, Packets, Sentence
 
-AFTER_THE_END = 'the run ends at %d, before the period of this sentence, which begins at %d'
-OF_NO_MOTE = 'this sentence is about no mote, because `but` leaves out all of its motes, so it is %s in every run'
-NO_EVENT = '`%s` doesn\'t occur in this run, so this sentence checks no order'
+AFTER_THE_END = 'the run ends at %d, before the interval of this expectation, which begins at %d'
+OF_NO_MOTE = 'this expectation is about no mote, because `but` leaves out all of its motes, so it is %s in every run'
+NO_EVENT = '`%s` doesn\'t occur in this run, so this expectation checks no order'
 NO_COLLISIONS = 'the scenario has no `collide = true`, so no copy collides in any run'
 NO_LOSSES = 'no link of the scenario loses a packet, so no copy is lost in any run'
-NO_COPIES = 'no copy was due in this run, so this sentence checks nothing'
+NO_COPIES = 'no copy was due in this run, so this expectation checks nothing'
 
 
 def remark_of(sentence: Sentence, judge: Judge, holds: bool) -> str:

@@ -73,7 +73,7 @@ class SentenceFault(Fault):
         lines += ['Did you mean: ' + self.like] if self.like else []
         # (the sentence with a mark under the word, and the allowed words)
         self.explained = '  ' + '\n  '.join([*lines, 'Example: ' + example('%s %s' % (sentence, self.like))])
-        super().__init__('a sentence that is not known\n' + self.explained)
+        super().__init__('an expectation that is not known\n' + self.explained)
 
 
 @dataclass(frozen=True)
@@ -640,7 +640,7 @@ class _Reader:
     def copies(self, count: Count) -> Sentence:
         """A sentence about copies, from the verb on."""
         outcome = ''
-        for name, many in ('collided', 'collide'), ('received', 'arrive'), ('full', 'overflow'):
+        for name, many in ('collided', 'collide'), ('received', 'arrive'), ('overflowed', 'overflow'):
             if not outcome and self.verb(many + 's', many):
                 outcome = name
         if not outcome:

@@ -34,7 +34,7 @@ COUNTED = {
 # For each kind, its name in docs/use/NOTATION.md and its rule.
 RULES: dict[int, tuple[str, str]] = {
     1: ('BadToken',
-        'A program consists of names, numbers, keywords and signs. A name begins with a letter, and has at most '
+        'A program consists of names, numbers, keywords and symbols. A name begins with a letter, and has at most '
         '16 small letters, digits and `_`; a number has no unnecessary 0 in front.'),
     2: ('Unexpected', 'This can\'t follow the words before it.'),
     3: ('UnknownName', 'Nothing has this name here. A name has to be declared before it is used; variables, timers '

@@ -114,7 +114,7 @@ def _net(draw: Callable[[int], Point], count: int, least: int) -> list[Point]:
             if not least or all(squared(point, other) >= least * least for other in crowd.near(point)):
                 break
         else:
-            raise NoPlace('Mote %d of %d was drawn %d times, and was always nearer than %d to another one.' % (
+            raise NoPlace('Mote %d of %d was placed %d times, and was always nearer than %d to another one.' % (
                 number, count, TRIES_FOR_A_PLACE, least))
         crowd.add(point)
         points.append(point)
@@ -133,7 +133,7 @@ def _drawn(net: Callable[[], list[Point]], reach: int | None) -> Drawn:
         points = net()
         if reach is None or is_connected(points, reach):
             return Drawn(points, rejected)
-    raise NotConnected('None of the %d nets that the tool drew is connected with a `range` of %s.' % (
+    raise NotConnected('None of the %d nets that the tool sampled is connected with a `range` of %s.' % (
         TRIES_FOR_A_NET, reach))
 
 

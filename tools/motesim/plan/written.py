@@ -33,7 +33,7 @@ def checked(text: str) -> str:
     fault = scenario_faults.find_fault(text.encode())
     if fault:
         place = fault.place(text)
-        raise Fault('the plan has no fault, but the scenario that it makes has: %s, line %d\n  %s' % (
+        raise Fault('the plan has no error, but the scenario that it makes has: %s, line %d\n  %s' % (
             fault.message, place.line, text.split('\n')[place.line - 1]))
     return text
 
@@ -49,7 +49,7 @@ def write_from(source: str, output: str | None) -> int:
     data = read_file(source)
     fault = scenario_faults.find_fault(data)
     if fault:
-        raise Fault('%s has a fault: motesim: %s (tools/explain says more)' % (source, fault.message))
+        raise Fault('%s has an error: motesim: %s (tools/explain says more)' % (source, fault.message))
     name = 'net' if source == '-' else Path(source).stem
     plan = Path(output) if output else beside(source, name + '.plan.toml')
     if plan.suffix != '.toml':

@@ -50,12 +50,12 @@ class Outcome(NamedTuple):
     what: str
 
 
-OUTCOMES = ('received', 'lost', 'full', 'collided', 'halted', 'left')
+OUTCOMES = ('received', 'lost', 'overflowed', 'collided', 'halted', 'left')
 _LOST, _HALTED, _LEFT = (OUTCOMES.index(it) for it in ('lost', 'halted', 'left'))
 # The least number of copies for which several processes find the outcomes; and the number of motes for which each of
 # these processes finds them at a time.
 MANY, MOTES_AT_ONCE = 200_000, 256
-_BECAME = {'recv': 'received', 'lost': 'full', 'collide': 'collided'}
+_BECAME = {'recv': 'received', 'lost': 'overflowed', 'collide': 'collided'}
 
 
 class Report:

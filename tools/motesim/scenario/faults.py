@@ -36,7 +36,7 @@ RULES: dict[str, str] = {
     'medium fault 4': 'A loss is between two different existing motes, its `every` is at least 1, and there is '
                       'at most one for two motes in one direction.',
     'run fault 5': 'The thread of a worker could not be started or run. Perhaps the scenario has no error.',
-    'run fault 6': 'A worker stopped because of another, which reported no fault. Perhaps the scenario has no error.',
+    'run fault 6': 'A worker stopped because of another, which reported no error. Perhaps the scenario has no error.',
     'write fault': 'The report could not be written. Perhaps the scenario has no error.',
     'out of memory': 'There was not enough memory. Perhaps the scenario has no error.',
 }

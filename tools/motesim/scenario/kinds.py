@@ -12,11 +12,11 @@ OF_SCENARIO = re.compile(rb'^[ \t]*(?:\[\[?[ \t]*mote[ \t]*\]|(?:mote|version)[ 
 RESULTS = re.compile(rb'#\{"plan": ')
 
 # The name of a file or folder that students shouldn't see: one of its words begins like this.
-FOR_TEACHERS = re.compile(r'(?:.*[^a-z])?(?:solution|hidden|answer|marks|key\.csv\Z)', re.S | re.I)
+FOR_TEACHERS = re.compile(r'(?:.*[^a-z])?(?:solution|hidden|answer|grades|marks|key\.csv\Z)', re.S | re.I)
 
 
 def is_for_teachers(name: str) -> bool:
-    """Returns whether a file or folder of this name has solutions, nets that nobody has seen, or marks."""
+    """Returns whether a file or folder of this name has solutions, nets that nobody has seen, or grades."""
     return FOR_TEACHERS.match(name) is not None
 
 

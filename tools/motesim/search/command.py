@@ -75,10 +75,10 @@ def sentences_of(words: argparse.Namespace, names: Names) -> tuple[list[str], li
     if not texts:
         path = Path(words.expectations) if words.expectations else beside(scenario)
         if not words.expectations and scenario.exists() and not path.exists():
-            raise Fault('there is no file %s next to %s: name another, or give sentences with --expect' % (path,
+            raise Fault('there is no file %s next to %s: name another, or give expectations with --expect' % (path,
                                                                                                          scenario))
         if ' ' in str(path) and not path.exists():
-            raise Fault('there is no file %s: if this is a sentence, write --expect before it' % path)
+            raise Fault('there is no file %s: if this is an expectation, write --expect before it' % path)
         name, texts = str(path), parts_of(text_of(path), str(path))[0].sentences
     try:
         read = read_all(texts, names)
@@ -86,7 +86,7 @@ def sentences_of(words: argparse.Namespace, names: Names) -> tuple[list[str], li
         raise Fault('%s: %s' % (name, fault)) from None
     kept = [(text, it) for text, it in zip(texts, read) if not isinstance(it, Refused)]
     if not kept:
-        raise Fault('%s has no sentence on a report' % name)
+        raise Fault('%s has no expectation on a report' % name)
     return [text for text, _ in kept], [it for _, it in kept]
 
 

@@ -138,9 +138,9 @@ def covered_lines(search: Search) -> list[str]:
     if len(search.why) > SHOWN_REASONS:
         rows.append('  and %s' % counted(len(search.why) - SHOWN_REASONS, 'other reason', 'other reasons'))
     if search.sample.sets:
-        fewer = ('; no other sets were drawn in {:,} attempts'.format(100 * search.bounds.sample)
+        fewer = ('; no other sets were found in {:,} attempts'.format(100 * search.bounds.sample)
                  if search.sample.sets < search.bounds.sample else '')
-        rows.append('a sample of {:,} larger sets, drawn with the seed {} (a sample covers no size completely{}): {}'
+        rows.append('a sample of {:,} larger sets, with the seed {} (a sample covers no size completely{}): {}'
                     .format(search.sample.sets, search.bounds.seed, fewer, ', '.join(parts_of(search.sample))))
     return rows
 

@@ -19,7 +19,7 @@ from motesim.judge.sentences import (
     COMPARES, Copies, Count, Deed, Does, Hears, Lines, Motes, Packets, Pattern, Sentence, Value, Window,
 )
 
-OUTCOMES = {'collided': 'collide', 'received': 'recv', 'full': 'lost'}
+OUTCOMES = {'collided': 'collide', 'received': 'recv', 'overflowed': 'lost'}
 # A line of a trace, in the form of this module: its moment, and the words after its kind.
 Row = tuple[str, str]
 

@@ -32,9 +32,9 @@ STEPS: dict[str, Callable[[Net], Iterator[NetStep]]] = {
 # The end of the way in which a line breaks a sentence.
 SHOWN = ' (a line shows it)'
 # The remark on a run that may break a sentence only because hardly anything happens in it.
-EMPTY = ('In the small run, %s. So it may break the sentence for another reason. Two options prevent this: --fault '
-         'adds the fault without which the sentence has to hold, and --keep names a sentence that has to hold, such '
-         'as --keep "some packet is sent"')
+EMPTY = ('In the small run, %s. So it may break the expectation for another reason. Two options prevent this: --fault '
+         'adds the fault without which the expectation has to hold, and --keep names an expectation that has to hold, '
+         'such as --keep "some packet is sent"')
 # The steps that change no program.
 STEPS_OF_NET: dict[str, Callable[[Net], Iterator[NetStep]]] = {**STEPS, 'programs': unused_program_steps}
 
@@ -139,7 +139,7 @@ class Shrinking:
         self.first_end = self.case.net.end
         if self.way is None:
             more = (' with these faults, or breaks it even without them' if self.case.effects else
-                    ', or breaks a sentence of --keep' * bool(self.case.keeps))
+                    ', or breaks an expectation of --keep' * bool(self.case.keeps))
             raise Fault('the scenario does not break `%s`%s' % (self.case.sentence, more))
 
     def seen(self, text: str) -> Seen | None:

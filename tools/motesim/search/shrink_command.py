@@ -41,7 +41,7 @@ def first_broken(base: Base, path: Path, program: OneProgram) -> str:
     for text, sentence in zip(texts, sentences):
         if judge.broken(sentence):
             return text
-    raise Fault('%s breaks no sentence of %s' % (base.name, path))
+    raise Fault('%s breaks no expectation of %s' % (base.name, path))
 
 
 def sizes(text: str) -> str:

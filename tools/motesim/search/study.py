@@ -124,8 +124,8 @@ def wrong_with(study: dict[str, Any], asking: Asking, processes: int) -> list[st
         sizes = [counts[size] for size in range(1, study.get('at_most', 1) + 1)]
         return rows if sizes == study['counts'] else [*rows, 'counts = %r, and not %r' % (sizes, study['counts'])]
     sets = {it.words for it in found}
-    rows += ['no sentence is broken any more by: ' + it for it in study['breaks'] if it not in sets]
-    rows += ['a sentence is broken unexpectedly by: ' + it.words for it in found if it.words not in study['breaks']]
+    rows += ['no expectation is broken any more by: ' + it for it in study['breaks'] if it not in sets]
+    rows += ['an expectation is broken unexpectedly by: ' + it.words for it in found if it.words not in study['breaks']]
     return rows
 
 

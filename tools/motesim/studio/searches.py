@@ -45,7 +45,7 @@ def wanted_of(text: str, sentences: list[str], kinds: object, at_most: object) -
     if type(at_most) is not int or not 1 <= at_most <= MOST_FAULTS:
         raise Fault('The page combines up to three faults; tools/search combines more.')
     if not sentences:
-        raise Fault('There are no expectations for this scenario. Write sentences into NAME.expect.toml, next to '
+        raise Fault('There are no expectations for this scenario. Write expectations into NAME.expect.toml, next to '
                     'NAME.toml.')
     return Wanted(text, sentences, kinds, at_most)
 

@@ -25,23 +25,20 @@ from motesim.summary.series import Series
 # A row of a table, by the names of the columns: numbers, names, or None if there is no value.
 Row = dict[str, Any]
 
-# The outcomes of copies: their names in `motesim.report`, and their names in the tables.
-BECAME = {'received': 'received', 'lost': 'lost', 'full': 'ring', 'collided': 'collided', 'halted': 'halted',
-          'left': 'late'}
-LINK_NAMES = ['from', 'to', 'copies', *BECAME.values(), 'ratio', 'delay']
+LINK_NAMES = ['from', 'to', 'copies', *OUTCOMES, 'ratio', 'delay']
 # The lines of a trace that are only counted.
 COUNTED = {'post': 'posted', 'take': 'taken', 'drop': 'dropped', 'full': 'refused', 'print': 'prints'}
 
 
 def ratio(row: Row) -> float | None:
     """The share of the due copies that were received, or None if no copy was due."""
-    return share(row['received'], row['copies'] - row['late'])
+    return share(row['received'], row['copies'] - row['left'])
 
 
 def copies_row(counts: Counter[Any], key: object) -> Row:
     """The outcomes of the copies that are counted under a key."""
-    row: Row = {'copies': sum(counts[key, what] for what in BECAME)}
-    row.update((name, counts[key, what]) for what, name in BECAME.items())
+    row: Row = {'copies': sum(counts[key, what] for what in OUTCOMES)}
+    row.update((what, counts[key, what]) for what in OUTCOMES)
     row['ratio'] = ratio(row)
     return row
 

@@ -10,9 +10,8 @@ from motesim.summary.shares import share
 
 # A row, by the names of its columns; None for a mean of no values.
 Row = dict[str, int | float | None]
-NAMES = ['from', 'to', 'sent', 'received', 'lost', 'ring', 'collided', 'halted', 'late', 'ratio', 'delay', 'posted',
-         'refused', 'queue', 'waited', 'prints']
-COUNTED = {'send': 'sent', 'recv': 'received', 'lost': 'ring', 'collide': 'collided', 'full': 'refused',
+NAMES = ['from', 'to', 'sent', *OUTCOMES, 'ratio', 'delay', 'posted', 'refused', 'queue', 'waited', 'prints']
+COUNTED = {'send': 'sent', 'recv': 'received', 'lost': 'overflowed', 'collide': 'collided', 'full': 'refused',
            'print': 'prints', 'post': 'posted'}
 
 
@@ -67,12 +66,12 @@ class Series:
             elif outcome == 'halted':
                 self.counts[arrival // self.by]['halted'] += 1
             elif outcome in ('lost', 'left'):
-                self.counts[sent // self.by]['late' if outcome == 'left' else 'lost'] += 1
+                self.counts[sent // self.by][outcome] += 1
 
     def rows(self) -> Iterator[Row]:
         """A row for each interval."""
         for part, its in enumerate(self.counts):
-            due = sum(its[name] for name in ('received', 'lost', 'ring', 'collided', 'halted'))
+            due = sum(its[name] for name in ('received', 'lost', 'overflowed', 'collided', 'halted'))
             row: Row = {'from': part * self.by, 'to': (part + 1) * self.by - 1}
             row.update((name, its[name]) for name in NAMES[2:])
             row.update(ratio=share(its['received'], due), delay=share(self.delays[part], its['received']),

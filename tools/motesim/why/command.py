@@ -127,7 +127,7 @@ def status_of(asked: argparse.Namespace) -> int:
         raise Fault('--json and --other can\'t be combined')
     given = [it for it in (asked.question, asked.watch, asked.state) if it is not None]
     if len(given) != 1:
-        raise Fault('one question is needed: a sentence, a line, --watch or --state')
+        raise Fault('one question is needed: an expectation, a line, --watch or --state')
     source = read_source(asked.file, asked.scenario)
     if asked.watch is not None:
         return show_watch(source, asked)

@@ -241,7 +241,7 @@ def status_of(asked: argparse.Namespace) -> int:
     wanted = Filter(motes, kinds, asked.process, asked.value, (asked.first, asked.last))
     if asked.sentence is not None:
         if scenario is None:
-            raise Fault('a sentence needs the scenario of the report: --scenario FILE')
+            raise Fault('an expectation needs the scenario of the report: --scenario FILE')
         log = of_sentence(Source(asked.file, data, scenario), asked.sentence, wanted)
     else:
         log = filtered(traces, wanted)

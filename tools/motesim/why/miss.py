@@ -78,7 +78,7 @@ class _Misses:
         """The wanted line, at another moment."""
         own = [it for it in self.missing.found if it.line.mote == self.mote]
         for it in [it for it in own if it.line.at > self.end][:1]:
-            yield self.moved('late', it, '%s too late, because the sentence allows up to %d' % (
+            yield self.moved('late', it, '%s too late, because the expectation allows up to %d' % (
                 count(it.line.at - self.end, 'moment'), self.end))
         for it in [it for it in own if it.line.at < self.begin][-1:]:
             yield self.moved('early', it, '%s too early' % count(self.begin - it.line.at, 'moment'))

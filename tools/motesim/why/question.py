@@ -26,7 +26,7 @@ BARE = re.compile(r'\s*(\d+ [a-z]+(?: \S+)*)\s*')
 NEGATIVE = (re.compile(r'\bnever '), ''), (re.compile(r'^\s*no mote\b'), 'some mote')
 # The kinds of sentences about motes of which each one by itself can have the line or lack it.
 EACH_ITSELF = ('each', 'some', 'count')
-NO_LINE = 'the sentence holds, and no line of a trace shows it'
+NO_LINE = 'the expectation holds, and no line of a trace shows it'
 
 
 @dataclass(frozen=True)
@@ -151,7 +151,7 @@ class Asker:
         if isinstance(it, Hears):
             raise self.of_hearing(it)
         if not isinstance(it, (Does, Copies, Packets)) or isinstance(it, Copies) and it.outcome == 'left':
-            raise Unasked('this sentence is about no line of a trace')
+            raise Unasked('this expectation is about no line of a trace')
         broken = self.judge.broken(it)
         if broken:
             return self.of_broken(it, broken)
@@ -257,4 +257,4 @@ class Asker:
                 return [self.traces.row(where) for where in sent if where]
         except Apart as apart:
             raise Unasked(str(apart)) from None
-        raise Unasked("this sentence isn't about lines of a trace")
+        raise Unasked("this expectation isn't about lines of a trace")

@@ -31,7 +31,7 @@ function showChecks(checks) {
   box.classList.remove('earlier');
   if (!checks) {
     labelTab('checks', 'Checks');
-    box.replaceChildren(element('p', 'There are no expectations for this scenario. Write sentences such as "mote 6 ' +
+    box.replaceChildren(element('p', 'There are no expectations for this scenario. Write some, such as "mote 6 ' +
       'prints flood 1 by 60" into a file NAME.expect.toml next to NAME.toml: they are checked here after each run.'));
     return;
   }
@@ -43,7 +43,7 @@ function showChecks(checks) {
   const passed = checks.marks.filter(it => it.holds).length, all = checks.marks.length;
   labelTab('checks', `Checks ${passed}/${all}`, passed === all ? 'good' : 'bad');
   const about = checks.about ? `, with the change "${checks.about}"` : '';
-  box.replaceChildren(element('p', `${passed} of ${all} sentences of ${checks.name} hold${about}.`),
+  box.replaceChildren(element('p', `${passed} of ${all} expectations of ${checks.name} hold${about}.`),
     element('ul', '', checks.marks.map(checkItem)));
 }
 

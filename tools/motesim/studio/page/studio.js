@@ -98,7 +98,7 @@ async function beginStudio() {
   beginTabs();
   beginSteps();
   beginWhy();
-  beginLog(sentence => attempt(() => ask('lines', {number: studio.number, sentence})), 'send mote 3, or a sentence');
+  beginLog(sentence => attempt(() => ask('lines', {number: studio.number, sentence})), 'send mote 3, or an expectation');
   beginDifferences();
   beginChecks();
   beginMotes(editText);

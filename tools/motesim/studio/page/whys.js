@@ -44,7 +44,7 @@ async function answerWhy() {
   if (answer.said) return sayWhy(answer.said);
   if (answer.chain) {
     const hops = hopsOf(answer);
-    showChain(pane, hops, answer.about || (answer.holds ? '' : 'The sentence does not hold.'));
+    showChain(pane, hops, answer.about || (answer.holds ? '' : 'The expectation does not hold.'));
     return chooseLine(pane, Math.max(0, hops[0].line), true);
   }
   const items = answer.motes.flatMap(({mote, misses}) => misses.map(it => missButton(mote, it)));
@@ -74,7 +74,7 @@ export function beginWhy() {
   });
   const box = element('section');
   box.id = 'why-chain';
-  box.append(element('p', 'Write a sentence as in an expectation, or the number of a line. Or select a line on the ' +
+  box.append(element('p', 'Write an expectation, or the number of a line. Or select a line on the ' +
     'lanes, and press W.'));
   byId('why').append(form, box);
 }

@@ -5,7 +5,7 @@ import {COLLIDED, GONE, LEFT, MEDIUM, RING, delayOf} from '../../timeline/page/i
 
 const DIGITS = 1e6;
 /** The outcomes of copies, in the order of the columns. */
-const OUTCOMES = ['received', 'lost', 'ring', 'collided', 'halted', 'late'];
+const OUTCOMES = ['received', 'lost', 'overflowed', 'collided', 'halted', 'left'];
 const OF_FATES = new Map([[MEDIUM, 1], [RING, 2], [COLLIDED, 3], [GONE, 4], [LEFT, 5]]);
 const COUNTED = {posted: POST, taken: TAKE, dropped: DROP, refused: FULL, prints: PRINT};
 export const MOTE_NAMES = ['mote', 'program', 'sent', 'copies', ...OUTCOMES, 'ratio', ...Object.keys(COUNTED), 'halt'];
