@@ -14,7 +14,7 @@
     compare   shows how two runs diverge: a `Comparison`                   Plan      makes scenarios by rule
     Scenario  motes, places, who hears whom, losses                        Report    traces and the log of the medium
 
-The packages in this folder are for the commands in tools/. docs/use/TOOLS.md shows scripts.
+The packages in this folder are for the commands in tools/. docs/use/COMMANDS.md shows scripts.
 """
 import importlib
 import sys

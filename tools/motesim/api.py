@@ -1,4 +1,4 @@
-"""The public functions: `import motesim` provides them, and the public classes. docs/use/TOOLS.md has examples."""
+"""The public functions: `import motesim` provides them, and the public classes. docs/use/COMMANDS.md has examples."""
 from __future__ import annotations
 
 from collections.abc import Mapping, Sequence
@@ -80,7 +80,7 @@ def run(scenario: str | Path | bytes | Plan, parameters: Mapping[str, Value] | N
 
 
 def expect(found: Run, sentences: Sequence[str] | str) -> list[Kept]:
-    """Checks which expectations hold for a run: docs/use/EXPECTATIONS.md has their forms.
+    """Checks which expectations hold for a run: docs/use/TESTING.md has their forms.
 
     Raises a `Fault` for an expectation that can't be read, and for a run whose scenario isn't known.
     """

@@ -12,7 +12,7 @@ list them: tools/pack examples/mylab worksheet.pdf. Files from outside this tree
 If such a folder has the plan and the results of a study, the README.md of the archive says how to repeat the study. If
 the results lack runs of the plan, tools/pack says so.
 
-Without --for-teachers, some files are left out, even if you list them: docs/use/TEACH.md, key.csv, and each file with
+Without --for-teachers, some files are left out, even if you list them: docs/use/TEACHING.md, key.csv, and each file with
 a word in its name, or in its folder's name, that begins with `solution`, `hidden`, `answer` or `marks`. Files and
 folders whose names begin with a dot are always left out, and so are backup copies of an editor, NAME~. tools/pack
 lists the files that it adds to the repository's own files, and the files that it leaves out.
@@ -56,7 +56,7 @@ from project.tree import commit, git
 # The contents of the archive besides the binary: files, and folders with all files in them that git knows.
 PARTS = ('CHANGES.md', 'CITATION.cff', 'LICENSE', 'docs/use', 'examples', 'tools/contiki_host', 'tools/motesim', 'web')
 # The page for teachers; the folders of the tools and pages; and files that tools and editors make for their own use.
-PAGE_FOR_TEACHERS, OURS = 'docs/use/TEACH.md', ('docs', 'tools', 'web')
+PAGE_FOR_TEACHERS, OURS = 'docs/use/TEACHING.md', ('docs', 'tools', 'web')
 RUBBISH = re.compile(r'(.*/)?(\.|__pycache__/|[^/]*~(/|\Z))', re.S)
 # The part of a path up to the first name that begins with a dot.
 HIDDEN = re.compile(r'(?:[^/.][^/]*/)*\.[^/]*')

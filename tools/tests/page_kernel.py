@@ -1,4 +1,4 @@
-"""A second kernel of motes, written only from docs/use/NOTATION.md, KERNEL.md, REPORT.md and WHY.md. It knows the cause
+"""A second kernel of motes, written only from docs/use/LANGUAGE.md, KERNEL.md, REPORT.md and WHY.md. It knows the cause
 of each line that it writes."""
 from __future__ import annotations
 

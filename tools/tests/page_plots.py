@@ -1,4 +1,4 @@
-"""The tables of tools/plot, computed a second time: written only from docs/use/PLOTS.md."""
+"""The tables of tools/plot, computed a second time: written only from docs/use/EXPERIMENTS.md."""
 from __future__ import annotations
 
 import math

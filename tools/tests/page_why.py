@@ -1,4 +1,4 @@
-"""A second tools/why and tools/log, written only from docs/use/WHY.md, REPORT.md, KERNEL.md and LOG.md."""
+"""A second tools/why and tools/log, written only from docs/use/DEBUGGING.md, REPORT.md, KERNEL.md and LOG.md."""
 from __future__ import annotations
 
 from collections import Counter

@@ -62,10 +62,10 @@ class Command(unittest.TestCase):
         name, output = self.written('blink.c', C), self.folder / 'blink.toml'
         for words, status in ([name], 1), ([name, '--apply', str(output)], 2):
             found = self.run_on(*words)
-            self.assertEqual((found[0], 'docs/use/FROM_CONTIKI.md' in found[1] + found[2]), (status, True))
+            self.assertEqual((found[0], 'docs/use/CONTIKI.md' in found[1] + found[2]), (status, True))
         self.assertFalse(output.exists())
         found = self.run_on(self.written('net.toml', in_net('p', C)))
-        self.assertEqual((found[0], 'docs/use/FROM_CONTIKI.md' in found[1]), (1, True))
+        self.assertEqual((found[0], 'docs/use/CONTIKI.md' in found[1]), (1, True))
 
     def test_the_input_is_kept(self) -> None:
         name = self.written('net.toml', in_net('p', BROKEN))

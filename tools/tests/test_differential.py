@@ -47,7 +47,7 @@ def answered(seed: str) -> tuple[bytes, bytes]:
 
 class Generator(unittest.TestCase):
     def test_the_grammar_is_that_of_the_page(self) -> None:
-        page = (TOP / 'docs/use/NOTATION.md').read_text('utf-8')
+        page = (TOP / 'docs/use/LANGUAGE.md').read_text('utf-8')
         # (lines are folded in either, at other places)
         self.assertIn(' '.join(GRAMMAR.split()), ' '.join(page.split()))
         self.assertEqual(len(productions()['statement']), 25)

@@ -65,7 +65,7 @@ class Grammars(unittest.TestCase):
         self.assertTrue({'radio', 'all'} <= set(coloured))
 
     def test_the_page_has_the_words_of_the_grammar(self) -> None:
-        page = (TOP / 'docs/use/NOTATION.md').read_text('utf-8')
+        page = (TOP / 'docs/use/LANGUAGE.md').read_text('utf-8')
         named = re.findall(r'no name may be one of them: `([^`]*)`', page)[0].split()
         self.assertEqual(sorted(named), sorted(RESERVED))
         rule = re.findall(r'^statement  = (.*?)\n[a-z]+ +=', page, re.M | re.S)[0]

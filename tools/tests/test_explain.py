@@ -146,7 +146,7 @@ class Programs(unittest.TestCase):
                 self.assertTrue(any(may in it for it in fault.may), fault.may)
 
     def test_the_examples_of_the_page(self) -> None:
-        page = (TOP / 'docs/use/NOTATION.md').read_text('utf-8')
+        page = (TOP / 'docs/use/LANGUAGE.md').read_text('utf-8')
         rows = re.findall(r'^\| `(code a .*)` \| (\d+) on line 2', page, re.M)
         self.assertGreater(len(rows), 3)
         for text, kind in rows:
@@ -247,7 +247,7 @@ class Scenarios(unittest.TestCase):
 
 class Pages(unittest.TestCase):
     def test_each_kind_of_the_notation_has_its_words(self) -> None:
-        page = (TOP / 'docs/use/NOTATION.md').read_text('utf-8')
+        page = (TOP / 'docs/use/LANGUAGE.md').read_text('utf-8')
         rows = re.findall(r'^\| (\d+) \| (\w+) \|', page, re.M)
         self.assertEqual([int(kind) for kind, _ in rows], list(range(1, 12)))
         self.assertEqual([name for _, name in rows], [name for name, _ in program_faults.RULES.values()])

@@ -179,7 +179,7 @@ class ExportTest(unittest.TestCase):
 
     def test_the_page_says_how_to_select_records_without_a_receiver_or_an_arrival(self) -> None:
         need_command(self, 'tshark', 'tshark')
-        page = (TOP / 'docs/use/EXPORTS.md').read_text('utf-8')
+        page = (TOP / 'docs/use/REPORT.md').read_text('utf-8')
         self.export('a.report', '--to', 'pcapng', '-o', 'b.pcapng')
         read = ['tshark', '-X', 'lua_script:%s' % LUA, '-r', 'b.pcapng', '-Y']
         # (these are the records whose bytes 4 and 5 are 65535, and those without a moment of arrival)

@@ -1,4 +1,4 @@
-"""The table of docs/use/FROM_CONTIKI.md: each piece of the notation in its right column is one, and runs."""
+"""The table of docs/use/CONTIKI.md: each piece of the notation in its right column is one, and runs."""
 import re
 import unittest
 
@@ -9,7 +9,7 @@ from motesim.runner.run import answer
 from skips import need_program
 from test_warnings import net
 
-PAGE = (TOP / 'docs/use/FROM_CONTIKI.md').read_text()
+PAGE = (TOP / 'docs/use/CONTIKI.md').read_text().split('## From the notation to C')[0]
 ROWS = [row.strip('| ').split(' | ') for row in PAGE.split('\n') if row.startswith('| ') and ' | ' in row][1:]
 MOST = 45
 TOP_LINES = {'event': 'event go;', 'semaphore': 'semaphore s = 2;', 'process': 'process a, b;',

@@ -50,7 +50,7 @@ EVE = BY_NUMBER % 'if (self < 3) { print 1; } else { print (self - 1); }'
 BY_CLOCK = BY_NUMBER % 'print (now / 3);'
 
 # The page for teachers, which has a plan of nets, and sentences for a lab with a sink.
-PAGE = (TOP / 'docs/use/TEACH.md').read_text('utf-8')
+PAGE = (TOP / 'docs/use/TEACHING.md').read_text('utf-8')
 # A lab: mote 0 asks for readings, motes 1 to 7 run the students' program, and mote 8 runs one of the teacher's.
 LAB = """version = 2
 end = 400

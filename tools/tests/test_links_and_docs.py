@@ -1,10 +1,11 @@
-"""Links of pages, and the docs of the crates' public items."""
+"""Links of pages, their parts that are made from the code, and the docs of the crates' public items."""
 import re
 import unittest
 from collections.abc import Iterator
 from pathlib import Path
 
 from here import TOP
+from project import pages
 
 PAGES = ('*.md', 'docs/**/*.md', 'bench/*.md', 'examples/**/*.md', 'tests/**/*.md', 'tools/**/*.md', 'log/*.md')
 PUBLIC = re.compile(r' *pub (fn|struct|enum|trait|const) (\w+)')
@@ -56,6 +57,14 @@ def faults_of_docs() -> Iterator[str]:
 class LinksAndDocs(unittest.TestCase):
     def test_no_link_is_broken(self) -> None:
         self.assertEqual([*broken_links()], [])
+
+    def test_the_parts_that_are_made_from_the_code_are_up_to_date(self) -> None:
+        for path in files('docs/use/*.md'):
+            text = path.read_text('utf-8')
+            self.assertEqual(pages.page_of(text), text, '%s: tools/dev/pages writes it' % path.name)
+        commands = (TOP / 'docs/use/COMMANDS.md').read_text('utf-8')
+        self.assertNotEqual(pages.page_of(commands.replace('| `--html FILE` |', '| `--page FILE` |')),
+                            commands.replace('| `--html FILE` |', '| `--page FILE` |'))
 
     def test_public_items_have_docs(self) -> None:
         self.assertEqual([*faults_of_docs()], [])

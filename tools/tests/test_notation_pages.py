@@ -75,7 +75,7 @@ def in_words(form: str) -> str:
 
 class Tables(unittest.TestCase):
     def test_what_is_not_so_is_refused_and_what_is_written_instead_is_right(self) -> None:
-        rows = cells(page('QUICK.md'), '| Wrong | Right |')
+        rows = cells(page('LANGUAGE.md'), '| Wrong | Right |')
         self.assertGreater(len(rows), 6)
         for wrong, right in rows:
             for line in programs(wrong):
@@ -87,12 +87,12 @@ class Tables(unittest.TestCase):
                     self.assertIsNone(find_fault(PROGRAM % line))
 
     def test_the_statements_and_expressions_of_the_quick_reference(self) -> None:
-        statements = [it for row in cells(page('QUICK.md'), '| Statement | What it does |') for it in programs(row[0])]
+        statements = [it for row in cells(page('LANGUAGE.md'), '| Statement | What it does |') for it in programs(row[0])]
         self.assertEqual(len(statements), 25)
         for form in statements:
             with self.subTest(form):
                 self.assertIsNone(find_fault(PROGRAM % in_words(form)))
-        for row in cells(page('QUICK.md'), '| Expression | Value |'):
+        for row in cells(page('LANGUAGE.md'), '| Expression | Value |'):
             for form in re.findall('`([^`]*)`', row[0]):
                 with self.subTest(form):
                     self.assertIsNone(find_fault(PROGRAM % ('x = %s;' % in_words(form))))
@@ -121,8 +121,7 @@ class Tables(unittest.TestCase):
             with self.subTest(change=change, test=test):
                 report = answer((TWO_DUE % (change, test)).encode()).report.decode()
                 self.assertEqual([int(it) for it in re.findall(r'print p (\d+)', report)], wanted)
-        for name, row in (('NOTATION.md', '| `stop t` |'), ('QUICK.md', '| `stop T;` |')):
-            self.assertRegex(page(name), re.escape(row) + '.* in the queue already, this event still arrives')
+        self.assertRegex(page('LANGUAGE.md'), r'\| `stop T;` \|.* in the queue already, this event still arrives')
 
     def test_the_order_of_declarations(self) -> None:
         lines = PROGRAM.split('\n')
@@ -133,7 +132,7 @@ class Tables(unittest.TestCase):
                 self.assertEqual(find_fault('\n'.join(swapped) % '') is None, is_free)
 
     def test_the_reserved_words(self) -> None:
-        listed = re.search(r'no name may be one of them: `([^`]*)`', page('NOTATION.md'))
+        listed = re.search(r'no name may be one of them: `([^`]*)`', page('LANGUAGE.md'))
         assert listed
         self.assertEqual(set(listed[1].split()), RESERVED)
 
@@ -144,4 +143,4 @@ class Readme(unittest.TestCase):
         assert shown
         for line in shown[1].splitlines():
             with self.subTest(line):
-                self.assertIn(line.removeprefix('$ ').replace('examples/', '').removesuffix(' ..').strip(), page('SEARCH.md'))
+                self.assertIn(line.removeprefix('$ ').replace('examples/', '').removesuffix(' ..').strip(), page('TESTING.md'))

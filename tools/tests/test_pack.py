@@ -121,7 +121,7 @@ class Pack(unittest.TestCase):
             for target in re.findall(r'\]\(([^)#\s]+)(?:#[^)]*)?\)', page.read_text('utf-8')):
                 if '://' not in target:
                     self.assertTrue((page.parent / target).exists(), (page.name, target))
-        self.assertNotIn('](TEACH.md', (top / 'docs/use/WORKSHEET.md').read_text('utf-8'))
+        self.assertNotIn('](TEACHING.md', (top / 'docs/use/TESTING.md').read_text('utf-8'))
 
     def test_the_program_of_the_sources_is_packed_or_compiled_first(self) -> None:
         for found, packed, times in [(TOP / 'proved-x/motesim',) * 2 + (0,), (None, TOP / 'compiled-x/motesim', 1)]:
@@ -145,8 +145,8 @@ class Pack(unittest.TestCase):
         with tempfile.TemporaryDirectory() as room:
             names = set(pack.files(write_stub(Path(room))))
         self.assertTrue({'examples/lesson/start.toml', 'examples/lesson/task3.expect.toml',
-                         'docs/use/WORKSHEET.md'} <= names)
-        self.assertEqual([name for name in names if 'solutions' in name or 'TEACH' in name], [])
+                         'examples/lesson/WORKSHEET.md'} <= names)
+        self.assertEqual([name for name in names if 'solutions' in name or 'TEACHING' in name], [])
 
     def tree(self, known: str, others: str) -> Path:
         """A clone with files that git knows, and others."""
@@ -160,16 +160,16 @@ class Pack(unittest.TestCase):
         return top
 
     def test_a_teacher_s_exercise_is_packed_only_if_it_is_named_and_never_with_solutions(self) -> None:
-        top = self.tree('examples/a.toml examples/lesson/solutions/task1.toml docs/use/TEACH.md docs/use/QUICK.md',
+        top = self.tree('examples/a.toml examples/lesson/solutions/task1.toml docs/use/TEACHING.md docs/use/LANGUAGE.md',
                         'examples/lesson/mine.toml examples/lesson/solutions2/x.toml examples/lab/start.toml '
                         'examples/lab/hidden.toml examples/lab/solutions/anna.toml examples/lab/Hidden_nets/a.toml '
                         'examples/lab/__pycache__/a.pyc lab2/start.toml lab2/sheet.md')
         (top / 'lab2/link.toml').symlink_to(top / 'examples/lab/hidden.toml')
         parts = ['docs/use', 'examples']
         found = pack.sorted_files(parts, (), top)
-        self.assertEqual(sorted(found.packed), ['docs/use/QUICK.md', 'examples/a.toml'])
+        self.assertEqual(sorted(found.packed), ['docs/use/LANGUAGE.md', 'examples/a.toml'])
         self.assertEqual(found.notes(), [
-            'Left out: docs/use/TEACH.md (for teachers)',
+            'Left out: docs/use/TEACHING.md (for teachers)',
             'Left out: examples/lab/Hidden_nets/a.toml (for teachers)',
             'Left out: examples/lab/hidden.toml (for teachers)',
             'Left out: examples/lab/solutions/anna.toml (for teachers)',
@@ -178,7 +178,7 @@ class Pack(unittest.TestCase):
             'Left out: examples/lesson/solutions/task1.toml (for teachers)',
             'Left out: examples/lesson/solutions2/x.toml (for teachers)'])
         found = pack.sorted_files(parts, [top / 'examples/lab', top / 'lab2'], top)
-        self.assertEqual(sorted(found.packed), ['docs/use/QUICK.md', 'examples/a.toml', 'examples/lab/start.toml',
+        self.assertEqual(sorted(found.packed), ['docs/use/LANGUAGE.md', 'examples/a.toml', 'examples/lab/start.toml',
                                                 'lab2/sheet.md', 'lab2/start.toml'])
         self.assertEqual(found.added, ['examples/lab/start.toml', 'lab2/sheet.md', 'lab2/start.toml'])
         self.assertIn('lab2/link.toml', found.left_out)
@@ -186,16 +186,16 @@ class Pack(unittest.TestCase):
         self.assertEqual((found.added, 'examples/lab/hidden.toml' in found.left_out), ([], True))
 
     def test_names_that_begin_with_a_dot_are_left_out_and_listed(self) -> None:
-        top = self.tree('docs/use/QUICK.md', 'docs/use/.draft.md lab/start.toml lab/.net.toml lab/.git/config '
+        top = self.tree('docs/use/LANGUAGE.md', 'docs/use/.draft.md lab/start.toml lab/.net.toml lab/.git/config '
                         'lab/.git/a/b lab/.x/y lab/start.toml~ lab/a.b/c.toml')
         found = pack.sorted_files(['docs/use'], [top / 'lab'], top, has_all=True)
-        self.assertEqual(sorted(found.packed), ['docs/use/QUICK.md', 'lab/a.b/c.toml', 'lab/start.toml'])
+        self.assertEqual(sorted(found.packed), ['docs/use/LANGUAGE.md', 'lab/a.b/c.toml', 'lab/start.toml'])
         self.assertEqual(sorted(it for it in found.notes() if it.startswith('Left')), [
             'Left out: %s (its name begins with a dot)' % it
             for it in ('docs/use/.draft.md', 'lab/.git', 'lab/.net.toml', 'lab/.x')])
 
     def test_solutions_in_a_folder_of_one_s_own_are_packed_only_on_request(self) -> None:
-        top = self.tree('docs/use/TEACH.md tools/motesim/answers.py', '')
+        top = self.tree('docs/use/TEACHING.md tools/motesim/answers.py', '')
         its = ('start.toml', 'task1_solution.toml', 'net-hidden.toml', 'answers/anna.toml', 'marks.csv', 'key.csv',
                'bookmarks.md')
         for name in its:
@@ -261,7 +261,7 @@ class Pack(unittest.TestCase):
             readme = pack.files(write_stub(top), found)['README.md'][0].decode()
             other = pack.files(write_stub(top), pack.sorted_files(['examples'], [top / 'lab'], top))['README.md']
         self.assertIn('\nThe folder mystudy has a study: its plan (mystudy/net.plan.toml) and its results '
-                      '(mystudy/net.csv). docs/use/PLANS.md explains plans,\n', readme)
+                      '(mystudy/net.csv). docs/use/EXPERIMENTS.md explains both.\n', readme)
         self.assertIn('`tools/sweep mystudy/net.plan.toml -o again.csv && diff again.csv mystudy/net.csv`', readme)
         self.assertNotIn('study', other[0].decode().replace('studio', ''))
         two = pack.about_studies({'lab': (['lab/a.plan.toml', 'lab/b.plan.toml'], ['lab/a.csv', 'lab/b.csv'])})

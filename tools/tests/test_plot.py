@@ -92,8 +92,8 @@ class PlotTest(unittest.TestCase):
                     (*RUNS[2], None, None, 'b')])
         lines = self.plot('--measure sent').stdout.splitlines()[3:]
         self.assertEqual(lines, [
-            'warning: same-value in 2 runs of 3 (docs/use/SWEEPS.md)', 'warning: queue-full in 1 run of 3 (docs/use/'
-            'SWEEPS.md)', 'warning: 3 runs in 2 nets: runs in one net aren\'t independent, so intervals are too narrow'])
+            'warning: same-value in 2 runs of 3 (docs/use/EXPERIMENTS.md)', 'warning: queue-full in 1 run of 3 (docs/use/'
+            'EXPERIMENTS.md)', 'warning: 3 runs in 2 nets: runs in one net aren\'t independent, so intervals are too narrow'])
         self.write([(*RUNS[0], None, None, 'a'), (2, *RUNS[0][1:], None, None, 'b')])
         self.assertIn('warning: in 1 of 1 pairs the two sides have different nets',
                       self.plot('--measure sent --pair period=1,2').stdout)

@@ -65,7 +65,7 @@ class Programs(unittest.TestCase):
                 self.assertNotIn(name, [it.name for it in of_program('p', program(right))], right)
 
     def test_the_page_lists_each_name_and_each_has_a_case(self) -> None:
-        page = (TOP / 'docs/use/EXPLAIN.md').read_text()
+        page = (TOP / 'docs/use/DEBUGGING.md').read_text().split('pages: warnings -->')[1].split('<!-- end')[0]
         listed = re.findall(r'^\| `([a-z0-9-]+)` \|', page, re.M)
         self.assertEqual(sorted(listed), sorted(NAMES))
         self.assertLessEqual(len(NAMES), MOST)

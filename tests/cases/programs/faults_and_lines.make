@@ -1,4 +1,4 @@
-"""Program texts, each with the number and the line of its fault, or None without a fault: see docs/use/NOTATION.md."""
+"""Program texts, each with the number and the line of its fault, or None without a fault: see docs/use/LANGUAGE.md."""
 import json
 
 FAULTS = [

@@ -171,7 +171,7 @@ def left_out(selected: Sequence[Row], good: Sequence[Row], full: Sequence[Row], 
 def doubts(rows: Sequence[Row]) -> list[str]:
     """A line for each warning of a sweep about these runs."""
     codes = Counter(code for row in rows for code in text_of(row['warnings']).split())
-    return ['warning: %s in %s of %d (docs/use/SWEEPS.md)' % (code, some(count), len(rows))
+    return ['warning: %s in %s of %d (docs/use/EXPERIMENTS.md)' % (code, some(count), len(rows))
             for code, count in codes.items()]
 
 

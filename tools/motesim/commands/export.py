@@ -7,7 +7,7 @@
   tools/export net.toml --form contiki -o net_c         a folder of C files for a Contiki 2.x tree
   tools/export net.toml --form contiki -o net_c --host  the same folder, and a simulator in C for this machine
 
-REPORT is a report, or a scenario, which is run. A moment counts as a millisecond. docs/use/EXPORTS.md describes the
+REPORT is a report, or a scenario, which is run. A moment counts as a millisecond. docs/use/REPORT.md describes the
 formats and how to open the files; docs/use/CONTIKI.md is about the C files.
 
 The tool ends with status 0, or with 2 if a file can't be read or written.

@@ -13,7 +13,7 @@ RESULTS is a file that tools/sweep wrote. Each point of a picture, or row of a t
 --over, only in the parameters that it names. If they differ in another parameter, the tool refuses to mix them.
 
 Next to a picture the tool writes its table, NAME.table.csv; the first line has the command and the digests of the
-results and of motesim. Pictures need matplotlib (on Debian: apt-get install python3-matplotlib). docs/use/PLOTS.md
+results and of motesim. Pictures need matplotlib (on Debian: apt-get install python3-matplotlib). docs/use/EXPERIMENTS.md
 explains all options with examples.
 
 The tool ends with status 0, or with 2 after an error.

@@ -5,7 +5,7 @@
   tools/scenario --from net.toml -o net.plan.toml            writes a plan that yields the net of net.toml
 
 Without -o the scenario is written to standard output. The same plan, files and parameters always produce the same
-bytes. docs/use/PLANS.md describes plans.
+bytes. docs/use/EXPERIMENTS.md describes plans.
 
 The tool ends with status 0, or with 2 if the plan or a file next to it has an error; the message shows the place of
 the error.

@@ -21,7 +21,7 @@ Kinds of faults, for --faults:
   places       a mote is moved (--step 5)
   parameters   parameters of a plan have other values (--set period=10,20)
 
-docs/use/SEARCH.md begins with a protocol that looks right, and explains what the result of a search means.
+docs/use/TESTING.md begins with a protocol that looks right, and explains what the result of a search means.
 
 The tool ends with status 0 if all expectations hold in every run, 1 if one is broken, 2 if there is no result, and 130
 after Ctrl-C.

@@ -16,7 +16,7 @@ scenario NAME.toml.
 
 The tool writes the result to NAME.small.toml, with its expectation next to it. In the result no single further step is
 possible. This may last many minutes. After Ctrl-C, or at a limit, the tool writes the smallest scenario so far, or no
-file if it has taken no step. docs/use/SEARCH.md has an example.
+file if it has taken no step. docs/use/TESTING.md has an example.
 
 The tool ends with status 0, with 2 after an error, for instance if the scenario doesn't break the expectation or if a
 limit allows no step, and with 130 after Ctrl-C.

@@ -34,7 +34,7 @@ of each origin, and of the net:
   hops      the least number of hops to the reached motes, on average, if the scenario is known
   least, middle, most   moments from a message's beginning to its first delivery at a mote
 
-`--by N` shows the counts of each interval of N moments instead: docs/use/TOOLS.md describes the columns of this table.
+`--by N` shows the counts of each interval of N moments instead: docs/use/COMMANDS.md describes the columns of this table.
 
 `--motes` and `--links` show only one of the tables. `--csv` writes one table for a spreadsheet: the table of motes, or
 with `--links` the table of links. `--json` writes all tables in JSON.

@@ -1,4 +1,4 @@
-"""The grammar of programs as data: the text that docs/use/NOTATION.md has, and its productions.
+"""The grammar of programs as data: the text that docs/use/LANGUAGE.md has, and its productions.
 
 A production is a list of alternatives, each of which is a list of parts: a quoted text, a symbol, or such a list in
 brackets or braces.

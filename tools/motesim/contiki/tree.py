@@ -1,4 +1,4 @@
-"""Syntax trees of mote programs, with their comments: docs/use/NOTATION.md has the grammar."""
+"""Syntax trees of mote programs, with their comments: docs/use/LANGUAGE.md has the grammar."""
 from __future__ import annotations
 
 from collections.abc import Iterator

@@ -1,4 +1,4 @@
-"""The warnings about a run: codes in the column `warnings` of results. docs/use/SWEEPS.md says what to do."""
+"""The warnings about a run: codes in the column `warnings` of results. docs/use/EXPERIMENTS.md says what to do."""
 from __future__ import annotations
 
 from collections.abc import Iterator, Mapping

@@ -1,4 +1,4 @@
-"""Measures of a run: a number, a text or nothing. docs/use/SWEEPS.md has all forms.
+"""Measures of a run: a number, a text or nothing. docs/use/EXPERIMENTS.md has all forms.
 
     measure = read_measure('delay = moment: every mote prints flood 1', names)
     measure.of(Bench(run))

@@ -29,7 +29,7 @@ from motesim.toml import MARK, NoToml, read_toml
 TEXT = 'the text'
 OF_REPORT = 'This is a report, not a scenario: tools/summary, tools/compare and tools/timeline read it.'
 OF_PLAN = '%s is a plan, not a scenario: tools/scenario %s -o NAME.toml makes a scenario of it.'
-OF_C = ('motesim runs programs in its own notation, and %s is in C: docs/use/FROM_CONTIKI.md shows how to write in the '
+OF_C = ('motesim runs programs in its own notation, and %s is in C: docs/use/CONTIKI.md shows how to write in the '
         'notation what Contiki has in C.')
 OF_PROGRAM = ('In a scenario this text is under `[programs]`, between three quotes: `p = """ .. """`. Or a plan names '
               'the file of the program, and tools/scenario makes a scenario from the plan.')

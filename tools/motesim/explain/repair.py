@@ -33,7 +33,7 @@ LINES = [
     (r'(\s*\[\[?\s*\w+)\s*', r'\1]', 'The name of a table is in brackets.'),
 ]
 NO_CHANCE = ('Nothing happens by chance here: a loss `[[loss]]` from one mote to another loses every k-th packet '
-             '(`every = k`). docs/use/LOSSES.md has a tested pattern for losses by chance.')
+             '(`every = k`). docs/use/STATISTICS.md has a tested pattern for losses by chance.')
 
 
 def repair(text: str, fault: ScenarioError) -> Correction | None:

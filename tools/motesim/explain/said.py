@@ -1,4 +1,4 @@
-"""The texts of all warnings, by their names. docs/use/EXPLAIN.md lists them."""
+"""The texts of all warnings, by their names. docs/use/DEBUGGING.md lists them."""
 from __future__ import annotations
 
 from motesim.explain.warned import Warned

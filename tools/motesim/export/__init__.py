@@ -1,1 +1,1 @@
-"""Files of a run for other programs, such as GTKWave, Wireshark and pandas. docs/use/EXPORTS.md has the formats."""
+"""Files of a run for other programs, such as GTKWave, Wireshark and pandas. docs/use/REPORT.md has the formats."""

@@ -1,6 +1,6 @@
 """Faults of program texts: the place of the fault, the rule in plain words, and the allowed words.
 
-`find_fault(text)` reads a program text by the grammar of docs/use/NOTATION.md and returns its first `ProgramError`, or
+`find_fault(text)` reads a program text by the grammar of docs/use/LANGUAGE.md and returns its first `ProgramError`, or
 None; `motesim` reports the same kind and line.
 """
 from __future__ import annotations
@@ -31,7 +31,7 @@ COUNTED = {
     'variable': 'variables of a process',
 }
 
-# For each kind, its name in docs/use/NOTATION.md and its rule.
+# For each kind, its name in docs/use/LANGUAGE.md and its rule.
 RULES: dict[int, tuple[str, str]] = {
     1: ('BadToken',
         'A program consists of names, numbers, keywords and symbols. A name begins with a letter, and has at most '

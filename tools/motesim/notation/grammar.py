@@ -1,7 +1,7 @@
-"""The grammar of the notation as data: docs/use/NOTATION.md describes the language.
+"""The grammar of the notation as data: docs/use/LANGUAGE.md describes the language.
 
 The reader that explains errors, the colours of the studio's page, the syntax files for editors and the grammar in
-NOTATION.md are all made from this data. `STATEMENTS` has each statement with its form, and whether it may wait;
+LANGUAGE.md are all made from this data. `STATEMENTS` has each statement with its form, and whether it may wait;
 `RULES` has the other rules; `COLOURS` has each word's class on the studio's page, and `SCOPES` each word's class in
 the syntax files. `motesim.notation.written` writes the grammar into the page, and the words into the syntax files.
 """

@@ -1,4 +1,4 @@
-"""Writes the parts of files that are made from the grammar: the grammar in docs/use/NOTATION.md, and the words of the
+"""Writes the parts of files that are made from the grammar: the grammar in docs/use/LANGUAGE.md, and the words of the
 syntax files for editors.
 
     PYTHONPATH=tools python3 -m motesim.notation.written            writes the files
@@ -18,7 +18,7 @@ from motesim.notation.grammar import (
 )
 
 TOP = Path(__file__).resolve().parents[3]
-PAGE = TOP / 'docs/use/NOTATION.md'
+PAGE = TOP / 'docs/use/LANGUAGE.md'
 SYNTAX = TOP / 'tools/editor/syntaxes/mote.tmLanguage.json'
 WIDTH, NAME_WIDTH = 116, 10
 # The names of the parts of a form in the grammar.

@@ -1,4 +1,4 @@
-"""The tables and keys of a plan, and their limits. docs/use/PLANS.md describes them."""
+"""The tables and keys of a plan, and their limits. docs/use/EXPERIMENTS.md describes them."""
 from __future__ import annotations
 
 from motesim.plan.tables import Key, any_kind, needed, optional

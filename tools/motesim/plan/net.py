@@ -25,7 +25,7 @@ from motesim.text import wrapped
 from motesim.toml import MARK
 
 # What no rule for losses does.
-BY_CHANCE = ' (for losses by chance see docs/use/LOSSES.md)'
+BY_CHANCE = ' (for losses by chance see docs/use/STATISTICS.md)'
 
 
 def files_of(tables: Tables, files: Files) -> list[str]:

@@ -1,6 +1,6 @@
 """Places of motes by a rule: grid, line, ring, random, clusters.
 
-All arithmetic is with whole numbers, so the same rule has the same places on any machine. docs/use/PLANS.md has
+All arithmetic is with whole numbers, so the same rule has the same places on any machine. docs/use/EXPERIMENTS.md has
 the rules.
 """
 from __future__ import annotations

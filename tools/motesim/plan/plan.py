@@ -1,4 +1,4 @@
-"""Makes scenarios from a plan, which describes places, programs and losses by rules. docs/use/PLANS.md describes all
+"""Makes scenarios from a plan, which describes places, programs and losses by rules. docs/use/EXPERIMENTS.md describes all
 tables and keys of plans.
 
     plan = Plan.read('examples/studies/trickle.plan.toml')

@@ -30,7 +30,7 @@ RULES: dict[str, str] = {
     'scenario fault 4': 'A key has a value of the wrong kind.',
     'scenario fault 5': 'A number, or the count of motes, programs or losses, is out of range.',
     'scenario fault 6': 'A mote, or a key of `queue`, names a program that the scenario does not have.',
-    'program': 'The text of this program has an error. docs/use/NOTATION.md has the notation.',
+    'program': 'The text of this program has an error. docs/use/LANGUAGE.md has the notation.',
     'medium fault 2': 'The least delay, `base`, is at least 1: nothing is heard in the moment in which it is sent.',
     'medium fault 3': '`per` is at least 1, as the squared distance is divided by it.',
     'medium fault 4': 'A loss is between two different existing motes, its `every` is at least 1, and there is '

@@ -1,4 +1,4 @@
-"""Searches for the faults that break a protocol, and makes scenarios small: docs/use/SEARCH.md.
+"""Searches for the faults that break a protocol, and makes scenarios small: docs/use/TESTING.md.
 
     command.py         tools/search
     asking.py          the request for a search, and its preparation

@@ -1,7 +1,7 @@
 """Programs as immutable trees, from which smaller programs can be made.
 
 `read_program(text)` returns the tree of a text that is a program; `program_text(program)` writes it in the canonical
-layout of docs/use/NOTATION.md. An expression is a word, a test such as `fired(t)`, a negation or an operation.
+layout of docs/use/LANGUAGE.md. An expression is a word, a test such as `fired(t)`, a negation or an operation.
 """
 from __future__ import annotations
 

@@ -1,4 +1,4 @@
-"""Counts for each interval of a run: sends, receptions, losses by cause, queues and delays. docs/use/TOOLS.md."""
+"""Counts for each interval of a run: sends, receptions, losses by cause, queues and delays. docs/use/COMMANDS.md."""
 from __future__ import annotations
 
 from collections import Counter

@@ -7,7 +7,7 @@ each.
     write_page('flooding.html', 'Flooding', [read_run('examples/flooding.toml')])
     write_page('both.html', 'With slots and without', [read_run(one), read_run(other)], start=17, mote=4)
 
-docs/use/TIMELINE.md describes the page for its readers. The page is one file, and needs no network: `columns.py` packs
+docs/use/DEBUGGING.md describes the page for its readers. The page is one file, and needs no network: `columns.py` packs
 its runs, and `bundle.py` joins the modules of `page/` into its script, which computes everything else from the lines
 of the runs.
 """

@@ -1,4 +1,4 @@
-"""The chain of causes of a line, back to the start of a mote: docs/use/WHY.md defines the cause of a line."""
+"""The chain of causes of a line, back to the start of a mote: docs/use/DEBUGGING.md defines the cause of a line."""
 from __future__ import annotations
 
 from collections.abc import Iterator

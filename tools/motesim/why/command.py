@@ -1,4 +1,4 @@
-"""Explains why a line is in a report, or why it isn't: docs/use/WHY.md."""
+"""Explains why a line is in a report, or why it isn't: docs/use/DEBUGGING.md."""
 from __future__ import annotations
 
 import argparse

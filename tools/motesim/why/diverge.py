@@ -1,4 +1,4 @@
-"""The point at which the chain of a line in one run has no counterpart in another run: docs/use/WHY.md."""
+"""The point at which the chain of a line in one run has no counterpart in another run: docs/use/DEBUGGING.md."""
 from __future__ import annotations
 
 from bisect import bisect_left, bisect_right

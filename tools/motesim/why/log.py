@@ -1,4 +1,4 @@
-"""Shows the lines of all motes in one chronological log: docs/use/WHY.md."""
+"""Shows the lines of all motes in one chronological log: docs/use/DEBUGGING.md."""
 from __future__ import annotations
 
 import argparse

@@ -1,4 +1,4 @@
-"""The state of a mote at a moment or after a line: docs/use/WATCH.md.
+"""The state of a mote at a moment or after a line: docs/use/DEBUGGING.md.
 
 A report doesn't show at which statement a process waits, or which timers run. The replay of the mote knows both.
 """

@@ -1,4 +1,4 @@
-"""Translates a mote's program into Python, for the replay: docs/use/NOTATION.md describes each statement.
+"""Translates a mote's program into Python, for the replay: docs/use/LANGUAGE.md describes each statement.
 
 Each body and each thread becomes a generator, which yields when its protothread waits; `onpoll`, `onexit` and the
 blocks of callback timers become functions. In their code `k` is the replay, `e`, `d` and `f` are the event, its word

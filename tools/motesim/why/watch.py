@@ -1,4 +1,4 @@
-"""The values of variables over time, from the replay of a mote: docs/use/WATCH.md."""
+"""The values of variables over time, from the replay of a mote: docs/use/DEBUGGING.md."""
 from __future__ import annotations
 
 import re
