@@ -1,6 +1,7 @@
 """The reader's results for reports and scenarios, and its errors for texts that are none."""
 import os
 import random
+import re
 import stat
 import unittest
 from pathlib import Path
@@ -43,8 +44,7 @@ def report_in(page: str) -> str:
     return page[begin:page.index('```', begin)]
 
 
-SCENARIO_PAGE = (TOP / 'docs/use/SCENARIO.md').read_text(encoding='utf-8')
-EXAMPLE = SCENARIO_PAGE[SCENARIO_PAGE.index('version = 2\n'):SCENARIO_PAGE.index('```\n\nA program may')]
+EXAMPLE = re.sub(r'\A(#.*\n)+', '', (TOP / 'examples/small_network.toml').read_text(encoding='utf-8'))
 EXAMPLE_REPORT = report_in((TOP / 'docs/use/REPORT.md').read_text(encoding='utf-8'))
 
 
