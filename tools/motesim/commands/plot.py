@@ -1,11 +1,11 @@
 """Shows a measure of a sweep: tools/plot RESULTS --measure NAME [--against NAME]
 
-  tools/plot net.csv --measure ratio --against period                        a table: medians with quartiles
-  tools/plot net.csv --measure ratio --against period --show mean            means with confidence intervals
-  tools/plot net.csv --measure ratio --against motes --by period -o ratio.pdf
+  tools/plot net.csv --measure ratio --against gap                           a table: medians with quartiles
+  tools/plot net.csv --measure ratio --against gap --show mean               means with confidence intervals
+  tools/plot net.csv --measure ratio --against motes --by gap -o ratio.pdf
   tools/plot net.csv --measure delay --against sent                          a measure on each axis
-  tools/plot net.csv --measure delay --by period --show cdf -o delay.svg
-  tools/plot net.csv --measure ratio --pair period=20,40                     the difference of runs with equal seeds
+  tools/plot net.csv --measure delay --by gap --show cdf -o delay.svg
+  tools/plot net.csv --measure ratio --pair gap=20,40                        the difference of runs with equal seeds
   tools/plot net.csv --plan net.plan.toml                                    what the plan's `plot` describes
 
 RESULTS is a file that tools/sweep wrote. Each point of a picture, or row of a table, has the runs with equal values of

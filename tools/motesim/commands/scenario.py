@@ -1,7 +1,7 @@
 """Writes a scenario from a plan, which describes places, programs and losses by rules: tools/scenario PLAN
 
   tools/scenario net.plan.toml -o net.toml
-  tools/scenario net.plan.toml --set period=20 --set seed=3 | ./run
+  tools/scenario net.plan.toml --set gap=20 --set seed=3 | ./run
   tools/scenario --from net.toml -o net.plan.toml            writes a plan that yields the net of net.toml
 
 Without -o the scenario is written to standard output. The same plan, files and parameters always produce the same

@@ -19,7 +19,7 @@ Kinds of faults, for --faults:
   queues       the event queues are shorter (--queues 8,4,2,1)
   values       range, base or per have other values (--set range=8..12)
   places       a mote is moved (--step 5)
-  parameters   parameters of a plan have other values (--set period=10,20)
+  parameters   parameters of a plan have other values (--set gap=10,20)
 
 docs/use/TESTING.md begins with a protocol that looks right, and explains what the result of a search means.
 

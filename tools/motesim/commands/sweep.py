@@ -1,6 +1,6 @@
 """Runs a plan with many values of its parameters, and measures each run: tools/sweep PLAN
 
-  tools/sweep net.plan.toml --vary period=10,20,40 --vary seed=1..30 --measure sent --measure ratio -o net.csv
+  tools/sweep net.plan.toml --vary gap=10,20,40 --vary seed=1..30 --measure sent --measure ratio -o net.csv
 
 The tool makes a run for each combination of the values. Each run has a row with its parameters and measures in net.csv.
 If you start the same command again, the tool makes only the missing runs. After Ctrl-C the finished rows stay in the

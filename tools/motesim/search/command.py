@@ -58,7 +58,7 @@ def asked_of(words: argparse.Namespace) -> Asked:
     if unknown is not None:
         raise Fault('there is no kind of fault %s; allowed are: %s' % (unknown, ', '.join(KINDS)))
     for kind, names, what in (('values', list(numbers), 'range=8..12'),
-                              ('parameters', list(given), 'period=10,20, of a plan')):
+                              ('parameters', list(given), 'gap=10,20, of a plan')):
         if kind in kinds and not names:
             raise Fault('the kind `%s` needs --set, such as --set %s' % (kind, what))
         if names and kind not in kinds:
