@@ -18,7 +18,7 @@ from motesim.report import Report
 from motesim.runner.programs import TOP
 from motesim.runner.run import Run, read_run
 
-PAGES = ['README.md', 'docs/use/EXAMPLES.md', 'docs/use/SCENARIO.md', 'docs/use/REPORT.md']
+PAGES = ['README.md', 'examples/README.md', 'docs/use/SCENARIO.md', 'docs/use/REPORT.md']
 EXPECTED = '.expect.toml'
 LESSON = TOP / 'examples/lesson'
 EXAMPLES = [it for it in sorted(TOP.glob('examples/*.toml')) if not it.name.endswith(EXPECTED)]

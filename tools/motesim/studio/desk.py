@@ -142,7 +142,7 @@ class Desk:
         return document(where, name, data)
 
     def first(self) -> Document:
-        """The document with which the page opens: the named file, or the first example of docs/use/EXAMPLES.md."""
+        """The document with which the page opens: the named file, or the first example of examples/README.md."""
         return self.read('folder', self.mine) if self.mine else self.read('example', 'flooding.toml')
 
     def stamp(self, where: str, name: str) -> str:

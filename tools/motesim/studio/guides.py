@@ -1,4 +1,4 @@
-"""The guide of a scenario: things to look at and things to try, from its comment and from docs/use/EXAMPLES.md."""
+"""The guide of a scenario: things to look at and things to try, from its comment and from examples/README.md."""
 from __future__ import annotations
 
 import re
@@ -8,7 +8,7 @@ from typing import Any
 
 from motesim.runner.programs import TOP
 
-PAGE = TOP / 'docs/use/EXAMPLES.md'
+PAGE = TOP / 'examples/README.md'
 LINK = re.compile(r'\[([^]]*)\]\([^)]*\)')
 # The comment that tools/scenario writes: it is for the author of the plan, not for users of the scenario.
 OF_PLAN = re.compile(r'# Written by tools/scenario from the plan .*\n(?:# (?:Parameters|Files|SHA-256)\b.*\n)*')
