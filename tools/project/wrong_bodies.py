@@ -1,10 +1,11 @@
 """Tries mutants of the crates' functions, several in one check: the prover must refuse each because of its effect.
 
 A mutant is a file NAME.edit of crates/CRATE/must-fail, gate-bodies or wrong-bodies (docs/proof/WRONG_BODIES.md). A
-mutant counts as refused if the prover doesn't prove some goal of a contract, or of a loop's invariant, and if nobody
-has written a proof of this goal by hand. If only a proof by hand no longer fits, or if the prover stops at a limit, the
-refusal says little about the contract. Then the mutant is reported as open, and counts as skipped, until somebody
-rewrites it so that the contract decides. A control comes first: it has to prove the crate without an edit.
+mutant counts as refused if the prover doesn't prove some goal of a contract, and if nobody has written a proof of this
+goal by hand. If the mutant has a harmless twin, the prover must accept the twin. A refusal says little about the
+contract if the twin is refused too, if the only goals are those of safety or of an invariant, if only a proof by hand
+no longer fits, or if the prover stops at a limit. Then the mutant is reported as open, and counts as skipped, until
+somebody rewrites it so that the contract decides. A control comes first: it has to prove the crate without an edit.
 
 The tool uses the libraries in crates/*/out, and first builds those that are missing or outdated. With --built it builds
 none, because rt ci has just built them. Each verdict is noted in docs/proof/wrong_bodies.tsv, with a digest of everything on
@@ -27,8 +28,8 @@ from motesim.faults import Fault, command
 from motesim.runner.programs import TOP
 from motesim.words import words_of
 from project import kit
-from project.mutants import log
-from project.mutants.checks import CONTRACT, INVARIANT, KINDS, NOT_REFUSED, OPEN, UNKNOWN, Trial, Verdict
+from project.mutants import log, public
+from project.mutants.checks import CONTRACT, KINDS, NOT_REFUSED, OPEN, UNKNOWN, Trial, Verdict
 from project.mutants.edits import Edit, edits_of, groups
 from project.tree import commit
 
@@ -91,7 +92,7 @@ def check_libraries(crates: Sequence[kit.Crate]) -> None:
 
 
 def print_verdicts(found: Mapping[Edit, Verdict]) -> None:
-    kinds = {CONTRACT: 'refused', INVARIANT: "refused for a loop's invariant", UNKNOWN: 'NOT TRIED'}
+    kinds = {CONTRACT: 'refused', UNKNOWN: 'NOT TRIED'}
     for edit, (kind, function, why) in found.items():
         shown = kinds.get(kind, 'open (%s)' % kind if kind in OPEN else kind.upper())
         print(': '.join(it for it in (edit.name, shown, function, why[:200]) if it), flush=True)
@@ -125,10 +126,10 @@ def report(found: Mapping[Edit, Verdict]) -> int:
     """Prints the numbers of the verdicts, and returns how many mutants failed."""
     of_kind = {kind: [edit.name for edit, it in found.items() if it.kind == kind] for kind in KINDS}
     still, failed = [name for it in OPEN for name in of_kind[it]], of_kind[NOT_REFUSED] + of_kind[UNKNOWN]
-    print("refused for a goal of a contract: %d; for a loop's invariant: %d" % (
-        len(of_kind[CONTRACT]), len(of_kind[INVARIANT])))
+    print('refused for a goal of a contract: %d, of them with a harmless twin that is accepted: %d' % (
+        len(of_kind[CONTRACT]), sum(it.kind == CONTRACT and edit.twin is not None for edit, it in found.items())))
     if still:
-        print('skipped: open, because only a proof by hand no longer fits, or at a limit: %s' % ' '.join(still))
+        print('skipped: open, because the refusal says little about the contract: %s' % ' '.join(still))
     if failed:
         print('not refused: %s' % ' '.join(failed))
     print('%d passed, %d failed, %d skipped' % (len(found) - len(still) - len(failed), len(failed), len(still)))
@@ -150,4 +151,5 @@ def main() -> int:
     use_libraries(list({it.crate.name: it.crate for it in chosen}.values()))
     found = judge_all(chosen)
     log.note(found, edits)
+    public.note()
     return 1 if report(found) else 0

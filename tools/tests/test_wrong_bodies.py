@@ -13,8 +13,8 @@ from unittest import mock
 from here import TOP, room_of
 from motesim.faults import Fault
 from project import kit, wrong_bodies
-from project.mutants import checks, log
-from project.mutants.checks import ANSWER, CONTRACT, INVARIANT, LIMIT, Verdict, function_of, refused_in
+from project.mutants import checks, log, public
+from project.mutants.checks import ANSWER, CONTRACT, INVARIANT, LIMIT, SAFETY, TWIN, Verdict, function_of, refused_in
 from project.mutants.edits import Edit, edits_of, function_around, groups, together
 
 CODE = """pub(crate) fn one<T>(
@@ -105,6 +105,12 @@ class Edits(unittest.TestCase):
     def test_an_edit_of_a_body_shares_a_check(self) -> None:
         [edit] = self.read('        5 -> 9')
         self.assertEqual((edit.name, edit.function, edit.may_share, edit.trouble), ('low/0', 'two', True, None))
+        self.assertIsNone(edit.twin)
+
+    def test_a_twin_has_other_new_texts(self) -> None:
+        [edit] = self.read('old: n == 3\nnew: n == 7\ntwin: 3 == n\nold:     5\nnew:     9')
+        self.assertEqual((edit.function, edit.trouble), (None, None))
+        self.assertEqual(edit.twin, 'old: n == 3\nnew: 3 == n\nold:     5\nnew:     9')
 
     def test_one_of_a_function_with_a_name_of_another_does_not(self) -> None:
         [edit] = self.read('    8 -> 9')
@@ -130,9 +136,9 @@ class Edits(unittest.TestCase):
 
     def test_edits_are_applied_one_after_another_if_they_can(self) -> None:
         edits = self.read('n == 3 -> n == 7', '        5 -> 9', 'result = n -> 99', '= n } -> 98')
-        text = together(edits)['src/lib.rt']
+        text = together([it.text for it in edits], '')['src/lib.rt']
         self.assertEqual([it in text for it in ('n == 7', '\n9\n', '99', '98')], [True, True, True, False])
-        self.assertEqual(together([]), {})
+        self.assertEqual(together([], ''), {})
 
 
 def edit_of(name: str) -> Edit:
@@ -173,6 +179,13 @@ class WhatACheckSays(unittest.TestCase):
     def test_goals_of_an_invariant(self) -> None:
         found = self.verdict(self.OPEN % '`loop-a-preserved`; it calls `c::q::take`, which is not proved')
         self.assertEqual(found, (INVARIANT, 'c::q::post', 'loop-a-preserved'))
+        for goals in '`invariant_of-self`', '`bounds-a-b`, `loop-a-init`':
+            self.assertEqual((self.verdict(self.OPEN % goals) or Verdict('')).kind, INVARIANT, goals)
+
+    def test_goals_of_safety(self) -> None:
+        for goals in '`overflow_add-n`', '`unwrap-requires-2`, `slice_bounds-p-end`':
+            self.assertEqual((self.verdict(self.OPEN % goals) or Verdict('')).kind, SAFETY, goals)
+        self.assertEqual((self.verdict(self.OPEN % '`overflow_add-n`, `push-requires`') or Verdict('')).kind, CONTRACT)
 
     def test_notes_on_a_goal(self) -> None:
         for said, noted in ('`search` gave up at one of its limits', 'search gave up'), (
@@ -221,19 +234,19 @@ class WhatACheckSays(unittest.TestCase):
 
 class Trials(unittest.TestCase):
     LOW: Any = SimpleNamespace(name='low', folder='')
-    ONE, TWO = Edit(LOW, Path('a'), 'one', True, None), Edit(LOW, Path('b'), 'two', True, None)
+    ONE, TWO = Edit(LOW, Path('a'), 'one', True, None, 'a'), Edit(LOW, Path('b'), 'two', True, None, 'b')
     GOOD, BAD = 'fn c::a::%s: proved\n', 'fn c::a::%s: no proof: `search` did not prove `returns`\n'
 
     def verdicts(self, said: dict[str, str], *edits: Edit) -> dict[str, str]:
         """The kinds of the verdicts, from the lines of checks by the names of their edits."""
         def checked(crate: Any, texts: dict[str, str], flags: list[str], kept: Path) -> Any:
-            self.assertEqual(flags[3::2], [{'a': 'one', 'b': 'two'}[it] for it in texts])
+            self.assertEqual(flags[3::2], [{'a': 'one', 'b': 'two'}[it.split()[-1]] for it in texts])
             lines = said[' '.join(texts)]
             return SimpleNamespace(stdout=lines + 'logic=proved', returncode=0 if 'no proof' not in lines else 1)
         with mock.patch.object(checks, 'checked', checked), \
                 mock.patch.object(checks, 'linked', lambda kept, to: to), \
                 mock.patch.object(checks, 'says_nothing', lambda lines, texts: False), \
-                mock.patch.object(checks, 'together', lambda group: {str(it.file): '' for it in group}):
+                mock.patch.object(checks, 'together', lambda texts, folder: dict.fromkeys(texts, '')):
             found = self.trial(Path('kept'), *edits).verdicts(edits)
         return {edit.name: it.kind for edit, it in found.items()}
 
@@ -246,6 +259,16 @@ class Trials(unittest.TestCase):
         self.assertEqual(self.verdicts(said, self.ONE, self.TWO), {'low/a': CONTRACT, 'low/b': CONTRACT})
         said['a'] = self.GOOD % 'one'
         self.assertEqual(self.verdicts(said, self.ONE, self.TWO), {'low/a': checks.NOT_REFUSED, 'low/b': CONTRACT})
+
+    def test_a_twin_must_be_accepted(self) -> None:
+        def twin(name: str, function: str) -> Edit:
+            return Edit(self.LOW, Path(name), function, True, None, 'new: x\ntwin: ' + name)
+        one, two, texts = twin('a', 'one'), twin('b', 'two'), 'new: x\ntwin: %s'
+        said = {' '.join(texts % it for it in 'ab'): self.BAD % 'one' + self.BAD % 'two',
+                'new: a new: b': self.BAD % 'one' + self.GOOD % 'two', 'new: a': self.GOOD % 'one'}
+        self.assertEqual(self.verdicts(said, one, two), {'low/a': CONTRACT, 'low/b': CONTRACT})
+        said['new: a'] = self.BAD % 'one'
+        self.assertEqual(self.verdicts(said, one, two), {'low/a': TWIN, 'low/b': CONTRACT})
 
     def test_an_open_one_of_many_is_tried_alone(self) -> None:
         # (the answer may be that of another edit's function)
@@ -353,6 +376,68 @@ class OfThisTree(unittest.TestCase):
         edits = [it for crate in kit.crates_below(TOP) for it in edits_of(crate)]
         self.assertGreater(len(edits), 200)
         self.assertEqual(['%s: %s' % (it.name, it.trouble) for it in edits if it.trouble], [])
+
+
+class PublicFunctions(unittest.TestCase):
+    def test_promises_of_exported_functions(self) -> None:
+        lib = CODE_OF_A_CRATE.split('\n---\n')
+        top = crate_at(room_of(self), {'crates/one/src/lib.rt': lib[0], 'crates/one/src/two.rt': lib[1],
+                                       'crates/one/src/laws.rt': lib[1], 'crates/one_tests/src/lib.rt': lib[1]})
+        self.assertEqual(public.public_functions(Path(top.folder)), {'one::two::free', 'one::two::Kept::long'})
+
+    def test_each_has_a_mutant_that_shows_that_its_promise_binds_or_is_listed(self) -> None:
+        self.assertEqual(sorted(public.public_functions() - public.with_evidence()), sorted(public.listed()))
+
+
+CODE_OF_A_CRATE = """pub use two::{Kept, free};
+---
+pub fn free() -> u8
+    ensures a { result = 1 }
+{
+    1
+}
+
+pub fn hidden() -> u8
+    ensures a { result = 1 }
+{
+    1
+}
+
+pub fn law()
+    ensures a { 1 = 1 }
+{}
+
+impl<T: Drop> Kept<T> {
+    pub fn long(
+        &self,
+    ) -> u8
+    where
+        T: Copy,
+        // Remark.
+        ensures a { result = 1 }
+    {
+        1
+    }
+
+    pub fn promises_nothing() {
+        go()
+    }
+
+    fn private() -> u8
+        ensures a { result = 1 }
+    {
+        1
+    }
+}
+
+impl Trait for Kept {
+    pub fn of_trait() -> u8
+        ensures a { result = 1 }
+    {
+        1
+    }
+}
+"""
 
 
 class Choice(unittest.TestCase):

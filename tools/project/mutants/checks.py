@@ -9,22 +9,27 @@ from __future__ import annotations
 import re
 import shutil
 import tempfile
-from collections.abc import Sequence
+from collections.abc import Iterable, Sequence
 from pathlib import Path
 from typing import NamedTuple
 
 from project.kit import checked, kept_by_check, linked, says_nothing
 from project.mutants.edits import Edit, together
 
-# The verdicts on a mutant, the best first. The prover refuses it for a goal of a contract; only for a loop's invariant;
-# only at one of the prover's limits, or because a proof by hand no longer fits: both leave open whether the contract
-# refuses it. Or it is proved, or nothing is known.
-KINDS = CONTRACT, INVARIANT, LIMIT, ANSWER, NOT_REFUSED, UNKNOWN = (
-    'contract', 'invariant', 'limit', 'answer', 'not refused', 'unknown')
-REFUSED, OPEN = (CONTRACT, INVARIANT), (ANSWER, LIMIT)
+# The verdicts on a mutant, the best first. The prover refuses it for a goal of a contract. Or it is open whether the
+# contract refuses it, because its harmless twin is refused too, or because the prover refuses it only for safety, only
+# for an invariant of a loop or a type, only because a proof by hand no longer fits, or only at a limit. Or it is
+# proved, or nothing is known.
+KINDS = CONTRACT, TWIN, SAFETY, INVARIANT, LIMIT, ANSWER, NOT_REFUSED, UNKNOWN = (
+    'contract', 'twin', 'safety', 'invariant', 'limit', 'answer', 'not refused', 'unknown')
+OPEN = TWIN, SAFETY, INVARIANT, ANSWER, LIMIT
+# The goals of safety, and those of invariants. (A goal named after one of the kit's functions that panic is of safety.)
+OF_SAFETY = re.compile(r'overflow_|nonzero_|(slice_|offset_)?bounds-|prove-|(index(_mut)?|unwrap|expect)-requires')
+OF_INVARIANT = re.compile(r'loop-|invariant_of-')
 # The notes of a check about a goal that `search` did not prove, with the words for them in the log.
 NOTES = {'allow values at which this goal is false': 'false', 'gave up at one of its limits': 'search gave up'}
-# The note about a goal that is not proved; and an error about a goal of a contract that the edit removed.
+# The line of a function that is proved; the note about a goal that is not; and an error about a goal of a contract that the edit removed.
+PROVED = re.compile(r'fn (\S+): proved$')
 NOT_PROVED = re.compile(r'note: .* it is not proved that .*\(`([^`]+)`\)')
 GONE = re.compile(r'`goal\.(?!loop-)')
 # The prover's words for one of its limits that it reaches each time it checks the same text.
@@ -76,10 +81,22 @@ def by_hand(name: str, crate: Path) -> set[str]:
     return {unnumbered(goal) for it in files for goal in re.findall(r'goal\.([\w-]+)', it.read_text('utf-8'))}
 
 
+def kind_of(goals: Sequence[str]) -> str:
+    """The kind of a refusal for these goals."""
+    if all(map(OF_SAFETY.match, goals)):
+        return SAFETY
+    return INVARIANT if all(OF_SAFETY.match(it) or OF_INVARIANT.match(it) for it in goals) else CONTRACT
+
+
 def noted(goal: str, notes: Sequence[str]) -> str:
     """A goal with the remarks about it in the notes."""
     note = next((it for it in notes if '(`%s`)' % goal in it), '')
     return goal + ''.join(' (%s)' % it for said, it in NOTES.items() if said in note)
+
+
+def in_one(goals: Iterable[str]) -> str:
+    """The goals in one line, the false ones first, because the log cuts long lines."""
+    return ', '.join(sorted(goals, key=lambda it: not it.endswith('(false)')))
 
 
 def noted_goals(name: str, crate: Path, notes: Sequence[str], errors: Sequence[str]) -> list[str]:
@@ -103,14 +120,13 @@ def verdict_of(name: str, said: str, notes: Sequence[str], lines: Sequence[str],
     own = '; '.join(it for it in reasons if it and not NOT_OWN.match(it))
     goals = re.findall(r'`([^`]+)`', own.partition('`search` did not prove ')[2].partition(';')[0])
     if goals:
-        kind = INVARIANT if all('loop-' in it for it in goals) else CONTRACT
-        return Verdict(kind, name, ', '.join(noted(it, notes) for it in goals))
+        return Verdict(kind_of(goals), name, in_one(noted(it, notes) for it in goals))
     errors = proof_errors(lines, name)
     if not (own or errors or said == 'not proved'):
         return None
     goals = noted_goals(name, crate, notes, errors)
     if goals:
-        return Verdict(CONTRACT, name, ', '.join(goals))
+        return Verdict(kind_of(goals), name, in_one(goals))
     error = next((it for it in errors if not OF_NAMES.search(it)), next(iter(errors), own))
     kind = LIMIT if LIMITS.search(error) or own == COULD_NOT_TELL else ANSWER
     return Verdict(kind, name, error or 'not proved')
@@ -170,12 +186,29 @@ class Trial:
         if self.kept is None:
             return dict.fromkeys(group, Verdict(UNKNOWN, '', "the crate without an edit isn't proved"))
         found = self.verdicts_together(group, self.kept) if len(group) > 1 else {}
-        return {it: found.get(it) or self.verdict_alone(it, self.kept) for it in group}
+        found = {it: found.get(it) or self.verdict_alone(it, self.kept) for it in group}
+        return found | self.twins_refused([it for it in group if it.twin and found[it].kind == CONTRACT], self.kept)
 
-    def check(self, edits: Sequence[Edit], kept: Path) -> tuple[list[str], int, bool]:
-        """The lines and the status of a check with these edits, with a copy of the results that the control has kept;
-        and whether the check ended before the proofs."""
-        texts, words = together(edits), only(edits) if self.only else []
+    def twins_refused(self, group: Sequence[Edit], kept: Path) -> dict[Edit, Verdict]:
+        """The verdicts on those mutants whose harmless twin the prover doesn't accept: first all in one check."""
+        if not group:
+            return {}
+        lines, status, _ = self.check(group, kept, twins=True)
+        refused = set(map(function_of, refused_in(lines, Path(self.crate.folder))))
+        proved = {function_of(it[1]) for it in map(PROVED.match, lines) if it} - refused
+        found = {}
+        for edit in group if status else ():
+            if edit.function not in proved:
+                lines, status, _ = self.check([edit], kept, twins=True)
+                if status:
+                    found[edit] = best(edit, refused_in(lines, Path(self.crate.folder)))._replace(kind=TWIN)
+        return found
+
+    def check(self, edits: Sequence[Edit], kept: Path, *, twins: bool = False) -> tuple[list[str], int, bool]:
+        """The lines and the status of a check with these edits, or with their harmless twins, with a copy of the
+        results that the control has kept; and whether the check ended before the proofs."""
+        texts = together([twins and it.twin or it.text for it in edits], self.crate.folder)
+        words = only(edits) if self.only else []
         with tempfile.TemporaryDirectory(prefix='mutants-') as room:
             ran = checked(self.crate, texts, ['--jobs', '1', *words], linked(kept, Path(room, 'kept')))
         lines = ran.stdout.rstrip('\n').split('\n')
@@ -190,7 +223,7 @@ class Trial:
             return {}
         refused = refused_in(lines, Path(self.crate.folder))
         found = {it: best(it, refused) for it in group}
-        return {edit: verdict for edit, verdict in found.items() if verdict.kind in REFUSED}
+        return {edit: verdict for edit, verdict in found.items() if verdict.kind == CONTRACT}
 
     def verdict_alone(self, edit: Edit, kept: Path) -> Verdict:
         """The verdict on a mutant by a check with only its edit."""

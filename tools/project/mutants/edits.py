@@ -13,23 +13,31 @@ from project.kit import Crate, edited
 FOLDERS = ('must-fail', 'gate-bodies', 'wrong-bodies')
 # The most mutants that one check judges.
 MOST = 12
+TWIN = re.compile(r'(?m)^new: .*\ntwin: ')
 HEAD = re.compile(r'( *)(?:pub(?:\([\w ]+\))? |const |unsafe |extern "C" )*fn (\w+)')
 
 
 @dataclass(frozen=True, eq=False)
 class Edit:
     """A mutant: its crate and its file; the name of the function that has to be refused, None if any may be; whether a
-    check may judge it together with others; and the reason if it can't be applied."""
+    check may judge it together with others; the reason if it can't be applied; and the file's text."""
     crate: Crate
     file: Path
     function: str | None
     may_share: bool
     trouble: str | None
+    text: str = ''
 
     @property
     def name(self) -> str:
         """Its name CRATE/NAME."""
         return '%s/%s' % (self.crate.name, self.file.stem)
+
+    @property
+    def twin(self) -> str | None:
+        """The text of its harmless twin, if it has one: each line `twin:` stands for the line `new:` before it."""
+        text = TWIN.sub('new: ', self.text)
+        return text if text != self.text else None
 
     def fits(self, group: Sequence[Edit]) -> bool:
         """Returns whether one check can judge it with these: mutants of other functions of its crate."""
@@ -63,12 +71,14 @@ def read(file: Path, crate: Crate, functions: Counter[str], modules: set[str]) -
     in another file (a check of functions by name would also check those of that module)."""
     text = file.read_text('utf-8')
     texts, trouble = edited(text, crate.folder)
+    if not trouble and TWIN.search(text):
+        trouble = edited(TWIN.sub('new: ', text), crate.folder)[1]
     around = [function_around(Path(crate.folder, path).read_text('utf-8'), new) for path, new in texts.items()]
     named = re.findall(r'(?m)^refused: (?:\S*::)?(\w+)$', text)
     function = around[0] if len(around) == 1 else None
     in_module = function is None or any(Path(path).stem == function for path in texts)
     may_share = function is not None and functions[function] == 1 and (in_module or function not in modules)
-    return Edit(crate, file, function or (named[0] if named else None), may_share, trouble)
+    return Edit(crate, file, function or (named[0] if named else None), may_share, trouble, text)
 
 
 def edits_of(crate: Crate) -> list[Edit]:
@@ -94,12 +104,12 @@ def groups(edits: Sequence[Edit]) -> list[list[Edit]]:
     return found
 
 
-def together(group: Sequence[Edit]) -> dict[str, str]:
-    """The texts of a crate's files with the edits of a group, without those that can't be applied after others."""
+def together(texts_of: Sequence[str], folder: str) -> dict[str, str]:
+    """The texts of a crate's files with all these edits, without those that can't be applied after others."""
     all_edits, texts = '', {}
-    for edit in group:
-        longer = all_edits + edit.file.read_text('utf-8') + '\n'
-        changed, trouble = edited(longer, edit.crate.folder)
+    for text in texts_of:
+        longer = all_edits + text + '\n'
+        changed, trouble = edited(longer, folder)
         if not trouble:
             all_edits, texts = longer, changed
     return texts

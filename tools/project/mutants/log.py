@@ -16,7 +16,7 @@ from pathlib import Path
 from typing import NamedTuple
 
 from project.kit import Crate, version
-from project.mutants.checks import OPEN, REFUSED, Verdict
+from project.mutants.checks import CONTRACT, OPEN, Verdict
 from project.mutants.edits import Edit
 from motesim.runner.programs import ALL_PARTS, TOP
 
@@ -80,7 +80,7 @@ def noted() -> dict[str, Tried]:
 def changed(edits: Iterable[Edit]) -> list[Edit]:
     """The mutants whose verdict for the present texts isn't known, or is that they weren't refused."""
     kept = noted()
-    return [it for it in edits if it.name not in kept or kept[it.name].verdict.kind not in REFUSED + OPEN
+    return [it for it in edits if it.name not in kept or kept[it.name].verdict.kind not in (CONTRACT, *OPEN)
             or kept[it.name].digest != digest(it)]
 
 
