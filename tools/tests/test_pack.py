@@ -116,7 +116,7 @@ class Pack(unittest.TestCase):
     def test_no_link_of_an_archive_is_dead(self) -> None:
         top = self.unpacked()
         pages = sorted(top.rglob('*.md'))
-        self.assertGreater(len(pages), 20)
+        self.assertGreater(len(pages), 15)
         for page in pages:
             for target in re.findall(r'\]\(([^)#\s]+)(?:#[^)]*)?\)', page.read_text('utf-8')):
                 if '://' not in target:
