@@ -11,15 +11,17 @@ from unittest import mock
 
 from here import TOOLS, room_of
 from motesim.commands import expect as command
+from motesim.faults import Fault
 from motesim.judge import remarks, sentences
-from motesim.judge.expectations import UnknownSentence, expect, parts_of, read_all
+from motesim.judge.expectations import UnknownSentence, expect, judged_by, parts_of, read_all
 from motesim.judge.judge import Judge
 from motesim.judge.links import Links
 from motesim.report import Report
 from motesim.runner import programs
 from motesim.runner.run import answer
 from motesim.scenario import Scenario
-from motesim.judge.sentences import EXAMPLES, Names, SentenceFault, Value, names_of, read_sentence
+from motesim.scenario.fields import of_line, read_fields
+from motesim.judge.sentences import EXAMPLES, Does, Names, SentenceFault, Value, names_of, read_sentence
 
 # Four motes in a row, each in range of its neighbours; mote 2 loses all that mote 3 sends.
 SCENARIO = """
@@ -441,3 +443,42 @@ class Examples(unittest.TestCase):
                     with self.subTest(example=path.name, sentence=sentence):
                         read_sentence(sentence, names)
         self.assertGreater(len(scenarios), 10)
+
+
+class Fields(unittest.TestCase):
+    FIELDS = {'origin': 'value / 1024', 'seq': 'value % 1024'}
+
+    def test_fields_of_values(self) -> None:
+        origin, seq = read_fields(self.FIELDS)
+        self.assertEqual([(origin.of(it), seq.of(it)) for it in (0, 1023, 1024, 65535)],
+                         [(0, 0), (0, 1023), (1, 0), (63, 1023)])
+        self.assertEqual(read_fields({'none': '1 / (value - value)'})[0].of(7), 0)
+        self.assertEqual(of_line((origin, seq), 'print p 1031'), ' (origin 1, seq 7)')
+        self.assertEqual((of_line((origin, seq), 'take 1 p'), of_line((), 'send 1 9')), ('', ''))
+        for wrong in ({'Origin': 'value'}, {'a': 'value +'}, {'a': 'other'}, {'a': 3}, {'a': 'value ** 2'},
+                      {'a': '99999'}, {'a': "__import__('os')"}):
+            with self.assertRaisesRegex(Fault, 'is not a formula'):
+                read_fields(wrong)
+
+    def test_sentences_with_fields(self) -> None:
+        names = Names(('p',), 4, fields=read_fields(self.FIELDS))
+        one, other = (read_sentence('mote 0 prints p %s' % it, names) for it in ('with origin 1, seq 7', '1031'))
+        self.assertIsInstance(one, Does)
+        self.assertEqual(one.deed.patterns[0][2], Value('any', values=frozenset([1031])))
+        self.assertEqual(other.deed.patterns[0][2], Value('number', 1031))
+        every = read_sentence('every mote sends with seq 7 at least 2 times by 9', names)
+        self.assertEqual(every.deed.patterns[0][2].values, frozenset(range(7, 65536, 1024)))
+        for wrong in 'mote 0 prints p with sek 7', 'mote 0 prints p with seq', 'mote 0 prints p with':
+            with self.assertRaises(SentenceFault):
+                read_sentence(wrong, names)
+        with self.assertRaises(SentenceFault):
+            read_sentence('mote 0 prints p with seq 7', Names(('p',), 4))
+
+    def test_a_file_declares_the_format_of_packets(self) -> None:
+        text = 'fields = { seq = "value % 16" }\nexpect = ["mote 0 sends with seq 1"]\n'
+        part = parts_of(text + "[[change]]\nreplace = { a = 'b' }\nexpect = ['mote 0 sends with seq 2']\n", 'a')
+        self.assertEqual([it.fields for it in part], [read_fields({'seq': 'value % 16'})] * 2)
+        verdicts = judged_by(part[0], Report.parse(REPORT), Scenario.parse(SCENARIO))
+        self.assertEqual([it.holds for it in verdicts], [True])
+        with self.assertRaisesRegex(Fault, 'fields of a is not a table, such as'):
+            parts_of('fields = 3\nexpect = ["mote 0 sends"]', 'a')

@@ -96,6 +96,11 @@ program = "p"
 REACHED = 'mote 3 prints flood 7'
 
 
+def notes_of(found: dict[str, Any]) -> list[str]:
+    """The notes on a search, without that on failures after the last packet."""
+    return [it for it in found['notes'] if 'after the last packet' not in it]
+
+
 def base_of(text: str = DIAMOND) -> Base:
     return Base(text, 'diamond.toml')
 
@@ -225,22 +230,48 @@ class Texts(unittest.TestCase):
 
     def test_sets_that_cut_the_net_for_any_protocol_are_known(self) -> None:
         line = DIAMOND.replace('x = 12\ny = 0', 'x = 18\ny = 18').replace('x = 6\ny = -6', 'x = 12\ny = 12')
+        star = DIAMOND.replace('x = 6\ny = 6', 'x = 0\ny = 10').replace('x = 6\ny = -6', 'x = 10\ny = 0').replace(
+            'x = 12\ny = 0', 'x = -10\ny = 0')
+        self.assertEqual(Scenario.parse(star).receivers(0), [1, 2, 3])
+        silent = 'cuts mote %s off: no protocol can deliver from it; no other mote is cut off'
         for text, words, wanted in (
-                (DIAMOND, ['link 1 to 3 loses everything'], ''),
+                (DIAMOND, ['link 1 to 3 loses everything'], None),
                 (DIAMOND, ['link 1 to 3 loses everything', 'link 2 to 3 loses everything'],
                  'cuts mote 3 off: no protocol can deliver to it'),
-                (DIAMOND, ['mote 0 is silent'],
-                 'cuts mote 0 off: no protocol can deliver from it; no other mote is cut off'),
-                (DIAMOND, ['mote 1 is silent', 'mote 2 is silent'], 'cuts mote 3 off: no protocol can deliver to it'),
-                (line, ['mote 1 is silent'], 'cuts the net: no path is left from mote 0 to motes 2, 3, or back'),
-                (DIAMOND, ['range is 5'], 'cuts mote 0 off: no protocol can deliver from it'),
-                (line, ['link 1 to 2 loses everything'], 'cuts the net: no path is left from mote 1 to motes 2, 3'),
+                (DIAMOND, ['mote 0 is silent'], silent % 0),
+                (DIAMOND, ['mote 1 is silent', 'mote 2 is silent'],
+                 'cuts motes 1, 2 off: no protocol can deliver from them; '
+                 'cuts motes 0, 3 off: no protocol can deliver to them'),
+                (DIAMOND, ['range is 5'],
+                 'cuts motes 0, 1, 2, 3 off: no protocol can deliver from them or to them'),
+                (star, ['mote 1 is silent', 'mote 2 is silent'],
+                 'cuts motes 1, 2 off: no protocol can deliver from them; no other mote is cut off'),
+                (star, ['link 1 to 0 loses everything', 'link 2 to 0 loses everything'],
+                 'cuts motes 1, 2 off: no protocol can deliver from them'),
+                (line, ['mote 1 is silent'],
+                 'cuts mote 1 off: no protocol can deliver from it; cuts mote 0 off: no protocol can deliver to it; '
+                 'cuts the net: no path is left from mote 0 to motes 2, 3'),
+                (line, ['link 1 to 2 loses everything'], 'cuts the net: no path is left from motes 0, 1 to motes 2, 3'),
+                (line, ['link 1 to 2 loses everything', 'link 2 to 1 loses everything'],
+                 'cuts the net: no path is left from motes 0, 1 to motes 2, 3, or back'),
                 (line, ['link 2 to 3 loses everything'], 'cuts mote 3 off: no protocol can deliver to it'),
                 (line + '[[loss]]\nfrom = 1\nto = 2\nevery = 1\n', ['mote 3 is silent'],
-                 'cuts mote 3 off: no protocol can deliver from it; no other mote is cut off')):
+                 'cuts mote 3 off: no protocol can deliver from it; cuts mote 2 off: no protocol can deliver to it')):
             base = base_of(text)
             found = faults_by_words(base, kinds=('links', 'motes', 'values'), values={'range': (5,)})
-            self.assertEqual(cut_of([found[it] for it in words], base), wanted)
+            cut = cut_of([found[it] for it in words], base)
+            self.assertEqual(cut and cut.words, wanted, words)
+
+    def test_a_cut_has_each_pair_of_motes_without_a_path(self) -> None:
+        base = base_of()
+        found = list(faults_by_words(base, kinds=('links', 'motes')).values())
+        for faults in itertools.combinations(found, 2):
+            after = base.scenario(change_of(faults, base))
+            lost = {(s, r) for s in range(4) for r in base.scenario_itself.hops_from(s) if r not in after.hops_from(s)}
+            cut = cut_of(faults, base)
+            told = {(s, r) for s, r in itertools.permutations(range(4), 2) if cut and (
+                s in cut.mute or r in cut.deaf or any(s in its and r in others for its, others in cut.apart))}
+            self.assertEqual(told, lost)
 
     def test_failing_mote(self) -> None:
         gone, came, read = self.one('mote 1 fails at 50', kinds=('deaths',), moments=(50,))
@@ -411,7 +442,8 @@ class SinglePackets(unittest.TestCase):
         self.assertEqual(lost, {('link %d to %d loses packet 2' % link,): [(*link, 2)] for link in ((0, 1), (1, 0))})
         self.assertEqual((tally['run'], tally['more'], tally['all']), (2, 2, False))
         self.assertIn('4 single faults: 2 run, 2 LEFT OUT because a link would lose more than its one packet\n', said)
-        self.assertIn('broken: no copy is lost\n  link 0 to 1 loses packet 2\n  link 1 to 0 loses packet 2\n\n', said)
+        self.assertIn('broken:\n  1  no copy is lost\n\nbreaks  faults\n'
+                      '1       link 0 to 1 loses packet 2\n1       link 1 to 0 loses packet 2\n\n', said)
 
     def test_a_loss_that_loses_nothing_is_replaced(self) -> None:
         loss = '[[loss]]\nfrom = 0\nto = 1\nevery = 4\n'
@@ -553,11 +585,12 @@ class Searches(unittest.TestCase):
         with folder_with() as folder:
             status, said, _ = search(folder, '--faults', 'motes', '-o', 'here', '--csv', 'found.csv')
             self.assertEqual(status, 1)
-            self.assertIn('broken: mote 3 prints flood 7\n  mote 0 is silent\n    cuts mote 0 off: no protocol', said)
+            self.assertIn('1       1 of 1   mote 0 is silent\n                   cuts mote 0 off: no protocol', said)
             rows = list(csv.DictReader((folder / 'found.csv').read_text().splitlines()))
             self.assertEqual(rows, [{'expectation': REACHED, 'size': '1', 'faults': 'mote 0 is silent',
-                                     'file': 'here/diamond_silent_0.toml', 'cut': 'cuts mote 0 off: no protocol can '
-                                     'deliver from it; no other mote is cut off'}])
+                                     'file': 'here/diamond_silent_0.toml', 'missing': '1', 'wanted': '1',
+                                     'cut': 'cuts mote 0 off: no protocol can deliver from it; no other mote is cut '
+                                     'off'}])
             self.assertEqual((folder / 'here/found.csv').read_text(), (folder / 'found.csv').read_text())
             text = (folder / 'here/diamond_silent_0.toml').read_text()
             self.assertTrue(text.startswith('# diamond.toml with a fault: mote 0 is silent.\n# This breaks:\n'), text)
@@ -605,7 +638,7 @@ class Searches(unittest.TestCase):
             sets, found, said = minimal_sets(folder, '--faults', 'deaths,late', '--moments', '5,90')
             self.assertEqual(sets, {REACHED: {frozenset((it,)) for it in (
                 'mote 0 fails at 5', 'mote 3 fails at 5', 'mote 0 starts at 90', 'mote 3 starts at 90')}})
-            self.assertEqual(found['notes'], [])
+            self.assertEqual(notes_of(found), [])
 
     def test_added_process_that_changes_something_is_left_out(self) -> None:
         text = DIAMOND.replace('    while 1 {\n      yield_until', '    broadcast msg 1;\n    while 1 {\n'
@@ -640,7 +673,7 @@ class Searches(unittest.TestCase):
                 self.assertEqual(sets, {REACHED: {frozenset(('mote %d fails at 5' % mote,)) for mote in (0, 3)}})
                 self.assertEqual(found['holds'], ['no mote halts', early, late])
                 # (a line `halt` breaks the sentence about lines, which is about no mote)
-                self.assertEqual([it.rpartition(': ')[2] for it in found['notes']], [lines])
+                self.assertEqual([it.rpartition(': ')[2] for it in notes_of(found)], [lines])
 
     def test_mote_that_another_failure_halts(self) -> None:
         # (a mote without a packet by 50 runs away)
@@ -651,7 +684,7 @@ class Searches(unittest.TestCase):
             sets, found, _ = minimal_sets(folder, '--faults', 'deaths', '--moments', '5', '--at-most', '2')
             self.assertEqual(sets, {'no mote halts': {
                 frozenset(('mote 0 fails at 5',)), frozenset(('mote 1 fails at 5', 'mote 2 fails at 5'))}})
-            self.assertEqual(found['notes'], [])
+            self.assertEqual(notes_of(found), [])
             _, said, seen = search(folder, '--faults', 'deaths', '--moments', '5', '--shrink')
             self.assertRegex(said, 'small_1.toml breaks: no mote halts\\n  made from: mote 0 fails at 5\\n  2 motes',
                              seen)
@@ -676,7 +709,7 @@ class Searches(unittest.TestCase):
             self.assertLessEqual(fails, sets[shares[0]])
             self.assertFalse(any('fails' in ''.join(it) for it in sets[shares[1]]))
             self.assertLessEqual(fails, sets[shares[2]])
-            self.assertEqual([it.rpartition(': ')[2] for it in found['notes']], [halts])
+            self.assertEqual([it.rpartition(': ')[2] for it in notes_of(found)], [halts])
 
     def test_a_mote_that_halted_before_it_fails_has_no_other_halt(self) -> None:
         # (mote 1 halts by itself at moment 30)
@@ -685,7 +718,8 @@ class Searches(unittest.TestCase):
         changed = changed.replace('  etimer t;\n', '  etimer t;\n  ctimer c { print 9; }\n')
         with folder_with(changed, sentences=['mote 1 halts exactly once']) as folder:
             sets, found, said = minimal_sets(folder, '--faults', 'deaths', '--moments', '30,31')
-            self.assertEqual((sets, found['notes'], found['covered']['1']['run']), ({}, [], 8), said)
+            self.assertEqual((sets, found['covered']['1']['run'], len(found['notes'])), ({}, 8, 1), said)
+            self.assertIn('8 of the 8 faults let a mote fail after the last packet, at ', found['notes'][0])
 
     def test_moments_after_the_end_are_refused(self) -> None:
         with folder_with() as folder:
@@ -719,7 +753,7 @@ class Searches(unittest.TestCase):
     def test_broken_without_a_fault(self) -> None:
         with folder_with(sentences=['mote 0 prints', REACHED]) as folder:
             status, said, _ = search(folder, '--faults', 'links')
-            self.assertIn('broken without a fault, so left out: mote 0 prints\n', said)
+            self.assertIn('broken without a fault, so left out (tools/expect shows why): mote 0 prints\n', said)
             self.assertIn('1 of 1 expectations hold', said)
 
     def test_the_bug_of_the_tutorial(self) -> None:

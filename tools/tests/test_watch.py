@@ -62,7 +62,7 @@ class States(unittest.TestCase):
         """At 4 c has set its timer, and has left; the timer runs on, and its callback will come at 6."""
         self.assertEqual(rows(as_json(after_moment(self.source, 0, 4), 4), 'after 4'), [
             'after 4', '  process a waits at line 14: `yield`', '  process b waits at line 23: `yield_until is(msg)`',
-            '  process c is not started',
+            '  process c has left',
             '  timer late of c is due at 6, in 2 moments; set at 4 in line 36: `set late 2`',
             '  the event queue is empty'])
 
@@ -73,6 +73,7 @@ class States(unittest.TestCase):
                                            'posted_at': 4}])
         self.assertEqual([(it['name'], it['started'], it['polled']) for it in state['processes']],
                          [('a', True, False), ('b', True, True), ('c', False, False)])
+        self.assertEqual(state['processes'][2]['waits'], 'is not started')
         self.assertEqual(state['timers'], [])
         self.assertEqual(state['call']['process'], 'a')
         self.assertIsNone(as_json(after_moment(self.source, 0, 4), 4)['call'])

@@ -82,6 +82,8 @@ def arguments() -> argparse.ArgumentParser:
     words.add_argument('--shrink', action='store_true',
                        help='for each broken expectation, write a scenario that breaks it, as small as possible, as '
                             'tools/shrink does. --most-runs and --most-seconds limit this too')
+    words.add_argument('--keep', action='append', default=[], metavar='KEPT',
+                       help='with --shrink: what the small scenarios keep, as tools/shrink --help describes')
     words.add_argument('--progress', action='store_true', help='report progress in lines of JSON, on standard error')
     words.add_argument('--studies', nargs='+', metavar='FILE',
                        help='make the searches in these files, and check that their results are those in the files')

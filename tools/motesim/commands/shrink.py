@@ -4,11 +4,12 @@
 
 The tool removes motes, losses, processes and statements, simplifies expressions, and makes numbers smaller. After each
 step it runs the scenario, and keeps the step only if the expectation is still broken in the same way, for example with
-too few lines. But the reason may then differ from the reason in your scenario. Three options make this less likely:
+too few lines, even up to the first end. But the cause may then differ from that in your scenario, and the tool says so.
+Two options make this less likely:
 
-  --fault          the expectation has to hold without the fault, and to be broken with it
-  --keep           these expectations have to hold after each step
-  --keep-programs  the tool changes no program, not even its comments and lines
+  --fault "lose 0 1 1"   the expectation has to hold without the fault, and to be broken with it
+  --keep EXPECTATION     this expectation has to hold after each step
+  --keep end,medium      these parts stay: end, medium, places, programs, or numbers (the values of `self` and `from`)
 
 If motes get other numbers, the tool changes their numbers in expectations and faults too. If EXPECTATION is a file, the
 tool uses the first broken expectation in this file. Without EXPECTATION, the file is NAME.expect.toml, next to the
@@ -48,14 +49,12 @@ def main() -> int:
     words.add_argument('expectation', nargs='?', metavar='EXPECTATION',
                        help='an expectation of tools/expect, or a file of expectations')
     words.add_argument('-o', dest='output', metavar='FILE', help='the result; by default NAME.small.toml')
-    words.add_argument('--keep', action='append', default=[], metavar='EXPECTATION',
-                       help='an expectation that has to hold after each step')
+    words.add_argument('--keep', action='append', default=[], metavar='KEPT',
+                       help='an expectation that has to hold after each step; or parts that stay, with commas between '
+                            'them: end, medium, places, numbers (the values of `self` and `from`), programs')
     words.add_argument('--fault', action='append', default=[], metavar='FAULT',
                        help='add this fault to the scenario, such as `lose 0 1 1` (the forms are above); the '
                             'expectation has to hold without the fault, and to be broken with it')
-    words.add_argument('--keep-programs', action='store_true',
-                       help='change no program; only remove motes, losses, and programs that no mote runs, and make '
-                            'numbers outside the programs smaller')
     words.add_argument('--steps', action='store_true', help='show each step')
     words.add_argument('--most-runs', type=int, metavar='N', help='make at most N runs')
     words.add_argument('--most-seconds', type=float, metavar='N', help='begin no more runs after N seconds')

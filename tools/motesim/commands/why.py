@@ -1,8 +1,8 @@
 """Explains the cause of a line of a report: the chain of causes, back to the start of a mote.
 
-QUESTION is an expectation, such as "mote 24 prints flood 2", or a line of the report. A line has one of these forms:
-977, its number in the report; 24:977, its mote and its number; or "24:64 print flood 1", its mote and its text, which
-begins with the moment, 64."""
+QUESTION is an expectation, such as "mote 24 prints flood 2", or a line of the report; by default the first broken one
+in NAME.expect.toml, next to NAME.toml. A line has one of these forms: 977, its number in the report; 24:977, its mote
+and its number; or "24:64 print flood 1", its mote and its text, which begins with the moment, 64."""
 from __future__ import annotations
 
 import shlex

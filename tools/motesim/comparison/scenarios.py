@@ -2,6 +2,7 @@
 from __future__ import annotations
 
 from collections.abc import Iterator, Sequence
+from difflib import SequenceMatcher
 from itertools import groupby, zip_longest
 
 from motesim.scenario import Scenario
@@ -38,15 +39,16 @@ def of_keys(a: Scenario, b: Scenario) -> Iterator[str]:
 
 
 def of_text(name: str, a: str, b: str) -> Iterator[str]:
-    """The first line of a program's text that differs, without the blanks around it, and how many differ."""
-    pairs = [(row, one, other) for row, (one, other) in enumerate(zip_longest(a.split('\n'), b.split('\n')), 1)
-             if one != other]
-    row, one, other = pairs[0]
-    if len(pairs) == 1:
+    """The first line of a program's text that differs, without the blanks around it, and how many lines only one of the
+    texts has, as `diff` counts them."""
+    rows = a.split('\n'), b.split('\n')
+    row, one, other = next((row, *pair) for row, pair in enumerate(zip_longest(*rows), 1) if pair[0] != pair[1])
+    same = sum(it.size for it in SequenceMatcher(None, *rows, autojunk=False).get_matching_blocks())
+    only = [len(its) - same for its in rows]
+    if only == [1, 1]:
         yield 'program %s differs in its line %d' % (name, row)
     else:
-        yield ('program %s: %d lines differ if the texts are compared line by line; the first is line %d'
-               % (name, len(pairs), row))
+        yield 'program %s: %d lines only in A, %d only in B; the first is line %d' % (name, only[0], only[1], row)
     for letter, line in ('A', one), ('B', other):
         yield '  %s: %s' % (letter, 'it has no such line' if line is None else line.strip() or '(an empty line)')
 

@@ -26,6 +26,8 @@ DECLARED = {'event': 'event e;', 'semaphore': 'semaphore s = 0;', 'process': 'pr
 # For each kind of name that a head of a code declares, its declaration.
 AT_HEAD = {'a variable': 'var %s = 0;', 'a timer': 'etimer %s;'}
 ABOVE = {'an event': 'event %s;', 'a semaphore': 'semaphore %s = 0;'}
+# Values under the names that they have elsewhere.
+MEANT = {'sender': 'from', 'source': 'from', 'payload': 'data', 'time': 'now', 'id': 'self'}
 SIGNS = (';', '(', ')', '{', '}', '=')
 
 
@@ -115,7 +117,8 @@ def _nearest(source: str, fault: ProgramError) -> Iterator[Correction]:
     word, token = fault.token.text, fault.token
     known = [name for it in fault.may for name in (
         it.partition(' (')[2].rstrip(')').split(', ') if ' (' in it else [it.strip('`')] if it[0] == '`' else [])]
-    like = nearest(word, [it for it in known if it.isidentifier()]) if word else None
+    names = [it for it in known if it.isidentifier()]
+    like = (MEANT[word] if MEANT.get(word) in names else nearest(word, names)) if word else None
     if like:
         yield Correction('Did you mean `%s`?' % like, (
             replaced(source, token.line, token.column, token.column + len(word), like),))

@@ -155,12 +155,15 @@ def _of_value(text: str, tables: dict[str, Any], fault: ScenarioError) -> Iterat
     # (a share of lost packets is no period)
     is_share = name == 'every' and not (type(value) is float and value.is_integer() or str(value).isdecimal())
     new = _as_kind(value, rule) if rule and not is_share else None
+    hint = 'Write `%s = %s`.' % (name, new)
     if new is None and type(value) is int and rule and rule.kind is int:
         least = 1 if name in ('base', 'per') else rule.least
         # (the nearest period of a loss, 1, would lose every packet)
         new = None if name == 'every' else str(min(max(value, least), rule.most))
+        hint = '`{}` is {} {:,}.'.format(name, 'at least' if value < least else 'at most', least if value < least else
+                                          rule.most)
     if new is not None:
-        yield Correction('`%s` is %s here.' % (name, new), (
+        yield Correction(hint, (
             replaced(text, place.line, place.column, place.column + place.length, new),))
 
 

@@ -55,9 +55,9 @@ def task_of(asked: argparse.Namespace, pictures: Path | None) -> Task:
     nets = [*nets_of(asked.net, asked.vary, asked.program),
             *nets_of(asked.hidden, asked.vary_hidden, asked.program, is_hidden=True)]
     try:
-        read_all(part.sentences, Names())
+        read_all(part.sentences, Names(fields=part.fields))
         for net in nets:
-            read_all(part.sentences, Names(None, names_of(net.scenario).motes))
+            read_all(part.sentences, Names(None, names_of(net.scenario).motes, fields=part.fields))
     except Fault as fault:
         raise Fault('%s: %s' % (name, fault)) from None
     limits = Limits(asked.seconds * PATIENCE, asked.memory * MEGABYTE, asked.report * MEGABYTE, asked.seconds)

@@ -4,6 +4,7 @@
 """
 from __future__ import annotations
 
+import dataclasses
 import itertools
 from collections.abc import Callable, Sequence
 from dataclasses import dataclass, replace
@@ -20,6 +21,7 @@ from motesim.runner.run import Answer, answer, read_file, refuse_others
 from motesim.scenario import Scenario, ScenarioFault
 from motesim.scenario.encodings import decoded
 from motesim.scenario.faults import TOP
+from motesim.scenario.fields import Field, of_line, read_fields
 from motesim.judge.sentences import Names, Refused, Sentence, SentenceFault, lacking, names_of, read_sentence
 from motesim.toml import NoToml, read_toml
 
@@ -28,7 +30,8 @@ LONGEST_SHOWN = 150
 MOST_UNKNOWN = 10
 REFUSED = 'the scenario is refused'
 WHOLE = 'the report is the expected one'
-KEYS = {'expect': list, 'required': list, 'report': str, 'change': list, 'about': str, 'replace': dict}
+KEYS = {'expect': list, 'required': list, 'report': str, 'change': list, 'about': str, 'replace': dict,
+        'fields': dict}
 EXAMPLE = '`expect = ["mote 0 sends twice", "no mote halts"]`'
 # For each key, the kind of its value, and its form.
 WRITTEN = {
@@ -37,6 +40,7 @@ WRITTEN = {
     'change': 'an array of tables: each begins with a line `[[change]]`',
     'about': 'a text, such as `about = "a late end"`',
     'replace': 'a table, such as `replace = { "end = 9" = "end = 99" }`',
+    'fields': 'a table, such as `fields = { origin = "value / 1024", seq = "value % 1024" }`',
 }
 
 
@@ -58,12 +62,14 @@ class Part:
     """The expectations for the scenario, or for a changed scenario, in which some text is replaced.
 
     required  how many of the sentences, from the first one on, a solution must meet to earn anything
+    fields    the declared format of packets
     """
     name: str
     sentences: list[str]
     report: str | None
     replace: dict[str, str]
     required: int = 0
+    fields: tuple[Field, ...] = ()
 
 
 class Verdict(NamedTuple):
@@ -92,7 +98,8 @@ def part_of(table: dict[str, Any], name: str, keys: set[str]) -> Part:
         raise Fault('%s must contain only texts, which are in quotes, but has %s' % (name, other))
     if not sentences and 'report' not in table:
         raise Fault('%s expects nothing: write expectations, such as %s' % (name, EXAMPLE))
-    return Part(table.get('about', name), sentences, table.get('report'), replace, len(required))
+    return Part(table.get('about', name), sentences, table.get('report'), replace, len(required),
+                read_fields(table.get('fields', {})))
 
 
 def parts_of(text: str, name: str) -> list[Part]:
@@ -102,12 +109,19 @@ def parts_of(text: str, name: str) -> list[Part]:
     except NoToml as fault:
         raise Fault('%s is not TOML: %s; each expectation is in quotes, with commas between them: %s' % (
             name, fault, EXAMPLE)) from None
-    parts = [part_of(tables, name, {'expect', 'required', 'report', 'change'})]
+    parts = [part_of(tables, name, {'expect', 'required', 'report', 'change', 'fields'})]
     for number, table in enumerate(tables.get('change', []), 1):
         if type(table) is not dict or not table.get('replace'):
             raise Fault('change %d of %s has no table replace' % (number, name))
-        parts.append(part_of(table, 'change %d of %s' % (number, name), {'expect', 'report', 'about', 'replace'}))
+        part = part_of(table, 'change %d of %s' % (number, name), {'expect', 'report', 'about', 'replace'})
+        parts.append(dataclasses.replace(part, fields=parts[0].fields))
     return parts
+
+
+def fields_beside(scenario: str | Path) -> tuple[Field, ...]:
+    """The format of packets that the file of expectations next to a scenario declares, if there is one."""
+    path = beside(Path(scenario))
+    return parts_of(text_of(path), str(path))[0].fields if path.is_file() else ()
 
 
 def place_of_part(number: int, part: Part, name: str) -> str:
@@ -155,13 +169,14 @@ def read_all(sentences: list[str], names: Names) -> list[Sentence]:
     return found
 
 
-def more_of(broken: Broken, rows: Sequence[str]) -> list[str]:
-    """The lines that are shown for a broken sentence."""
+def more_of(broken: Broken, rows: Sequence[str], fields: Sequence[Field] = ()) -> list[str]:
+    """The lines that are shown for a broken sentence, with the fields of their values."""
     why = broken.why.split('\n')
     if broken.row is None:
         return why
     row = rows[broken.row - 1]
-    return [*why, 'line %d: %s' % (broken.row, row if len(row) <= LONGEST_SHOWN else row[:LONGEST_SHOWN] + '..')]
+    shown = row if len(row) <= LONGEST_SHOWN else row[:LONGEST_SHOWN] + '..'
+    return [*why, 'line %d: %s%s' % (broken.row, shown, of_line(fields, row.partition(' ')[2]))]
 
 
 def same_report(rows: Sequence[str], wanted: str) -> Verdict:
@@ -188,28 +203,31 @@ def of_report(part: Part, sentences: list[Sentence], judge: Judge) -> list[Verdi
     for text, sentence in zip(part.sentences, sentences):
         broken = judge.broken(sentence)
         remark = remark_of(sentence, judge, broken is None)
-        found.append(Verdict(text, broken is None, more_of(broken, judge.rows) if broken else [], remark=remark))
+        more = more_of(broken, judge.rows, part.fields) if broken else []
+        found.append(Verdict(text, broken is None, more, remark=remark))
     return found + ([same_report(judge.rows, part.report)] if part.report is not None else [])
 
 
 def judged_by(part: Part, report: Report, scenario: Scenario) -> list[Verdict]:
     """The verdicts on an existing report of the scenario with the changes of the part."""
+    scenario.fields = part.fields
     return of_report(part, read_all(part.sentences, names_of(scenario)), Judge(report, scenario))
 
 
-def known_of(text: str) -> tuple[Scenario | None, Names]:
+def known_of(text: str, fields: tuple[Field, ...] = ()) -> tuple[Scenario | None, Names]:
     """A scenario, if the text is one, and the names that sentences may use."""
     try:
         known = Scenario.parse(text)
+        known.fields = fields
         return known, names_of(known)
     except ScenarioFault:
-        return None, Names()
+        return None, Names(fields=fields)
 
 
 def judged_each(scenario: str, part: Part) -> tuple[list[Verdict], list[str]]:
     """The verdicts of a part, and for each sentence the name that the scenario lacks; a sentence with such a name
     doesn't hold."""
-    names = known_of(scenario)[1]
+    names = known_of(scenario, part.fields)[1]
     lacks = [lacking(it, names) for it in part.sentences]
     readable = [it for it, lack in zip(part.sentences, lacks) if not lack]
     verdicts = iter(judged(scenario, replace(part, sentences=readable)))
@@ -221,7 +239,7 @@ def judged_each(scenario: str, part: Part) -> tuple[list[Verdict], list[str]]:
 def judged(scenario: str, part: Part, run: Callable[[bytes], Answer] | None = None) -> list[Verdict]:
     """The verdicts of a part. `run` runs the scenario."""
     text = changed(scenario, part.replace)
-    known, names = known_of(text)
+    known, names = known_of(text, part.fields)
     sentences = read_all(part.sentences, names)
     got = (run or answer)(text.encode())
     if got.status:

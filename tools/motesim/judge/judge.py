@@ -25,23 +25,32 @@ from motesim.judge.sentences import (
 from motesim.judge.wide import remark_on
 from motesim.report import LOST, Line, Report, Rows
 from motesim.scenario import Scenario
+from motesim.scenario.fields import in_words as in_fields
 
 DOES = {'print': 'prints', 'send': 'sends', 'recv': 'receives'}
 BECAME = {'collided': 'collide', 'received': 'recv', 'overflowed': 'lost'}
 
 
 class Lack(NamedTuple):
-    """Motes that have too few lines in a period."""
+    """Motes that have too few lines in a period: the number of lines that they have, and the wanted one."""
     motes: tuple[int, ...]
     span: Span
+    found: int = 0
+    wanted: int = 1
 
 
 class Broken(NamedTuple):
-    """The reason why a sentence doesn't hold, and the first row of the report that shows it, from 1, or None. `lacks`
-    says who has too few lines, if lines are missing."""
+    """The reason why a sentence doesn't hold.
+
+    why    the reason in words
+    row    the first row of the report that shows it, from 1, or None
+    lacks  the motes that have too few lines, if lines are missing
+    kind   the kind of the reason: number, value, more, list, last, than, order, apart, motes, copies, medium, hears
+    """
     why: str
     row: int | None = None
     lacks: Lack | None = None
+    kind: str = 'number'
 
 
 class Event(NamedTuple):
@@ -178,7 +187,7 @@ class Judge:
         if spare is not None:
             return Broken(why, spare)
         later = [event for event in events if event.line.at > span[0] and not within(event.line.at, span)]
-        lacks = Lack(motes, span)
+        lacks = Lack(motes, span, len(inside), count.least)
         return Broken(why + '; the next is', later[0].row, lacks) if later else Broken(why, lacks=lacks)
 
     def listed(self, deed: Deed, mote: int) -> list[Set[int]]:
@@ -192,12 +201,12 @@ class Judge:
         for event, wanted in zip(events, values):
             if event.line.value not in wanted:
                 why = '%s %s instead of %s' % (verb(self.name(motes), 'print'), event.line.value, either(wanted))
-                return Broken(why, event.row)
+                return Broken(why, event.row, kind='value')
         if len(events) > len(values):
-            return Broken('%s one more value' % verb(self.name(motes), 'print'), events[len(values)].row)
+            return Broken('%s one more value' % verb(self.name(motes), 'print'), events[len(values)].row, kind='more')
         if len(events) < len(values):
             return Broken('%s %d of these %d values' % (verb(self.name(motes), 'print'), len(events), len(values)),
-                          lacks=Lack(motes, span))
+                          lacks=Lack(motes, span, len(events), len(values)), kind='list')
         return None
 
     def in_any_order(self, deed: Deed, events: list[Event], motes: tuple[int, ...], span: Span) -> Broken | None:
@@ -207,20 +216,23 @@ class Judge:
             value = event.line.value
             if value not in left:
                 why = 'more often than the list has it' if value in deed.values else 'which is not in the list'
-                return Broken('%s %s, %s' % (verb(self.name(motes), 'print'), value, why), event.row)
+                return Broken('%s %s, %s' % (verb(self.name(motes), 'print'), value, why), event.row, kind='value')
             left.remove(value)
         never = verb(self.name(motes), 'print', 'never ')
-        return Broken('%s %s%s' % (never, ', '.join(map(str, left)), span_in_words(span)),
-                      lacks=Lack(motes, span)) if left else None
+        lacks = Lack(motes, span, len(deed.values) - len(left), len(deed.values))
+        return Broken('%s %s%s' % (never, ', '.join(map(str, left)), span_in_words(span)), lacks=lacks,
+                      kind='list') if left else None
 
     def last(self, deed: Deed, events: list[Event], motes: tuple[int, ...], span: Span) -> Broken | None:
         """Checks the value of the last line in a span."""
         allowed = self.links.values(deed.value, motes[0]) if deed.value else set()
         if not events:
-            return Broken('%s no such line%s' % (has(self.name(motes)), span_in_words(span)), lacks=Lack(motes, span))
+            return Broken('%s no such line%s' % (has(self.name(motes)), span_in_words(span)), lacks=Lack(motes, span),
+                          kind='last')
         if events[-1].line.value in allowed:
             return None
-        return Broken('the last such line of %s; wanted: %s' % (self.name(motes), either(allowed)), events[-1].row)
+        return Broken('the last such line of %s; wanted: %s' % (self.name(motes), either(allowed)), events[-1].row,
+                      kind='value')
 
     def compared(self, it: Does, motes: tuple[int, ...]) -> list[Event]:
         """The lines with which the lines of a sentence are compared, or the events that order them."""
@@ -241,15 +253,16 @@ class Judge:
             self.name(motes), len(one), span_in_words(span), len(two), it.count, '' if it.count.is_part else ' times')
         most = it.count.number * len(two) // (100 if it.count.is_part else 1)
         if len(one) > most or one and it.count.compare == 'fewer than':
-            return Broken(why, one[min(most, len(one) - 1)].row)
-        return Broken(why + '; the last such line is', one[-1].row) if one else Broken(why, lacks=Lack(motes, span))
+            return Broken(why, one[min(most, len(one) - 1)].row, kind='than')
+        return Broken(why + '; the last such line is', one[-1].row, kind='than') if one else Broken(
+            why, lacks=Lack(motes, span, 0, max(most, 1)), kind='than')
 
     def related(self, it: Does, lines: list[Event], others: list[Event], motes: tuple[int, ...], span: Span
                 ) -> Broken | None:
         """Checks that lines are before, after or near others. In `within 10 of each time`, the others are those in a
         span; otherwise the lines are."""
         why = relations.broken(it, self.name(motes), span_in_words(span), lines, others, self.scenario.end)
-        return Broken(*why, None if why[1] else Lack(motes, span)) if why else None
+        return Broken(*why, None if why[1] else Lack(motes, span), 'order') if why else None
 
     def of_unit(self, it: Does, motes: tuple[int, ...]) -> Broken | None:
         """Checks a sentence for one mote, or for several together."""
@@ -266,7 +279,7 @@ class Judge:
             more = '; ' + more if more else ''
             return broken._replace(why=broken.why + more + remark_on(it.deed, motes, self.links.values))
         except Apart as apart:
-            return Broken(str(apart))
+            return Broken(str(apart), kind='apart')
 
     def of_events(self, it: Does, events: list[Event], motes: tuple[int, ...]) -> Broken | None:
         """Checks a sentence for the lines that show its action."""
@@ -307,7 +320,8 @@ class Judge:
         what = DOES[line.kind] + (' %s' % line.process if line.process else '')
         sender = ' from mote %s' % line.sender if line.kind == 'recv' else ''
         more = ', and %d other%s' % (len(inside) - 1, '' if len(inside) == 2 else 's') if len(inside) > 1 else ''
-        return '%s %s %s%s at moment %d%s' % (who, what, line.value, sender, line.at, more)
+        value = str(line.value) + in_fields(self.scenario.fields, line.value)
+        return '%s %s %s%s at moment %d%s' % (who, what, value, sender, line.at, more)
 
     def chosen(self, motes: Motes) -> tuple[int, ...]:
         numbers = range(len(self.report.motes)) if motes.numbers is None else sorted(motes.numbers)
@@ -352,9 +366,10 @@ class Judge:
             return next((it for it in broken.values() if it), None)
         if it.motes.kind == 'no':
             first = self.beyond(it, doing, 0) if doing else None
-            return Broken('mote %d does' % first[0], first[1]) if first else None
+            return Broken('mote %d does' % first[0], first[1], kind='motes') if first else None
         if it.motes.kind == 'some':
-            return None if doing else Broken('no mote does', lacks=next((it.lacks for it in broken.values() if it), None))
+            lacks = next((it.lacks for it in broken.values() if it), None)
+            return None if doing else Broken('no mote does', lacks=lacks, kind='motes')
         assert it.motes.count
         if it.motes.count.admits(len(doing), len(chosen) if it.motes.count.is_part else 1):
             return None
@@ -369,14 +384,15 @@ class Judge:
         why = '%s; wanted: %s' % ('%d of %d motes do' % (len(doing), len(broken)) if count.is_part else do, count)
         admitted = [number for number in range(len(doing) + 1) if count.admits(number, whole)]
         if doing and (admitted or count.compare in ('at most', 'fewer than')):
-            return Broken(why, self.beyond(it, doing, admitted[-1] if admitted else 0)[1])
+            return Broken(why, self.beyond(it, doing, admitted[-1] if admitted else 0)[1], kind='motes')
         others = [(mote, one) for mote, one in broken.items() if one]
         if not others:
-            return Broken(why)
+            return Broken(why, kind='motes')
         which = [motes_do(motes, verb) for motes, verb in (
             (doing, 'does'), ([mote for mote, _ in others], "doesn't")) if motes]
         first = others[0][1]
-        return Broken('%s\n%s; the first that doesn\'t is\n%s' % (why, '; '.join(which), first.why), first.row, first.lacks)
+        return Broken('%s\n%s; the first that doesn\'t is\n%s' % (why, '; '.join(which), first.why), first.row,
+                      first.lacks, 'motes')
 
     def part_of_copies(self, it: Copies) -> Broken | None:
         """Checks which share of the copies that were due has an outcome."""
@@ -384,7 +400,7 @@ class Judge:
         if it.count.admits(found, due):
             return None
         part = ' (%.1f %%)' % (100 * found / due) if due else ''
-        return Broken('%d of %d copies that were due do%s; wanted: %s' % (found, due, part, it.count))
+        return Broken('%d of %d copies that were due do%s; wanted: %s' % (found, due, part, it.count), kind='copies')
 
     def due(self, it: Copies) -> int:
         """The number of copies to the motes of a sentence that the medium lost, or that arrived by the end."""
@@ -425,10 +441,11 @@ class Judge:
                     if within(row.at, span):
                         parts[index].append(row.row)
         except Apart as apart:
-            return Broken(str(apart))
+            return Broken(str(apart), kind='apart')
         for rows in parts.values():
             if not count.admits(len(rows)):
-                return Broken('%s; wanted: %s' % (there_are(len(rows), what), count), _first_spare(rows, count))
+                return Broken('%s; wanted: %s' % (there_are(len(rows), what), count), _first_spare(rows, count),
+                              kind='copies')
         return None
 
     def lines(self, count: Count) -> Broken | None:
@@ -461,9 +478,9 @@ class Judge:
             rows = (str(packet).split(' ') for packet in self.report.log)
             if any(tuple(words[:len(it.words)]) == it.words for words in rows):
                 return None
-            return Broken('the medium has no such line', self.report.medium_row)
+            return Broken('the medium has no such line', self.report.medium_row, kind='medium')
         if isinstance(it, Hears):
             wrong = next((mote for mote in sorted(it.motes) if self.links.hears(mote, it.other) != it.can), None)
-            return None if wrong is None else Broken(hearing(self.scenario, wrong, it.other))
+            return None if wrong is None else Broken(hearing(self.scenario, wrong, it.other), kind='hears')
         assert isinstance(it, Refused)
         return Broken('the program writes a report')

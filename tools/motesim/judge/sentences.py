@@ -15,6 +15,7 @@ from motesim.faults import Fault
 from motesim.notation.keywords import SYSTEM
 from motesim.report import FIELDS, MOST_MOMENT, MOST_WORD
 from motesim.scenario import Scenario
+from motesim.scenario.fields import Field
 from motesim.text import nearest, wrapped
 
 # The beginning of the list of processes among the allowed words.
@@ -23,7 +24,7 @@ LONGEST_NUMBER, MOST, MOST_MOTES = 9, 999_999_999, 1_000
 NAME = re.compile('[a-z][a-z0-9_]*')
 # The words behind a deed, which are no names if the names aren't known.
 BEHIND_DEED = ('at', 'by', 'before', 'after', 'between', 'in', 'from', 'exactly', 'more', 'fewer', 'once', 'twice',
-               'within')
+               'within', 'with')
 TOKEN = re.compile(r"\s*('[^']*'|`[^`]*`|\d+|[A-Za-z_]\w*|[^\s])")
 COMPARES = {
     'at least': operator.ge, 'at most': operator.le, 'exactly': operator.eq, 'more than': operator.gt,
@@ -79,10 +80,11 @@ class SentenceFault(Fault):
 @dataclass(frozen=True)
 class Names:
     """The names that a sentence may use: the processes of the programs, and the number of motes; None if unknown. `own`
-    has the processes of each mote's program."""
+    has the processes of each mote's program, and `fields` those of the declared format of packets."""
     processes: tuple[str, ...] | None = None
     motes: int | None = None
     own: tuple[tuple[str, ...], ...] = ()
+    fields: tuple[Field, ...] = ()
 
 
 def processes_of(program: object) -> list[str]:
@@ -96,7 +98,8 @@ def names_of(scenario: Scenario) -> Names:
     """Returns the names that a sentence about this scenario may use."""
     own = {name: tuple(processes_of(text)) for name, text in scenario.programs.items()}
     found = dict.fromkeys((*SYSTEM, *(it for its in own.values() for it in its)))
-    return Names(tuple(found), scenario.motes, tuple(own.get(it.program, ()) for it in scenario.places))
+    return Names(tuple(found), scenario.motes, tuple(own.get(it.program, ()) for it in scenario.places),
+                 scenario.fields)
 
 
 @dataclass(frozen=True)
@@ -429,6 +432,8 @@ class _Reader:
 
     def calculated(self) -> Value | None:
         """A value that differs by mote or by net, or any of several, if one is next."""
+        if self.names.fields and self.accept('with'):
+            return self.of_fields()
         if self.accept('any of'):
             return Value('any', values=frozenset(self.ranges(self.one_value, 'or')))
         if self.accept('its number'):
@@ -444,6 +449,19 @@ class _Reader:
         if self.accept('a mote that it hears , one hop nearer to mote'):
             return Value('nearer', self.mote())
         return None
+
+    def of_fields(self) -> Value:
+        """The values of which fields are numbers, such as `origin 5, seq 324`."""
+        allowed = frozenset(range(MOST_WORD + 1))
+        while True:
+            field = next((it for it in self.names.fields if it.name == self.word()), None)
+            if field is None:
+                self.want(self.at, 'a field (%s)' % ', '.join(it.name for it in self.names.fields))
+                raise self.fault()
+            self.at += 1
+            allowed &= field.values(self.number('a number', MOST_WORD))
+            if not self.accept(',', 'and'):
+                return Value('any', values=allowed)
 
     def process(self) -> str | None:
         """A process, if one is next."""

@@ -19,6 +19,7 @@ from motesim.plan.net import Builder, files_of
 from motesim.plan.tables import NAME, Tables, Value, as_truth
 from motesim.runner.run import read_file
 from motesim.scenario.encodings import decoded
+from motesim.text import nearest
 
 UNUSED = 'nothing uses the parameter %s, so its values make no difference: write ${%s} in the plan or in a program'
 
@@ -62,8 +63,9 @@ class Plan:
         is also a truth value."""
         for name in given:
             if name not in self.parameters:
-                known = ', '.join(self.parameters) or 'none'
-                raise Fault('%s has no parameter %s; it has: %s' % (self.shown_as, name, known))
+                known, like = ', '.join(self.parameters) or 'none', nearest(name, self.parameters)
+                raise Fault('%s has no parameter %s; it has: %s%s' % (
+                    self.shown_as, name, known, '; did you mean %s?' % like if like else ''))
         return {**self.parameters, **{name: as_truth(value) if type(self.parameters[name]) is bool else value
                                       for name, value in given.items()}}
 

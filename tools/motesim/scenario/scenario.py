@@ -6,6 +6,7 @@ from functools import cached_property
 from typing import Any, NamedTuple
 
 from motesim.faults import Fault
+from motesim.scenario.fields import Field
 from motesim.toml import NoToml, read_toml
 
 
@@ -52,11 +53,13 @@ class Scenario:
     queue     the lengths of event queues that differ from 32, by program
     places    a `MotePlace` for each mote, by its number
     losses    for each pair (sender, receiver) with a loss, its `every`
+    fields    the format of packets that the expectations next to the scenario's file declare
 
     This class checks only what the tools need: it accepts some texts that `motesim` refuses.
     """
 
     def __init__(self, tables: dict[str, Any]):
+        self.fields: tuple[Field, ...] = ()
         medium: dict[str, Any] = _get(tables, 'medium', dict, 'the scenario')
         self.version: int = _get(tables, 'version', int, 'the scenario')
         self.end: int = _get(tables, 'end', int, 'the scenario')

@@ -9,7 +9,9 @@ from motesim.runner.optimized import optimized_path
 from motesim.runner.versions import program_digest
 from motesim.search import calculated
 from motesim.search.change import Base
-from motesim.search.faults import WHY_NONE, Asked, absent_kinds, faults_of, untried_copies, without_effect
+from motesim.search.faults import (
+    WHY_NONE, Asked, absent_kinds, after_packets, faults_of, untried_copies, without_effect,
+)
 from motesim.search.kept import Kept
 from motesim.search.one_program import Limits, OneProgram
 from motesim.search.prepare import plain_run, prepare
@@ -42,13 +44,14 @@ class Asking:
         self.untried = untried_copies(base, asked) if 'packets' in asked.kinds else ''
         self.prepared = prepare(base, self.plain, program, sentences, faults)
         self.idle = without_effect(base, self.prepared.faults, self.plain.sent)
+        self.late = after_packets(self.prepared.faults, self.plain.last)
         program.close()
 
     @property
     def notes(self) -> list[str]:
         """The lines to show before anything is tried."""
         broken = [self.texts[number] for number in self.plain.broken]
-        rows = ['broken without a fault, so left out: ' + it for it in broken]
+        rows = ['broken without a fault, so left out (tools/expect shows why): ' + it for it in broken]
         rows += ['there is no fault of the kind %s in this scenario%s' % (kind, WHY_NONE.get(kind, ''))
                  for kind in self.absent]
         rows += ['left out: ' + it for it in self.prepared.left_out]
@@ -70,7 +73,7 @@ class Asking:
         these copies, and lines about faults without an effect, about programs that draw random numbers, and about
         numbers in programs that are too great, below 0, or 0 with a value of a parameter."""
         of_numbers = calculated.remark(self.base, self.prepared.faults)
-        return [*self.notes, *self.left_out, *filter(None, [self.idle, of_numbers])]
+        return [*self.notes, *self.left_out, *filter(None, [self.idle, self.late, of_numbers])]
 
     def digest(self) -> str:
         """The identity of a search, by which it differs from others."""

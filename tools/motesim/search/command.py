@@ -14,6 +14,7 @@ from motesim.judge.expectations import beside, parts_of, read_all, text_of
 from motesim.judge.sentences import Names, Refused, Sentence, names_of
 from motesim.plan.plan import Plan
 from motesim.plan.tables import Value
+from motesim.scenario.fields import Field
 from motesim.search.asking import Asking
 from motesim.search.change import NUMBERS, Base
 from motesim.search.faults import KINDS, Asked
@@ -26,6 +27,7 @@ from motesim.search.one_program import Limits
 from motesim.search.numbers import LEAST, numbers_of_words
 from motesim.search.progress import Progress
 from motesim.search.search import Bounds, Search
+from motesim.search.shrink import parts_and_sentences
 from motesim.search.shrink_found import shrink_each
 from motesim.search.study import check_studies
 from motesim.toml import NoToml, read_toml
@@ -101,9 +103,16 @@ def base_of(path: Path) -> Base:
     return Base.of_plan(Plan.read(path)) if is_plan else Base(text, str(path))
 
 
+def fields_of(words: argparse.Namespace) -> tuple[Field, ...]:
+    """The format of packets that the file of expectations declares."""
+    path = Path(words.expectations) if words.expectations else beside(Path(words.scenario))
+    return parts_of(text_of(path), str(path))[0].fields if path.is_file() else ()
+
+
 def asking_of(words: argparse.Namespace) -> Asking:
     """Returns the request of the command line."""
     base = base_of(Path(words.scenario))
+    base.scenario_itself.fields = fields_of(words)
     texts, sentences = sentences_of(words, names_of(base.scenario_itself))
     bounds = Bounds(words.at_most, words.random, words.seed, words.most_runs, words.most_seconds)
     return Asking(base, texts, sentences, asked_of(words), bounds, Limits(words.seconds, words.bytes))
@@ -145,7 +154,8 @@ def show(words: argparse.Namespace, asking: Asking, search: Search, folder: Path
             print(line_of_earlier(earlier, folder))
     if search.is_stopped:
         return INTERRUPTED
-    if words.shrink and shrink_each(asking, search, found, folder, Progress(words.progress), words.json == '-'):
+    if words.shrink and shrink_each(asking, search, found, folder, Progress(words.progress), words.json == '-',
+                                    parts_and_sentences(words.keep)):
         return INTERRUPTED
     return 1 if found else 0 if search.runs else 2
 
@@ -202,8 +212,8 @@ def status_of(words: argparse.Namespace) -> int:
         Path(words.scenario).name.removesuffix('.toml').removesuffix('.plan') + '.search')
     refuse_all_inputs(words, asking, folder)
     if len(asking.plain.broken) == len(asking.texts):
-        raise Fault('%s breaks each of the expectations without a fault, so there is nothing to search for'
-                    % words.scenario)
+        raise Fault('%s breaks each of the expectations without a fault, so there is nothing to search for; tools/expect '
+                    'shows why' % words.scenario)
     folder.mkdir(parents=True, exist_ok=True)
     kept = Kept()
     kept.open(folder / STATE, asking.digest(), words.resume)

@@ -5,48 +5,46 @@ A path leads over links that don't lose everything. Motes that fail or start lat
 from __future__ import annotations
 
 from collections.abc import Iterable, Sequence
+from typing import NamedTuple
 
 from motesim.scenario import Scenario
 from motesim.search.change import Base, CannotChange
 from motesim.search.faults import FaultyPart, change_of
 
-FROM = 'cuts mote %d off: no protocol can deliver from it'
-# (a silent mote that isn't needed as a relay)
-NO_OTHER = '; no other mote is cut off'
 # The most motes that a line names.
 SHOWN = 8
 
 
-def cut_of(faults: Sequence[FaultyPart], base: Base) -> str:
-    """The motes that a set of faults cuts off, in words; an empty text if another path replaces every broken one."""
-    try:
-        faulty = base.scenario(change_of(faults, base))
-    except CannotChange:
-        return ''
-    before = base.scenario_itself
-    if faulty.motes != before.motes:
-        return ''
-    silent = {it.effect[1] for it in faults if it.effect[0] == 'silent'}
-    changed = [it for it in range(before.motes) if faulty.receivers(it) != before.receivers(it)]
-    # (a path through a silent mote leads through one of these neighbours)
-    near = [it for it in range(before.motes) if silent.intersection(before.receivers(it))] if silent else []
-    for sender in dict.fromkeys([*changed, *near]):
-        apart = before.hops_from(sender).keys() - faulty.hops_from(sender).keys()
-        if apart and sender not in silent:
-            return _in_words(before, faulty, sender, apart)
-    return next((FROM % it + NO_OTHER for it in changed if it in silent), '')
+class Cut(NamedTuple):
+    """The motes between which a set of faults leaves no path.
+
+    mute     motes whose packets reach no mote any more
+    deaf     motes that no other mote's packets reach any more
+    apart    other motes: senders, with the motes that their packets no longer reach
+    is_own   whether only motes that the set itself silences are cut off
+    """
+    mute: list[int]
+    deaf: list[int]
+    apart: list[tuple[list[int], list[int]]]
+    is_own: bool
+
+    @property
+    def words(self) -> str:
+        """The cut in words."""
+        both = [it for it in self.mute if it in self.deaf]
+        rows = [_off(motes, how) for motes, how in (
+            (both, 'from %s or to %s'), ([it for it in self.mute if it not in both], 'from %s'),
+            ([it for it in self.deaf if it not in both], 'to %s')) if motes]
+        ways = ['no path is left from %s to %s%s' % (
+            motes_in_words(senders), motes_in_words(lost), ', or back' * ((lost, senders) in self.apart))
+            for senders, lost in self.apart if senders < lost or (lost, senders) not in self.apart]
+        rows += ['cuts the net: ' + '; '.join(ways)] if ways else []
+        return '; '.join(rows + ['no other mote is cut off'] * self.is_own)
 
 
-def _in_words(before: Scenario, faulty: Scenario, sender: int, apart: set[int]) -> str:
-    """The cut between a mote and those that its packets no longer reach."""
-    if not faulty.receivers(sender):
-        return FROM % sender
-    alone = [it for it in sorted(apart) if not any(it in faulty.receivers(near) for near in faulty.hearers(it))]
-    if len(apart) == 1 and alone:
-        return 'cuts mote %d off: no protocol can deliver to it' % alone[0]
-    is_cut_back = all(sender in before.hops_from(it) and sender not in faulty.hops_from(it) for it in apart)
-    return 'cuts the net: no path is left from mote %d to %s%s' % (
-        sender, motes_in_words(apart), ', or back' if is_cut_back else '')
+def _off(motes: Sequence[int], how: str) -> str:
+    return 'cuts %s off: no protocol can deliver %s' % (
+        motes_in_words(motes), how.replace('%s', 'it' if len(motes) == 1 else 'them'))
 
 
 def motes_in_words(motes: Iterable[int]) -> str:
@@ -54,3 +52,57 @@ def motes_in_words(motes: Iterable[int]) -> str:
     its = sorted(motes)
     shown = ', '.join(map(str, its[:SHOWN])) + (' and %d more' % (len(its) - SHOWN) if len(its) > SHOWN else '')
     return ('mote ' if len(its) == 1 else 'motes ') + shown
+
+
+def numbers_in(bits: int) -> list[int]:
+    """The numbers that a mask has as bits."""
+    return [it for it in range(bits.bit_length()) if bits >> it & 1]
+
+
+def reaches(scenario: Scenario) -> list[int]:
+    """For each mote, the other motes that its packets can reach, as bits."""
+    near = [scenario.receivers(mote) for mote in range(scenario.motes)]
+    found = [1 << mote for mote in range(scenario.motes)]
+    before: list[int] = []
+    while found != before:
+        before = found[:]
+        for mote, its in enumerate(near):
+            for it in its:
+                found[mote] |= found[it]
+    return [its & ~(1 << mote) for mote, its in enumerate(found)]
+
+
+def heard(reached: Sequence[int]) -> int:
+    """The motes that some other mote's packets reach, as bits."""
+    found = 0
+    for its in reached:
+        found |= its
+    return found
+
+
+def cut_of(faults: Sequence[FaultyPart], base: Base) -> Cut | None:
+    """The motes that a set of faults cuts off; None if another path replaces every broken one."""
+    try:
+        faulty = base.scenario(change_of(faults, base))
+    except CannotChange:
+        return None
+    if faulty.motes != base.scenario_itself.motes:
+        return None
+    silent = [int(it.effect[1]) for it in faults if it.effect[0] == 'silent']
+    return cut_between(reaches(base.scenario_itself), reaches(faulty), silent)
+
+
+def cut_between(before: Sequence[int], after: Sequence[int], silent: Sequence[int]) -> Cut | None:
+    """The motes that no path joins any more, from the motes that each one's packets reach before and after."""
+    mute = [mote for mote, its in enumerate(before) if its and not after[mote]]
+    deaf = numbers_in(heard(before) & ~heard(after))
+    hidden = sum(1 << it for it in deaf)
+    groups: dict[int, list[int]] = {}
+    for mote, its in enumerate(before):
+        lost = its & ~after[mote] & ~hidden
+        if lost and mote not in mute:
+            groups.setdefault(lost, []).append(mote)
+    if not (mute or deaf or groups):
+        return None
+    return Cut(mute, deaf, [(senders, numbers_in(lost)) for lost, senders in groups.items()],
+               bool(mute) and not deaf and not groups and set(mute) <= set(silent))

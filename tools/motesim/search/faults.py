@@ -12,8 +12,9 @@ from typing import NamedTuple
 from motesim.faults import Fault
 from motesim.plan.tables import Value, text_of_value
 from motesim.search.added import DIES, LATE
-from motesim.search.change import Base, CannotChange, Change
+from motesim.search.change import NUMBERS, Base, CannotChange, Change
 from motesim.search.forms import FORMS, form_of
+from motesim.text import nearest
 
 # For each kind, its names in the help and in the lines about the coverage: in the singular, and in the plural.
 KINDS: dict[str, tuple[str, str]] = {
@@ -229,6 +230,13 @@ def without_effect(base: Base, faults: Sequence[FaultyPart], sent: Sequence[int]
             if idle else '')
 
 
+def after_packets(faults: Sequence[FaultyPart], last: int) -> str:
+    """The number of the motes' failures after the last packet of the run without a fault, or an empty text."""
+    late = [it for it in faults if it.effect[0] == 'fails' and int(it.effect[2]) > last]
+    return ('{:,} of the {:,} faults let a mote fail after the last packet, at {}, so they test no delivery: choose '
+            'earlier --moments'.format(len(late), len(faults), last) if late else '')
+
+
 def _is_idle(base: Base, fault: FaultyPart, sent: Sequence[int]) -> bool:
     """Returns whether a fault loses none of the packets of the run without a fault."""
     kind, *parts = fault.effect
@@ -305,7 +313,9 @@ def _places(base: Base, asked: Asked) -> Iterator[FaultyPart]:
 
 def _parameters(base: Base, asked: Asked) -> Iterator[FaultyPart]:
     if base.plan is None:
-        raise Fault('the kind `parameters` is for plans, and %s is a scenario' % base.name)
+        like = nearest(next(iter(asked.given), ''), NUMBERS)
+        raise Fault('the kind `parameters` is for plans, and %s is a scenario%s' % (
+            base.name, '; did you mean --set %s=..?' % like if like else ''))
     own = base.plan.with_given({name: values[0] for name, values in asked.given.items()}) and base.plan.parameters
     for name, values in asked.given.items():
         for value in values:

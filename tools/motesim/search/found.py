@@ -12,8 +12,9 @@ from pathlib import Path
 from typing import Any
 
 from motesim.faults import Fault
+from motesim.judge.shortfall import Shortfall
 from motesim.search.change import Base
-from motesim.search.cuts import cut_of
+from motesim.search.cuts import Cut, cut_of
 from motesim.search.faults import KINDS, FaultyPart, change_of
 from motesim.search.search import Search
 from motesim.search.sets import Tally
@@ -22,6 +23,7 @@ from motesim.toml import MARK
 
 SHOWN, SHOWN_REASONS = 10, 3
 SIZES = {1: 'single faults', 2: 'pairs', 3: 'triples'}
+ONE = {'single faults': 'single fault', 'pairs': 'pair', 'triples': 'triple'}
 LONGEST_FILE_NAME = 120
 # The first line of a scenario that a search has written, and the number of characters that are read of it.
 OF_SEARCH, LONGEST_LINE = re.compile(r'# .* with a fault: |# Made small by tools/shrink from '), 1000
@@ -29,17 +31,27 @@ OF_SEARCH, LONGEST_LINE = re.compile(r'# .* with a fault: |# Made small by tools
 
 @dataclass
 class Found:
-    """A minimal set of faults, the sentences that it breaks, the file with its scenario, and the scenario without
-    faults."""
+    """A minimal set of faults, the sentences that it breaks, the file with its scenario, the scenario without faults,
+    and the lines that the run with the faults lacks for all sentences."""
     faults: list[FaultyPart]
     sentences: list[str]
     file: str = ''
     base: Base | None = None
+    lacks: Shortfall = Shortfall()
 
     @cached_property
-    def cut(self) -> str:
-        """The motes that the faults cut off from others for any protocol, in words; an empty text if there are none."""
-        return cut_of(self.faults, self.base) if self.base else ''
+    def cut(self) -> Cut | None:
+        """The motes that the faults cut off from others for any protocol, if there are any."""
+        return cut_of(self.faults, self.base) if self.base else None
+
+    @property
+    def cut_words(self) -> str:
+        return self.cut.words if self.cut else ''
+
+    @property
+    def severity(self) -> str:
+        """The number of missing lines, such as `3 of 8`; an empty text if no sentence wants lines."""
+        return '{:,} of {:,}'.format(*self.lacks) if self.lacks.wanted else ''
 
     @property
     def words(self) -> str:
@@ -54,10 +66,12 @@ def file_name_of(name: str, faults: list[FaultyPart]) -> str:
 
 
 def found_by(search: Search, sentences: list[str], base: Base | None = None) -> list[Found]:
-    """Returns the sets that were found, the smaller ones first."""
-    minimal = sorted(search.known.minimal.items(), key=lambda item: (len(item[0]), item[0]))
+    """Returns the sets that were found: the worst first, and of equally bad ones the smaller ones."""
+    lacks = search.lacks
+    minimal = sorted(search.known.minimal.items(), key=lambda item: (
+        -lacks.get(item[0], Shortfall()).missing, len(item[0]), item[0]))
     return [Found([search.known.faults[number] for number in faults], [sentences[it] for it in numbers_of(mask)],
-                  base=base) for faults, mask in minimal]
+                  base=base, lacks=lacks.get(faults, Shortfall())) for faults, mask in minimal]
 
 
 def toml_text(text: str) -> str:
@@ -167,8 +181,9 @@ def parts_of(tally: Tally) -> list[str]:
 
 def covered_line(name: str, tally: Tally) -> str:
     """The coverage of the sets of one size."""
-    amount = 'all {:,}' if tally.is_whole else '{:,}'
-    return '%s %s: %s' % (amount.format(tally.sets), name, ', '.join(parts_of(tally)))
+    amount = 'all {:,}' if tally.is_whole and tally.sets > 1 else '{:,}'
+    return '%s %s: %s' % (amount.format(tally.sets), name if tally.sets > 1 else ONE.get(name, name),
+                          ', '.join(parts_of(tally)))
 
 
 def is_whole(search: Search) -> bool:
@@ -185,26 +200,40 @@ def verdict_lines(search: Search, found: list[Found], sentences: list[str], show
     if holding:
         runs = 'every run' if is_whole(search) else 'every run that was made'
         rows += ['', 'holds in %s:' % runs, *('  ' + it for it in holding)]
-    for sentence in wanted:
-        sets = broken[sentence]
-        if not sets:
-            continue
-        rows += ['', 'broken: ' + sentence]
-        shown = sets if shows_all else sets[:SHOWN]
-        rows += [row for it in shown for row in ('  ' + it.words, *(['    ' + it.cut] if it.cut else []))]
-        if len(sets) > len(shown):
-            rows.append('  and {:,} more (--all shows them)'.format(len(sets) - len(shown)))
+    its = {sentence: number for number, sentence in enumerate(sentences, 1) if broken.get(sentence)}
+    if not its:
+        return rows
+    rows += ['', 'broken:', *('  %d  %s' % (number, sentence) for sentence, number in its.items()), '']
+    # (of each sentence some sets are shown)
+    shown = [it for it in found if shows_all or any(it in broken[sentence][:SHOWN] for sentence in it.sentences)]
+    rows += table_of(shown, its)
+    if len(found) > len(shown):
+        rows.append('and {:,} more sets (--all shows them)'.format(len(found) - len(shown)))
     return rows
 
 
+def table_of(found: list[Found], numbers: dict[str, int]) -> list[str]:
+    """A row for each set: the numbers of the expectations that it breaks, the missing lines, the faults, and the
+    cut."""
+    has_lines = any(it.severity for it in found)
+    cells = [('breaks', 'missing' * has_lines, 'faults, the worst first' if has_lines else 'faults')]
+    for it in found:
+        cells.append((', '.join(str(numbers[sentence]) for sentence in it.sentences), it.severity, it.words))
+        cells += [('', '', '  ' + it.cut_words)] if it.cut else []
+    widths = [max(len(row[column]) for row in cells) for column in (0, 1)]
+    return ['  '.join([one.ljust(widths[0]), *[two.ljust(widths[1])] * has_lines, words]) for one, two, words in cells]
+
+
 def row_of(it: Found, sentence: str) -> dict[str, Any]:
-    return {'expectation': sentence, 'size': len(it.faults), 'faults': it.words, 'file': it.file, 'cut': it.cut}
+    return {'expectation': sentence, 'size': len(it.faults), 'faults': it.words, 'file': it.file,
+            'missing': it.lacks.missing, 'wanted': it.lacks.wanted, 'cut': it.cut_words}
 
 
 def as_csv(found: list[Found]) -> str:
     """A row for each minimal set and expectation that it breaks."""
     text = io.StringIO()
-    rows = csv.DictWriter(text, ['expectation', 'size', 'faults', 'file', 'cut'], lineterminator='\n')
+    rows = csv.DictWriter(text, ['expectation', 'size', 'faults', 'file', 'missing', 'wanted', 'cut'],
+                          lineterminator='\n')
     rows.writeheader()
     for it in found:
         rows.writerows(row_of(it, sentence) for sentence in it.sentences)
@@ -227,5 +256,6 @@ def as_json(search: Search, found: list[Found], sentences: list[str], name: str,
         'notes': notes, 'holds': holding,
         'broken': [it for it in wanted if it in broken],
         'found': [{'faults': [fault.words for fault in it.faults], 'effects': [fault.effect for fault in it.faults],
-                   'expectations': it.sentences, 'file': it.file, 'cut': it.cut or None} for it in found],
+                   'expectations': it.sentences, 'file': it.file, 'cut': it.cut_words or None,
+                   'lines': it.lacks._asdict()} for it in found],
     }, indent=1, ensure_ascii=False) + '\n'

@@ -5,6 +5,7 @@ from pathlib import Path
 from typing import IO
 
 from motesim.faults import Fault
+from motesim.judge.shortfall import Shortfall
 from motesim.search.sets import Set
 from motesim.search.work import MORE, RUN, SAME, STOPPED, UNMADE, Outcome
 
@@ -42,10 +43,11 @@ class Kept:
                         'Search without --resume, or name another folder by -o' % path)
         # (a line that was cut off has no end)
         for row in rows[1:-1]:
-            words = row.split(' ', 3)
+            words = row.split(' ', 4)
             try:
                 found = tuple(int(word) for word in words[0].split(','))
-                self.known[found] = Outcome(found, NAMES[words[1]], int(words[2]), words[3])
+                missing, wanted = map(int, words[3].split('/'))
+                self.known[found] = Outcome(found, NAMES[words[1]], int(words[2]), words[4], Shortfall(missing, wanted))
             except (ValueError, KeyError, IndexError):
                 raise Fault('%s: %r is not a line of a search' % (path, row[:80])) from None
 
@@ -55,8 +57,8 @@ class Kept:
     def add(self, outcome: Outcome) -> None:
         if self.file:
             why = ' '.join(outcome.why.split())
-            self.file.write('%s %s %d %s\n' % (
-                ','.join(map(str, outcome.faults)), LETTERS[outcome.became], outcome.broken, why))
+            self.file.write('%s %s %d %d/%d %s\n' % (','.join(map(str, outcome.faults)), LETTERS[outcome.became],
+                                                  outcome.broken, *outcome.lacks, why))
 
     def close(self) -> None:
         if self.file:

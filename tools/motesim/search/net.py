@@ -6,7 +6,7 @@ from typing import Any, NamedTuple
 
 from motesim.plan.text import escaped, is_literal
 from motesim.scenario.scenario import Scenario
-from motesim.search.smaller import Step, instead, programs, smaller_numbers, without
+from motesim.search.smaller import Step, instead, programs, renumbered, smaller_numbers, without
 from motesim.search.tree import Program, program_text, read_program
 
 
@@ -23,7 +23,8 @@ class Loss(NamedTuple):
 
 
 class Net(NamedTuple):
-    """A scenario. `kept` has the texts of the programs that are written unchanged."""
+    """A scenario. `kept` has the texts of the programs that are written unchanged; `numbers` those that `self` and
+    `from` are in the other programs, if they aren't the numbers of the motes."""
     end: int
     range: int
     base: int
@@ -34,6 +35,7 @@ class Net(NamedTuple):
     motes: tuple[Mote, ...]
     losses: tuple[Loss, ...]
     kept: tuple[tuple[str, str], ...] = ()
+    numbers: tuple[int, ...] = ()
 
     @property
     def text(self) -> str:
@@ -45,7 +47,7 @@ class Net(NamedTuple):
         rows.append('[programs]')
         kept = dict(self.kept)
         for name, program in self.programs:
-            text = kept.get(name, program_text(program))
+            text = kept.get(name, program_text(renumbered(program, self.numbers)))
             rows.append("%s = '''\n%s'''" % (name, text) if is_literal(text) else '%s = "%s"' % (name, escaped(text)))
         if self.queue:
             rows += ['[queue]', *('%s = %d' % it for it in self.queue)]
@@ -71,14 +73,22 @@ def without_motes(net: Net, removed: frozenset[int]) -> Net:
     new = {mote: number for number, mote in enumerate(kept)}
     losses = tuple(Loss(new[it.sender], new[it.receiver], it.every) for it in net.losses
                    if it.sender in new and it.receiver in new)
-    return net._replace(motes=tuple(net.motes[mote] for mote in kept), losses=losses)
+    numbers = tuple((net.numbers or range(len(net.motes)))[mote] for mote in kept)
+    return net._replace(motes=tuple(net.motes[mote] for mote in kept), losses=losses,
+                        numbers=() if numbers == tuple(range(len(kept))) else numbers)
+
+
+# The parts of a scenario that a user can keep.
+PARTS = ('end', 'medium', 'places', 'numbers', 'programs')
 
 
 class NetStep(NamedTuple):
-    """A step in words, the net to which it leads, and the motes that it removes."""
+    """A step in words, the net to which it leads, the motes that it removes, and the one of `PARTS` that it changes, or
+    an empty text."""
     words: str
     net: Net
     removed: frozenset[int] = frozenset()
+    part: str = ''
 
 
 def parts(count: int) -> Iterator[tuple[int, int]]:
@@ -113,14 +123,6 @@ def without_program(net: Net, at: int) -> NetStep:
     return NetStep('removes the program %s' % name, net._replace(programs=without(net.programs, at), queue=queue))
 
 
-def unused_program_steps(net: Net) -> Iterator[NetStep]:
-    """Steps that remove the programs of no mote."""
-    used = {mote.program for mote in net.motes}
-    for at, (name, _) in enumerate(net.programs):
-        if name not in used:
-            yield without_program(net, at)
-
-
 def program_steps(net: Net) -> Iterator[NetStep]:
     used = {mote.program for mote in net.motes}
     for at, (name, program) in enumerate(net.programs):
@@ -130,20 +132,23 @@ def program_steps(net: Net) -> Iterator[NetStep]:
         step: Step
         for step in programs(program):
             yield NetStep('%s: %s' % (name, step.words),
-                          net._replace(programs=instead(net.programs, at, (name, step.program))))
+                          net._replace(programs=instead(net.programs, at, (name, step.program))), part='programs')
 
 
 def number_steps(net: Net) -> Iterator[NetStep]:
     """Steps that make the end, the medium, lengths of queues, losses and places smaller."""
+    if net.numbers:
+        yield NetStep('programs use the new numbers of the motes', net._replace(numbers=()), part='numbers')
     least = {'end': 0, 'range': 0, 'base': 1, 'per': 1}
     for name in least:
         number: int = getattr(net, name)
         for less in smaller_numbers(number):
             if less >= least[name]:
                 changed: dict[str, Any] = {name: less}
-                yield NetStep('%s: %d for %d' % (name, less, number), net._replace(**changed))
+                yield NetStep('%s: %d for %d' % (name, less, number), net._replace(**changed),
+                              part='end' if name == 'end' else 'medium')
     if net.collide:
-        yield NetStep('no packets collide', net._replace(collide=False))
+        yield NetStep('no packets collide', net._replace(collide=False), part='medium')
     for at, (name, _) in enumerate(net.queue):
         yield NetStep('the queue of %s has its usual length' % name, net._replace(queue=without(net.queue, at)))
     for at, loss in enumerate(net.losses):
@@ -156,4 +161,4 @@ def number_steps(net: Net) -> Iterator[NetStep]:
                 signed = less if number > 0 else -less
                 moved = mote._replace(x=signed) if axis == 'x' else mote._replace(y=signed)
                 yield NetStep('mote %d: %s is %d' % (at, axis, getattr(moved, axis)),
-                              net._replace(motes=instead(net.motes, at, moved)))
+                              net._replace(motes=instead(net.motes, at, moved)), part='places')

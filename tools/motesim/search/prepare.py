@@ -24,15 +24,19 @@ from motesim.judge.sentences import Sentence
 
 ADDED = {'fails': DIES, 'late': LATE}
 INTO = {DIES: 'fail', LATE: 'start late'}
+# The lines of a trace about a packet.
+OF_PACKETS = re.compile(rb'^(\d+) (?:send|recv|lost|collide) ', re.M)
 # The advice if a run reaches a limit.
 LIMITS = ' (--seconds and --bytes of tools/search set the limits of a run)'
 
 
 class Plain(NamedTuple):
-    """The run without a fault: its report, which expectations it breaks, and how many packets each mote sends."""
+    """The run without a fault: its report, which expectations it breaks, how many packets each mote sends, and the
+    moment of the last packet or arrival."""
     report: bytes
     broken: list[int]
     sent: list[int]
+    last: int = 0
 
 
 def plain_run(base: Base, program: OneProgram, sentences: list[Sentence]) -> Plain:
@@ -43,7 +47,8 @@ def plain_run(base: Base, program: OneProgram, sentences: list[Sentence]) -> Pla
             base.name, answer.stopped + LIMITS if answer.stopped else answer.fault))
     sections = answer.report.partition(b'\nmedium\n')[0].split(b'\nmote ')
     return Plain(answer.report, QuickJudge(sentences).broken(answer.report, base.scenario_itself),
-                 [section.count(b' send ') for section in sections])
+                 [section.count(b' send ') for section in sections],
+                 max(map(int, OF_PACKETS.findall(answer.report)), default=0))
 
 
 def without_process(report: bytes, mote: int, process: str) -> list[bytes]:

@@ -11,6 +11,7 @@ from collections.abc import Callable, Iterator
 from dataclasses import dataclass
 
 from motesim.faults import Fault
+from motesim.judge.shortfall import Shortfall
 from motesim.search.kept import Kept
 from motesim.search.runner import Runner
 from motesim.search.sets import Known, Set, Tally, count_of, draws
@@ -44,6 +45,8 @@ class Search:
         self.tallies: dict[int, Tally] = {}
         self.sample = Tally()
         self.why: Counter[str] = Counter()
+        # the lines that the run of each breaking set lacks
+        self.lacks: dict[Set, Shortfall] = {}
         self.runs = self.resumed = 0
         # the sets that break an expectation, among the sets of the present size or of the sample
         self.breaking = 0
@@ -120,6 +123,7 @@ class Search:
                 fewer = faults[:at] + faults[at + 1:]
                 smaller = next(iter(runner.outcomes(iter([Task(fewer, bit)]), lambda: False)))
                 self.runs += smaller.became == RUN
+                self.lacks[fewer] = smaller.lacks
                 if smaller.became == SAME or smaller.broken & bit:
                     faults, at = fewer, 0
                 else:
@@ -173,6 +177,7 @@ class Search:
             broken = outcome.broken & ~self.blind(outcome.faults)
             if broken:
                 found.append(outcome._replace(broken=broken))
+                self.lacks[outcome.faults] = outcome.lacks
             return
         tally.same += outcome.became == SAME
         tally.stopped += outcome.became == STOPPED

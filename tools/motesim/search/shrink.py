@@ -1,12 +1,12 @@
 """Makes a scenario that fails an expectation as small as possible, by delta debugging.
 
 One step after another is tried, and each is checked by a run: the report must still break the expectation in the same
-way, and must not be longer than the first one. The search ends when no step is left, so the result is one-minimal.
+way, and must not be longer than the first one. If lines are missing, they must be missing even up to the first end. The
+search ends when no step is left, so the result is one-minimal.
 """
 from __future__ import annotations
 
-import re
-from collections.abc import Callable, Iterator
+from collections.abc import Callable, Iterator, Sequence
 from dataclasses import dataclass, field
 from typing import NamedTuple
 
@@ -14,30 +14,21 @@ from motesim.faults import Fault
 from motesim.judge.judge import Broken, Judge
 from motesim.judge.sentences import Sentence, SentenceFault, names_of, read_sentence
 from motesim.report import Report
+from motesim.scenario.fields import Field
 from motesim.scenario.scenario import Scenario
 from motesim.search.change import Base, Change
 from motesim.search.faults import MOTES_OF, Effect, put_into
 from motesim.search.following import follow, names_motes_in_quotes
 from motesim.search.halting import is_only_about_halts, without_halts
-from motesim.search.net import (
-    Net, NetStep, loss_steps, mote_steps, net_of, number_steps, program_steps, unused_program_steps,
-)
+from motesim.search.net import PARTS, Net, NetStep, loss_steps, mote_steps, net_of, number_steps, program_steps
 from motesim.search.one_program import OneProgram
 from motesim.search.quick_judge import QuickJudge
+from motesim.why.cause import NO_CAUSE, Cause, cause_of
+from motesim.why.source import Source
 
 NAME = 'the scenario'
-MOTE = re.compile(r'\bmotes? \d+')
 STEPS: dict[str, Callable[[Net], Iterator[NetStep]]] = {
     'motes': mote_steps, 'losses': loss_steps, 'programs': program_steps, 'numbers': number_steps}
-# The end of the way in which a line breaks a sentence.
-SHOWN = ' (a line shows it)'
-# The remark on a run that may break a sentence only because hardly anything happens in it.
-EMPTY = ('In the small run, %s. So it may break the expectation for another reason. Two options prevent this: --fault '
-         'adds the fault without which the expectation has to hold, and --keep names an expectation that has to hold, '
-         'such as --keep "some packet is sent"')
-# The steps that change no program.
-STEPS_OF_NET: dict[str, Callable[[Net], Iterator[NetStep]]] = {**STEPS, 'programs': unused_program_steps}
-
 
 class Case(NamedTuple):
     """A net, the sentence that it breaks, faults that are added to it (without them the sentence has to hold), and
@@ -48,13 +39,20 @@ class Case(NamedTuple):
     keeps: tuple[str, ...] = ()
 
 
-def way_of(broken: Broken) -> str:
-    """The way in which a sentence is broken: the explanation without the numbers, except a 0.
+class Way(NamedTuple):
+    """The way in which a sentence is broken: the kind of the reason, whether lines are missing, whether there are none
+    at all, and whether a line of the report shows it. An extra line, or a wrong line, is a different way from a missing
+    line."""
+    kind: str
+    is_few: bool
+    has_none: bool
+    is_shown: bool
 
-    An extra line, or a wrong line, is a different way from a missing line.
-    """
-    why = re.sub(r'\d+', lambda found: '0' if found[0] == '0' else 'N', broken.why)
-    return why if broken.row is None else why + SHOWN
+
+def way_of(broken: Broken) -> Way:
+    """The way in which a sentence is broken."""
+    lacks = broken.lacks
+    return Way(broken.kind, lacks is not None, lacks is not None and not lacks.found, broken.row is not None)
 
 
 def moved(effect: Effect, removed: frozenset[int]) -> Effect | None:
@@ -118,25 +116,22 @@ class Shrinking:
     is_whole: bool = True
     last: int = 0
     longest: int | None = None
-    keeps_programs: bool = False
+    # The parts of the scenario that stay: some of `net.PARTS`.
+    keeps: frozenset[str] = frozenset()
+    # The declared format of packets.
+    fields: tuple[Field, ...] = ()
     # The numbers that the present motes had at first.
     motes: list[int] = field(default_factory=list)
-    # The explanations for the first report, for the present one, and for the last one that was judged.
-    first: str = ''
-    now: str = ''
-    tried: str = ''
-    # Whether a mote sends a packet in the first run, in the present one, and in the last one that was judged.
-    sent_first: bool = False
-    sent_now: bool = False
-    sent: bool = False
+    # The last case's report that was judged, and that of the present case.
+    judged: Seen | None = None
+    now: Seen | None = None
 
     def __post_init__(self) -> None:
         self.motes = list(range(len(self.case.net.motes)))
+        self.first, self.first_end = self.case, self.case.net.end
         self.way = self.way_now(self.case)
         self.longest = self.last
-        self.first = self.now = self.tried
-        self.sent_first = self.sent_now = self.sent
-        self.first_end = self.case.net.end
+        self.seen_first = self.now = self.judged
         if self.way is None:
             more = (' with these faults, or breaks it even without them' if self.case.effects else
                     ', or breaks an expectation of --keep' * bool(self.case.keeps))
@@ -147,36 +142,48 @@ class Shrinking:
         self.runs += 1
         answer = self.program.run(text.encode())
         self.last = max(self.last, len(answer.report))
-        if answer.status or answer.stopped or (self.longest is not None and len(answer.report) > self.longest):
-            return None
-        return Seen(answer.report, Scenario.parse(text))
+        scenario = self.scenario(text)
+        is_long = self.longest is not None and len(answer.report) > self.longest and scenario.end < self.first_end
+        return None if answer.status or answer.stopped or is_long else Seen(answer.report, scenario)
 
-    def way_now(self, case: Case) -> str | None:
+    def scenario(self, text: str) -> Scenario:
+        found = Scenario.parse(text)
+        found.fields = self.fields
+        return found
+
+    def way_now(self, case: Case) -> Way | None:
         """The way in which a case breaks its sentence, or None if it doesn't, or if it breaks it even without its
         faults."""
         if case.effects:
             without = self.seen(case.net.text)
             if without is None or without.broken(case.sentence):
                 return None
+        found = self.seen_with_faults(case)
+        if found is None or any(found.is_broken(it) for it in case.keeps):
+            return None
+        broken, self.judged = found.broken(case.sentence), found
+        if broken and broken.lacks and case.net.end < self.first_end:
+            # (the missing lines may only be late)
+            later = self.seen_with_faults(case._replace(net=case.net._replace(end=self.first_end)))
+            late = later.broken(case.sentence) if later else None
+            return way_of(broken) if late and way_of(late) == way_of(broken) else None
+        return way_of(broken) if broken else None
+
+    def seen_with_faults(self, case: Case) -> Seen | None:
+        """The report of a case."""
         try:
             found = self.seen(with_effects(case.net.text, case.effects))
         except Fault:
             return None
         failed = tuple((int(it[1]), int(it[2])) for it in case.effects if it[0] == 'fails')
-        found = found and found._replace(failed=failed)
-        if found is None or any(found.is_broken(it) for it in case.keeps):
-            return None
-        broken = found.broken(case.sentence)
-        self.tried = broken.why if broken else ''
-        self.sent = b' send ' in found.report
-        return way_of(broken) if broken else None
+        return found and found._replace(failed=failed)
 
     def after(self, step: NetStep) -> Case | None:
         """The case after a step, or None if the sentence or a fault can't follow it."""
         case = self.case
         if not step.removed:
             return case._replace(net=step.net)
-        names = names_of(Scenario.parse(case.net.text))
+        names = names_of(self.scenario(case.net.text))
         sentences = [follow(it, names, step.removed) for it in (case.sentence, *case.keeps)]
         effects = [moved(it, step.removed) for it in case.effects]
         known = [it for it in sentences if it is not None and not names_motes_in_quotes(it)]
@@ -198,19 +205,17 @@ class Shrinking:
 
     def take_all(self, name: str) -> bool:
         """Takes steps of one sort, as long as there are any; returns whether one was taken."""
-        steps = STEPS_OF_NET if self.keeps_programs else STEPS
         found = False
         at = 0
         while not self.is_over():
-            tried = list(steps[name](self.case.net))
+            tried = [it for it in STEPS[name](self.case.net) if it.part not in self.keeps]
             for offset in range(len(tried)):
                 index = (at + offset) % len(tried)
                 if self.is_over():
                     return found
                 case = self.after(tried[index])
                 if case is not None and self.way_now(case) == self.way:
-                    self.case, self.now, found, at = case, self.tried, True, index
-                    self.sent_now = self.sent
+                    self.case, self.now, found, at = case, self.judged, True, index
                     self.motes = [it for mote, it in enumerate(self.motes) if mote not in tried[index].removed]
                     self.taken.append(tried[index].words)
                     break
@@ -218,20 +223,11 @@ class Shrinking:
                 return found
         return found
 
-    @property
-    def may_differ(self) -> bool:
-        """Returns whether the explanation has other numbers than at first, apart from those of motes."""
-        return MOTE.sub('', self.first) != MOTE.sub('', self.now)
-
-    @property
-    def remark(self) -> str:
-        """The remark on a present run without the packets of the first one, or with the end 0, if no fault is given and
-        the sentence lacks a line. Otherwise an empty text."""
-        if self.case.effects or self.way is None or self.way.endswith(SHOWN):
-            return ''
-        parts = ['the end is 0'] * (self.case.net.end == 0 < self.first_end)
-        parts += ['no mote sends a packet'] * (self.sent_first and not self.sent_now)
-        return EMPTY % ' and '.join(parts) if parts else ''
+    def causes(self) -> tuple[Cause, Cause] | None:
+        """The causes for which the first and the present scenario break the sentence, if they differ."""
+        first, now = (cause_of(Source(NAME, seen.report, seen.scenario), case.sentence) if seen else NO_CAUSE
+                      for case, seen in ((self.first, self.seen_first), (self.case, self.now)))
+        return (first, now) if now.differs(first) else None
 
     @property
     def renumbered(self) -> str:
@@ -248,3 +244,10 @@ def case_of(text: str, sentence: str, effects: tuple[Effect, ...] = (), keeps: t
             keeps_programs: bool = False) -> Case:
     """The case of a scenario's text."""
     return Case(net_of(Scenario.parse(text), keeps_programs), sentence, effects, keeps)
+
+
+def parts_and_sentences(words: Sequence[str]) -> tuple[frozenset[str], tuple[str, ...]]:
+    """The parts that options such as `--keep end,places` name, and the sentences that others have."""
+    lists = [(it, [word.strip() for word in it.split(',')]) for it in words]
+    parts = [word for _, its in lists if set(its) <= set(PARTS) for word in its]
+    return frozenset(parts), tuple(it for it, its in lists if not set(its) <= set(PARTS))

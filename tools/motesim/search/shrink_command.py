@@ -3,7 +3,6 @@ from __future__ import annotations
 
 import argparse
 import sys
-import textwrap
 import time
 from functools import partial
 from pathlib import Path
@@ -12,7 +11,7 @@ from types import FrameType
 from motesim.experiments.runs import Break
 from motesim.faults import INTERRUPTED, Fault
 from motesim.files import refuse_inputs
-from motesim.judge.expectations import beside, parts_of, read_all, text_of
+from motesim.judge.expectations import beside, fields_beside, parts_of, read_all, text_of
 from motesim.judge.judge import Judge
 from motesim.judge.sentences import names_of
 from motesim.report import Report
@@ -21,12 +20,13 @@ from motesim.scenario.scenario import Scenario
 from motesim.search.change import Base
 from motesim.search.faults import effect_of
 from motesim.search.found import counted, toml_text, write_whole
-from motesim.search.net import Net, net_of
+from motesim.search.net import PARTS, Net, net_of
 from motesim.search.one_program import Limits, OneProgram
 from motesim.search.progress import Progress
-from motesim.search.shrink import Case, Shrinking, case_of
+from motesim.search.shrink import Case, Shrinking, case_of, parts_and_sentences
 from motesim.search.smaller import statements_in
 
+OTHER_CAUSE = 'Another cause now: --fault, or --keep with an expectation or parts of the scenario, may prevent it'
 STOPPED = 'it was stopped before the first step, so no file is written'
 
 
@@ -72,8 +72,9 @@ def write_result(shrinking: Shrinking, net: Net, name: str, path: Path) -> None:
 
 
 def runs_of(case: Case) -> int:
-    """The number of runs that a step needs: one with the faults and, if there are any, one without them."""
-    return 2 if case.effects else 1
+    """The most runs that a step needs: one with the faults, one up to the first end and, if there are faults, one
+    without them."""
+    return 3 if case.effects else 2
 
 
 def why_over(is_stopped: bool, seconds: tuple[float, float | None], runs: tuple[int, int | None]) -> str:
@@ -139,17 +140,19 @@ class Work:
         """Makes the scenario small, and shows the result; returns the status."""
         asked, path = self.asked, self.path
         base = Base(text_of(path), asked.scenario)
+        base.scenario_itself.fields = fields_beside(path)
         is_file = not asked.expectation or asked.expectation.endswith('.toml')
         expected = Path(asked.expectation) if asked.expectation else beside(path)
         for made in self.output, beside(self.output):
             refuse_inputs(made, [path, expected])
         sentence = first_broken(base, expected, self.program) if is_file else asked.expectation
-        read_all([sentence, *asked.keep], names_of(base.scenario_itself))
+        parts, wanted = parts_and_sentences(asked.keep)
+        read_all([sentence, *wanted], names_of(base.scenario_itself))
         effects = tuple(effect_of(it, base.scenario_itself.motes) for it in asked.fault)
-        case = case_of(base.source, sentence, effects, tuple(asked.keep), asked.keep_programs)
+        case = case_of(base.source, sentence, effects, wanted, 'programs' in parts)
         ran = int(is_file)
         self.need_runs(ran, self.why_over(ran + runs_of(case)))
-        shrinking = Shrinking(self.program, case, keeps_programs=asked.keep_programs)
+        shrinking = Shrinking(self.program, case, keeps=parts, fields=base.scenario_itself.fields)
         shrinking.runs += ran
         shrinking.is_over = partial(self.is_over, shrinking)
         before = shrinking.text
@@ -169,18 +172,22 @@ class Work:
                 print('%3d %s' % (number, it))
         print('before: %s' % sizes(before))
         print('now:    %s' % sizes(shrinking.text))
-        whole = 'no further step is possible' + ' without a change of a program' * self.asked.keep_programs
+        kept = ' or '.join(it for it in PARTS if it in shrinking.keeps)
+        whole = 'no further step is possible' + ' without a change of %s' % kept * bool(kept)
         print('%d steps, %d runs; %s' % (len(shrinking.taken), shrinking.runs,
                                          'STOPPED: more steps may be possible (%s)' % why if why else whole))
         print('%s breaks: %s' % (self.output, shrinking.case.sentence))
         if shrinking.renumbered:
             print('  in %s, %s' % (self.path.name, shrinking.renumbered))
-        if shrinking.may_differ:
-            print('The explanation has other numbers now, so the cause may be another one:')
-            print('  before: %s' % shrinking.first)
-            print('  now:    %s' % shrinking.now)
-        for line in textwrap.wrap(shrinking.remark, 110, break_on_hyphens=False):
+        for line in differing(shrinking):
             print(line)
+
+
+def differing(shrinking: Shrinking) -> list[str]:
+    """The lines about the causes, if the small scenario breaks the sentence for another one."""
+    causes = shrinking.causes()
+    return [OTHER_CAUSE, *('  %s %s' % (when, it.words or 'none was found') for when, it in zip(
+        ('before:', 'now:   '), causes))] if causes else []
 
 
 def status_of(asked: argparse.Namespace) -> int:

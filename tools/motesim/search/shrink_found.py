@@ -12,7 +12,11 @@ from motesim.search.one_program import OneProgram
 from motesim.search.progress import Progress
 from motesim.search.search import Search
 from motesim.search.shrink import Case, Shrinking, case_of
-from motesim.search.shrink_command import limit_in_words, runs_of, sizes, why_over, write_result
+from motesim.search.shrink_command import differing, limit_in_words, runs_of, sizes, why_over, write_result
+
+
+# The parts of the scenario that stay, and the sentences that have to hold.
+Keeps = tuple[frozenset[str], tuple[str, ...]]
 
 
 class Allowance:
@@ -39,32 +43,33 @@ class Allowance:
         return bool(self.why_over(shrinking.runs + runs_of(shrinking.case)))
 
 
-def case_of_found(asking: Asking, first: Found, sentence: str) -> Case:
+def case_of_found(asking: Asking, first: Found, sentence: str, keeps: Keeps) -> Case:
     """The scenario with a set of faults that breaks a sentence."""
     given = {str(it.effect[1]): it.effect[2] for it in first.faults if it.kind == 'parameters'}
     effects = tuple(it.effect for it in first.faults if it.kind != 'parameters')
-    return case_of(asking.base.with_parameters(given).source, sentence, effects)
+    return case_of(asking.base.with_parameters(given).source, sentence, effects, keeps[1], 'programs' in keeps[0])
 
 
 def shrink_each(asking: Asking, search: Search, found: list[Found], folder: Path, progress: Progress,
-                is_quiet: bool) -> bool:
-    """Makes the smallest counter-example of each expectation (the first of several) as small as possible: without the
-    faults the expectation holds, but with them it doesn't. Returns whether the user ended this."""
+                is_quiet: bool, keeps: Keeps = (frozenset(), ())) -> bool:
+    """Makes a counter-example of each expectation as small as possible: without the faults the expectation holds, but
+    with them it doesn't. It is the smallest one, the worst of several, and one that cuts nobody off if there is one.
+    Returns whether the user ended this."""
     program = OneProgram(str(asking.path), asking.limits)
     warnings = sys.stderr if is_quiet else sys.stdout
     with Break() as stop:
         allowance = Allowance(search, stop)
         for number, sentence in enumerate(asking.texts, 1):
             sets = [it for it in found if sentence in it.sentences]
-            first = min(sets, key=lambda it: len(it.faults), default=None)
+            first = min(sets, key=lambda it: (it.cut is not None, len(it.faults)), default=None)
             if first is None:
                 continue
-            case, path = case_of_found(asking, first, sentence), folder / ('small_%d.toml' % number)
+            case, path = case_of_found(asking, first, sentence, keeps), folder / ('small_%d.toml' % number)
             why = allowance.why_over(runs_of(case))
             if why:
                 print('NOT MADE SMALL: %s (%s)' % (sentence, why), file=warnings)
                 continue
-            shrinking = Shrinking(program, case)
+            shrinking = Shrinking(program, case, keeps=keeps[0], fields=asking.base.scenario_itself.fields)
             shrinking.is_over = partial(allowance.is_over, shrinking, progress, path.name)
             shrinking.run()
             progress.end_shrinking()
@@ -84,11 +89,14 @@ def show(shrinking: Shrinking, path: Path, made_from: str, name: str) -> None:
     print('%s breaks: %s\n  %s\n  %s' % (path, shrinking.case.sentence, made_from, sizes(shrinking.text)))
     if shrinking.renumbered:
         print('  in %s, %s' % (name, shrinking.renumbered))
+    for line in differing(shrinking):
+        print('  ' + line)
 
 
 def chosen(first: Found, sets: list[Found]) -> str:
-    """The set of faults that was made small, in words; and the number of sets that are as small, if there are others.
-    """
-    count = sum(len(it.faults) == len(first.faults) for it in sets)
-    which = 'the first of %s of this size' % counted(count, 'set', 'sets') if count > 1 else 'the smallest set'
+    """The set of faults that was made small, in words, and why this one, if there are others."""
+    like = [it for it in sets if (it.cut is None) == (first.cut is None)]
+    count = sum(len(it.faults) == len(first.faults) for it in like)
+    which = 'the worst of %s of this size' % counted(count, 'set', 'sets') if count > 1 else 'the smallest set'
+    which += ' without a cut' * (len(like) < len(sets))
     return 'made from: %s%s' % (first.words, ' (%s)' % which if len(sets) > 1 else '')

@@ -5,7 +5,7 @@ is finite. Some results aren't programs, for instance if a removed variable is s
 """
 from __future__ import annotations
 
-from collections.abc import Callable, Iterator
+from collections.abc import Callable, Iterator, Sequence
 from typing import NamedTuple, TypeVar
 
 from motesim.search.tree import (
@@ -139,39 +139,65 @@ def _names_it(it: Plain, process: str) -> bool:
     return it.words[0] in OF_PROCESSES and it.words[1] == process
 
 
-def _mapped(it: Expression, change: Callable[[Test], Expression]) -> Expression:
-    if isinstance(it, Test):
-        return change(it)
+# A change of a word or a test in an expression.
+Change = Callable[[str | Test], Expression]
+
+
+def _mapped(it: Expression, change: Change) -> Expression:
     if isinstance(it, Not):
         return Not(_mapped(it.inner, change))
     if isinstance(it, Operation):
         return Operation(_mapped(it.left, change), it.operator, _mapped(it.right, change))
-    return it
+    return change(it)
 
 
-def _block_without(block: Block, process: str) -> Block:
-    """A block without the statements that name a process; tests of the process become 0."""
-    def change(it: Test) -> Expression:
-        return '0' if it.word in ('gone', 'running') and it.of == process else it
+def _mapped_block(block: Block, change: Change, stays: Callable[[Plain], bool]) -> Block:
+    """A block with the statements that stay, and with changed expressions."""
     found: list[Statement] = []
     for it in block:
         if isinstance(it, If):
-            no = None if it.no is None else _block_without(it.no, process)
-            found.append(If(_mapped(it.test, change), _block_without(it.yes, process), no))
+            no = None if it.no is None else _mapped_block(it.no, change, stays)
+            found.append(If(_mapped(it.test, change), _mapped_block(it.yes, change, stays), no))
         elif isinstance(it, While):
-            found.append(While(_mapped(it.test, change), _block_without(it.block, process)))
-        elif not _names_it(it, process):
+            found.append(While(_mapped(it.test, change), _mapped_block(it.block, change, stays)))
+        elif stays(it):
             found.append(it if it.value is None else it._replace(value=_mapped(it.value, change)))
     return tuple(found)
 
 
+def _mapped_codes(codes: tuple[Code, ...], change: Change, stays: Callable[[Plain], bool] = lambda it: True
+                  ) -> tuple[Code, ...]:
+    return tuple(code._replace(parts=tuple(Part(it.words, _mapped_block(it.block, change, stays)) for it in code.parts))
+                 for code in codes)
+
+
 def without_process(program: Program, process: str) -> Program:
-    """A program without a process and without the statements that name it."""
-    left = tuple(code._replace(parts=tuple(Part(part.words, _block_without(part.block, process))
-                                           for part in code.parts))
-                 for code in program.codes if code.process != process)
+    """A program without a process and without the statements that name it; tests of the process become 0."""
+    def change(it: str | Test) -> Expression:
+        return '0' if isinstance(it, Test) and it.word in ('gone', 'running') and it.of == process else it
+    left = _mapped_codes(tuple(code for code in program.codes if code.process != process), change,
+                         lambda it: not _names_it(it, process))
     return program._replace(autostart=tuple(it for it in program.autostart if it != process), codes=left,
                             receiver=None if program.receiver == process else program.receiver)
+
+
+def renumbered(program: Program, numbers: Sequence[int]) -> Program:
+    """A program in which `self` and `from` are the numbers that the motes had before: `numbers` has those of the
+    present motes, in rising order."""
+    def change(it: str | Test) -> Expression:
+        return _before(it, numbers) if isinstance(it, str) and it in ('self', 'from') else it
+    return program._replace(codes=_mapped_codes(program.codes, change))
+
+
+def _before(word: str, numbers: Sequence[int]) -> Expression:
+    """The number that a mote had before: its present one, and the lengths of the gaps below it."""
+    found: Expression = word
+    for mote, number in enumerate(numbers):
+        gap = number - (numbers[mote - 1] + 1 if mote else 0)
+        if gap:
+            more: Expression = Operation(str(gap), '*', Operation(word, '>=', str(mote))) if mote else str(gap)
+            found = Operation(found, '+', more)
+    return found
 
 
 def programs(program: Program) -> Iterator[Step]:
@@ -193,8 +219,6 @@ def programs(program: Program) -> Iterator[Step]:
         for less in smaller_numbers(number):
             yield Step('`semaphore %s` has the initial count %d' % (name, less), program._replace(
                 semaphores=instead(program.semaphores, at, (name, less))))
-
-
 
 
 def _count(block: Block) -> int:

@@ -13,7 +13,10 @@ from motesim.search.one_program import Answer, Limits, OneProgram
 from motesim.search.quick_judge import QuickJudge
 from motesim.search.sets import Set
 from motesim.search.single_packets import loses_more
+from motesim.judge.judge import Judge
 from motesim.judge.sentences import Sentence
+from motesim.judge.shortfall import Shortfall, shortfall_of
+from motesim.report import Report
 
 RUN, SAME, STOPPED, UNMADE, MORE = 'run', 'same', 'stopped', 'unmade', 'more'
 
@@ -26,11 +29,12 @@ class Task(NamedTuple):
 
 class Outcome(NamedTuple):
     """The result of a set: how it ended (run, same, stopped, unmade, or more if a link lost more than its one packet),
-    which expectations it breaks, and the reason if it wasn't run."""
+    which expectations it breaks, the reason if it wasn't run, and the lines that its run lacks for them."""
     faults: Set
     became: str
     broken: int = 0
     why: str = ''
+    lacks: Shortfall = Shortfall()
 
 
 class Work(NamedTuple):
@@ -58,7 +62,7 @@ class Bench:
 
     def __init__(self, work: Work):
         self.base, self.faults, self.halting = work.base, work.faults, work.halting
-        self.judge = QuickJudge(work.sentences)
+        self.judge, self.sentences = QuickJudge(work.sentences), work.sentences
         self.program = OneProgram(work.program, work.limits)
 
     def change(self, found: Set) -> Change:
@@ -96,7 +100,13 @@ class Bench:
         losses = self.base.with_parameters(change.parameters).scenario_itself.losses
         if loses_more([self.faults[number] for number in found], answer.report, losses):
             return Outcome(found, MORE)
-        return Outcome(found, RUN, self.broken(answer.report, change, task))
+        broken = self.broken(answer.report, change, task)
+        return Outcome(found, RUN, broken, lacks=self.lacks(answer.report, change, task) if broken else Shortfall())
+
+    def lacks(self, report: bytes, change: Change, task: Task) -> Shortfall:
+        """The lines that a report lacks for the expectations to be tried."""
+        wanted = [self.sentences[number] for number in numbers_of(task.wanted)]
+        return shortfall_of(Judge(Report.parse(report), self.base.scenario(change)), wanted)
 
     def broken(self, report: bytes, change: Change, task: Task) -> int:
         """The expectations that a report breaks. Those about halts are judged for the motes that the faults don't

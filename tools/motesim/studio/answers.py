@@ -149,13 +149,14 @@ def checks(done: Finished, saved: str, expected: tuple[str, str] | None) -> dict
 
 def marks(part: expectations.Part, done: Finished) -> list[dict[str, Any]]:
     """A mark for each sentence of a part, and one for its report, if it has one."""
+    done.scenario.fields = part.fields
     judge = Judge(done.run.report, done.scenario)
     found = list[dict[str, Any]]()
     for words, sentence in zip(part.sentences, expectations.read_all(part.sentences, names_of(done.scenario))):
         broken = judge.broken(sentence)
         found.append({'sentence': words, 'holds': broken is None, 'required': len(found) < part.required,
                       'row': broken.row if broken else None,
-                      'more': expectations.more_of(broken, judge.rows) if broken else [],
+                      'more': expectations.more_of(broken, judge.rows, part.fields) if broken else [],
                       'remark': remark_of(sentence, judge, broken is None)})
     if part.report is not None:
         whole = expectations.same_report(judge.rows, part.report)

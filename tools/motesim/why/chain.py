@@ -1,10 +1,11 @@
 """The chain of causes of a line, back to the start of a mote: docs/use/DEBUGGING.md defines the cause of a line."""
 from __future__ import annotations
 
-from collections.abc import Iterator
+from collections.abc import Iterator, Sequence
 from typing import Any, NamedTuple
 
 from motesim.faults import Fault
+from motesim.scenario.fields import Field, of_line
 from motesim.why.endless import AT_ONCE, LETS_WAIT, MOST_WAITS, Endless, instead
 from motesim.why.replay import SYSTEM, Frame, Link, Replay
 from motesim.why.source import At, Source
@@ -340,9 +341,10 @@ def as_json(source: Source, hops: list[Hop]) -> dict[str, Any]:
     }
 
 
-def rows(hops: list[Hop]) -> list[str]:
-    """A chain as text, a line for each hop."""
-    table = [(str(hop.at), str(hop.where.mote), str(hop.row), hop.words, hop.because) for hop in hops]
+def rows(hops: list[Hop], fields: Sequence[Field] = ()) -> list[str]:
+    """A chain as text, a line for each hop, with the fields of its value."""
+    table = [(str(hop.at), str(hop.where.mote), str(hop.row), hop.words + of_line(fields, hop.words), hop.because)
+             for hop in hops]
     table.insert(0, ('moment', 'mote', 'line', '', ''))
     widths = [max(map(len, column)) for column in zip(*table)]
     found = []

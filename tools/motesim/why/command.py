@@ -3,9 +3,12 @@ from __future__ import annotations
 
 import argparse
 import json
+import sys
+from pathlib import Path
 
 from motesim.faults import Fault
-from motesim.runner.run import read_file
+from motesim.judge.expectations import beside, parts_of, read_all, text_of
+from motesim.judge.sentences import names_of
 from motesim.why.chain import Hop, as_json, chain, on_values, path_of, rows
 from motesim.why.diverge import diverged
 from motesim.why.diverge import rows as parted_rows
@@ -36,7 +39,7 @@ def show_chain(source: Source, asked: Asked, is_short: bool) -> None:
     if asked.remark:
         print(asked.remark)
     print()
-    print('\n'.join(rows(short(hops) if is_short else hops)))
+    print('\n'.join(rows(short(hops) if is_short else hops, source.scenario.fields)))
     print()
     print(path_of(hops))
     remark = on_values(source, hops)
@@ -121,14 +124,29 @@ def show_why(source: Source, asked: argparse.Namespace) -> int:
     return 0
 
 
+def broken_beside(source: Source, path: Path) -> str:
+    """The first sentence of the file of expectations next to a scenario that its run breaks."""
+    if not path.exists():
+        raise Fault('a question is needed: an expectation, a line, --watch or --state; or a file %s' % path)
+    texts = parts_of(text_of(path), str(path))[0].sentences
+    judge = Asker(source).judge
+    for text, sentence in zip(texts, read_all(texts, names_of(source.scenario))):
+        if judge.broken(sentence):
+            return text
+    raise Fault('all of %s hold, so a question is needed: an expectation, a line, --watch or --state' % path)
+
+
 def status_of(asked: argparse.Namespace) -> int:
     """The work of tools/why; returns the status."""
     if asked.json and asked.other is not None:
         raise Fault('--json and --other can\'t be combined')
     given = [it for it in (asked.question, asked.watch, asked.state) if it is not None]
-    if len(given) != 1:
-        raise Fault('one question is needed: an expectation, a line, --watch or --state')
+    if len(given) > 1:
+        raise Fault('only one question is allowed: an expectation, a line, --watch or --state')
     source = read_source(asked.file, asked.scenario)
+    if not given:
+        asked.question = broken_beside(source, beside(Path(asked.scenario or asked.file)))
+        print(asked.question, end='\n\n', file=sys.stderr if asked.json else sys.stdout)
     if asked.watch is not None:
         return show_watch(source, asked)
     if asked.state is not None:

@@ -13,6 +13,7 @@ from typing import NamedTuple
 from motesim.faults import Fault
 from motesim.judge.judge import Span
 from motesim.report import FIELDS, MOST_MOMENT
+from motesim.scenario.fields import Field, of_line
 from motesim.why.question import Asker
 from motesim.why.source import At, Source, Traces, read_traces, traces_of
 
@@ -186,8 +187,8 @@ def table(log: Log) -> Iterator[str]:
         yield ' '.join(text.rjust(width) for text, width in zip(row, widths))
 
 
-def shown(log: Log, order: Sequence[int], form: str) -> Iterator[str]:
-    """The lines of a log as text, for a spreadsheet, or for programs."""
+def shown(log: Log, order: Sequence[int], form: str, fields: Sequence[Field] = ()) -> Iterator[str]:
+    """The lines of a log as text, with the fields of values, for a spreadsheet, or for programs."""
     moments, rows, owners = log.moments, log.rows, log.owners
     if form == 'csv':
         yield 'moment,mote,line,what\n'
@@ -208,7 +209,7 @@ def shown(log: Log, order: Sequence[int], form: str) -> Iterator[str]:
     of_row = '%%%dd  ' % width[2]
     for place in order:
         yield ''.join((of_moment[moments[place]], of_mote[owners[place]], of_row % rows[place],
-                       text[begins[place]:ends[place]], '\n'))
+                       text[begins[place]:ends[place]], fields and of_line(fields, log.words(place)) or '', '\n'))
 
 
 def numbers_of(text: str, most: int, what: str) -> frozenset[int]:
@@ -253,7 +254,8 @@ def status_of(asked: argparse.Namespace) -> int:
         order = order[:max(0, asked.first_lines)]
     if asked.last_lines is not None:
         order = order[len(order) - min(len(order), max(0, asked.last_lines)):]
-    sys.stdout.writelines(shown(log, order, 'csv' if asked.csv else 'json' if asked.json else 'text'))
+    form = 'csv' if asked.csv else 'json' if asked.json else 'text'
+    sys.stdout.writelines(shown(log, order, form, scenario.fields if scenario else ()))
     if not (asked.csv or asked.json):
         print(sums(log))
     return 0

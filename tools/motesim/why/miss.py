@@ -11,6 +11,7 @@ from typing import Any, NamedTuple
 from motesim.judge.hearing import unheard
 from motesim.judge.judge import Event, Span, span_in_words
 from motesim.judge.sentences import Pattern, Value
+from motesim.scenario.fields import in_words as in_fields
 from motesim.why.chain import count, in_words, used_up
 from motesim.why.fate import Fate, fate_of
 from motesim.why.question import Asker, Missing
@@ -118,8 +119,9 @@ class _Misses:
         is_any = not values and self.missing.sentence.deed.way == 'any'
         wanted = [it for it in lost if int(it[0][3]) in values]
         for words, row, fate in wanted[-MOST_COPIES:] or lost[-MOST_OTHERS:]:
+            value = words[3] + in_fields(self.source.scenario.fields, int(words[3]))
             yield Miss(fate.how, 'packet %s of mote %s, with the value %s, was sent at %s: %s' % (
-                words[2], words[1], words[3], words[0], fate.words), fate.row or row, bool(wanted) or is_any)
+                words[2], words[1], value, words[0], fate.words), fate.row or row, bool(wanted) or is_any)
 
     def lost(self) -> Iterator[tuple[list[str], int, Fate]]:
         """The copies that didn't arrive, or that no process took: the words and the row of their packet, and their

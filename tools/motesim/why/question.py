@@ -170,7 +170,7 @@ class Asker:
         """The line that breaks a sentence, or the lines that it lacks."""
         why = broken.why.partition('; the next is')[0].replace('\n', '; ')
         if isinstance(it, Does) and broken.lacks:
-            motes, span = broken.lacks
+            motes, span = broken.lacks.motes, broken.lacks.span
             sentence, found = replace(it, than=None, relation=None), tuple(self.judge.done(it.deed, motes))
             return Missing(sentence, motes, span, found, why)
         where = self.line(broken.row)

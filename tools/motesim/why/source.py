@@ -6,6 +6,7 @@ from collections.abc import Iterator
 from pathlib import Path
 from typing import NamedTuple
 
+from motesim.judge.expectations import fields_beside
 from motesim.report.belongs import check_scenario
 from motesim.faults import Fault
 from motesim.report import Report
@@ -215,6 +216,12 @@ class Source:
         return self.loops[mote]
 
 
+def with_fields(scenario: Scenario, path: str | Path) -> Scenario:
+    """A scenario with the format of packets that the expectations next to its file declare."""
+    scenario.fields = fields_beside(path)
+    return scenario
+
+
 def read_traces(path: str | Path, scenario: str | Path | None = None) -> tuple[bytes, Scenario | None]:
     """The bytes of a report, and the scenario if it is known. The file has a scenario, which is run, or a report."""
     data = read_file(path)
@@ -223,7 +230,7 @@ def read_traces(path: str | Path, scenario: str | Path | None = None) -> tuple[b
         if scenario is not None:
             raise Fault('%s: it is itself a scenario, so no other can be given' % path)
         try:
-            return run_program(data), Scenario.parse(data)
+            return run_program(data), with_fields(Scenario.parse(data), path)
         except NoReport as fault:
             # (only an error needs it, and its modules are many)
             from motesim.explain.explanation import refused
@@ -234,7 +241,7 @@ def read_traces(path: str | Path, scenario: str | Path | None = None) -> tuple[b
     if scenario is None:
         return data, None
     try:
-        return data, Scenario.parse(read_file(scenario))
+        return data, with_fields(Scenario.parse(read_file(scenario)), scenario)
     except Fault as fault:
         raise Fault('%s: %s' % (scenario, fault)) from None
 

@@ -50,7 +50,9 @@ def read_state(source: Source, question: str) -> tuple[Replay, int, str]:
 
 
 def waits(replay: Replay, process: int) -> str:
-    """The statement at which a process waits."""
+    """The statement at which a process waits, or why it waits at none."""
+    if process not in replay.list:
+        return 'has left' if replay.born[process] else 'is not started'
     if replay.state[process] == 2:
         return 'is being called'
     statements = replay.waiting_at(process)
@@ -83,7 +85,7 @@ def as_json(replay: Replay, at: int) -> dict[str, Any]:
         is_there = number in replay.list
         statements = replay.waiting_at(number) if is_there else ()
         processes.append({
-            'name': name, 'started': is_there, 'waits': waits(replay, number) if is_there else None,
+            'name': name, 'started': is_there, 'waits': waits(replay, number),
             'program_line': program.statement(statements[-1]).line if statements and statements[-1] else None,
             'variables': {variable: replay.variables[number][place]
                           for variable, place in program.processes[number].variables.items()},
@@ -106,7 +108,7 @@ def rows(state: dict[str, Any], heading: str) -> list[str]:
         return lines + ['  it has halted']
     for it in state['processes']:
         polled = ', and is to be polled' if it['polled'] else ''
-        lines.append('  process %s %s%s' % (it['name'], it['waits'] if it['started'] else 'is not started', polled))
+        lines.append('  process %s %s%s' % (it['name'], it['waits'], polled))
         lines += ['    %s = %d' % pair for pair in it['variables'].items()]
     for it in state['timers']:
         left = it['due'] - state['at']

@@ -61,7 +61,7 @@ function stateCards(state) {
       if (isChanged) made.className = 'changed';
       return made;
     });
-    cards.push(card(`Process ${it.name}`, [it.started ? it.waits : 'is not started', ...variables], ''));
+    cards.push(card(`Process ${it.name}`, [it.waits, ...variables], ''));
   }
   cards.push(card('Running timers', state.timers.map(it =>
     `${it.name} of ${it.process}: due at ${it.due}; set at ${it.set_at} in ${it.set_by}`), 'no timer runs'));
