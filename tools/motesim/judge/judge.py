@@ -320,7 +320,7 @@ class Judge:
         what = DOES[line.kind] + (' %s' % line.process if line.process else '')
         sender = ' from mote %s' % line.sender if line.kind == 'recv' else ''
         more = ', and %d other%s' % (len(inside) - 1, '' if len(inside) == 2 else 's') if len(inside) > 1 else ''
-        value = str(line.value) + in_fields(self.scenario.fields, line.value)
+        value = str(line.value) + in_fields(self.scenario.fields, line.value or 0)
         return '%s %s %s%s at moment %d%s' % (who, what, value, sender, line.at, more)
 
     def chosen(self, motes: Motes) -> tuple[int, ...]:
