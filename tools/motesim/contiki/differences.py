@@ -14,7 +14,7 @@ DIFFERENCES: tuple[tuple[frozenset[str], str], ...] = (
      'A broadcast, PROCESS_EVENT_EXITED and the polls reach exactly the processes that were on the list when they '
      'began, and have not left since; Contiki follows the list as it changes.'),
     (frozenset({'reset'}),
-     'A timer that is reset before it is due is due one interval later in motesim; Contiki subtracts without sign, '
+     'A timer that is reset before it is due is due one interval later in motesim; Contiki subtracts unsigned, '
      'so it counts as expired at once.'),
     (frozenset({'data', 'fired'}),
      'The data of PROCESS_EVENT_TIMER and PROCESS_EVENT_EXITED are pointers in Contiki, numbers in the notation: '
