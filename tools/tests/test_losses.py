@@ -38,7 +38,7 @@ def mixing_of(file: str) -> list[str]:
     """The expressions by which a program makes its generator's first state, in their order."""
     name = DRAWING[file]
     lines = (TOP / file).read_text('utf-8').split('\n')
-    first = next(number for number, line in enumerate(lines) if '((self * ' in line)
+    first = next(number for number, line in enumerate(lines) if '((self * 257)' in line)
     found = []
     for line in lines[first:]:
         assigned = ASSIGNED.match(line.strip())
