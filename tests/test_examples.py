@@ -16,7 +16,7 @@ from motesim.judge.expectations import beside, expect
 from motesim.judge.links import Links
 from motesim.report import Report
 from motesim.runner.programs import TOP
-from motesim.runner.run import Run, read_run
+from motesim.report.run import Run, read_run
 
 PAGES = ['README.md', 'examples/README.md', 'docs/use/SCENARIO.md', 'docs/use/REPORT.md']
 EXPECTED = '.expect.toml'

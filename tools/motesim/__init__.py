@@ -30,14 +30,14 @@ if TYPE_CHECKING:
     from motesim.plan.plan import Plan
     from motesim.report import Report
     from motesim.runner import Limits
-    from motesim.runner.run import Run
+    from motesim.report.run import Run
     from motesim.scenario import Scenario
 
 __all__ = ['Comparison', 'Fault', 'Kept', 'Limits', 'Plan', 'Report', 'Run', 'Scenario', 'compare', 'expect', 'run']
 
 
 # The modules of the names that aren't in `motesim.api`.
-HOMES = {'Fault': 'faults', 'Limits': 'runner', 'Plan': 'plan.plan', 'Report': 'report', 'Run': 'runner.run',
+HOMES = {'Fault': 'faults', 'Limits': 'runner', 'Plan': 'plan.plan', 'Report': 'report', 'Run': 'report.run',
          'Scenario': 'scenario'}
 
 

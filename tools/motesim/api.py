@@ -13,7 +13,7 @@ from motesim.judge.judge import Judge
 from motesim.judge.sentences import names_of
 from motesim.report import Report
 from motesim.runner import Limits, Runner
-from motesim.runner.run import Run, read_run
+from motesim.report.run import Run, read_run
 from motesim.scenario import Scenario
 
 if TYPE_CHECKING:

@@ -1,18 +1,15 @@
 """Errors that are reported in one line, and the exit status of each command.
 
-A command's module has `@command('compare')` above its `main`, which returns the status. For an error in the input or
-in a file, or if memory is short, a command prints one line on standard error, and its status is 2. If the reader of
-its output closes the pipe, it ends without a message, with status 141.
+For an error in the input or in a file, or if memory is short, a command prints one line on standard error, and its
+status is 2. If the reader of its output closes the pipe, it ends without a message, with status 141.
 """
 from __future__ import annotations
 
-import functools
-import gc
 import io
 import os
 import sys
 from collections.abc import Callable
-from typing import NoReturn, TypeVar
+from typing import TypeVar
 
 from motesim.terminal import plain_stream
 
@@ -101,34 +98,3 @@ def status_of(tool: str, work: Callable[[], int]) -> int:
         message = own_error(fault)
     print('%s: %s' % (tool, message), file=sys.stderr)
     return FAILED
-
-
-def version_line() -> str:
-    """The line that `--version` prints, about the binary that would run."""
-    # (only this option needs it, and its modules import this one)
-    from motesim.runner.versions import version_line
-    return version_line()
-
-
-def finish(tool: str, work: Callable[[], int], version: Callable[[], str]) -> NoReturn:
-    """Ends a command with the status that `work` returns, or with 2 and one line on standard error."""
-    # (the garbage collector would need longer to search millions of lines than the command to do its work)
-    gc.disable()
-    sys.exit(status_of(tool, (lambda: say(version())) if sys.argv[1:] == ['--version'] else work))
-
-
-def say(line: str) -> int:
-    print(line)
-    return 0
-
-
-def command(tool: str, version: Callable[[], str] = version_line) -> Callable[[Callable[[], int]],
-                                                                              Callable[[], NoReturn]]:
-    """Makes a command from a function that returns a status. With the argument --version the command prints the
-    version."""
-    def made(work: Callable[[], int]) -> Callable[[], NoReturn]:
-        @functools.wraps(work)
-        def main() -> NoReturn:
-            finish(tool, work, version)
-        return main
-    return made

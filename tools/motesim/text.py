@@ -5,7 +5,7 @@ from __future__ import annotations
 import difflib
 import re
 import textwrap
-from collections.abc import Iterable
+from collections.abc import Iterable, Sequence
 from typing import Protocol
 
 from motesim.terminal import one_line
@@ -48,3 +48,10 @@ def nearest(word: str, known: Iterable[str], least: float = 0.6) -> str | None:
     """The known word that is most similar to this one, if one is similar: with at least this ratio of difflib."""
     found = difflib.get_close_matches(word.lower(), list(known), 1, least)
     return found[0] if found and found[0] != word else None
+
+
+def known(name: str, names: Sequence[str], others: Sequence[str] = ()) -> str:
+    """The end of a message: the existing names, the measures, and the name that was most likely meant."""
+    near = nearest(name, [*names, *others])
+    more = '; and the measures: %s' % ', '.join(others) if others else ''
+    return 'there are: %s%s%s' % (', '.join(names), more, '; did you mean %s?' % near if near else '')

@@ -4,7 +4,8 @@ from __future__ import annotations
 import argparse
 from typing import Any, NoReturn
 
-from motesim.faults import FAILED, version_line
+from motesim.command import version_line
+from motesim.faults import FAILED
 
 
 class Version(argparse.Action):

@@ -39,7 +39,8 @@ from typing import NamedTuple
 from motesim.experiments.asked import sweep_of
 from motesim.experiments.results import read_results
 from motesim.experiments.sweep import name_of_results
-from motesim.faults import Fault, command
+from motesim.command import command
+from motesim.faults import Fault
 from motesim.files import refuse_inputs
 from motesim.plan.plan import Plan
 from motesim.runner.optimized import wait_for_optimized

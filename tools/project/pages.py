@@ -18,7 +18,7 @@ from collections.abc import Callable, Iterator
 from unittest import mock
 
 from motesim.explain.said import TEXTS
-from motesim.faults import command
+from motesim.command import command
 from motesim.notation import faults as program
 from motesim.plan import keys as plan
 from motesim.plan.tables import Key

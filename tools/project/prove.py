@@ -17,7 +17,8 @@ import time
 from collections.abc import Sequence
 from pathlib import Path
 
-from motesim.faults import Fault, command
+from motesim.command import command
+from motesim.faults import Fault
 from motesim.runner.programs import PROVED, TOP, crates_of_program, proved_program
 from motesim.words import words_of
 from project import kit

@@ -14,7 +14,8 @@ from collections import defaultdict
 from graphlib import TopologicalSorter
 from pathlib import Path
 
-from motesim.faults import Fault, command
+from motesim.command import command
+from motesim.faults import Fault
 from motesim.words import words_of
 from motesim.runner.programs import TOP
 

@@ -9,7 +9,8 @@ from pathlib import Path
 from typing import NoReturn
 
 from motesim.packages import SYSTEM, has
-from motesim.faults import Fault, command
+from motesim.command import command
+from motesim.faults import Fault
 from motesim.words import words_of
 from motesim.runner.programs import TOP, program_path
 

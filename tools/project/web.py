@@ -23,7 +23,8 @@ from collections.abc import Iterator, Sequence
 from pathlib import Path
 from typing import NamedTuple
 
-from motesim.faults import Fault, command
+from motesim.command import command
+from motesim.faults import Fault
 from motesim.runner.module import ABOUT, MODULE, SOURCE, About, read_about
 from motesim.runner.programs import CODE, TOP, digest
 from motesim.words import words_of

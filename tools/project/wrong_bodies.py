@@ -24,7 +24,8 @@ from itertools import groupby
 from pathlib import Path
 from typing import Any
 
-from motesim.faults import Fault, command
+from motesim.command import command
+from motesim.faults import Fault
 from motesim.runner.programs import TOP
 from motesim.words import words_of
 from project import kit

@@ -5,7 +5,7 @@ import unittest
 
 from motesim import packages
 from motesim.faults import Fault
-from motesim.runner.run import program_path
+from motesim.report.run import program_path
 
 
 def interpreter_with(test: unittest.TestCase, module: str) -> str:

@@ -14,7 +14,7 @@ from here import TOOLS, TOP, room_of
 from motesim.faults import Fault
 from motesim.report import Report
 from motesim.runner import Answer
-from motesim.runner.run import Run
+from motesim.report.run import Run
 from motesim.scenario import Scenario
 from project import testing
 

@@ -12,7 +12,7 @@ from motesim.comparison import reports as compare
 from motesim.comparison import scenarios as scenario_differences
 from motesim.comparison.columns import MEDIUM
 from motesim.report import Report, ReportFault
-from motesim.runner.run import Run
+from motesim.report.run import Run
 from motesim.scenario import Scenario
 
 # Motes 0 and 2 send to mote 1 alternately. The event of the second timer of mote 2 is posted at 6.

@@ -11,7 +11,7 @@ from pathlib import Path
 from here import TOOLS, TOP
 from skips import need_command, need_program
 
-from motesim.runner.run import program_path
+from motesim.report.run import program_path
 
 HOST = TOOLS / 'contiki_host'
 BY_HAND = Path(__file__).resolve().parent / 'contiki_host'

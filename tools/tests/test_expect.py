@@ -18,7 +18,7 @@ from motesim.judge.judge import Judge
 from motesim.judge.links import Links
 from motesim.report import Report
 from motesim.runner import programs
-from motesim.runner.run import answer
+from motesim.report.run import answer
 from motesim.scenario import Scenario
 from motesim.scenario.fields import of_line, read_fields
 from motesim.judge.sentences import EXAMPLES, Does, Names, SentenceFault, Value, names_of, read_sentence

@@ -17,7 +17,7 @@ from motesim.commands import explain as command
 from motesim.explain import explanation as explain
 from motesim.explain import missing
 from motesim.notation import faults as program_faults
-from motesim.runner.run import Answer
+from motesim.report.run import Answer
 from motesim.scenario import faults as scenario_faults
 from motesim.scenario import Scenario
 

@@ -14,7 +14,8 @@ from motesim.version import VERSION
 
 COMMAND = '''import sys, time
 sys.path.insert(0, %r)
-from motesim.faults import Fault, command
+from motesim.command import command
+from motesim.faults import Fault
 
 
 @command('thing')

@@ -14,7 +14,7 @@ from here import TOOLS, room_of
 from motesim.faults import SHOW, Fault
 from motesim.files import NotWritten, write_whole
 from motesim.report import Report
-from motesim.runner.run import Run
+from motesim.report.run import Run
 from motesim.timeline.html import write_page
 from stub import write_stub
 
@@ -128,7 +128,7 @@ class OddNames(Room):
 
 
 class OwnErrors(unittest.TestCase):
-    SOURCE = ('import sys\nsys.path.insert(0, %r)\nfrom motesim.faults import command\n@command("tool")\n'
+    SOURCE = ('import sys\nsys.path.insert(0, %r)\nfrom motesim.command import command\n@command("tool")\n'
               'def main():\n    return {}["key"]\nmain()\n' % str(TOOLS))
 
     def test_an_error_of_the_tool_is_one_line(self) -> None:

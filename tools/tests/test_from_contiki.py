@@ -5,7 +5,7 @@ import unittest
 from here import TOP
 from motesim.notation.faults import find_fault
 from motesim.notation.grammar import RESERVED
-from motesim.runner.run import answer
+from motesim.report.run import answer
 from skips import need_program
 from test_warnings import net
 

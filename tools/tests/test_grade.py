@@ -36,7 +36,7 @@ from motesim.faults import Fault
 from motesim.judge.expectations import parts_of
 from motesim.judge.remarks import NO_COLLISIONS
 from motesim.runner import Limits, program_path
-from motesim.runner.run import Answer
+from motesim.report.run import Answer
 from motesim.scenario import Scenario
 from skips import need_program
 from stub import write_stub

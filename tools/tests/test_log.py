@@ -11,7 +11,7 @@ from here import TOP, call
 import skips
 from motesim.faults import Fault
 from motesim.report import FIELDS
-from motesim.runner.run import answer
+from motesim.report.run import answer
 from motesim.scenario import Scenario
 from motesim.why.log import Filter, Log, filtered, kinds_of, numbers_of, of_sentence
 from motesim.why.source import Source, Traces, read_traces
@@ -104,13 +104,13 @@ class Runs(unittest.TestCase):
         return call('log', 'examples/flooding.toml', *arguments, cwd=TOP, check=True).stdout
 
     def test_a_scenario_with_an_error(self) -> None:
-        hint = 'Hint: Two values with `+` between them are in parentheses: `(n + 1)`.\nWrite, as line '
+        hint = 'motesim: program a fault 2 line 6 (tools/explain %s says more)'
         with tempfile.TemporaryDirectory() as folder:
             path = Path(folder, 'a.toml')
             path.write_text(SCENARIO_OF_ONE)
             with self.assertRaises(Fault) as seen:
                 read_traces(path)
-            self.assertIn(hint, str(seen.exception))
+            self.assertIn(hint % path, str(seen.exception))
 
     def test_the_command(self) -> None:
         shown = self.log('--kind', 'send', '--mote', '0').split('\n')

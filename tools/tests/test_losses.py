@@ -17,7 +17,7 @@ from motesim.plan.files import Files
 from motesim.plan.plan import Plan
 from motesim.report import Report
 from motesim.runner.process import Limits, Runner
-from motesim.runner.run import program_path
+from motesim.report.run import program_path
 from skips import need_program
 
 WORD = 65_536

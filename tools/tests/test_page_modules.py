@@ -14,7 +14,7 @@ import test_timeline
 import test_why
 from motesim.notation.grammar import COLOURS, NAMING
 from motesim.report import KINDS, Report
-from motesim.runner.run import Run
+from motesim.report.run import Run
 from motesim.scenario import Scenario
 from motesim.timeline.bundle import BundleFault, bundle, modules_of
 from motesim.timeline.columns import data_of

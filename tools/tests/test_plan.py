@@ -14,7 +14,7 @@ from motesim.plan.chance import Chance
 from motesim.faults import Fault
 from motesim.plan.plan import Plan
 from motesim.plan.files import Files
-from motesim.runner.run import run_program
+from motesim.report.run import run_program
 from motesim.scenario import Scenario
 from skips import need_program
 
@@ -319,8 +319,7 @@ class FaultsTest(unittest.TestCase):
     def test_a_program_with_an_error_or_in_another_encoding(self) -> None:
         plan = PLAN_OF_ONE % 'a.mote'
         source = 'process a;\nautostart a;\ncode a {\n  var n = 0;\n  body {\n    n = n + 1;\n  }\n}\n'
-        for data, words in ((source.encode(), 'Hint: Two values with `+` between them are in parentheses: `(n + 1)`.\n'
-                             'Write, as line 6:\n      n = (n + 1);\n'),
+        for data, words in ((source.encode(), 'tools/explain a.mote says more.\nAllowed here: `;`'),
                             (source.encode('utf-16'), 'a.mote is not UTF-8, because of a byte in line 1. Save it')):
             with self.assertRaises(Fault) as seen:
                 Plan('a.plan.toml', plan, Files(Path(), {'a.mote': data})).scenario({})

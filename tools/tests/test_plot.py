@@ -6,7 +6,8 @@ from collections.abc import Sequence
 from xml.etree import ElementTree
 
 from here import call, room_of
-from motesim.experiments.results import Cell, Head, line_of
+from motesim.cells import Cell, line_of
+from motesim.experiments.results import Head
 from skips import interpreter_with
 
 HEAD = Head('a.plan.toml', ['period', 'density', 'seed'],

@@ -11,7 +11,7 @@ from here import TOP, room_of
 from motesim.faults import Fault
 from motesim.report import Copy, Packet, Report, ReportFault
 from motesim.report import report as report_module
-from motesim.runner.run import ProgramFault, check_scenario, read_run
+from motesim.report.run import ProgramFault, check_scenario, read_run
 from motesim.scenario import Scenario, ScenarioFault
 
 # Two motes: the second one halts at 9, when its neighbour's last packet but one is on its way.

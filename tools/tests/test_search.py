@@ -18,14 +18,14 @@ from typing import Any
 from unittest import mock
 
 from here import TOOLS, TOP, call
-from motesim.experiments.runs import Break
+from motesim.runner.interrupt import Break
 from motesim.faults import Fault
 from motesim.judge.expectations import beside, parts_of, read_all
 from motesim.judge.judge import Judge
 from motesim.judge.sentences import names_of, read_sentence
 from motesim.plan.plan import Plan
 from motesim.report.report import Report
-from motesim.runner.run import answer, program_path
+from motesim.report.run import answer, program_path
 from motesim.scenario.scenario import Scenario
 from motesim.search.added import DIES, LATE, NoRoom, changed_program
 from motesim.search.change import Base, CannotChange

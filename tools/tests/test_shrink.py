@@ -16,7 +16,7 @@ from motesim.faults import Fault
 from motesim.judge.judge import Judge
 from motesim.judge.sentences import Names, motes_named, names_of, read_sentence
 from motesim.report.report import Report
-from motesim.runner.run import answer, program_path
+from motesim.report.run import answer, program_path
 from motesim.scenario.scenario import Scenario
 from motesim.search.faults import EFFECTS, FaultyPart
 from motesim.search.following import follow

@@ -9,7 +9,8 @@ from pathlib import Path
 
 from here import TOOLS
 from motesim.analysis.estimates import mean_by_t, median_with_quartiles, share_by_wilson, student_t
-from motesim.experiments.results import Head, line_of
+from motesim.cells import line_of
+from motesim.experiments.results import Head
 from skips import interpreter_with
 
 # Confidence, degrees of freedom, and the quantile in tables of Student's t.

@@ -23,7 +23,7 @@ from motesim.plan.plan import Plan
 from motesim.studio import answers, guides
 from motesim.studio.command import pinned
 from motesim.studio.desk import Changed, Desk
-from motesim.studio.edits import applied, edit
+from motesim.scenario.edits import applied, edit
 from motesim.studio.runs import LimitMet, Limits, Runs, Superseded
 from motesim.studio.server import Server
 from motesim.studio.session import Session

@@ -13,7 +13,7 @@ from motesim.faults import Fault
 from motesim.summary.flows import FlowFault, flow_rows, read_flow
 from motesim.explain.of_nets import of_moments
 from motesim.report import Report
-from motesim.runner.run import Run
+from motesim.report.run import Run
 from motesim.scenario import Scenario
 
 # The outcomes of the six packets of mote 0 at mote 1: received, lost by the medium, collided with one of mote 2, found

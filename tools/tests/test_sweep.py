@@ -16,12 +16,14 @@ from motesim.experiments.measures import Bench, MeasureFault, imports_of, read_m
 from motesim.experiments.one_run import digest, run_job
 from motesim.plan.plan import Plan
 from motesim.report import Report
-from motesim.experiments.results import Cell, Head, Results, cell, read_results
-from motesim.runner.run import Run
+from motesim.cells import Cell
+from motesim.experiments.results import Head, Results, cell, read_results
+from motesim.report.run import Run
 from motesim.scenario import Scenario
 from motesim.judge.sentences import names_of
 from motesim.experiments.sweep import Sweeper
-from motesim.experiments.asked import sweep_of, values_of
+from motesim.experiments.asked import sweep_of
+from motesim.plan.values import values_of
 from skips import need_program
 from stub import write_stub
 

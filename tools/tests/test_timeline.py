@@ -10,7 +10,7 @@ from here import TOP, call, room_of
 from browser import InBrowser
 from motesim.faults import Fault
 from motesim.report import KINDS, Report
-from motesim.runner.run import Run
+from motesim.report.run import Run
 from motesim.scenario import Scenario
 from motesim.timeline.columns import data_of
 from motesim.timeline.html import page_of, write_page

@@ -13,7 +13,7 @@ from motesim.explain.warned import Warned
 from motesim.explain.warnings import of_program, warnings
 from motesim.notation.faults import find_fault
 from motesim.report import Report
-from motesim.runner.run import answer
+from motesim.report.run import answer
 from motesim.scenario import Scenario
 from skips import need_program
 

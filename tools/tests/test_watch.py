@@ -8,7 +8,7 @@ from here import TOP, call
 import skips
 import test_why
 from motesim.faults import Fault
-from motesim.runner.run import answer
+from motesim.report.run import answer
 from motesim.scenario import Scenario
 from motesim.why.source import At, Source
 from motesim.why.state import after_line, after_moment, as_json, read_state, rows

@@ -14,7 +14,7 @@ from motesim.faults import Fault
 from motesim.judge import expectations
 from motesim.runner import Runner
 from motesim.studio import answers
-from motesim.studio.edits import applied, edit
+from motesim.scenario.edits import applied, edit
 from motesim.timeline.columns import data_of
 from motesim.toml import read_toml
 from test_page_modules import node

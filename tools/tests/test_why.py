@@ -14,17 +14,17 @@ from here import TOP, call
 import skips
 from motesim.contiki.random_scenario import random_scenario
 from motesim.faults import Fault
-from motesim.runner.run import answer
+from motesim.report.run import answer
 from motesim.scenario import Scenario
 from motesim.why.chain import MOST_CALLS, Explainer, as_json, cause_of, chain, on_values, places
 from motesim.why.command import show_chain
 from motesim.why.fate import after_post
-from motesim.why.lines_of_file import ScenarioFile
+from motesim.replay.file import ScenarioFile
 from motesim.why.miss import Miss, _Misses, misses
 from motesim.why.question import Asked, Asker, Missing, Unasked
-from motesim.why.replay import Parted
+from motesim.replay.mote import Parted
 from motesim.why.source import At, Source
-from motesim.why.translate import translated
+from motesim.replay.translate import translated
 
 # Mote 0 sends 7 at 10. Each other mote prints and sends 7 once, 5 moments for each mote of its number later.
 RELAYED = """version = 2
@@ -723,6 +723,7 @@ class Runs(unittest.TestCase):
         got = json.loads(self.why('examples/flooding.toml', 'mote 6 prints flood 1', '--json').stdout)
         self.assertEqual([it['at'] for it in got['chain']], [46] * 4 + [43] * 4 + [40] * 3 + [0, 0])
         self.assertEqual(got['path']['medium'], {'moments': 6, 'times': 2})
+        self.assertIn('all of examples/flooding.expect.toml hold, so a question', self.why('examples/flooding.toml').stderr)
 
     def test_an_error_names_the_file_if_there_are_two(self) -> None:
         shown = self.why('examples/flooding.toml', 'mote 99 prints', '--other', 'examples/drift.toml')

@@ -8,7 +8,7 @@ from browser import InBrowser
 from motesim.judge.judge import Judge
 from motesim.judge.sentences import names_of, read_sentence
 from motesim.report import Report
-from motesim.runner.run import Run, answer, read_run
+from motesim.report.run import Run, answer, read_run
 from motesim.scenario import Scenario
 from motesim.timeline.html import write_page
 from motesim.timeline.note import Line, Note, note_of

@@ -9,7 +9,7 @@ import skips
 import test_why
 from browser import InBrowser
 from motesim.report import Report
-from motesim.runner.run import Run
+from motesim.report.run import Run
 from motesim.scenario import Scenario
 from motesim.studio.desk import Desk
 from motesim.studio.runs import Limits, Runs

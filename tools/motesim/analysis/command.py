@@ -17,7 +17,8 @@ from motesim.analysis.paired import compare
 from motesim.analysis.plots import OPTIONS, Plot
 from motesim.analysis.points import measures_in, shown_of
 from motesim.analysis.tables import heading, lines, rows_of, rows_of_differences
-from motesim.experiments.results import Head, Row, line_of, read_results
+from motesim.cells import line_of
+from motesim.experiments.results import Head, Row, read_results
 from motesim.faults import Fault
 from motesim.files import refuse_inputs, write_whole
 from motesim.plan.plan import Plan

@@ -12,7 +12,7 @@ from motesim.analysis.paired import Compared
 from motesim.analysis.plots import Plot
 from motesim.analysis.points import Point, Shown, lines_of
 from motesim.analysis.tables import named, places_of, steps_of
-from motesim.experiments.results import Cell, text_of
+from motesim.cells import Cell, text_of
 from motesim.faults import Fault
 
 # Colours that readers with colour blindness can distinguish (Okabe and Ito); lines differ by their marks too.

@@ -9,7 +9,8 @@ from typing import NamedTuple
 from motesim.analysis.estimates import Estimate, mean_by_t
 from motesim.analysis.plots import Plot
 from motesim.analysis.points import Values, check_mixture, chosen, doubts, number_of, orders, some, some_of, varying
-from motesim.experiments.results import Cell, Head, Row, cell, text_of
+from motesim.cells import Cell, text_of
+from motesim.experiments.results import Head, Row, cell
 from motesim.faults import Fault
 
 # The digits of a number in results: beyond them, differences that are equal in decimal digits may not be equal.

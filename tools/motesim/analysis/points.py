@@ -7,8 +7,9 @@ from typing import NamedTuple
 
 from motesim.analysis.estimates import Estimate, mean_by_t, median_with_quartiles, share_by_wilson
 from motesim.analysis.plots import Plot
-from motesim.experiments.asked import values_of
-from motesim.experiments.results import Cell, Head, Row, text_of
+from motesim.plan.values import values_of
+from motesim.cells import Cell, text_of
+from motesim.experiments.results import Head, Row
 from motesim.faults import Fault
 from motesim.plan.tables import text_of_value
 

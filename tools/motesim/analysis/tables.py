@@ -6,7 +6,8 @@ from collections.abc import Sequence
 from motesim.analysis.paired import Compared
 from motesim.analysis.plots import Plot
 from motesim.analysis.points import Point, Shown, Values, order
-from motesim.experiments.results import Cell, Row, text_of
+from motesim.cells import Cell, text_of
+from motesim.experiments.results import Row
 
 WAYS = {'t': 'Student\'s t', 'Wilson': 'Wilson\'s score'}
 

@@ -10,8 +10,16 @@ The tool ends with status 0 if the reports are the same, 1 if they differ, and 2
 """
 from __future__ import annotations
 
-from motesim.faults import command
+from typing import Any
+
+from motesim.command import command
 from motesim.words import words_of
+
+
+def write_page(*given: Any) -> None:
+    """Writes a page of timelines."""
+    from motesim.timeline.html import write_page
+    write_page(*given)
 
 
 @command('compare')
@@ -25,4 +33,4 @@ def main() -> int:
                        help='write both timelines to this page, which opens at the first difference')
     asked = words.parse_args()
     from motesim.comparison.reports import status_of
-    return status_of(asked)
+    return status_of(asked, write_page)

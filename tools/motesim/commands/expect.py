@@ -17,7 +17,8 @@ from __future__ import annotations
 
 from pathlib import Path
 
-from motesim.faults import Fault, command
+from motesim.command import command
+from motesim.faults import Fault
 from motesim.words import add_limits, words_of
 
 

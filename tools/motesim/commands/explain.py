@@ -19,7 +19,7 @@ variable MOTESIM.
 from __future__ import annotations
 
 from motesim.explain.said import NAMES
-from motesim.faults import command
+from motesim.command import command
 from motesim.words import Once, add_limits, words_of
 
 

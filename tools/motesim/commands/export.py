@@ -14,7 +14,7 @@ The tool ends with status 0, or with 2 if a file can't be read or written.
 """
 from __future__ import annotations
 
-from motesim.faults import command
+from motesim.command import command
 from motesim.words import words_of
 
 # The forms of a run: those of motesim.export.command.

@@ -30,7 +30,7 @@ from __future__ import annotations
 import argparse
 from pathlib import Path
 
-from motesim.faults import command
+from motesim.command import command
 from motesim.words import words_of
 
 FORMATS = ('.csv', '.toml', '.html')

@@ -4,7 +4,7 @@ Each line shows the moment, the mote, the line number in the report, and what ha
 7 print flood 2", selects the lines that it is about. Without EXPECTATION and options the tool shows all lines."""
 from __future__ import annotations
 
-from motesim.faults import command
+from motesim.command import command
 from motesim.words import words_of
 
 

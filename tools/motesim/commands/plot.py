@@ -22,7 +22,7 @@ from __future__ import annotations
 
 import argparse
 
-from motesim.faults import command
+from motesim.command import command
 from motesim.words import Once, words_of
 
 

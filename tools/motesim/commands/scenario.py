@@ -12,7 +12,7 @@ the error.
 """
 from __future__ import annotations
 
-from motesim.faults import command
+from motesim.command import command
 from motesim.words import words_of
 
 

@@ -31,7 +31,7 @@ from __future__ import annotations
 import argparse
 import os
 
-from motesim.faults import command
+from motesim.command import command
 from motesim.search.forms import with_forms
 from motesim.words import words_of
 

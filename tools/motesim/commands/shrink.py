@@ -28,7 +28,8 @@ import os
 import signal
 from types import FrameType
 
-from motesim.faults import INTERRUPTED, command
+from motesim.command import command
+from motesim.faults import INTERRUPTED
 from motesim.search.forms import with_forms
 from motesim.words import words_of
 

@@ -7,7 +7,7 @@ from __future__ import annotations
 
 import argparse
 
-from motesim.faults import command
+from motesim.command import command
 from motesim.words import words_of
 
 # The limits of a run: those of motesim.studio.runs.

@@ -43,7 +43,7 @@ The tool ends with status 0, or with 2 if the report can't be read.
 """
 from __future__ import annotations
 
-from motesim.faults import command
+from motesim.command import command
 from motesim.words import words_of
 
 

@@ -44,7 +44,7 @@ import os
 import sys
 from pathlib import Path
 
-from motesim.faults import command
+from motesim.command import command
 from motesim.words import words_of
 
 # The limits of a run: those of motesim.experiments.asked.

@@ -4,7 +4,7 @@ from __future__ import annotations
 
 from pathlib import Path
 
-from motesim.faults import command
+from motesim.command import command
 from motesim.words import words_of
 
 
@@ -21,7 +21,7 @@ def main() -> int:
     asked = words.parse_args()
     from motesim.files import refuse_inputs
     from motesim.output import beside
-    from motesim.runner.run import read_run
+    from motesim.report.run import read_run
     from motesim.timeline.html import write_page
     name = 'run' if asked.file == '-' else Path(asked.file).stem
     page = asked.page or str(beside(asked.file, name + '.html'))

@@ -7,7 +7,8 @@ from __future__ import annotations
 
 import shlex
 
-from motesim.faults import Fault, command
+from motesim.command import command
+from motesim.faults import Fault
 from motesim.words import words_of
 
 

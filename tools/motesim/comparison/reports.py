@@ -3,7 +3,7 @@ from __future__ import annotations
 
 import argparse
 from collections import Counter
-from collections.abc import Iterator, Sequence
+from collections.abc import Callable, Iterator, Sequence
 from typing import Any, NamedTuple
 
 from motesim.comparison import scenarios as scenario_differences
@@ -11,7 +11,7 @@ from motesim.comparison.columns import MEDIUM, Both
 from motesim.faults import Fault
 from motesim.files import refuse_inputs
 from motesim.report import FIELDS, KINDS, Line, Packet, Report
-from motesim.runner.run import Run, read_run
+from motesim.report.run import Run, read_run
 
 LETTERS = 'AB'
 PACKETS_BEFORE, EVENTS_BEFORE = 3, 4
@@ -282,17 +282,16 @@ def compared(a: Run, b: Run, most: int) -> tuple[list[str], Difference | None, b
     return lines, found[0] if found else None, False
 
 
-def write_html(path: str, a: Run, b: Run, first: Difference | None) -> None:
+def write_html(write_page: Callable[..., None], path: str, a: Run, b: Run, first: Difference | None) -> None:
     """Writes both timelines, one above the other, from the first difference on."""
-    from motesim.timeline.html import write_page
     mote = first.mote if first else None
     if first and first.mote == MEDIUM:
         mote = packet_of((a.report, b.report), first).sender
     write_page(path, '%s and %s' % (a.name, b.name), [a, b], first.at if first else None, mote)
 
 
-def status_of(asked: argparse.Namespace) -> int:
-    """Prints the comparison; returns the status."""
+def status_of(asked: argparse.Namespace, write_page: Callable[..., None]) -> int:
+    """Prints the comparison; returns the status. `write_page` writes a page of timelines."""
     if asked.a == asked.b == '-':
         raise Fault('A and B can\'t both be standard input: one of them is a file')
     if asked.html:
@@ -300,6 +299,6 @@ def status_of(asked: argparse.Namespace) -> int:
     a, b = read_run(asked.a), read_run(asked.b)
     lines, first, is_same = compared(a, b, max(1, asked.rows))
     if asked.html:
-        write_html(asked.html, a, b, first)
+        write_html(write_page, asked.html, a, b, first)
     print('\n'.join(lines))
     return 0 if is_same else 1

@@ -31,9 +31,11 @@ from motesim.contiki.coverage import Coverage
 from motesim.contiki.folder import HERE
 from motesim.contiki.host_runs import HostFault, HostRuns, compilers
 from motesim.contiki.random_scenario import random_scenario
-from motesim.faults import Fault, command
+from motesim.command import command
+from motesim.faults import Fault
 from motesim.runner import Limits, Runner, run_each
 from motesim.runner.programs import program_path
+from motesim.search.net import loss_steps, mote_steps, net_of, number_steps, program_steps
 from motesim.scenario import Scenario, ScenarioFault
 from motesim.words import words_of
 
@@ -107,8 +109,6 @@ class Comparison:
 
     def smallest(self, scenario: bytes, is_strict: bool = False) -> bytes:
         """The smallest scenario that still differs: everything that isn't needed for the difference is removed."""
-        # (this import is needed only if a scenario differs)
-        from motesim.search.net import loss_steps, mote_steps, net_of, number_steps, program_steps
         net = net_of(Scenario.parse(scenario))
         is_smaller = True
         while is_smaller:

@@ -2,49 +2,25 @@
 from __future__ import annotations
 
 import contextlib
-import re
-from collections import Counter
 from collections.abc import Iterator, Mapping, Sequence
 from dataclasses import dataclass
 from functools import cached_property
 
 from motesim.experiments.measures import file_of, imports_of, mote_of, processes_of_flow, read_measure
-from motesim.experiments.results import MADE, Row, text_of
+from motesim.cells import text_of
+from motesim.experiments.results import MADE, Row
 from motesim.faults import Fault
 from motesim.judge.sentences import Names, SentenceFault, names_of
 from motesim.plan.plan import Plan
-from motesim.plan.tables import Value, optional, text_of_value, value_of_text
-from motesim.runner.run import read_file
+from motesim.plan.tables import Value, optional, text_of_value
+from motesim.plan.values import MOST_RUNS, values_of
+from motesim.report.run import read_file
 from motesim.scenario import Scenario
 
-MOST_RUNS = 100_000
 # The greatest number of runs whose scenarios are made before the first run, to find mistakes early.
 MOST_TRIED = 40
 SECONDS, MOST_SECONDS, MOST_BYTES = 60, 86_400, 200_000_000
-RANGE = re.compile(r'(-?[0-9]{1,9})\.\.(-?[0-9]{1,9})(?:\.\.([0-9]{1,9}))?')
 SWEEP = {'vary': optional(dict, {}), 'measure': optional(list, []), 'seconds': optional(int, SECONDS, 1, MOST_SECONDS)}
-
-
-def values_of(words: str) -> list[Value]:
-    """The values of a parameter: `10,20,40`, `1..30`, `0..100..25`, or texts."""
-    found: list[Value] = []
-    for part in words.split(','):
-        numbers = RANGE.fullmatch(part.strip())
-        if not numbers:
-            found.append(value_of_text(part.strip()))
-            continue
-        begin, end, step = int(numbers[1]), int(numbers[2]), int(numbers[3] or 1)
-        if begin > end or step < 1 or (end - begin) // step >= MOST_RUNS:
-            raise Fault('%s are not values: a range goes upwards, and has at most %s values' % (
-                part, '{:,}'.format(MOST_RUNS)))
-        found += range(begin, end + 1, step)
-    counts = Counter(map(text_of_value, found))
-    if '' in counts:
-        raise Fault('%r has an empty value: values are such as 10,20 or 1..30' % words)
-    twice = next((value for value, count in counts.items() if count > 1), None)
-    if twice is not None:
-        raise Fault('%s has a value twice: %s' % (words, twice))
-    return found
 
 
 @dataclass

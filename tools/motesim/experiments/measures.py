@@ -21,8 +21,8 @@ from types import ModuleType
 from typing import Any
 
 from motesim.experiments.doubts import OWN_LINE, OWN_MESSAGE, SAME_VALUE
-from motesim.experiments.results import Cell
-from motesim.explain.synonyms import known
+from motesim.cells import Cell
+from motesim.text import known
 from motesim.text import nearest
 from motesim.judge import judge as judges
 from motesim.summary import counts as summary
@@ -31,10 +31,10 @@ from motesim.summary.flows import NAMES as FLOW_NAMES
 from motesim.summary.flows import FlowFault, flow_rows, read_flow, same_value, same_value_in_flow
 from motesim.summary.shares import share
 from motesim.judge.judge import Event, Judge
-from motesim.plan.parameters import PARAMETER
+from motesim.notation.parameters import PARAMETER
 from motesim.plan.tables import Value
 from motesim.report import OUTCOMES, Line
-from motesim.runner.run import Run
+from motesim.report.run import Run
 from motesim.scenario import Scenario
 from motesim.scenario.scenario import hops_over
 from motesim.judge.sentences import Copies, Does, Motes, Names, Packets, Refused, Sentence, read_sentence

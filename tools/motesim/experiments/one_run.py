@@ -10,7 +10,7 @@ from typing import NamedTuple
 
 from motesim.experiments.doubts import of_full
 from motesim.experiments.measures import Bench, name_of, read_measure
-from motesim.experiments.results import Cell
+from motesim.cells import Cell
 from motesim.faults import Fault
 from motesim.judge.sentences import names_of
 from motesim.plan.files import Files
@@ -21,7 +21,7 @@ from motesim.report import Report
 from motesim.runner.batch import fault_of
 from motesim.runner.cluster import program_here
 from motesim.runner.process import Limits, Runner
-from motesim.runner.run import ProgramFault, Run
+from motesim.report.run import ProgramFault, Run
 from motesim.scenario import Scenario
 
 DIGITS = 16

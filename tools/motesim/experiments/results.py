@@ -11,7 +11,6 @@ from __future__ import annotations
 import csv
 import dataclasses
 import fcntl
-import io
 import json
 import os
 import re
@@ -20,10 +19,10 @@ from dataclasses import dataclass
 from pathlib import Path
 from typing import IO
 
+from motesim.cells import Cell, line_of
 from motesim.faults import Fault
 from motesim.files import write_whole
 
-Cell = int | float | str | None
 Row = dict[str, Cell]
 NUMBER = re.compile(r'0|-?[1-9][0-9]*')
 REAL = re.compile(r'-?[0-9]+(\.[0-9]+)?(e[-+][0-9]+)?')
@@ -60,17 +59,6 @@ def cell(text: str) -> Cell:
         return int(text)
     # (a real number only if it would be written in the same way; any other text stays a text)
     return float(text) if REAL.fullmatch(text) and repr(float(text)) == text else text or None
-
-
-def text_of(value: Cell) -> str:
-    return '' if value is None else repr(value) if type(value) is float else str(value)
-
-
-def line_of(values: Iterable[Cell]) -> str:
-    """A line of CSV."""
-    out = io.StringIO(newline='')
-    csv.writer(out, lineterminator='\n').writerow([text_of(value) for value in values])
-    return out.getvalue()
 
 
 def read_results(path: Path) -> tuple[Head, list[Row]]:

@@ -1,13 +1,11 @@
 """Sends the runs of a sweep to processes of this machine or to a Dask cluster, and collects the results."""
 from __future__ import annotations
 
-import signal
-import threading
 from collections.abc import Generator, Iterable
 from functools import partial
-from types import FrameType
 
 from motesim.experiments.one_run import BUSY, Job, Result, Work, run_job
+from motesim.runner.interrupt import Break
 from motesim.runner.batch import run_each
 from motesim.runner.cluster import Cluster
 
@@ -20,31 +18,6 @@ MOST_AT_A_TIME = 50
 
 class Stopped(Exception):
     """Ctrl-C was pressed: the jobs that had begun have ended, and no others were begun."""
-
-
-class Break:
-    """Handles Ctrl-C (and SIGTERM) during runs: the first one is noted, and the second one ends the tool at once."""
-
-    def __init__(self, stop: threading.Event | None = None) -> None:
-        self.stop = stop or threading.Event()
-
-    @property
-    def is_asked(self) -> bool:
-        """Returns whether Ctrl-C was pressed."""
-        return self.stop.is_set()
-
-    def __enter__(self) -> Break:
-        self.before = [(it, signal.signal(it, self.ask)) for it in (signal.SIGINT, signal.SIGTERM)]
-        return self
-
-    def ask(self, number: int, frame: FrameType | None) -> None:
-        if self.is_asked:
-            raise KeyboardInterrupt
-        self.stop.set()
-
-    def __exit__(self, *fault: object) -> None:
-        for number, handler in self.before:
-            signal.signal(number, handler)
 
 
 def longest(work: Work) -> float:

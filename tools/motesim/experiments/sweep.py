@@ -14,7 +14,8 @@ from motesim.experiments.doubts import MEANINGS
 from motesim.experiments.measures import file_of
 from motesim.experiments.one_run import DIGITS, Job, Result, Work, digest
 from motesim.experiments.progress import Progress
-from motesim.experiments.results import Head, Results, Row, text_of
+from motesim.cells import text_of
+from motesim.experiments.results import Head, Results, Row
 from motesim.experiments.runs import Stopped, run_by_dask, run_here
 from motesim.faults import INTERRUPTED, Fault
 from motesim.files import refuse_inputs

@@ -10,7 +10,7 @@ from motesim.explain.edits import Correction
 from motesim.explain.explanation import OF_C, correction_of, shown_explanation
 from motesim.faults import Fault
 from motesim.files import refuse_inputs, write_whole
-from motesim.runner.run import Answer, read_file
+from motesim.report.run import Answer, read_file
 from motesim.scenario.encodings import decoded
 from motesim.scenario.faults import find_fault
 from motesim.scenario.kinds import is_c_file, is_program_file

@@ -12,11 +12,11 @@ from motesim.explain.repair import repair
 from motesim.explain.said import with_name
 from motesim.explain.warned import Warned
 from motesim.explain.warnings import warnings
-from motesim.faults import Fault, tried
+from motesim.faults import tried
 from motesim.notation import faults as program_faults
-from motesim.plan.parameters import PARAMETER
+from motesim.notation.parameters import PARAMETER
 from motesim.report import Report
-from motesim.runner.run import Answer, NoReport, answer, is_report, read_file
+from motesim.report.run import Answer, answer, is_report, read_file
 from motesim.scenario import Scenario, encodings
 from motesim.scenario import faults as scenario_faults
 from motesim.scenario.faults import Place, ScenarioError
@@ -219,12 +219,6 @@ def program_instead(name: str, data: bytes) -> list[str]:
     if its is None:
         return ['%s has no error.' % one_line(name), *lines]
     return [*lines, *wrapped('The program has an error, too:'), *of_program_file(name, source, its)]
-
-
-def refused(name: str, data: bytes, fault: NoReport) -> Fault:
-    """The fault that a scenario has no report, with its explanation."""
-    line = str(fault).partition(': ')[2]
-    return Fault('\n'.join(['%s: %s' % (name, fault), *explanation(name, data, line)]))
 
 
 def warned(name: str, text: str, warning: Warned) -> list[str]:

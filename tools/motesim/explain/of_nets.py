@@ -3,8 +3,9 @@ from __future__ import annotations
 
 from collections.abc import Iterator, Mapping
 
-from motesim.explain.moments import bursts
+from motesim.report.moments import bursts
 from motesim.explain.of_structure import asked_in, posted_in
+from motesim.explain.used_up import loop_of
 from motesim.explain.warned import Fact, Warned, of_token
 from motesim.notation.tree import Program, written
 from motesim.report import Report
@@ -69,7 +70,5 @@ def of_halts(scenario: Scenario, report: Report) -> Iterator[Warned]:
             continue
         facts = known.get(mote.program)
         if facts is None:
-            # (only a halt needs it, and its modules are many)
-            from motesim.explain.used_up import loop_of
             facts = known[mote.program] = (('at', at), *loop_of(scenario, mote))
         yield Warned('used-up', facts, mote.program, mote=mote.number)

@@ -1,7 +1,7 @@
 """Keys that people who know other formats write, and the keys of a scenario that they mean."""
 from __future__ import annotations
 
-from collections.abc import Iterable, Sequence
+from collections.abc import Iterable
 
 from motesim.scenario.faults import LOSS, MEDIUM, MOTE, TOP, ScenarioError
 from motesim.text import nearest as nearest
@@ -41,13 +41,6 @@ def at(tables: object, path: tuple[str | int, ...]) -> object:
         except (KeyError, IndexError, TypeError):
             return None
     return tables
-
-
-def known(name: str, names: Sequence[str], others: Sequence[str] = ()) -> str:
-    """The end of a message: the existing names, the measures, and the name that was most likely meant."""
-    near = nearest(name, [*names, *others])
-    more = '; and the measures: %s' % ', '.join(others) if others else ''
-    return 'there are: %s%s%s' % (', '.join(names), more, '; did you mean %s?' % near if near else '')
 
 
 def meant(name: str, known: Iterable[str]) -> str | None:

@@ -4,9 +4,9 @@ from __future__ import annotations
 from motesim.faults import Fault
 from motesim.report import Mote
 from motesim.scenario import Scenario
-from motesim.why.endless import LastRun, endless
-from motesim.why.replay import QUEUE
-from motesim.why.translate import translated
+from motesim.replay.endless import LastRun, endless
+from motesim.replay.mote import QUEUE
+from motesim.replay.translate import translated
 
 # A mote with more lines than this isn't replayed: the replay would last several seconds.
 MOST_LINES = 100_000

@@ -14,7 +14,7 @@ from motesim.notation.faults import Token
 from motesim.notation.tree import read_program, statements_of, written
 from motesim.report import Report
 from motesim.runner import LimitMet, Limits, ProgramFault, Runner
-from motesim.runner.run import Answer
+from motesim.report.run import Answer
 from motesim.scenario import Scenario
 from motesim.terminal import one_line
 

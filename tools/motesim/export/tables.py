@@ -4,7 +4,7 @@ from __future__ import annotations
 from collections.abc import Iterator
 
 from motesim.report import Report
-from motesim.experiments.results import Cell, line_of
+from motesim.cells import Cell, line_of
 
 LINES = ('row', 'mote', 'program', 'at', 'kind', 'process', 'serial', 'event', 'word', 'sender', 'number', 'value')
 PACKETS = ('row', 'at', 'sender', 'number', 'value', 'copies')

@@ -21,7 +21,7 @@ from motesim.judge.sentences import Sentence, lacking
 from motesim.notation.faults import find_fault as find_program_fault
 from motesim.report import Report
 from motesim.runner import LimitMet, Limits, Runner
-from motesim.runner.run import Answer, Run
+from motesim.report.run import Answer, Run
 from motesim.scenario import Scenario
 from motesim.scenario.faults import find_fault
 from motesim.timeline.html import write_page

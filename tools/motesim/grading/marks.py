@@ -7,7 +7,7 @@ from typing import NamedTuple
 
 from motesim.judge.expectations import REQUIRED
 from motesim.judge.judge import Broken
-from motesim.runner.run import Run
+from motesim.report.run import Run
 from motesim.terminal import cut, one_line
 
 LONGEST_WHY = 400

@@ -7,14 +7,14 @@ from collections.abc import Iterator, Sequence
 from dataclasses import dataclass, replace
 from pathlib import Path
 
-from motesim.experiments.asked import values_of
+from motesim.plan.values import values_of
 from motesim.faults import Fault
 from motesim.plan.plan import Plan
 from motesim.plan.tables import Value, text_of_value
 from motesim.plan.text import Mote
 from motesim.plan.text import Net as NetOfPlan
 from motesim.plan.text import scenario_text
-from motesim.runner.run import read_file
+from motesim.report.run import read_file
 from motesim.scenario import Scenario
 from motesim.scenario.faults import find_fault
 from motesim.scenario.scenario import hops_over

@@ -17,7 +17,7 @@ from motesim.judge.judge import Broken, Judge
 from motesim.judge.remarks import remark_of
 from motesim.report import Report
 from motesim.runner import LimitMet, ProgramFault
-from motesim.runner.run import Answer, answer, read_file, refuse_others
+from motesim.report.run import Answer, answer, read_file, refuse_others
 from motesim.scenario import Scenario, ScenarioFault
 from motesim.scenario.encodings import decoded
 from motesim.scenario.faults import TOP

@@ -10,7 +10,7 @@ from pathlib import Path
 
 from motesim.faults import Fault
 from motesim.plan.tables import Key, PlanFault, shown
-from motesim.runner.run import read_file
+from motesim.report.run import read_file
 from motesim.scenario.faults import Place
 
 

@@ -21,7 +21,6 @@ from motesim.plan.tables import Key, NoParameter, PlanFault, Tables, filled, nee
 from motesim.plan.text import Mote, Net, scenario_text
 from motesim.scenario.encodings import decoded
 from motesim.scenario.faults import Path, Place
-from motesim.text import wrapped
 from motesim.toml import MARK
 
 # What no rule for losses does.
@@ -138,11 +137,10 @@ class Builder:
                                   self.tables.names())) from None
         fault_there = program_faults.find_fault(text)
         if fault_there:
-            # (most plans have no such error, and must be read quickly)
-            from motesim.explain.explanation import of_program_file
             name = file if text == source else '%s, with its parameters' % file
-            lines = of_program_file(name, text, fault_there)
-            raise PlanFault('\n'.join(lines))
+            token, rule = fault_there.token, '%s: %s' % program_faults.RULES[fault_there.kind]
+            raise PlanFault(shown(name, text, Place(token.line, token.column, len(token.text)),
+                                  '%s tools/explain %s says more.' % (rule, file), ', '.join(fault_there.may)))
         return text
 
     def motes(self) -> list[Mote]:

@@ -13,7 +13,7 @@ from motesim.output import beside
 from motesim.plan.from_scenario import write_plan
 from motesim.plan.plan import UNUSED, Plan
 from motesim.plan.tables import Value, value_of_text
-from motesim.runner.run import read_file
+from motesim.report.run import read_file
 from motesim.scenario import Scenario
 
 

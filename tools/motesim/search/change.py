@@ -14,12 +14,12 @@ from typing import Any
 from motesim.faults import Fault
 from motesim.plan.plan import Plan
 from motesim.plan.tables import Value
-from motesim.runner.run import refuse_others
+from motesim.report.run import refuse_others
 from motesim.scenario.scenario import MotePlace, Scenario
 from motesim.scenario.faults import find_fault, place_of, value_of
 from motesim.search.added import DIES, changed_program
-from motesim.studio.edits import Change as Edit
-from motesim.studio.edits import Text, applied
+from motesim.scenario.edits import Change as Edit
+from motesim.scenario.edits import Text, applied
 from motesim.toml import read_toml
 
 NUMBERS = ('range', 'base', 'per')

@@ -2,12 +2,11 @@
 from __future__ import annotations
 
 import argparse
-import os
 from pathlib import Path
 
 from motesim import packages
-from motesim.experiments.asked import values_of
-from motesim.experiments.runs import Break
+from motesim.plan.values import values_of
+from motesim.runner.interrupt import Break
 from motesim.faults import INTERRUPTED, Fault
 from motesim.files import refuse_inputs
 from motesim.judge.expectations import beside, parts_of, read_all, text_of

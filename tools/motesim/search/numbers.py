@@ -1,7 +1,7 @@
 """Whole numbers that a user writes for an option of tools/search, or for a key of a study."""
 from __future__ import annotations
 
-from motesim.experiments.asked import values_of
+from motesim.plan.values import values_of
 from motesim.faults import Fault
 
 # The options and keys that have several whole numbers, each with its smallest number.

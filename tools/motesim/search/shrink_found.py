@@ -5,7 +5,7 @@ import sys
 from functools import partial
 from pathlib import Path
 
-from motesim.experiments.runs import Break
+from motesim.runner.interrupt import Break
 from motesim.search.asking import Asking
 from motesim.search.found import Found, counted
 from motesim.search.one_program import OneProgram

@@ -16,7 +16,7 @@ from motesim.judge.judge import Judge
 from motesim.judge.remarks import remark_of
 from motesim.judge.sentences import names_of
 from motesim.report import Report
-from motesim.runner.run import Run
+from motesim.report.run import Run
 from motesim.scenario import Scenario
 from motesim.scenario.faults import Place, place_of
 from motesim.summary.counts import LINK_NAMES, summary

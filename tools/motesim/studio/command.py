@@ -15,7 +15,7 @@ from pathlib import Path
 from motesim.faults import Fault, in_words
 from motesim.judge.expectations import text_of
 from motesim.runner.programs import program_path
-from motesim.runner.run import refuse_others
+from motesim.report.run import refuse_others
 from motesim.studio.desk import Desk
 from motesim.studio.runs import Limits, Runs
 from motesim.studio.server import Server

@@ -15,7 +15,7 @@ from typing import Any, NamedTuple
 from motesim.faults import Fault, in_words
 from motesim.files import NotWritten, write_whole
 from motesim.runner.programs import TOP
-from motesim.runner.run import refuse_others
+from motesim.report.run import refuse_others
 from motesim.scenario.kinds import is_for_teachers
 
 LONGEST = 1_048_576

@@ -20,7 +20,7 @@ from motesim.scenario import ScenarioFault
 from motesim.search.faults import KINDS
 from motesim.studio import answers, guides
 from motesim.studio.desk import Changed, Desk, Document
-from motesim.studio.edits import edit
+from motesim.scenario.edits import edit
 from motesim.studio.runs import LimitMet, Runs, Superseded
 from motesim.studio.searches import OF_PAGE, Searches, wanted_of
 from motesim.timeline.columns import Columns, table_of

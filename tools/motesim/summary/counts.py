@@ -11,13 +11,13 @@ from itertools import repeat
 from operator import add, mul
 from typing import Any
 
-from motesim.explain.moments import collided
+from motesim.report.moments import collided
 from motesim.faults import Fault
 from motesim.summary.flows import NAMES as FLOW_NAMES
 from motesim.summary.flows import NAMES_BY, flow_rows, flow_rows_by, same_value_in_flow, silent
 from motesim.summary.shares import share
 from motesim.report import KINDS, LOST, MOST_MOMENT, OUTCOMES, Report
-from motesim.runner.run import Run, read_run
+from motesim.report.run import Run, read_run
 from motesim.scenario import Scenario
 from motesim.summary.series import NAMES as SERIES_NAMES
 from motesim.summary.series import Series

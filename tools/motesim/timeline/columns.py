@@ -15,7 +15,7 @@ from typing import Any
 from motesim.faults import Fault
 from motesim.report import KINDS, LOST, Log, Report
 from motesim.runner.batch import each_part
-from motesim.runner.run import Run
+from motesim.report.run import Run
 from motesim.scenario import Scenario
 
 ALL = 0xFFFF

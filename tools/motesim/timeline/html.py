@@ -1,7 +1,7 @@
 """Makes an HTML page of one run, or of two runs, one above the other: a map of the motes, and a lane over time for
 each.
 
-    from motesim.runner.run import read_run
+    from motesim.report.run import read_run
     from motesim.timeline.html import write_page
 
     write_page('flooding.html', 'Flooding', [read_run('examples/flooding.toml')])
@@ -22,7 +22,7 @@ from pathlib import Path
 from typing import Any
 
 from motesim.files import write_whole
-from motesim.runner.run import Run
+from motesim.report.run import Run
 from motesim.timeline.bundle import bundle
 from motesim.timeline.columns import data_of
 from motesim.timeline.note import Note

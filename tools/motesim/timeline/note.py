@@ -10,7 +10,7 @@ from typing import Any, NamedTuple
 from motesim.faults import Fault
 from motesim.judge.judge import Broken
 from motesim.judge.sentences import Value
-from motesim.runner.run import Run
+from motesim.report.run import Run
 from motesim.why.miss import last_of, misses
 from motesim.why.pages import source_of
 from motesim.why.question import Asked, Asker, Missing

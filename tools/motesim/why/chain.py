@@ -6,10 +6,10 @@ from typing import Any, NamedTuple
 
 from motesim.faults import Fault
 from motesim.scenario.fields import Field, of_line
-from motesim.why.endless import AT_ONCE, LETS_WAIT, MOST_WAITS, Endless, instead
-from motesim.why.replay import SYSTEM, Frame, Link, Replay
+from motesim.replay.endless import AT_ONCE, LETS_WAIT, MOST_WAITS, Endless, instead
+from motesim.replay.mote import SYSTEM, Frame, Link, Replay
 from motesim.why.source import At, Source
-from motesim.why.translate import Program
+from motesim.replay.translate import Program
 
 # The uses of a chain's time.
 WAITS = ('timer', 'full', 'medium', 'queue')

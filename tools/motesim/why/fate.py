@@ -4,7 +4,7 @@ from __future__ import annotations
 from typing import NamedTuple
 
 from motesim.why.chain import others
-from motesim.why.replay import RING
+from motesim.replay.mote import RING
 from motesim.why.source import At, Source
 
 

@@ -15,9 +15,9 @@ from motesim.scenario.fields import in_words as in_fields
 from motesim.why.chain import count, in_words, used_up
 from motesim.why.fate import Fate, fate_of
 from motesim.why.question import Asker, Missing
-from motesim.why.replay import Reached, Replay
+from motesim.replay.mote import Reached, Replay
 from motesim.why.source import At, Source
-from motesim.why.translate import Program
+from motesim.replay.translate import Program
 
 MOST_COPIES, MOST_OTHERS = 8, 3
 

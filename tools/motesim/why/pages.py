@@ -8,9 +8,9 @@ from array import array
 from typing import Any
 
 from motesim.faults import Fault
-from motesim.runner.run import Run
+from motesim.report.run import Run
 from motesim.why.chain import Explainer, cause_of, wait_of
-from motesim.why.lines_of_file import ScenarioFile
+from motesim.replay.file import ScenarioFile
 from motesim.why.source import At, Source
 
 # A page with more lines than this doesn't have their causes: the search for them would last longer than making the

@@ -10,13 +10,13 @@ from motesim.judge.expectations import fields_beside
 from motesim.report.belongs import check_scenario
 from motesim.faults import Fault
 from motesim.report import Report
-from motesim.runner.run import NoReport, is_scenario, read_file, refuse_others, run_program
+from motesim.report.run import NoReport, is_scenario, read_file, refuse_others, run_program
 from motesim.scenario.encodings import decoded
 from motesim.scenario.scenario import Scenario
-from motesim.why.endless import Endless, LastRun, endless
-from motesim.why.lines_of_file import ScenarioFile
-from motesim.why.replay import QUEUE, Replay
-from motesim.why.translate import Program, translated
+from motesim.replay.endless import Endless, LastRun, endless
+from motesim.replay.file import ScenarioFile
+from motesim.replay.mote import QUEUE, Replay
+from motesim.replay.translate import Program, translated
 
 HEAD = re.compile(rb'mote (\d+) ([A-Za-z0-9_-]{1,32})')
 
@@ -232,9 +232,7 @@ def read_traces(path: str | Path, scenario: str | Path | None = None) -> tuple[b
         try:
             return run_program(data), with_fields(Scenario.parse(data), path)
         except NoReport as fault:
-            # (only an error needs it, and its modules are many)
-            from motesim.explain.explanation import refused
-            raise refused(str(path), data, fault) from None
+            raise Fault('%s: %s (tools/explain %s says more)' % (path, fault, path)) from None
         except Fault as fault:
             raise Fault('%s: %s' % (path, fault)) from None
     decoded(str(path), data)

@@ -10,7 +10,7 @@ from typing import Any
 from motesim.faults import Fault
 from motesim.why.chain import in_words
 from motesim.why.question import LINE, line_asked
-from motesim.why.replay import CTIMER, Replay
+from motesim.replay.mote import CTIMER, Replay
 from motesim.why.source import At, Source
 
 ASKED = re.compile(r'\s*mote\s+(\d{1,9})\s+at\s+(\d{1,9})\s*')

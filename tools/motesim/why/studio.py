@@ -8,7 +8,7 @@ from typing import Any
 
 from motesim.faults import Fault
 from motesim.report import FIELDS
-from motesim.runner.run import Run
+from motesim.report.run import Run
 from motesim.why.chain import as_json as chain_as_json
 from motesim.why.chain import chain
 from motesim.why.log import Filter, of_sentence

@@ -1,6 +1,6 @@
 """Runs `motesim`, and reads its answer.
 
-    from motesim.runner.run import read_run
+    from motesim.report.run import read_run
 
     run = read_run('examples/flooding.toml')       # runs the scenario; a report is only read
     for mote in run.report.motes:

@@ -5,7 +5,7 @@ from dataclasses import dataclass
 
 from motesim.scenario.faults import place_of
 from motesim.toml import NoToml, read_toml
-from motesim.why.translate import ProgramPlace
+from motesim.replay.translate import ProgramPlace
 
 
 @dataclass(frozen=True)

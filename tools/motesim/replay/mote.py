@@ -11,7 +11,7 @@ from dataclasses import dataclass
 from typing import Any, NamedTuple, NoReturn
 
 from motesim.faults import Fault
-from motesim.why.translate import Process, Program
+from motesim.replay.translate import Process, Program
 
 UNITS, RUNS, RING, QUEUE = 10_000, 64, 8, 32
 MOST_START = 2 ** 62

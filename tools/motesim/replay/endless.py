@@ -4,8 +4,8 @@ from __future__ import annotations
 from collections.abc import Sequence
 from typing import NamedTuple
 
-from motesim.why.replay import Reached, Replay
-from motesim.why.translate import Program
+from motesim.replay.mote import Reached, Replay
+from motesim.replay.translate import Program
 
 # Advice for a loop in which nothing waits.
 LETS_WAIT = ('if the loop waits for something, write a `yield_until` in it; if it calculates, write a `pause` in it, '

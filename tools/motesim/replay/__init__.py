@@ -1,0 +1,1 @@
+"""A mote that runs again, guided by its trace: each line of the replay must be that of the trace."""

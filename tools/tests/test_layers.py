@@ -1,0 +1,38 @@
+"""The layers of the tools: imports lead only to the packages that ARCHITECTURE allows, and those are lower ones."""
+import ast
+import re
+import unittest
+from collections.abc import Iterator
+from pathlib import Path
+
+from here import TOOLS, TOP
+
+HOME = TOOLS / 'motesim'
+ROW = re.compile(r'\| `(\w+)` \| [^|]+ \| ([\w, ]*)\|')
+# The edges of commands and of the API, which import modules when they need them.
+EDGES = ('commands', 'command.py', 'api.py', '__init__.py')
+
+
+def imports(path: Path) -> Iterator[tuple[str, bool]]:
+    """The packages (or modules at the top) that a module imports, and whether a function does it."""
+    tree = ast.parse(path.read_text('utf-8'))
+    inner = {id(it) for part in ast.walk(tree) if isinstance(part, ast.FunctionDef) for it in ast.walk(part)}
+    for it in ast.walk(tree):
+        if isinstance(it, ast.ImportFrom) and (it.module or '').partition('.')[0] == 'motesim':
+            for name in [it.module.split('.')[1]] if it.module != 'motesim' else [part.name for part in it.names]:
+                yield name, id(it) in inner
+
+
+class Layers(unittest.TestCase):
+    def test_imports_have_one_direction(self) -> None:
+        rows = ROW.findall((TOP / 'docs/dev/ARCHITECTURE.md').read_text('utf-8').partition('## The tools')[2])
+        may = {name: [it.strip() for it in its.split(',') if it.strip()] for name, its in rows}
+        self.assertEqual(sorted(may), sorted(it.parent.name for it in HOME.glob('*/__init__.py')))
+        for place, (name, below) in enumerate(may.items()):
+            self.assertLessEqual({*below} - {'all'}, {*[*may][:place]}, name)
+        for path in sorted(HOME.rglob('*.py')):
+            own = path.relative_to(HOME).parts[0]
+            for package, is_inner in imports(path):
+                self.assertFalse(is_inner and own not in EDGES, '%s imports in a function' % path)
+                if package in may and own not in EDGES:
+                    self.assertIn(package, [own, *may.get(own, [])], path)
