@@ -145,7 +145,7 @@ class Edits(unittest.TestCase):
         self.assertIn('no edit', self.refused(NET, what='burn'))
 
     def test_places_are_counted_as_browsers_do(self) -> None:
-        self.assertEqual(answers.place16('a\n\U0001f600b', 3), [1, 2])
+        self.assertEqual(answers.column16('a\n\U0001f600b', 3), 4)
 
 
 class Files(unittest.TestCase):
@@ -443,6 +443,19 @@ class Answering(unittest.TestCase):
         self.assertEqual([it['holds'] for it in said['checks']['marks']], [False, True, True])
         self.assertEqual(said['sums']['motes'][-1][0], 'net')
         self.assertTrue(self.judge(99, 0, '')['gone'])
+
+    def test_advice_on_a_stopped_run_ends_with_a_newer_text_or_at_the_limit(self) -> None:
+        runs = self.server.session.runs
+        with mock.patch('motesim.studio.session.busiest', return_value=' It loops.') as busiest:
+            said = self.ask('advise', text=NET, number=runs.ask())
+            self.assertEqual(json.loads(said), {'does': ' It loops.'})
+            goes_on = busiest.call_args.kwargs['goes_on']
+            self.assertTrue(goes_on())
+            runs.ask()
+            self.assertFalse(goes_on())
+            runs.limits = Limits(seconds=0)
+            self.ask('advise', text=NET, number=runs.newest)
+            self.assertFalse(busiest.call_args.kwargs['goes_on']())
 
     def test_a_fault_has_its_place_and_the_words_of_explain(self) -> None:
         fault = self.run_text(NET.replace('print 1', 'print nothing'))['fault']

@@ -159,11 +159,11 @@ class Page(InBrowser):
         self.value('pane.zoomLanes(1.5)')
         self.value('m.find("recv 6")')
         before = self.value('[m.time.begin, m.time.scale, pane.lane, pane.top, m.play.now]')
-        self.assertEqual(self.value('run.text(m.chosen().line)'), '23 recv 0 1 6')
+        self.assertEqual(self.value('run.text(m.chosen.line)'), '23 recv 0 1 6')
         self.type_behind('print 1;', ' print 7;')
         self.wait('Array.from(run.w).includes(7) && m.studio.judged === m.studio.number')
         self.assertEqual(self.value('[m.time.begin, m.time.scale, pane.lane, pane.top, m.play.now]'), before)
-        self.assertEqual(self.value('run.text(m.chosen().line)'), '23 recv 0 1 6')
+        self.assertEqual(self.value('run.text(m.chosen.line)'), '23 recv 0 1 6')
 
     def test_a_fault_is_shown_at_its_place_and_goes(self) -> None:
         self.open()
@@ -227,7 +227,8 @@ class Page(InBrowser):
                   const line = lines.findIndex(it => it.includes("print 1")), end = [line, lines[line].length];
                   editor.goTo(...end);
                   if (mirror) mirror.scrollTo(0, 0); else area.scrollTop = 0;
-                  editor.apply([{from: end, to: end, text: " prin 2"}]);
+                  const at = lines.slice(0, line).join("\\n").length + 1 + end[1];
+                  editor.apply([{begin: at, end: at, text: " prin 2"}]);
                 })()''')
                 self.wait('!document.getElementById("fault").hidden')
                 self.browser.settle()
@@ -454,7 +455,7 @@ class Page(InBrowser):
         self.assertEqual(self.value('[m.differs.first.at, m.differs.first.mote]'), [30, 0])
         self.assertEqual(self.value('Array.from(m.differs.parts)'), [[0, 30], [1, 33]])
         self.value('document.getElementById("change-show").click()')
-        self.assertEqual(self.value('run.text(m.chosen().line)'), '30 post 2 talker timer 0')
+        self.assertEqual(self.value('run.text(m.chosen.line)'), '30 post 2 talker timer 0')
         self.assertIn('only A', self.value('document.querySelector("#compare pre").textContent'))
         self.type_behind('# Two', ' ')
         self.wait('m.studio.judged === m.studio.number && !m.differs.first')
@@ -543,8 +544,8 @@ class Page(InBrowser):
         self.wait('document.getElementById("tab-checks").textContent === "Checks 2/3"')
         self.assertEqual(self.value('document.querySelectorAll("#checks .holds").length'), 2)
         self.value('document.querySelector("#checks .broken button").click()')
-        self.assertEqual(self.value('run.text(m.chosen().line)'), '0 print talker 2')
-        self.assertEqual(self.value('run.moteOf(m.chosen().line)'), 0)
+        self.assertEqual(self.value('run.text(m.chosen.line)'), '0 print talker 2')
+        self.assertEqual(self.value('run.moteOf(m.chosen.line)'), 0)
 
     def test_a_change_is_made_by_a_button_and_judged_by_its_own_sentences(self) -> None:
         self.open()
@@ -586,7 +587,7 @@ class Page(InBrowser):
         self.value('document.getElementById("stop-at").value = "stop where mote 1 receives 6 or a packet collides"')
         self.value(buttons['On to the next stop'])
         self.browser.settle()
-        self.assertEqual(self.value('run.text(m.chosen().line)'), '23 recv 0 1 6')
+        self.assertEqual(self.value('run.text(m.chosen.line)'), '23 recv 0 1 6')
         self.assertIn('Stop 1 of 1', self.shown('steps'))
 
     def test_a_run_past_its_limit_is_stopped(self) -> None:
@@ -685,6 +686,21 @@ class Page(InBrowser):
         self.serve(Server(session, CODEMIRROR, port, token))
         self.wait('document.getElementById("notice").hidden && Array.from(run.w).includes(7)')
 
+    def test_a_text_that_was_not_saved_is_offered_again(self) -> None:
+        self.open()
+        self.browser.run('localStorage.clear()')
+        self.type_behind('print 1;', ' print 7;')
+        text = self.value('text')
+        for button, kept in ('Take it', text), ('Forget it', NET):
+            self.visit(self.server.address, READY)
+            self.assertEqual(self.value('text'), NET)
+            self.assertIn('a text of net.toml that was not saved', self.shown('notice'))
+            self.value('[...document.querySelectorAll("#notice button")].find(it => it.textContent === "%s").click()'
+                       % button)
+            self.assertEqual(self.value('text'), kept)
+        self.visit(self.server.address, READY)
+        self.assertTrue(self.value('document.getElementById("notice").hidden'))
+
     def test_a_text_is_saved_into_its_file_and_not_over_another(self) -> None:
         self.open()
         self.type_behind('print 1;', ' print 7;')
@@ -718,6 +734,7 @@ class Page(InBrowser):
     def test_it_works_with_a_plain_text_area(self) -> None:
         self.open(codemirror=None)
         self.assertIn('libjs-codemirror', self.shown('no-editor'))
+        self.assertEqual(self.value('document.querySelector("#tint .cm-send").textContent'), 'send')
         self.type_behind('print 1;', ' print 7;')
         self.wait('Array.from(run.w).includes(7)')
         x, y = self.on_map(1)
@@ -788,5 +805,6 @@ class Page(InBrowser):
             self.assertEqual(cut, [], width)
         unnamed = self.value('''Array.from(document.querySelectorAll("button, input, select, canvas, textarea"))
           .filter(it => !(it.textContent.trim() && it.matches("button")) && !it.getAttribute("aria-label") &&
+          !it.getAttribute("aria-hidden") &&
           !(it.labels && it.labels.length) && !it.closest(".CodeMirror")).map(it => it.outerHTML)''')
         self.assertEqual(unnamed, [])

@@ -165,7 +165,7 @@ class Pages(InBrowser):
         return self.value('document.getElementById("details").innerText')
 
     def selected(self) -> Any:
-        return self.value('m.chosen() && m.chosen().line >= 0 ? run.text(m.chosen().line) : null')
+        return self.value('m.chosen.pane && m.chosen.line >= 0 ? run.text(m.chosen.line) : null')
 
     def key(self, key: str, **words: Any) -> None:
         self.value('pane.canvas.focus()')
@@ -333,7 +333,7 @@ class Pages(InBrowser):
         self.assertAlmostEqual(self.value('pane.moment(pane.gutter)'), 4, places=6)
         self.assertFalse(self.value('document.querySelector("aside").offsetHeight'))
         self.open(small_network(), fragment='#mote=2')
-        self.assertEqual(self.value('m.chosen().mote'), 2)
+        self.assertEqual(self.value('m.chosen.mote'), 2)
 
     def test_a_note_leads_to_its_line(self) -> None:
         note = Note('mote 1 sends 41', 'mote 1 has 0 such lines', (Line('nothing'), Line('19 send 1 40', 38)))
@@ -399,7 +399,7 @@ class Pages(InBrowser):
     def test_all_that_is_drawn_has_a_name_for_readers_of_screens(self) -> None:
         self.open(small_network())
         unnamed = self.value('''Array.from(document.querySelectorAll("button, input, select, canvas")).filter(it =>
-          !(it.textContent.trim() && it.matches("button")) && !it.getAttribute("aria-label") &&
+          !it.getAttribute("aria-hidden") && !(it.textContent.trim() && it.matches("button")) && !it.getAttribute("aria-label") &&
           !(it.labels && it.labels.length)).length''')
         self.assertEqual(unnamed, 0)
 
@@ -408,7 +408,7 @@ class Pages(InBrowser):
         self.open(Run('many', Report.parse(many(60, 4)), None))
         for lane in 40, 11, 7, 3:
             seen = self.value('''(() => {
-              const c = pane.context, {fillText, fillRect} = c, drawn = [];
+              const c = pane.front, {fillText, fillRect} = c, drawn = [];
               c.fillText = (text, x, y, wide) => { drawn.push({text, x, y}); fillText.call(c, text, x, y, wide); };
               c.fillRect = (x, y, w, h) => { drawn.push({x, y, w, h}); fillRect.call(c, x, y, w, h); };
               pane.lane = %d;
@@ -488,6 +488,40 @@ class Pages(InBrowser):
             for other in its[:number]:
                 self.assertTrue(abs(one['x'] - other['x']) >= (one['wide'] + other['wide']) / 2
                                 or abs(one['y'] - other['y']) >= 12)
+
+    def test_a_move_keeps_the_last_picture_and_draws_the_new_strip(self) -> None:
+        self.open(Run('many', Report.parse(many(900, 40)), None))
+        for lane in None, 6:
+            for x, y in (7, 0), (-33, 0), (0, 5), (-9, -11):
+                moved, differing = self.value("""(async () => {
+                  const lane = %s, pixels = () => {
+                    const {width, height} = pane.canvas, left = pane.gutter;
+                    return pane.context.getImageData(left, 24, width - left, height - 24).data;
+                  };
+                  m.act('whole');
+                  m.time.scale *= 4;
+                  m.time.begin = 30;
+                  if (lane) Object.assign(pane, {lane, top: 100});
+                  m.drawAll();
+                  m.time.begin += %d / m.time.scale;
+                  pane.top += lane ? %d : 0;
+                  m.redrawLanes();
+                  await new Promise(done => requestAnimationFrame(() => requestAnimationFrame(done)));
+                  const isMoved = pane.isMoved, strip = pixels();
+                  m.drawAll();
+                  return [isMoved, pixels().reduce((sum, it, i) => sum + (it !== strip[i]), 0)];
+                })()""" % (json.dumps(lane), x, y))
+                self.assertEqual((moved, differing), (bool(x or lane), 0), (lane, x, y))
+
+    def test_playing_draws_the_moment_on_a_canvas_of_its_own(self) -> None:
+        self.open(small_network())
+        seen = self.value("""(async () => {
+          const layers = pane.layers.map(it => it.toDataURL());
+          m.setNow(8);
+          await new Promise(done => requestAnimationFrame(() => requestAnimationFrame(done)));
+          return pane.layers.map((it, i) => it.toDataURL() === layers[i]);
+        })()""")
+        self.assertEqual(seen, [True, True, False])
 
     def test_many_lanes_are_drawn_as_colours_and_what_is_not_drawn_is_said(self) -> None:
         self.open(Run('many', Report.parse(many(900, 40)), None))

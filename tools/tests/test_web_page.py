@@ -9,6 +9,7 @@ import http.server
 import json
 import math
 import re
+import runpy
 import sys
 import tempfile
 import threading
@@ -196,7 +197,7 @@ class Page(unittest.TestCase):
         self.wait('m.differs.first')
         self.assertEqual(self.said(), '6,778 packets instead of 75. First different at moment 46, at mote 0.')
         self.press('show')
-        self.assertEqual(self.value('run.at[m.chosen().line]'), 46)
+        self.assertEqual(self.value('run.at[m.chosen.line]'), 46)
         self.press('revert')
         self.wait('!m.differs.first && run.rows === 1072')
         self.assertEqual(self.value('text'), FLOODING)
@@ -206,8 +207,8 @@ class Page(unittest.TestCase):
         self.open()
         for place in range(6):
             self.press('examples')
-            self.value('document.querySelectorAll("#cards button")[%d].click()' % place)
-            self.wait('web.example.title === document.querySelectorAll("#cards strong")[%d].textContent && '
+            self.value('document.querySelectorAll("#gallery-cards button")[%d].click()' % place)
+            self.wait('web.example.title === document.querySelectorAll("#gallery-cards strong")[%d].textContent && '
                       'run.name === web.name && !web.fresh' % place)
             self.press('try')
             self.wait('m.differs.first || web.history.step.run')
@@ -287,11 +288,79 @@ class Page(unittest.TestCase):
         self.assertIn('You stopped the run.', self.said())
         begin = time.monotonic()
         self.put(ENDLESS + '\n')
-        self.wait('by("expectation").textContent.includes("was stopped")')
+        self.wait('by("sentence").textContent.includes("was stopped")')
         # (5 seconds on a machine that has nothing else to do)
         self.assertLess(time.monotonic() - begin, 60)
         self.put(FLOODING)
         self.wait('run.rows === 1072 && !document.body.classList.contains("stale")')
+
+    def answer_to(self, name: str) -> Any:
+        """What a worker of the page answers to the scenario that a case makes, however long it takes."""
+        made = runpy.run_path(str(TOP / 'tests/cases/limits' / (name + '.make')))['scenario']()
+        return self.in_worker(made)
+
+    def in_worker(self, text: str) -> Any:
+        return self.browser.run("""(async () => {
+          const worker = new Worker(motesim.backend.script), module = await motesim.backend.module;
+          const answer = await new Promise(done => {
+            worker.onmessage = ({data}) => done(data);
+            worker.postMessage({module});
+            worker.postMessage({number: 1, text: %s});
+          });
+          worker.terminate();
+          return {...answer, buffer: Boolean(answer.buffer)};
+        })()""" % json.dumps(text))
+
+    def test_limits_of_the_stack_and_of_a_report_are_said(self) -> None:
+        self.open()
+        self.assertTrue(self.answer_to('deepest_exits')['buffer'])
+        self.assertEqual(self.answer_to('five_thousand_arrays_deep')['line'], 'motesim: scenario fault 1')
+        long = FLOODING.replace('end = 160', 'end = 4000').replace('set next 40', 'set next 1').replace(
+            'if (newest < 3) {', 'newest = 0; while (newest < 2000) { newest = (newest + 1); print newest; } if 1 {')
+        self.assertEqual(self.in_worker(long), {
+            'number': 1, 'buffer': False, 'limit': 'The report is longer than 64 megabytes, so the run was stopped.'})
+
+    def test_lanes_are_as_high_as_their_box_after_each_edit(self) -> None:
+        self.open()
+        self.press('part-all')
+        for size in SIZES:
+            self.browser.size(*size)
+            for number in range(10):
+                end = 170 + SIZES.index(size) * 10 + number
+                self.value('(it => { it.value = text.replace(/^end = .*$/m, "end = %d"); '
+                           'it.dispatchEvent(new Event("input")); })(by("text"))' % end)
+                self.wait('run.end === %d && !by("sentence").hidden' % end)
+                self.browser.settle()
+                for canvas, box in self.value('[[pane.canvas, by("panes")], [m.maps[0].canvas, by("maps")]].map('
+                                              'it => it.map(one => one.getBoundingClientRect().bottom))'):
+                    self.assertLessEqual(canvas, box + 0.5, (size, number))
+
+    def test_a_link_leads_to_a_line(self) -> None:
+        self.open()
+        self.press('play')
+        self.value('m.find("print mote 24")')
+        row = self.value('run.numberOf(m.chosen.line, 24)')
+        self.press('share')
+        self.wait('by("link").value')
+        link = self.value('by("link").value')
+        self.assertTrue(link.endswith('&line=%d' % row))
+        self.browser.open(self.page, '#' + link.partition('#')[2] + '&from=50')
+        self.wait('m.chosen.line >= 0')
+        self.assertEqual(self.value('[run.numberOf(m.chosen.line, 24), Math.round(m.time.begin)]'), [row, 50])
+
+    def test_two_fingers_zoom(self) -> None:
+        self.open()
+        self.press('play')
+        for canvas, zoom in ('pane.canvas', 'm.time.scale'), ('m.maps[0].canvas', 'm.maps[0].zoom'):
+            x, y = self.value('(box => [box.x + box.width / 2, box.y + box.height / 2])(%s.getBoundingClientRect())'
+                              % canvas)
+            before = self.value(zoom)
+            for kind, apart in ('touchStart', 20), ('touchMove', 40), ('touchMove', 60), ('touchEnd', 0):
+                self.browser.call('Input.dispatchTouchEvent', type=kind, touchPoints=[
+                    {'x': x + sign * apart, 'y': y, 'id': number}
+                    for number, sign in enumerate((-1, 1)) if apart])
+            self.browser.settle()
+            self.assertAlmostEqual(self.value(zoom) / before, 3, delta=0.1)
 
     def test_four_hundred_motes(self) -> None:
         self.open()

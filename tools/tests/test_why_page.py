@@ -120,9 +120,9 @@ class Pages(InBrowser):
         self.open(small_run(), '#line=28')
         self.ask()
         self.script("[...document.querySelectorAll('#why-chain li button')][4].click()")
-        self.assertEqual(self.script('[motesim.chosen().mote, motesim.chosen().line]'), [0, 12])
+        self.assertEqual(self.script('[motesim.chosen.mote, motesim.chosen.line]'), [0, 12])
         self.script("document.querySelector('.chart circle[data-hop=\"6\"]').dispatchEvent(new MouseEvent('click'))")
-        self.assertEqual(self.script('motesim.chosen().line'), 5)
+        self.assertEqual(self.script('motesim.chosen.line'), 5)
 
     def test_the_style_of_the_chart_is_its_own(self) -> None:
         self.open(small_run(), '#line=28')

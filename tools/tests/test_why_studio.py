@@ -113,11 +113,11 @@ class Page(InBrowser):
         self.tab('why')
         self.write('why-asked', 'mote 6 prints flood 1')
         self.wait('why', 'Critical path: 46 moments: 40 waiting for timers; 6 on the way, over 2 hops.')
-        self.assertEqual(self.browser.run('[motesim.chosen().mote, motesim.chosen().line]')[0], 6)
+        self.assertEqual(self.browser.run('[motesim.chosen.mote, motesim.chosen.line]')[0], 6)
         self.write('why-asked', 'mote 1 prints flood 2 by 85')
         self.wait('why', 'the medium lost it, because it loses one packet in 2 from 0 to 1')
         self.browser.run("[...document.querySelectorAll('#why-chain button')][0].click()")
-        self.assertEqual(self.browser.run('motesim.chosen().mote'), 1)
+        self.assertEqual(self.browser.run('motesim.chosen.mote'), 1)
 
     def test_a_program_s_line_is_that_of_the_text_and_can_be_clicked(self) -> None:
         self.tab('why')
@@ -187,23 +187,47 @@ class Page(InBrowser):
         self.stop_at('mote 0 sends', 'b, called with exited: a has exited')
         self.stop_at('mote 0 leaves', 'nothing')
 
-    def test_hover_over_a_variable(self) -> None:
-        if not has_editor(CODEMIRROR):
-            self.skipTest('the editor is not installed')
+    def stop_where_mote_3_prints_2(self) -> None:
         self.tab('steps')
         self.browser.run("document.getElementById('stop-at').value = 'mote 3 prints 2'")
         self.press_step('On ›')
         self.wait('state-cards', 'newest = 2')
-        self.browser.run('''(() => {
+
+    def hover(self, x: float, y: float) -> Any:
+        """The value that the pointer shows at a place of the text."""
+        self.browser.move(x, y)
+        return self.browser.run("document.getElementById('editor').title")
+
+    def test_the_statement_of_a_line_and_the_value_of_a_variable_are_shown_in_the_text(self) -> None:
+        self.stop_where_mote_3_prints_2()
+        marked = "document.querySelector('.statement-line').textContent"
+        self.browser.wait("document.querySelector('.statement-line') && %s.includes('print newest')" % marked)
+        # (a plain text area)
+        self.server.codemirror = None
+        self.open_steps(self.file.read_text())
+        self.stop_where_mote_3_prints_2()
+        self.browser.wait("document.querySelector('.statement-line') && %s.includes('print newest')" % marked)
+        x, y = self.browser.run("""(() => {
+          const row = [...document.querySelectorAll('#tint > div')].find(it => it.textContent.includes('send newest'));
+          const name = [...row.querySelectorAll('span')].find(it => it.textContent === 'newest') || row;
+          const box = name.getBoundingClientRect();
+          return [box.x + box.width / 2, box.y + box.height / 2];
+        })()""")
+        self.assertEqual(self.hover(x, y), 'newest = 2 at mote 3, moment 95')
+        self.assertEqual(self.hover(x - 40, y), '')
+
+    def test_hover_over_a_variable(self) -> None:
+        if not has_editor(CODEMIRROR):
+            self.skipTest('the editor is not installed')
+        self.stop_where_mote_3_prints_2()
+        x, y = self.browser.run("""(() => {
           const {mirror} = motesim.editor(), rows = mirror.getValue().split('\\n');
           const row = rows.findIndex(it => /send newest/.test(it));
           mirror.scrollIntoView({line: row, ch: 0});
-          const column = mirror.getLine(row).indexOf('newest') + 2, at = mirror.charCoords({line: row, ch: column});
-          const event = new MouseEvent('mousemove', {clientX: at.left, clientY: at.top + 5, bubbles: true});
-          mirror.getWrapperElement().dispatchEvent(event);
-        })()''')
-        self.assertEqual(self.browser.run('motesim.editor().mirror.getWrapperElement().title'),
-                         'newest = 2 at mote 3, moment 95')
+          const at = mirror.charCoords({line: row, ch: mirror.getLine(row).indexOf('newest') + 2});
+          return [at.left, at.top + 5];
+        })()""")
+        self.assertEqual(self.hover(x, y), 'newest = 2 at mote 3, moment 95')
 
     def test_the_log(self) -> None:
         self.tab('log')
@@ -213,4 +237,4 @@ class Page(InBrowser):
         self.write('log-asked', 'motes 3 to 7 print flood 2 by 90')
         self.wait('log', '3 of 970 lines: print 3')
         self.browser.run("document.querySelectorAll('#log-lines button')[0].click()")
-        self.assertEqual(self.browser.run('motesim.chosen().mote'), 5)
+        self.assertEqual(self.browser.run('motesim.chosen.mote'), 5)

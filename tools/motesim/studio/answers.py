@@ -41,15 +41,9 @@ def finished(number: int, text: str, data: bytes, name: str) -> Finished:
     return Finished(number, text, Run(name, Report.parse(data), scenario, (name or 'text', text)), scenario)
 
 
-def column16(line: str, column: int) -> int:
-    """A column, counted in the units of a browser."""
-    return len(line[:column].encode('utf-16-le')) // 2
-
-
-def place16(text: str, offset: int) -> list[int]:
-    """The line and the column of an offset, from 0, in the units of the page's editor."""
-    begin = text.rfind('\n', 0, offset) + 1
-    return [text.count('\n', 0, begin), column16(text[begin:offset], offset - begin)]
+def column16(text: str, column: int) -> int:
+    """A column of a line, or an offset in a text, counted in the units of a browser."""
+    return len(text[:column].encode('utf-16-le')) // 2
 
 
 def unwrapped(lines: list[str]) -> list[str]:

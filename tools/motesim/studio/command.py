@@ -21,6 +21,7 @@ from motesim.studio.runs import Limits, Runs
 from motesim.studio.server import Server
 from motesim.studio.session import Session
 
+PORT = 20917
 NO_EDITOR = "The editor isn't installed (Debian's package libjs-codemirror): the page has a plain text area instead."
 
 
@@ -71,6 +72,14 @@ def pinned(path: str) -> str:
     return text_of(Path(path))
 
 
+def server_of(session: Session) -> Server:
+    """A server at the port of earlier studios, because a browser keeps the texts that weren't saved for their address;
+    at another port if this one isn't free."""
+    with contextlib.suppress(OSError):
+        return Server(session, port=PORT)
+    return Server(session)
+
+
 def status_of(asked: argparse.Namespace) -> int:
     """Runs tools/studio with its arguments."""
     # (the studio runs for hours, so it needs the garbage collector, unlike other commands)
@@ -80,7 +89,7 @@ def status_of(asked: argparse.Namespace) -> int:
     session = Session(Desk(asked.file), runs, against=pinned(asked.against) if asked.against else None)
     session.desk.first()
     try:
-        server = Server(session)
+        server = server_of(session)
     except OSError as fault:
         raise Fault('no page can be served: %s' % in_words(fault)) from None
     with server:

@@ -76,7 +76,7 @@ class Session:
             'searched': self.searched, 'stop-search': self.stop_search, 'counter-example': self.counter_example,
             'shrink': self.shrink}
         self.causes = Causes()
-        for what in 'why', 'state', 'values', 'lines':
+        for what in 'why', 'state', 'statement', 'values', 'lines':
             self.does[what] = functools.partial(self.cause, what)
 
     def answer(self, what: str, asked: dict[str, Any]) -> Answered:
@@ -220,7 +220,7 @@ class Session:
         text, wish = _text(asked, 'text'), asked.get('edit')
         changes, said = edit(text, wish if type(wish) is dict else {})
         return as_json({'said': said, 'changes': [
-            {'from': answers.place16(text, it.begin), 'to': answers.place16(text, it.end), 'text': it.text}
+            {'begin': answers.column16(text, it.begin), 'end': answers.column16(text, it.end), 'text': it.text}
             for it in sorted(changes, reverse=True)]})
 
     def export(self, asked: dict[str, Any]) -> Answered:

@@ -48,7 +48,8 @@ class Causes:
 
     def answer(self, what: str, number: int, run: Run, asked: Said) -> Said:
         """Returns the answer to a question; if there is none, `said` has the reason."""
-        does = {'why': self.why, 'state': self.state, 'values': self.values, 'lines': self.lines}
+        does = {'why': self.why, 'state': self.state, 'statement': self.statement, 'values': self.values,
+                'lines': self.lines}
         with self.lock:
             try:
                 return does[what](self.source(number, run), asked)
@@ -91,6 +92,16 @@ class Causes:
         at = source.traces.moment(where)
         return sorted({'%s.%s' % (program.processes[it.process].name, names[it.process][it.variable])
                        for it in replay.changes if it.lines == where.place + 1 and it.at == at})
+
+    def statement(self, source: Source, asked: Said) -> Said:
+        """The row of the text, from 0, with the statement that wrote a line or that set its timer; -1 if none did."""
+        where = source.traces.at_row(_whole(asked, 'row'))
+        if where is None or where.place < 0:
+            raise Fault('this line is in no trace')
+        number, program = source.replay(where.mote).links[where.place].row, source.program(where.mote)
+        if not number or program.place is None:
+            return {'statement': -1}
+        return {'statement': program.place.above + program.statement(number).line - 1}
 
     def values(self, source: Source, asked: Said) -> Said:
         """The values of variables on all motes that have them: mote, line of the report, moment, name and value."""

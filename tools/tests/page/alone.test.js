@@ -1,11 +1,13 @@
 // The page without a server: the same columns, sums, differences and edits as the tools have.
 import assert from 'node:assert/strict';
 import {test} from 'node:test';
+import {applied} from '../../motesim/studio/page/text.js';
 import {Run} from '../../motesim/timeline/page/data.js';
 import {indexRun} from '../../motesim/timeline/page/index.js';
 import {chainOf} from '../../motesim/web/page/chain.js';
 import {difference} from '../../motesim/web/page/diff.js';
-import {EditRefused, applied, edit} from '../../motesim/web/page/edits.js';
+import {Refused} from '../../motesim/timeline/page/stage.js';
+import {edit} from '../../motesim/web/page/edits.js';
 import {columnsOf, lastMoment} from '../../motesim/web/page/report.js';
 import {scenarioOf} from '../../motesim/web/page/scenario.js';
 import {packed, unpackedText} from '../../motesim/web/page/share.js';
@@ -61,7 +63,7 @@ test('the same edits', () => {
   assert.ok(given.alone.edits.length > 100);
   for (const {text, wish, edited, said} of given.alone.edits) {
     if (edited === null) {
-      assert.throws(() => edit(text, wish), EditRefused);
+      assert.throws(() => edit(text, wish), Refused);
       continue;
     }
     const made = edit(text, wish);

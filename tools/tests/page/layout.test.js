@@ -2,10 +2,12 @@
 import assert from 'node:assert/strict';
 import {beforeEach, test} from 'node:test';
 import {AXIS, Layout} from '../../motesim/timeline/page/layout.js';
-import {isWhole, keepTime, leastScale, momentsInWords, niceStep, revealMoment, showTime, time, zoomTime
+import {page} from '../../motesim/timeline/page/stage.js';
+import {isWhole, keepTime, leastScale, momentsInWords, niceStep, revealMoment, showTime, zoomTime
   } from '../../motesim/timeline/page/time.js';
 import {runOf} from './data.js';
 
+const {time} = page;
 let run, layout;
 
 beforeEach(async () => {

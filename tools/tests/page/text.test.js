@@ -17,11 +17,9 @@ test('places and offsets belong to each other', () => {
 
 test('replacements are made from the end', () => {
   const changes = replacements(TEXT, 'one', 'three');
-  assert.deepEqual(changes.map(it => it.from), [[3, 0], [1, 4], [0, 0]]);
+  assert.deepEqual(changes.map(it => it.begin), [13, 8, 0]);
   let text = TEXT;
-  for (const {from, to, text: piece} of changes) {
-    text = text.slice(0, offsetOf(text, from)) + piece + text.slice(offsetOf(text, to));
-  }
+  for (const {begin, end, text: piece} of changes) text = text.slice(0, begin) + piece + text.slice(end);
   assert.equal(text, TEXT.replaceAll('one', 'three'));
   assert.deepEqual(replacements(TEXT, '', 'x'), []);
 });

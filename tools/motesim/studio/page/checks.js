@@ -2,11 +2,10 @@
 // Warnings, the sentences that hold or don't, and the sums of a run.
 import {byId, element, makeButton} from '../../timeline/page/dom.js';
 import {chooseRow} from '../../timeline/page/rows.js';
-import {panes} from '../../timeline/page/stage.js';
+import {page} from '../../timeline/page/stage.js';
+import {showTab} from '../../timeline/page/tabs.js';
 import {count} from '../../timeline/page/words.js';
-import {reactions} from './running.js';
-import {studio} from './state.js';
-import {labelTab, markEarlier, showTab} from './tabs.js';
+import {labelTab, markEarlier} from './tabs.js';
 import {fillSums} from './totals.js';
 import {askQuestion} from './whys.js';
 
@@ -15,9 +14,9 @@ function showWarnings(warnings) {
   const box = byId('warnings');
   box.hidden = !warnings.length;
   box.replaceChildren(...warnings.map(({name, text, place}) => makeButton(`Warning (${name}): ${text}.`, () => {
-    if (place) studio.editor.goTo(place[0], place[1], place[2] - place[1]);
+    if (place) page.studio.editor.goTo(place[0], place[1], place[2] - place[1]);
   })));
-  studio.editor.refresh();
+  page.studio.editor.refresh();
 }
 
 /** Marks the results as those of an earlier text, until those of the present one are there. */
@@ -53,7 +52,7 @@ function checkItem(it) {
   const inside = element('div');
   if (it.row) {
     const button = makeButton(it.sentence, () => {
-      chooseRow(panes[0], it.row);
+      chooseRow(page.panes[0], it.row);
       showTab('chosen');
     });
     button.title = 'Show the line that breaks it';
@@ -81,8 +80,8 @@ function showSums(sums) {
 
 /** Shows the results of runs from now on. */
 export function beginChecks() {
-  reactions.outdated.push(outdateChecks);
-  reactions.judged.push(({sums, warnings, checks}) => {
+  page.reactions.outdated.push(outdateChecks);
+  page.reactions.judged.push(({sums, warnings, checks}) => {
     showSums(sums);
     showWarnings(warnings);
     showChecks(checks);

@@ -2,14 +2,13 @@
 // The effect of the last change: the first difference between two runs, in words.
 import {byId, element} from '../../timeline/page/dom.js';
 import {redraw} from '../../timeline/page/draw.js';
-import {beginFlag, differs, goToDifference} from './flag.js';
-import {reactions} from './running.js';
-import {studio} from './state.js';
+import {page} from '../../timeline/page/stage.js';
+import {beginFlag, goToDifference} from './flag.js';
 
 /** Shows how this run differs from the one before, or from the pinned one. */
 function showDifference(difference, isPinned) {
   const other = isPinned ? 'the pinned run' : 'the previous run';
-  Object.assign(differs, {first: null, parts: new Map()});
+  Object.assign(page.differs, {first: null, parts: new Map()});
   byId('change-sides').replaceChildren();
   byId('change-show').hidden = true;
   if (!difference) return forgetDifference();
@@ -18,7 +17,7 @@ function showDifference(difference, isPinned) {
   byId('change-said').textContent = differenceInWords(difference, other);
   if (difference.first) {
     byId('change-sides').append(...difference.first.sides.map((side, i) => sideItem(side, i ? 'this run' : other)));
-    Object.assign(differs, {first: difference.first, parts: new Map(difference.parts)});
+    Object.assign(page.differs, {first: difference.first, parts: new Map(difference.parts)});
     byId('change-show').hidden = false;
   }
   redraw();
@@ -56,8 +55,8 @@ export function beginDifferences() {
   beginFlag();
   byId('change-show').addEventListener('click', goToDifference);
   // (a run that isn't compared yet has no marks of the last comparison)
-  reactions.shown.push(() => Object.assign(differs, {first: null, parts: new Map()}));
-  reactions.judged.push(({difference}, against) => {
-    if (difference || against === 0) showDifference(difference, Boolean(studio.pinned));
+  page.reactions.shown.push(() => Object.assign(page.differs, {first: null, parts: new Map()}));
+  page.reactions.judged.push(({difference}, against) => {
+    if (difference || against === 0) showDifference(difference, Boolean(page.studio.pinned));
   });
 }

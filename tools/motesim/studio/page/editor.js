@@ -1,12 +1,10 @@
 // @ts-check
 // The editor of the text: CodeMirror, if Debian's package is installed, otherwise a text area with colours behind it.
-import {byId, focused} from '../../timeline/page/dom.js';
+import {byId, element, focused} from '../../timeline/page/dom.js';
+import {History} from '../../web/page/history.js';
+import {MARGIN, Pad} from '../../web/page/pad.js';
 import {defineMode} from './notation.js';
-import {Tint} from './tint.js';
-import {differing, movedOffset, offsetOf, replacements} from './text.js';
-
-// Pixels above and below the line that the reader types.
-const MARGIN = 8;
+import {applied, lineAndColumn, offsetOf, replacements} from './text.js';
 
 export class Editor {
   /** `changed` is called after each change by the reader; `words` are those of the notation. */
@@ -14,16 +12,15 @@ export class Editor {
     this.area = byId('text');
     this.marks = [];
     this.isQuiet = false;
+    this.changed = changed;
     if (window.CodeMirror) this.begin(changed, words);
     else {
       byId('no-editor').hidden = false;
-      this.tint = new Tint(this.area, byId('tint'), words);
-      this.area.classList.add('tinted');
-      this.area.addEventListener('input', () => {
-        this.number();
+      this.history = new History('');
+      this.pad = new Pad(text => {
+        this.history.take(text, 'typed');
         changed();
-      });
-      this.area.addEventListener('scroll', () => { byId('numbers').scrollTop = this.area.scrollTop; });
+      }, words);
     }
     // (a panel below the text, such as that of an error, makes it lower)
     new ResizeObserver(() => this.keepLine()).observe(byId('editor'));
@@ -45,25 +42,17 @@ export class Editor {
     this.mirror.on('change', () => { if (!this.isQuiet) changed(); });
   }
 
-  /** Numbers the lines of the plain text area. */
-  number() {
-    this.tint.take();
-    const count = this.area.value.split('\n').length, box = byId('numbers');
-    if (this.lines === count) return;
-    this.lines = count;
-    // (more lines than there are leave room to scroll as far as the text)
-    box.textContent = `${Array.from({length: count}, (_, i) => i + 1).join('\n')}\n\n\n`;
-    box.scrollTop = this.area.scrollTop;
-  }
+  get text() { return this.mirror ? this.mirror.getValue('\n') : this.history.text; }
 
-  get text() { return this.mirror ? this.mirror.getValue('\n') : this.area.value; }
+  /** Shows the text of the plain text area. @param {boolean} isNew */
+  show(isNew = false) { this.pad.show(this.text, 0, this.text.length, isNew); }
 
   /** Replaces the text by another one, and clears the history of undo. */
   set(text) {
     this.clear();
     if (!this.mirror) {
-      this.area.value = text;
-      return this.number();
+      this.history.begin(text);
+      return this.show(true);
     }
     this.isQuiet = true;
     this.mirror.setValue(text);
@@ -77,46 +66,23 @@ export class Editor {
   apply(changes) {
     if (this.mirror) {
       this.mirror.operation(() => {
-        for (const {from, to, text} of changes) this.mirror.replaceRange(text, at(from), at(to), '+map');
+        for (const {begin, end, text} of changes) {
+          this.mirror.replaceRange(text, this.mirror.posFromIndex(begin), this.mirror.posFromIndex(end), '+map');
+        }
       });
       return;
     }
-    const whole = this.area.value, {scrollTop, selectionStart, selectionEnd} = this.area;
-    let changed = whole;
-    const moved = [selectionStart, selectionEnd];
-    for (const {from, to, text} of changes) {
-      const begin = offsetOf(whole, from), end = offsetOf(whole, to);
-      changed = changed.slice(0, begin) + text + changed.slice(end);
-      moved.forEach((it, i) => { moved[i] = movedOffset(it, begin, end, text.length); });
-    }
-    this.write(differing(whole, changed));
-    this.area.setSelectionRange(...moved);
-    this.area.scrollTop = scrollTop;
-  }
-
-  /** Writes a piece of the plain text area as if the reader typed it, so that Ctrl-Z undoes it. */
-  write({begin, end, text}) {
-    if (begin === end && !text) return;
-    const {area} = this, before = focused();
-    area.focus({preventScroll: true});
-    area.setSelectionRange(begin, end);
-    // (the browser sends the event `input` for what it writes)
-    if (!document.execCommand(text ? 'insertText' : 'delete', false, text)) {
-      area.setRangeText(text, begin, end);
-      area.dispatchEvent(new Event('input'));
-    }
-    if (before === area) return;
-    area.blur();
-    if (before) before.focus({preventScroll: true});
+    this.history.take(applied(this.text, changes), 'edit');
+    this.show();
+    this.changed();
   }
 
   /** Undoes the last change of the text, or makes it again: `name` is undo or redo. */
   again(name) {
     if (this.mirror) return void this.mirror[name]();
-    const before = focused();
-    this.area.focus({preventScroll: true});
-    document.execCommand(name);
-    if (before !== this.area && before) before.focus({preventScroll: true});
+    if (!this.history.go(name === 'undo' ? -1 : 1)) return;
+    this.show();
+    this.changed();
   }
 
   /** Replaces a piece of the text by another one everywhere, and selects the first. */
@@ -124,7 +90,7 @@ export class Editor {
     const changes = replacements(this.text, old, text);
     if (!changes.length) return;
     this.apply(changes);
-    const [line, column] = changes[changes.length - 1].from;
+    const [line, column] = lineAndColumn(this.text, changes[changes.length - 1].begin);
     this.goTo(line, column, text.length);
   }
 
@@ -132,7 +98,7 @@ export class Editor {
   mark([line, from, to]) {
     this.clear();
     this.place = [line, from, to];
-    if (!this.mirror) return this.tint.mark(this.place);
+    if (!this.mirror) return this.pad.mark(this.place);
     if (line >= this.mirror.lineCount()) return;
     const long = this.mirror.getLine(line).length, begin = Math.min(from, Math.max(0, long - 1));
     const end = Math.max(begin + 1, Math.min(to, long));
@@ -142,7 +108,7 @@ export class Editor {
 
   clear() {
     this.place = null;
-    if (!this.mirror) return this.tint.mark(null);
+    if (!this.mirror) return this.pad.mark(null);
     for (const mark of this.marks) mark.clear();
     this.marks = [];
     if (this.marked) this.mirror.removeLineClass(this.marked, 'wrap', 'fault-line');
@@ -157,10 +123,8 @@ export class Editor {
       this.mirror.focus();
       return;
     }
-    const begin = offsetOf(this.area.value, [line, column]);
-    this.area.focus();
-    this.area.setSelectionRange(begin, begin + length);
-    this.keepLine();
+    const begin = offsetOf(this.text, [line, column]);
+    this.pad.select(begin, begin + length);
   }
 
   /** Keeps the line that the reader types in view. */
@@ -169,18 +133,40 @@ export class Editor {
       this.mirror.refresh();
       if (this.mirror.hasFocus()) this.mirror.scrollIntoView(null, MARGIN);
     } else if (document.activeElement === this.area) {
-      const {lineHeight, paddingTop} = getComputedStyle(this.area), high = parseFloat(lineHeight);
-      const line = this.area.value.slice(0, this.area.selectionEnd).split('\n').length - 1;
-      this.area.scrollTop = scrolledTo(this.area, parseFloat(paddingTop) + line * high, high);
+      this.pad.showRow(this.area.value.slice(0, this.area.selectionEnd).split('\n').length - 1);
     }
   }
 
+  /** Marks a row, from 0, and brings it into view; -1 marks none. @param {number} row */
+  light(row) {
+    if (!this.mirror) {
+      this.pad.tint.light(row);
+      if (row >= 0) this.pad.showRow(row);
+      return;
+    }
+    if (this.lit) this.mirror.removeLineClass(this.lit, 'wrap', 'statement-line');
+    const isThere = row >= 0 && row < this.mirror.lineCount();
+    this.lit = isThere ? this.mirror.addLineClass(row, 'wrap', 'statement-line') : null;
+    if (isThere) this.mirror.scrollIntoView({line: row, ch: 0}, 40);
+  }
+
+  /** The row and the word at a place of the window; '' where there is none.
+   * @param {number} x @param {number} y @returns {[number, string]} */
+  wordAt(x, y) {
+    let row = 0, column = 0;
+    if (this.mirror) ({line: row, ch: column} = this.mirror.coordsChar({left: x, top: y}));
+    else {
+      const {left, top} = this.area.getBoundingClientRect(), style = getComputedStyle(this.area);
+      const c = element('canvas').getContext('2d');
+      c.font = style.font;
+      const of = (place, name) => place - parseFloat(style[name]);
+      row = Math.floor((of(y - top, 'paddingTop') + this.area.scrollTop) / parseFloat(style.lineHeight));
+      column = Math.round((of(x - left, 'paddingLeft') + this.area.scrollLeft) / c.measureText('0').width);
+    }
+    const words = [...(this.text.split('\n')[row] || '').matchAll(/[A-Za-z0-9_]+/g)];
+    const found = words.find(it => it.index <= column && column <= it.index + it[0].length);
+    return [row, found ? found[0] : ''];
+  }
+
   refresh() { if (this.mirror) this.mirror.refresh(); }
-}
-
-const at = ([line, ch]) => ({line, ch});
-
-/** The scroll position, as near as may be to the present one, at which a line is in view. */
-function scrolledTo({scrollTop, clientHeight}, top, high) {
-  return Math.min(Math.max(scrollTop, top + high + MARGIN - clientHeight), top - MARGIN);
 }

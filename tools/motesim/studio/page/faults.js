@@ -1,21 +1,19 @@
 // @ts-check
 // The search for faults that break expectations: it runs while the reader works, and shows its results.
 import {byId, element, makeButton, table} from '../../timeline/page/dom.js';
+import {page} from '../../timeline/page/stage.js';
 import {count} from '../../timeline/page/words.js';
 import {goToDifference} from './flag.js';
-import {opening} from './files.js';
-import {ask, attempt} from './link.js';
+import {attempt} from './link.js';
 import {say, unsay} from './notices.js';
 import {pin, runNow, unpin} from './running.js';
-import {studio} from './state.js';
 import {labelTab, markEarlier} from './tabs.js';
 
 const POLL = 300, SHOWN_SETS = 12;
-export const faults = {number: 0, found: null, isGoing: false, timer: 0, shown: '', hasPinned: false};
 
 /** Offers kinds of faults, and searches from now on. */
 export function beginFaults(kinds) {
-  opening.push(() => {
+  page.reactions.opened.push(() => {
     stopSearch('');
     forgetFaults();
   });
@@ -28,13 +26,13 @@ export function beginFaults(kinds) {
   }
   byId('faults-form').addEventListener('submit', event => {
     event.preventDefault();
-    if (faults.isGoing) stopSearch('The search was stopped.'); else attempt(searchNow);
+    if (page.faults.isGoing) stopSearch('The search was stopped.'); else attempt(searchNow);
   });
 }
 
 /** Shows the state of the search, and the function of its button. */
 function showSearch(isGoing, words) {
-  faults.isGoing = isGoing;
+  page.faults.isGoing = isGoing;
   byId('faults-search').textContent = isGoing ? 'Stop' : 'Search';
   byId('faults-bar').hidden = !isGoing;
   byId('faults-state').textContent = words;
@@ -42,10 +40,10 @@ function showSearch(isGoing, words) {
 
 async function searchNow() {
   const kinds = [...byId('faults-kinds').querySelectorAll('input:checked')].map(it => it.value);
-  const {where, name} = studio.document;
-  const begun = await ask('search', {text: studio.editor.text, where, name, saved: studio.saved, kinds,
+  const {document: {where, name}, editor: {text}, saved} = page.studio;
+  const begun = await page.backend.ask('search', {text, where, name, saved, kinds,
     at_most: Number(byId('faults-most').value)});
-  faults.number = begun.number;
+  page.faults.number = begun.number;
   forgetFaults();
   byId('faults-bar').removeAttribute('value');
   showSearch(true, 'The run without faults is being checked.');
@@ -55,9 +53,9 @@ async function searchNow() {
 
 /** Asks for the progress of the search until it is over or another one begins. */
 async function watchSearch(number) {
-  if (!faults.isGoing || number !== faults.number) return;
-  const state = await attempt(() => ask('searched', {number}));
-  if (!faults.isGoing || number !== faults.number) return;
+  if (!page.faults.isGoing || number !== page.faults.number) return;
+  const state = await attempt(() => page.backend.ask('searched', {number}));
+  if (!page.faults.isGoing || number !== page.faults.number) return;
   if (!state) return showSearch(false, '');
   if (state.over) return endSearch(state);
   const {done, sets, runs, found} = state.progress;
@@ -65,28 +63,28 @@ async function watchSearch(number) {
     byId('faults-bar').value = done / sets;
     showSearch(true, `${done} of ${sets} sets, ${count(runs, 'run')}, ${found} found`);
   }
-  faults.timer = setTimeout(() => watchSearch(number), POLL);
+  page.faults.timer = setTimeout(() => watchSearch(number), POLL);
 }
 
 function endSearch({fault, found}) {
   labelTab('faults', 'Faults');
   if (fault) return showSearch(false, fault);
-  faults.found = found;
+  page.faults.found = found;
   showSearch(false, `${count(found.runs, 'run')} in ${found.seconds.toFixed(1)} seconds`);
   showFound(found);
 }
 
 /** Stops the search, if one runs, and says why. */
 export function stopSearch(why) {
-  if (!faults.isGoing) return;
-  clearTimeout(faults.timer);
+  if (!page.faults.isGoing) return;
+  clearTimeout(page.faults.timer);
   labelTab('faults', 'Faults');
   showSearch(false, why);
-  attempt(() => ask('stop-search', {}));
+  attempt(() => page.backend.ask('stop-search', {}));
 }
 
 function forgetFaults() {
-  faults.found = null;
+  page.faults.found = null;
   labelTab('faults', 'Faults');
   byId('faults-state').textContent = '';
   byId('faults-found').classList.remove('earlier');
@@ -96,9 +94,9 @@ function forgetFaults() {
 /** Marks what was found as that of an earlier text, and releases the run that was pinned to be compared with one of
     them. */
 export function outdateFaults() {
-  if (faults.hasPinned) unpin();
-  faults.hasPinned = false;
-  if (!faults.found) return;
+  if (page.faults.hasPinned) unpin();
+  page.faults.hasPinned = false;
+  if (!page.faults.found) return;
   labelTab('faults', 'Faults');
   markEarlier(byId('faults-found'));
 }
@@ -136,12 +134,12 @@ function rowsOf(sentence, found) {
 
 /** Pins the text's run, and shows the run with a fault at the first difference from it. */
 async function showCounterExample(index) {
-  const {faults: words} = faults.found.found[index];
-  const {text} = await ask('counter-example', {number: faults.number, index});
+  const {faults: words} = page.faults.found.found[index];
+  const {text} = await page.backend.ask('counter-example', {number: page.faults.number, index});
   await runNow();
-  if (!studio.pinned) {
+  if (!page.studio.pinned) {
     pin();
-    faults.hasPinned = true;
+    page.faults.hasPinned = true;
   }
   await showText(text, `This is the run with a fault: ${words.join('; ')}. Your text is unchanged.`);
   goToDifference();
@@ -151,7 +149,7 @@ async function showSmall(button, index, sentence) {
   button.disabled = true;
   button.textContent = 'shrinking…';
   try {
-    const {text} = await ask('shrink', {number: faults.number, index, sentence});
+    const {text} = await page.backend.ask('shrink', {number: page.faults.number, index, sentence});
     unpin();
     const words = 'This is the smallest scenario in which the fault breaks the expectation. Your text is unchanged.';
     await showText(text, words);
@@ -163,15 +161,15 @@ async function showSmall(button, index, sentence) {
 
 /** Runs another text than that of the editor, and offers to take it over. */
 async function showText(text, words) {
-  faults.shown = text;
+  page.faults.shown = text;
   await runNow(text);
   say('shown', words, [['Back to the text', () => {
-    faults.hasPinned = false;
+    page.faults.hasPinned = false;
     unpin();
     runNow();
   }], ['Replace my text with it', () => {
     unsay('shown');
     unpin();
-    studio.editor.replace(studio.editor.text, text);
+    page.studio.editor.replace(page.studio.editor.text, text);
   }]]);
 }

@@ -1,26 +1,24 @@
 // @ts-check
 // Files: opening, saving, and the page of the run as one file.
-import {byId, element, handOut} from '../../timeline/page/dom.js';
+import {byId, element, handOut, stored} from '../../timeline/page/dom.js';
+import {page} from '../../timeline/page/stage.js';
 import {goToDifference} from './flag.js';
-import {ask, attempt} from './link.js';
+import {attempt} from './link.js';
 import {question, say, showState, unsay} from './notices.js';
 import {pin, runNow, unpin} from './running.js';
-import {isDirty, studio} from './state.js';
-
-/** Functions of other modules, which are called when a document is opened. */
-export const opening = [];
 
 /** Shows a document, and, if there is a text to compare it with, the first difference between their runs. */
 export async function take(opened, against) {
-  studio.document = opened.document;
-  studio.saved = opened.document.text;
-  studio.maySave = opened.may_save;
-  studio.fresh = true;
-  studio.editor.set(opened.document.text);
+  page.studio.document = opened.document;
+  page.studio.saved = opened.document.text;
+  page.studio.maySave = opened.may_save;
+  page.studio.fresh = true;
+  page.studio.editor.set(opened.document.text);
   nameDocument();
-  for (const react of opening) react(opened);
+  for (const react of page.reactions.opened) react(opened);
   unsay('changed');
   unsay('refused');
+  offerDraft();
   unpin();
   if (typeof against !== 'string') return void runNow();
   await runNow(against);
@@ -29,12 +27,38 @@ export async function take(opened, against) {
   goToDifference();
 }
 
+/** The name of the draft of a document in the browser's storage. */
+const draftName = ({where, name}) => `motesim draft ${page.studio.folder} ${where} ${name}`;
+
+/** Keeps a text that isn't saved in the browser's storage. */
+export function keepDraft() {
+  const {document, editor: {text}} = page.studio, name = draftName(document);
+  stored(it => isDirty() ? it.setItem(name, text) : it.removeItem(name));
+}
+
+/** Offers the draft of the document that was opened, if it has one. */
+function offerDraft() {
+  const {document, editor} = page.studio, draft = stored(it => it.getItem(draftName(document)));
+  unsay('draft');
+  if (draft === null || draft === document.text) return;
+  say('draft', `This browser has a text of ${document.name} that was not saved.`, [['Take it', () => {
+    unsay('draft');
+    editor.replace(editor.text, draft);
+  }], ['Forget it', () => {
+    unsay('draft');
+    stored(it => it.removeItem(draftName(document)));
+  }]]);
+}
+
+/** True if the text isn't saved. */
+export const isDirty = () => page.studio.document && page.studio.editor.text !== page.studio.saved;
+
 /** Shows the name of the document, and whether it is saved. */
 export function nameDocument() {
-  const {where, name} = studio.document;
+  const {where, name} = page.studio.document;
   byId('open').value = `${where} ${name}`;
   document.title = `${isDirty() ? '• ' : ''}${name} – motesim studio`;
-  byId('save').disabled = !isDirty() && studio.document.stamp !== '';
+  byId('save').disabled = !isDirty() && page.studio.document.stamp !== '';
 }
 
 /** Lists the files that can be opened. */
@@ -83,26 +107,28 @@ export function beginOpen() {
 async function openChosen() {
   const [where, ...rest] = byId('open').value.split(' '), name = rest.join(' ');
   if (isDirty()) {
-    const words = `Your changes in ${studio.document.name} are not saved.`;
+    const words = `Your changes in ${page.studio.document.name} are not saved.`;
     const [answer] = await question(words, ['Open without saving', 'Cancel']);
     if (answer !== 'Open without saving') return nameDocument();
   }
-  await attempt(async () => take(await ask('open', {where, name})));
+  await attempt(async () => take(await page.backend.ask('open', {where, name})));
 }
 
 /** Writes the document into its file. */
 export async function save(over = false) {
-  if (!studio.maySave) return saveAs();
-  const {text} = studio.editor, said = await attempt(() => ask('save', {...studio.document, text, over}));
+  if (!page.studio.maySave) return saveAs();
+  const {text} = page.studio.editor;
+  const said = await attempt(() => page.backend.ask('save', {...page.studio.document, text, over}));
   if (!said) return;
   if (said.changed) return askOver(said.changed);
   wrote(said, text);
 }
 
 function wrote({stamp, name, where}, text) {
-  studio.document = {...studio.document, stamp, name, where};
-  studio.saved = text;
-  studio.maySave = true;
+  stored(it => it.removeItem(draftName(page.studio.document)));
+  page.studio.document = {...page.studio.document, stamp, name, where};
+  page.studio.saved = text;
+  page.studio.maySave = true;
   unsay('changed');
   if (!byId('open').querySelector(`option[value="${CSS.escape(`folder ${name}`)}"]`)) {
     const made = element('option', name);
@@ -123,38 +149,37 @@ async function askOver(words) {
   const [answer] = await question(`${words}. Which text do you want to keep?`,
     ['Overwrite it with mine', 'Load the other', 'Neither']);
   if (answer === 'Overwrite it with mine') return save(true);
-  const {where, name} = studio.document;
-  if (answer === 'Load the other') await attempt(async () => take(await ask('open', {where, name})));
+  const {where, name} = page.studio.document;
+  if (answer === 'Load the other') await attempt(async () => take(await page.backend.ask('open', {where, name})));
 }
 
 /** Writes the document under a new name. */
 export async function saveAs() {
-  const {name} = studio.document, wish = studio.maySave ? name.replace(/\.toml$/, '_2.toml') : `my_${name}`;
-  const [answer, written] = await question(`A new file, in ${studio.folder}:`, ['Save', 'Cancel'], wish);
+  const {name} = page.studio.document, wish = page.studio.maySave ? name.replace(/\.toml$/, '_2.toml') : `my_${name}`;
+  const [answer, written] = await question(`A new file, in ${page.studio.folder}:`, ['Save', 'Cancel'], wish);
   if (answer !== 'Save' || !written.trim()) return;
-  const {text} = studio.editor;
-  const said = await attempt(() => ask('save', {...studio.document, text, new: written.trim()}));
+  const {text} = page.studio.editor;
+  const said = await attempt(() => page.backend.ask('save', {...page.studio.document, text, new: written.trim()}));
   if (said && said.changed) return say('refused', said.changed);
   if (said) wrote(said, text);
 }
 
 /** Hands the reader the page of the run that is shown. */
 export async function exportPage() {
-  const {name} = studio.document;
-  const page = await attempt(() => ask('export', {number: studio.number, title: name}));
-  if (!page) return;
-  handOut(name.replace(/\.toml$/, '.html'), [page], 'text/html');
+  const {name} = page.studio.document;
+  const made = await attempt(() => page.backend.ask('export', {number: page.studio.number, title: name}));
+  if (made) handOut(name.replace(/\.toml$/, '.html'), [made], 'text/html');
 }
 
 /** Asks the reader what to do if the file was changed elsewhere. */
 export function lookedAt({stamp}, asked) {
-  const it = studio.document;
+  const it = page.studio.document;
   if (!it || asked.name !== it.name || asked.where !== it.where) return;
-  if (stamp === null || stamp === it.stamp || studio.knownStamp === stamp) return;
-  studio.knownStamp = stamp;
+  if (stamp === null || stamp === it.stamp || page.studio.knownStamp === stamp) return;
+  page.studio.knownStamp = stamp;
   if (stamp === '') return;
   say('changed', `${it.name} was changed elsewhere.`, [['Read it', () => attempt(async () => {
     unsay('changed');
-    take(await ask('open', {where: it.where, name: it.name}));
+    take(await page.backend.ask('open', {where: it.where, name: it.name}));
   })], ['Keep mine', () => unsay('changed')]]);
 }

@@ -6,19 +6,16 @@ import {redraw} from '../../timeline/page/draw.js';
 import {colours, path, stroke} from '../../timeline/page/forms.js';
 import {AXIS} from '../../timeline/page/layout.js';
 import {setNow} from '../../timeline/page/play.js';
-import {overlays, panes} from '../../timeline/page/stage.js';
-import {showTime, time} from '../../timeline/page/time.js';
-
-/** The first difference, and the moment of the first one in each lane. */
-export const differs = {first: null, parts: new Map()};
+import {page} from '../../timeline/page/stage.js';
+import {showTime} from '../../timeline/page/time.js';
 
 /** Brings the first difference into view, and selects its line. */
 export function goToDifference() {
-  const pane = panes[0], {first} = differs;
+  const pane = page.panes[0], {first} = page.differs;
   if (!first || !pane || first.mote >= pane.run.begins.length) return;
   const {run} = pane, {mote} = first, from = run.traceStart[mote], to = run.traceStart[mote + 1];
   const line = Math.min(to - 1, first.index < 0 ? lowerBound(run.at, first.at, from, to) : from + first.index);
-  showTime(Math.max(0, first.at - 15), Math.min(time.end, first.at + 30));
+  showTime(Math.max(0, first.at - 15), Math.min(page.time.end, first.at + 30));
   setNow(first.at);
   if (pane.lane < 26) pane.zoomLanes(26 / pane.lane);
   if (to > from && run.at[line] === first.at) chooseLine(pane, line, true); else chooseMote(pane, mote, true);
@@ -28,7 +25,7 @@ export function goToDifference() {
 
 /** Draws a line at the first difference, a flag at its mote, and a stroke in each lane from its own one on. */
 function drawDifference(pane) {
-  const {first, parts} = differs, c = pane.context;
+  const {first, parts} = page.differs, c = pane.context;
   if (!first) return;
   c.save();
   for (const [mote, at] of parts) {
@@ -69,4 +66,4 @@ function drawFlag(pane, x, first) {
 }
 
 /** Draws differences from now on. */
-export function beginFlag() { overlays.push(drawDifference); }
+export function beginFlag() { page.overlays.push(drawDifference); }

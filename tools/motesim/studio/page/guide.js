@@ -1,8 +1,8 @@
 // @ts-check
 // The guide of an example: things to look at, and things to try.
 import {byId, element, makeButton} from '../../timeline/page/dom.js';
+import {page} from '../../timeline/page/stage.js';
 import {say} from './notices.js';
-import {studio} from './state.js';
 import {oneLine} from './text.js';
 
 /** An element with a text in which `code` is code. */
@@ -24,10 +24,10 @@ function tryItem({about, replace}) {
     said.append(element('code', oneLine(old)), ' → ', text ? element('code', oneLine(text)) : 'nothing');
   });
   const button = makeButton('Make this change', () => {
-    const missing = pairs.find(([old]) => !studio.editor.text.includes(old));
+    const missing = pairs.find(([old]) => !page.studio.editor.text.includes(old));
     if (missing) return say('refused',
       `The text doesn't contain ${oneLine(missing[0])} any more. Undo (Ctrl Z), or open the example again.`);
-    for (const [old, text] of pairs) studio.editor.replace(old, text);
+    for (const [old, text] of pairs) page.studio.editor.replace(old, text);
   });
   const item = element('div', '', [said, button]);
   item.className = 'try';

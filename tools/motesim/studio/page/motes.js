@@ -5,18 +5,15 @@ import {byId, element, focused, makeButton} from '../../timeline/page/dom.js';
 import {redraw} from '../../timeline/page/draw.js';
 import {colours, path, stroke} from '../../timeline/page/forms.js';
 import {delayOf, findHearers} from '../../timeline/page/index.js';
-import {chosen, mapOverlays, maps, overlays, panes} from '../../timeline/page/stage.js';
+import {page, Refused} from '../../timeline/page/stage.js';
 import {count} from '../../timeline/page/words.js';
 
-/** `edit` makes a change of the text; the page sets it. */
-export const ground = {adding: false, way: null, held: null, edit: null};
-
 /** Moves the motes back to the places that they have in the run. */
-export function restoreMotes() {
-  const map = maps[0];
+function restoreMotes() {
+  const map = page.maps[0];
   if (!map) return;
-  if (ground.held) map.run.places[ground.held.mote] = ground.held.place;
-  ground.held = null;
+  if (page.ground.held) map.run.places[page.ground.held.mote] = page.ground.held.place;
+  page.ground.held = null;
   findHearers(map.run);
   map.take(map.run);
   map.resize();
@@ -25,15 +22,15 @@ export function restoreMotes() {
 
 const groundEdits = {
   hold(x, y) {
-    const map = maps[0];
-    return ground.adding || !map.run.places ? -1 : map.moteNear(x, y);
+    const map = page.maps[0];
+    return page.ground.adding || !map.run.places ? -1 : map.moteNear(x, y);
   },
 
   /** Moves the mote with the pointer, to the rows and columns of the others unless it `isFree`, and shows who hears it
       there. */
   drag(mote, x, y, isFree) {
-    const map = maps[0], {run} = map;
-    if (!ground.held) ground.held = {mote, place: run.places[mote]};
+    const map = page.maps[0], {run} = map;
+    if (!page.ground.held) page.ground.held = {mote, place: run.places[mote]};
     [map.xs[mote], map.ys[mote]] = map.shownAt(x, y);
     run.places[mote] = isFree ? map.placeAt(x, y) : map.snappedAt(x, y, mote);
     if (run.begins.length <= 400) findHearers(run);
@@ -44,17 +41,17 @@ const groundEdits = {
 
   drop(mote, x, y, isFree) {
     this.drag(mote, x, y, isFree);
-    const [toX, toY] = maps[0].run.places[mote];
-    ground.edit({what: 'move', mote, x: toX, y: toY});
+    const [toX, toY] = page.maps[0].run.places[mote];
+    page.edit({what: 'move', mote, x: toX, y: toY});
   },
 
   /** Reacts to a click: adds a mote if one is wanted, otherwise shows the link between two motes. */
   click(x, y, mote) {
-    const map = maps[0];
-    if (ground.adding) {
+    const map = page.maps[0];
+    if (page.ground.adding) {
       setAdding(false);
       const [toX, toY] = map.placeAt(x, y);
-      ground.edit({what: 'add', x: toX, y: toY, program: programNear(map, x, y)});
+      page.edit({what: 'add', x: toX, y: toY, program: programNear(map, x, y)});
       return true;
     }
     if (mote >= 0) return false;
@@ -79,16 +76,16 @@ function programNear(map, x, y) {
 
 /** Waits for the place of a new mote, or stops waiting. */
 export function setAdding(isAdding) {
-  ground.adding = isAdding;
+  page.ground.adding = isAdding;
   byId('add').setAttribute('aria-pressed', String(isAdding));
-  maps[0].canvas.style.cursor = isAdding ? 'crosshair' : '';
+  page.maps[0].canvas.style.cursor = isAdding ? 'crosshair' : '';
   if (isAdding) byId('map-said').textContent = 'Click the place of the new mote on the map.';
 }
 
 /** Delay and losses between two motes, in both directions. */
 function showWay(way) {
-  const box = byId('way'), {run} = maps[0];
-  ground.way = way;
+  const box = byId('way'), {run} = page.maps[0];
+  page.ground.way = way;
   box.hidden = !way;
   redraw();
   if (!way) return;
@@ -108,7 +105,7 @@ function wayOf(run, s, r) {
   input.setAttribute('aria-label', `Losses from mote ${s} to mote ${r}: one packet in this number; empty for no loss`);
   input.dataset.way = `${s} ${r}`;
   input.addEventListener('change',
-    () => ground.edit({what: 'lose', from: s, to: r, every: Math.floor(Number(input.value)) || 0}));
+    () => page.edit({what: 'lose', from: s, to: r, every: Math.floor(Number(input.value)) || 0}));
   box.append(`${s} → ${r}: ${count(delayOf(run, s, r), 'moment')}, `, label);
   if (lost) box.append(element('br'), [['lost', 0], ['collided', 1], ['found no room', 2]].filter(([, i]) => lost[i])
     .map(([name, i]) => `${lost[i]} ${name}`).join(', ') + ' in this run');
@@ -117,7 +114,7 @@ function wayOf(run, s, r) {
 
 /** Draws the selected link on the map. */
 function drawWay(map) {
-  const {way} = ground;
+  const {way} = page.ground;
   if (!way || Math.max(...way) >= map.run.begins.length) return;
   const [s, r] = way, c = map.context;
   c.save();
@@ -129,10 +126,10 @@ function drawWay(map) {
 
 /** Makes the map of a new run editable, and shows the data of this run for the selected link. */
 export function renewMotes() {
-  const map = maps[0];
+  const map = page.maps[0];
   map.edits = map.run.places ? groundEdits : null;
-  ground.held = null;
-  const {way} = ground, typing = byId('way').contains(focused()) && focused().dataset.way;
+  page.ground.held = null;
+  const {way} = page.ground, typing = byId('way').contains(focused()) && focused().dataset.way;
   const isThere = way && Math.max(...way) < map.run.begins.length && map.run.hearers[way[0]].includes(way[1]);
   showWay(isThere ? way : null);
   const again = typing && byId('way').querySelector(`[data-way="${typing}"]`);
@@ -141,17 +138,31 @@ export function renewMotes() {
 
 /** Names the button that removes the selected mote. */
 function nameRemove() {
-  const button = byId('remove'), {mote} = chosen;
-  button.disabled = mote < 0 || panes[0].run.begins.length < 2;
+  const button = byId('remove'), {mote} = page.chosen;
+  button.disabled = mote < 0 || page.panes[0].run.begins.length < 2;
   const name = mote < 0 ? 'Remove the mote' : `Remove mote ${mote}`;
   if (button.textContent !== name) button.textContent = name;
 }
 
-/** Lets the map change the text by a function of a wish from now on. */
-export function beginMotes(edit) {
-  ground.edit = edit;
-  overlays.push(nameRemove);
-  mapOverlays.push(drawWay);
-  byId('add').addEventListener('click', () => maps.length && setAdding(!ground.adding));
-  byId('remove').addEventListener('click', () => chosen.pane && ground.edit({what: 'remove', mote: chosen.mote}));
+/** Lets the map change the text from now on. `textOf` has the text; `apply` makes changes of it, and `refuse` says why
+ * there are none.
+ * @param {() => string} textOf @param {(changes: any[]) => void} apply @param {(words: string) => void} refuse */
+export function beginMotes(textOf, apply, refuse) {
+  page.edit = async wish => {
+    const text = textOf();
+    try {
+      const {changes, said} = await page.backend.edit({text, edit: wish});
+      if (textOf() !== text) throw new Refused('The text was changed meanwhile. Do it again.');
+      byId('map-said').textContent = said;
+      if (changes.length) apply(changes);
+    } catch (fault) {
+      if (!(fault instanceof Refused)) throw fault;
+      restoreMotes();
+      if (fault.message) refuse(fault.message);
+    }
+  };
+  page.followers.push(nameRemove);
+  page.mapOverlays.push(drawWay);
+  byId('add').addEventListener('click', () => page.maps.length && setAdding(!page.ground.adding));
+  byId('remove').addEventListener('click', () => page.edit({what: 'remove', mote: page.chosen.mote}));
 }

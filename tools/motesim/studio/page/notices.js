@@ -1,24 +1,25 @@
 // @ts-check
 // Messages to the reader: notices, the state of the run, and questions.
 import {byId, element, makeButton} from '../../timeline/page/dom.js';
+import {page} from '../../timeline/page/stage.js';
 
 // (the most urgent one is shown, in a line above the page)
-const notices = new Map(), URGENT = ['lost', 'changed', 'limit', 'refused', 'shown'];
+const URGENT = ['lost', 'changed', 'limit', 'refused', 'shown', 'draft'];
 
 export function say(kind, text, buttons = []) {
-  notices.set(kind, {text, buttons});
+  page.notices.set(kind, {text, buttons});
   showNotice();
 }
 
 export function unsay(kind) {
-  if (notices.delete(kind)) showNotice();
+  if (page.notices.delete(kind)) showNotice();
 }
 
 function showNotice() {
-  const kind = URGENT.find(it => notices.has(it)), box = byId('notice');
+  const kind = URGENT.find(it => page.notices.has(it)), box = byId('notice');
   box.hidden = !kind;
   if (!kind) return;
-  const {text, buttons} = notices.get(kind);
+  const {text, buttons} = page.notices.get(kind);
   box.querySelector('span').textContent = text;
   const made = buttons.map(([name, does]) => makeButton(name, does));
   if (kind !== 'lost') made.push(makeButton('Close', () => unsay(kind)));

@@ -1,28 +1,12 @@
 // @ts-check
 // The state of a mote at a step, from the server's replay: variables, waits, timers and the queue; and values of
 // variables on the lanes.
-import {byId, element, makeButton, withPlaces} from '../../timeline/page/dom.js';
+import {byId, element, makeButton} from '../../timeline/page/dom.js';
 import {redraw} from '../../timeline/page/draw.js';
 import {colours} from '../../timeline/page/forms.js';
-import {overlays, panes} from '../../timeline/page/stage.js';
-import {ask, attempt} from './link.js';
-import {studio} from './state.js';
-
-/** The state that is shown, and the values on the lanes with their run. */
-export const states = {key: '', shown: null, values: null, run: null};
-
-/** A card with a title and items, or with a text if there are none. */
-export function card(title, items, empty) {
-  const made = element('div', '', [element('h3', title)]);
-  made.className = 'card';
-  const list = items.map(item => element('li', '',
-    [item].flat().flatMap(it => typeof it === 'string' ? withPlaces(it) : [it])));
-  made.append(list.length ? element('ol', '', list) : element('p', empty));
-  return made;
-}
-
-/** A process that is being called. */
-export const runningItem = text => Object.assign(element('span', text), {className: 'running'});
+import {page} from '../../timeline/page/stage.js';
+import {attempt} from './link.js';
+import {card, runningItem} from './steps.js';
 
 /** The event of a call, with its data. */
 function eventOf({event, how, word}, processes) {
@@ -40,13 +24,13 @@ function showCall({call, processes}) {
 }
 
 /** Asks for the state after a line, and shows it unless another one was asked for meanwhile. */
-export async function showMoteState(pane, mote, line, key) {
-  const {run} = pane, asked = {number: studio.number, mote, row: run.numberOf(line, mote)};
-  states.key = key;
-  const state = await attempt(() => ask('state', asked));
-  if (!state || states.key !== key) return;
-  states.shown = state.said ? null : state;
-  if (states.shown) showCall(state);
+async function showMoteState(pane, mote, line, key) {
+  const {run} = pane, asked = {number: page.studio.number, mote, row: run.numberOf(line, mote)};
+  page.states.key = key;
+  const state = await attempt(() => page.backend.ask('state', asked));
+  if (!state || page.states.key !== key) return;
+  page.states.shown = state.said ? null : state;
+  if (page.states.shown) showCall(state);
   byId('state-cards').replaceChildren(...(state.said ? [card('State', [], state.said)] : stateCards(state)));
 }
 
@@ -74,26 +58,26 @@ function stateCards(state) {
 
 /** Writes the values of variables on the lanes. */
 async function showValues() {
-  const names = byId('values-asked').value.trim(), pane = panes[0];
+  const names = byId('values-asked').value.trim(), pane = page.panes[0];
   if (!pane || !names) {
-    states.values = null;
+    page.states.values = null;
     return redraw();
   }
-  const found = await attempt(() => ask('values', {number: studio.number, names}));
+  const found = await attempt(() => page.backend.ask('values', {number: page.studio.number, names}));
   if (!found) return;
   byId('values-said').textContent = found.said || (found.more ? `${found.more} more values are not shown` : '');
   const values = found.values || [], several = new Set(values.map(it => it[3])).size > 1;
-  states.run = pane.run;
-  states.values = values.map(([mote, row, at, name, value]) =>
+  page.states.run = pane.run;
+  page.states.values = values.map(([mote, row, at, name, value]) =>
     ({mote, line: row ? row - mote - 2 : -1, at, words: several ? `${name} ${value}` : String(value)}));
   redraw();
 }
 
 /** Draws values on the lanes, each at the line after which the variable got it. */
 function drawValues(pane) {
-  if (!states.values || !pane.run.count) return;
-  if (states.run !== pane.run) {
-    states.run = pane.run;
+  if (!page.states.values || !pane.run.count) return;
+  if (page.states.run !== pane.run) {
+    page.states.run = pane.run;
     return void showValues();
   }
   const {context: c} = pane, before = new Map();
@@ -101,7 +85,7 @@ function drawValues(pane) {
   c.save();
   c.font = '600 11px system-ui, "DejaVu Sans", sans-serif';
   c.textBaseline = 'bottom';
-  for (const {mote, line, at, words} of states.values) {
+  for (const {mote, line, at, words} of page.states.values) {
     if (!pane.sees(mote)) continue;
     const x = (line < 0 ? pane.x(at) : pane.lineX(line, mote)) + 4, y = pane.laneTop(mote) + pane.lane - 1;
     if (x < pane.gutter || x > pane.width || x < (before.get(mote) || 0)) continue;
@@ -117,32 +101,38 @@ function drawValues(pane) {
 
 /** Shows the value of the variable under the pointer in the text, in the state that is shown. */
 function hoverValue(event) {
-  const {mirror} = studio.editor;
-  if (!mirror || !states.shown) return;
-  const place = mirror.coordsChar({left: event.clientX, top: event.clientY}), token = mirror.getTokenAt(place, true);
-  const name = (token.string || '').trim();
-  let process = '';
-  for (let row = place.line; row >= 0 && !process; row--) {
-    const found = mirror.getLine(row).match(/\bcode\s+([a-z][a-z0-9_]*)/);
-    if (found) process = found[1];
-  }
-  const owner = states.shown.processes.find(it => it.name === process);
+  if (!page.states.shown) return;
+  const {mote, at, processes} = page.states.shown, rows = page.studio.editor.text.split('\n');
+  const [row, name] = page.studio.editor.wordAt(event.clientX, event.clientY);
+  const heads = rows.slice(0, row + 1).map(it => /\bcode\s+([a-z][a-z0-9_]*)/.exec(it)).filter(Boolean);
+  const owner = heads.length && processes.find(it => it.name === heads[heads.length - 1][1]);
   const isKnown = owner && Object.hasOwn(owner.variables, name);
-  const {mote, at} = states.shown;
-  const text = isKnown ? `${name} = ${owner.variables[name]} at mote ${mote}, moment ${at}` : '';
-  const box = mirror.getWrapperElement();
-  if (box.title !== text) box.title = text;
+  byId('editor').title = isKnown ? `${name} = ${owner.variables[name]} at mote ${mote}, moment ${at}` : '';
+}
+
+/** Marks the statement that wrote the selected line, as a debugger does. */
+async function showStatement({run}) {
+  const {times, line, mote} = page.chosen, {editor, number} = page.studio;
+  if (page.states.marked === times) return;
+  page.states.marked = times;
+  const asked = {number, row: run.numberOf(line, mote)};
+  const found = line >= 0 && await page.backend.ask('statement', asked).catch(() => null);
+  if (page.chosen.times === times) editor.light(found && found.statement >= 0 ? found.statement : -1);
 }
 
 /** Adds the states to the tab *Steps*. */
 export function beginStates() {
-  overlays.push(drawValues);
+  page.overlays.push(drawValues);
   const bar = element('div'), input = Object.assign(element('input'), {id: 'values-asked', type: 'text',
     spellcheck: false, autocomplete: 'off', placeholder: 'newest'});
   bar.className = 'bar';
   input.addEventListener('keydown', event => { if (event.key === 'Enter') showValues(); });
   bar.append(Object.assign(element('label', 'Values on the lanes'), {htmlFor: 'values-asked'}), input,
     makeButton('Show', showValues), Object.assign(element('output'), {id: 'values-said'}));
-  byId('cards').after(Object.assign(element('div'), {id: 'state-cards'}), bar);
+  const note = Object.assign(element('p', 'Variables, waits, timers and the queue come from a replay of the mote, ' +
+    'which has to write the same trace. Variables that change before the next line are marked.'), {className: 'note'});
+  byId('cards').after(Object.assign(element('div'), {id: 'state-cards'}), bar, note);
+  page.reactions.stepped.push(showMoteState);
   byId('editor').addEventListener('mousemove', hoverValue);
+  page.followers.push(showStatement);
 }

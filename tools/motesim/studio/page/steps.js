@@ -2,43 +2,39 @@
 // Steps along the lines of a run, and the state of a mote there.
 import {START, lowerBound} from '../../timeline/page/data.js';
 import {chooseLine, walk} from '../../timeline/page/details.js';
-import {byId, element, makeButton} from '../../timeline/page/dom.js';
-import {chosen, overlays, panes, play} from '../../timeline/page/stage.js';
+import {byId, element, makeButton, withPlaces} from '../../timeline/page/dom.js';
+import {page} from '../../timeline/page/stage.js';
 import {isCall, nextLine, nextMoment, nextPlace, orderOf, placeOf, placesOf, stateAfter} from './chronology.js';
-import {beginStates, card, runningItem, showMoteState} from './states.js';
 import {searchesOf} from './stops.js';
 
-/** The run and the state that are shown. */
-export const steps = {run: null, shown: ''};
-
 /** The place in chronological order that the reader is at: the selected line, or the moment that is shown. */
-const placeNow = run => placeOf(run, chosen.line, Math.floor(play.now));
+const placeNow = run => placeOf(run, page.chosen.line, Math.floor(page.play.now));
 
 function goToLine(pane, line) { if (line >= 0) chooseLine(pane, line, true); }
 
 /** Goes to the next line, or to the one before: of the selected mote, or of all. */
 function stepLine(by) {
-  const pane = panes[0], {run} = pane;
-  if (byId('step-of').value === 'one' && chosen.pane) return walk(pane, by);
+  const pane = page.panes[0], {run} = pane;
+  if (byId('step-of').value === 'one' && page.chosen.pane) return walk(pane, by);
   goToLine(pane, nextLine(run, placeNow(run), by));
 }
 
 /** Goes to the first line of the next moment at which anything happens, or of the one before. */
 function stepMoment(by) {
-  const pane = panes[0], {run} = pane;
-  goToLine(pane, nextMoment(run, placeNow(run), by, chosen.line));
+  const pane = page.panes[0], {run} = pane;
+  goToLine(pane, nextMoment(run, placeNow(run), by, page.chosen.line));
 }
 
 /** Goes to the next line that begins a call, or to the one before: of the selected mote, or of all. */
 function stepCall(by) {
-  const pane = panes[0], {run} = pane, isOne = byId('step-of').value === 'one' && chosen.pane;
+  const pane = page.panes[0], {run} = pane, isOne = byId('step-of').value === 'one' && page.chosen.pane;
   goToLine(pane, nextLine(run, placeNow(run), by,
-    line => isCall(run, line) && (!isOne || run.moteOf(line) === chosen.mote)));
+    line => isCall(run, line) && (!isOne || run.moteOf(line) === page.chosen.mote)));
 }
 
 /** Goes to the next line at which the run is to stop, or to the one before. */
 function runToStop(by) {
-  const pane = panes[0], {run} = pane, {order} = orderOf(run), out = byId('stopped');
+  const pane = page.panes[0], {run} = pane, {order} = orderOf(run), out = byId('stopped');
   const searches = searchesOf(byId('stop-at').value), [places, unknown] = placesOf(run, searches);
   if (!places) return void (out.textContent = `No kind, process or event has the name ${unknown}.`);
   if (!places.length) return void (out.textContent = searches.length ? 'No line of this run matches.' : '');
@@ -53,9 +49,9 @@ function runToStop(by) {
 
 /** The line that the state is of: the selected one, or the last of the mote up to the moment that is shown. */
 function lineOfState(pane) {
-  const {run} = pane, mote = Math.max(0, chosen.mote);
-  if (chosen.line >= 0) return [mote, chosen.line];
-  const end = lowerBound(run.at, Math.floor(play.now) + 1, run.traceStart[mote], run.traceStart[mote + 1]);
+  const {run} = pane, mote = Math.max(0, page.chosen.mote);
+  if (page.chosen.line >= 0) return [mote, page.chosen.line];
+  const end = lowerBound(run.at, Math.floor(page.play.now) + 1, run.traceStart[mote], run.traceStart[mote + 1]);
   return [mote, end - 1];
 }
 
@@ -67,6 +63,19 @@ function runningAt(run, line, state) {
   const how = run.kind[i] === START ? 'called with init' : `called with ${run.events[run.e[i]]} ${run.w[i]}`;
   return [runningItem(`${line === i ? '' : 'called last: '}${name}, ${how}`)];
 }
+
+/** A card with a title and items, or with a text if there are none. */
+export function card(title, items, empty) {
+  const made = element('div', '', [element('h3', title)]);
+  made.className = 'card';
+  const list = items.map(item => element('li', '',
+    [item].flat().flatMap(it => typeof it === 'string' ? withPlaces(it) : [it])));
+  made.append(list.length ? element('ol', '', list) : element('p', empty));
+  return made;
+}
+
+/** A process that is being called. */
+export const runningItem = text => Object.assign(element('span', text), {className: 'running'});
 
 function cardsOf(pane, mote, line) {
   const {run} = pane, state = stateAfter(run, mote, line);
@@ -83,9 +92,9 @@ function cardsOf(pane, mote, line) {
 
 /** Shows the state if the selection or the moment has changed. */
 function showStep(pane) {
-  const [mote, line] = lineOfState(pane), key = `${mote} ${line} ${Math.floor(play.now)}`;
-  if (steps.shown === key && steps.run === pane.run) return;
-  Object.assign(steps, {shown: key, run: pane.run});
+  const [mote, line] = lineOfState(pane), key = `${mote} ${line} ${Math.floor(page.play.now)}`;
+  if (page.steps.shown === key && page.steps.run === pane.run) return;
+  Object.assign(page.steps, {shown: key, run: pane.run});
   const {run} = pane, at = byId('step-at');
   if (line < run.traceStart[mote]) {
     at.replaceChildren(`Mote ${mote} has done nothing yet.`);
@@ -95,7 +104,7 @@ function showStep(pane) {
   at.replaceChildren(element('strong', `Mote ${mote} at moment ${run.at[line]}`),
     `, after line ${run.numberOf(line, mote)} of the report: `, element('code', run.text(line)));
   byId('cards').replaceChildren(...cardsOf(pane, mote, line));
-  showMoteState(pane, mote, line, key);
+  for (const react of page.reactions.stepped) react(pane, mote, line, key);
 }
 
 export function beginSteps() {
@@ -125,9 +134,5 @@ export function beginSteps() {
     button('call ›', 'The start of the next call', () => stepCall(1)), of, stops,
     Object.assign(element('output'), {id: 'stopped'}));
   box.append(bar, Object.assign(element('p'), {id: 'step-at'}), Object.assign(element('div'), {id: 'cards'}));
-  const note = Object.assign(element('p', 'Variables, waits, timers and the queue come from a replay of the mote, ' +
-    'which has to write the same trace. Variables that change before the next line are marked.'), {className: 'note'});
-  box.append(note);
-  beginStates();
-  overlays.push(pane => { if (!byId('steps').hidden) showStep(pane); });
+  page.followers.push(pane => { if (!byId('steps').hidden) showStep(pane); });
 }

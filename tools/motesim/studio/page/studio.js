@@ -1,37 +1,39 @@
 // @ts-check
 // The studio: the text is run when no key was pressed for a while, and its run is shown.
-import {byId, file, focused, handOut} from '../../timeline/page/dom.js';
+import {byId, focused, handOut} from '../../timeline/page/dom.js';
 import {readColours} from '../../timeline/page/forms.js';
-import {refit, room} from '../../timeline/page/main.js';
-import {chosen, page} from '../../timeline/page/stage.js';
+import {refit} from '../../timeline/page/main.js';
+import {page} from '../../timeline/page/stage.js';
+import {showTab} from '../../timeline/page/tabs.js';
 import {beginChecks} from './checks.js';
 import {beginDifferences} from './difference.js';
-import {editText} from './edit.js';
 import {Editor} from './editor.js';
-import {beginFaults, faults, outdateFaults, stopSearch} from './faults.js';
-import {beginOpen, exportPage, fillOpen, lookedAt, nameDocument, opening, save, saveAs, take} from './files.js';
-import {differs} from './flag.js';
+import {beginFaults, outdateFaults, stopSearch} from './faults.js';
+import {beginOpen, exportPage, fillOpen, isDirty, keepDraft, lookedAt, nameDocument, save, saveAs, take
+  } from './files.js';
 import {showGuide} from './guide.js';
-import {ask, attempt, beat, connection} from './link.js';
+import {beat} from './link.js';
 import {beginLog} from './log.js';
-import {beginMotes, ground, renewMotes} from './motes.js';
-import {showState} from './notices.js';
-import {correctFault, outdate, pin, reactions, runNow, stopRun} from './running.js';
+import {beginMotes, renewMotes} from './motes.js';
+import {say, showState} from './notices.js';
+import {correctFault, outdate, pin, runNow, stopRun} from './running.js';
 import {beginSplits} from './split.js';
-import {isDirty, studio} from './state.js';
-import {states} from './states.js';
-import {beginSteps, steps} from './steps.js';
+import {Server} from './server.js';
+import {beginStates} from './states.js';
+import {beginSteps} from './steps.js';
 import {searchesOf} from './stops.js';
-import {beginTabs, showTab} from './tabs.js';
+import {beginAllPanels} from './tabs.js';
 import {beginWhy} from './whys.js';
 
 const PAUSE = 200;
 
 /** Reacts to a change of the text. */
 function typed() {
-  studio.changedAt = performance.now();
-  clearTimeout(studio.timer);
-  studio.timer = setTimeout(() => runNow(), PAUSE);
+  page.studio.changedAt = performance.now();
+  page.studio.editor.light(-1);
+  clearTimeout(page.studio.timer);
+  page.studio.timer = window.setTimeout(() => runNow(), PAUSE);
+  keepDraft();
   showState('busy', 'typing');
   outdate();
   stopSearch('The text was changed, so the search was stopped.');
@@ -43,9 +45,9 @@ function typed() {
 function watchChosen() {
   let before = 0;
   for (const id of ['panes', 'maps']) {
-    byId(id).addEventListener('pointerdown', () => { before = chosen.times; }, true);
+    byId(id).addEventListener('pointerdown', () => { before = page.chosen.times; }, true);
     byId(id).addEventListener('pointerup', () => setTimeout(() => {
-      if (chosen.pane && chosen.times !== before && studio.tab !== 'steps') showTab('chosen');
+      if (page.chosen.pane && page.chosen.times !== before && page.studio.tab !== 'steps') showTab('chosen');
     }));
   }
   byId('search').addEventListener('submit', () => showTab('chosen'));
@@ -60,24 +62,25 @@ function beginButtons() {
   byId('export').addEventListener('click', exportPage);
   byId('pin').addEventListener('click', pin);
   byId('stop').addEventListener('click', stopRun);
-  file.goTo = goToLine;
+  page.goToLine = goToLine;
   byId('fault-place').addEventListener('click', () => goToFault());
   byId('fault-correct').addEventListener('click', correctFault);
   document.addEventListener('keydown', event => {
     if (!(event.ctrlKey || event.metaKey) || event.altKey) return;
-    const key = event.key.toLowerCase(), isTyping = focused().matches('input, textarea');
+    const key = event.key.toLowerCase(), isTyping = focused().matches('input, textarea') &&
+      (page.studio.editor.mirror || focused() !== page.studio.editor.area);
     const does = key === 's' ? save : isTyping ? null : key === 'y' || key === 'z' && event.shiftKey ?
-      () => studio.editor.again('redo') : key === 'z' ? () => studio.editor.again('undo') : null;
+      () => page.studio.editor.again('redo') : key === 'z' ? () => page.studio.editor.again('undo') : null;
     if (!does) return;
     event.preventDefault();
     event.stopPropagation();
     does();
   }, true);
-  window.addEventListener('beforeunload', event => { if (studio.asks && isDirty()) event.preventDefault(); });
+  window.addEventListener('beforeunload', event => { if (page.studio.asks && isDirty()) event.preventDefault(); });
 }
 
 function goToFault() {
-  const {editor} = studio;
+  const {editor} = page.studio;
   if (!editor.place) return;
   const [line, from, to] = editor.place;
   // (the plain text area has no other mark than its selection)
@@ -86,44 +89,49 @@ function goToFault() {
 
 /** Selects a line of the text, counted from 1. */
 function goToLine(line) {
-  const row = studio.editor.text.split('\n')[line - 1];
+  const row = page.studio.editor.text.split('\n')[line - 1];
   if (row === undefined) return;
   const from = row.length - row.trimStart().length;
-  studio.editor.goTo(line - 1, from, row.trimEnd().length - from);
+  page.studio.editor.goTo(line - 1, from, row.trimEnd().length - from);
 }
 
-async function beginStudio() {
+/** @param {import('../../timeline/page/stage.js').Backend} backend */
+async function beginStudio(backend) {
+  page.backend = backend;
   readColours();
-  room.forPanes = () => Math.max(150, byId('panes').clientHeight);
-  beginTabs();
+  page.roomForPanes = () => Math.max(150, byId('panes').clientHeight);
+  beginAllPanels();
   beginSteps();
+  beginStates();
   beginWhy();
-  beginLog(sentence => attempt(() => ask('lines', {number: studio.number, sentence})), 'send mote 3, or an expectation');
+  beginLog();
   beginDifferences();
   beginChecks();
-  beginMotes(editText);
-  reactions.shown.push(renewMotes);
+  beginMotes(() => page.studio.editor.text, changes => {
+    page.studio.editor.apply(changes);
+    runNow();
+  }, words => say('refused', words));
+  page.reactions.shown.push(renewMotes);
   beginButtons();
   beginSplits(() => {
     refit();
-    studio.editor.refresh();
+    page.studio.editor.refresh();
   });
   watchChosen();
-  connection.back = () => runNow();
-  connection.keep = () => handOut(studio.document.name, [studio.editor.text], 'text/plain');
-  const began = await ask('begin', {});
-  studio.editor = new Editor(typed, began.words);
-  studio.folder = began.folder;
+  page.connection.back = () => runNow();
+  page.connection.keep = () => handOut(page.studio.document.name, [page.studio.editor.text], 'text/plain');
+  const began = await page.backend.begin();
+  page.studio.editor = new Editor(typed, began.words);
+  page.studio.folder = began.folder;
   fillOpen(began);
-  opening.push(showGuide);
+  page.reactions.opened.push(showGuide);
   beginFaults(began.kinds);
   await take(began, began.against);
-  beat(() => studio.document && {where: studio.document.where, name: studio.document.name}, lookedAt);
+  beat(() => page.studio.document && {where: page.studio.document.where, name: page.studio.document.name}, lookedAt);
 }
 
-window.motesim = Object.assign(page, {studio, editor: () => studio.editor, connection, differs, ground, steps, states,
-  searchesOf, faults});
-beginStudio().catch(fault => {
+window.motesim = Object.assign(page, {editor: () => page.studio.editor, searchesOf});
+beginStudio(new Server()).catch(fault => {
   byId('about').textContent = `This page can't be shown here: ${fault.message}`;
   console.error(fault);
 });

@@ -1,25 +1,15 @@
 // @ts-check
 // The tabs below the lanes.
-import {byId, element, makeButton} from '../../timeline/page/dom.js';
-import {redraw} from '../../timeline/page/draw.js';
-import {drawLegend} from '../../timeline/page/forms.js';
-import {studio} from './state.js';
+import {byId, element} from '../../timeline/page/dom.js';
+import {page} from '../../timeline/page/stage.js';
+import {beginPanels, showTab} from '../../timeline/page/tabs.js';
 
-const TABS = [['guide', 'Guide'], ['chosen', 'Selected'], ['steps', 'Steps'], ['why', 'Why'],
-  ['log', 'Log'], ['compare', 'Differences'], ['checks', 'Checks'], ['faults', 'Faults'], ['sums', 'Sums'],
-  ['legend', 'Forms']];
+/** The panels, each with its title, and with what the backend needs for it. */
+const PANELS = [['guide', 'Guide'], ['chosen', 'Selected'], ['steps', 'Steps'], ['why', 'Why', 'why'], ['log', 'Log'],
+  ['compare', 'Differences', 'explain'], ['checks', 'Checks', 'checks'], ['faults', 'Faults', 'faults'],
+  ['sums', 'Sums'], ['legend', 'Forms']];
 
-export function showTab(name) {
-  studio.tab = name;
-  for (const [id] of TABS) {
-    byId(id).hidden = id !== name;
-    byId(`tab-${id}`).setAttribute('aria-selected', String(id === name));
-    byId(`tab-${id}`).tabIndex = id === name ? 0 : -1;
-  }
-  if (name === 'legend') drawLegend();
-  redraw();
-}
-
+/** @param {string} id @param {string} words @param {string} className */
 export function labelTab(id, words, className = '') {
   const tab = byId(`tab-${id}`);
   tab.textContent = words;
@@ -33,21 +23,10 @@ export function markEarlier(box) {
   box.prepend(Object.assign(element('p', 'These results are of an earlier text.'), {className: 'of-earlier'}));
 }
 
-export function beginTabs() {
-  byId('tabs').replaceChildren(...TABS.map(([id, name], i) => {
-    const tab = makeButton(name, () => showTab(id));
-    tab.id = `tab-${id}`;
-    tab.setAttribute('role', 'tab');
-    tab.setAttribute('aria-controls', id);
-    tab.addEventListener('keydown', event => {
-      const by = event.key === 'ArrowRight' ? 1 : event.key === 'ArrowLeft' ? -1 : 0;
-      if (!by) return;
-      const [next] = TABS[(i + by + TABS.length) % TABS.length];
-      showTab(next);
-      byId(`tab-${next}`).focus();
-    });
-    byId(id).setAttribute('role', 'tabpanel');
-    return tab;
-  }));
+/** Makes the tabs of what the backend can do. */
+export function beginAllPanels() {
+  for (const [id] of PANELS) byId(id).hidden = true;
+  beginPanels(PANELS.filter(([, , needs]) => !needs || page.backend.can.has(needs)),
+    name => { page.studio.tab = name; });
   showTab('guide');
 }

@@ -15,11 +15,23 @@ export function offsetOf(text, [line, column]) {
   return Math.min(offset + column, text.length);
 }
 
+/** A piece of a text, from one offset to another, and its replacement.
+ * @typedef {{begin: number, end: number, text: string}} Change */
+
+/** The text with changes that don't overlap.
+ * @param {string} text @param {Change[]} changes */
+export function applied(text, changes) {
+  const sorted = changes.map((change, i) => ({change, i}))
+    .sort((a, b) => a.change.begin - b.change.begin || a.change.end - b.change.end || a.i - b.i);
+  for (const {change} of sorted.reverse()) text = text.slice(0, change.begin) + change.text + text.slice(change.end);
+  return text;
+}
+
 /** The changes that replace a piece of a text everywhere, the last one first. */
 export function replacements(whole, old, text) {
   const changes = [];
   for (let from = whole.indexOf(old); old && from >= 0; from = whole.indexOf(old, from + old.length)) {
-    changes.unshift({from: lineAndColumn(whole, from), to: lineAndColumn(whole, from + old.length), text});
+    changes.unshift({begin: from, end: from + old.length, text});
   }
   return changes;
 }

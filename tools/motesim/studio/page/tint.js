@@ -15,6 +15,8 @@ export class Tint {
     // (an error, and a piece that was changed, each as [row, begin, end])
     this.place = /** @type {number[]|null} */ (null);
     this.lit = /** @type {number[]|null} */ (null);
+    // (the row of the statement that is selected)
+    this.row = -1;
     // (the state before the first row: another one if the area has a program alone)
     this.first = firstState();
     this.rows = /** @type {string[]|null} */ (null);
@@ -33,6 +35,12 @@ export class Tint {
    * @param {number[]|null} place */
   mark(place) {
     this.place = place;
+    this.draw();
+  }
+
+  /** Marks a row whose statement is selected; -1 for none. @param {number} row */
+  light(row) {
+    this.row = row;
     this.draw();
   }
 
@@ -67,7 +75,11 @@ export class Tint {
   /** @param {number} row @param {any} state */
   rowOf(row, state) {
     const pieces = this.tokens(this.rows[row], state), place = [this.place, this.lit].find(it => it && it[0] === row);
-    if (!place) return element('div', '', pieces.length ? pieces.map(coloured) : ['\n']);
+    if (!place) {
+      const plain = element('div', '', pieces.length ? pieces.map(coloured) : ['\n']);
+      if (row === this.row) plain.className = 'statement-line';
+      return plain;
+    }
     const isFault = place === this.place, [, from, to] = place;
     const made = element('div', '',
       markedPieces(pieces, from, Math.max(from + 1, to), isFault ? 'fault-mark' : 'lit-mark'));

@@ -2,7 +2,7 @@
 // The totals of a run as tables, with small plots over time.
 import {element, table} from '../../timeline/page/dom.js';
 import {showSeries} from '../../timeline/page/plots.js';
-import {panes} from '../../timeline/page/stage.js';
+import {page} from '../../timeline/page/stage.js';
 
 function sumTable([names, ...rows]) {
   const shown = value => value === null ? '-' : Number.isInteger(value) || typeof value === 'string' ? String(value) :
@@ -22,6 +22,6 @@ function sumTable([names, ...rows]) {
 /** Shows the totals of the run that is shown. */
 export function fillSums(box, sums) {
   const plots = element('div');
-  if (panes.length) showSeries(panes[0].run, plots);
+  if (page.panes.length) showSeries(page.panes[0].run, plots);
   box.replaceChildren(sumTable(sums.motes), plots, sumTable(sums.links));
 }

@@ -3,11 +3,9 @@
 import {chooseLine} from '../../timeline/page/details.js';
 import {byId, element, lineButton, withPlaces} from '../../timeline/page/dom.js';
 import {chooseRow} from '../../timeline/page/rows.js';
-import {panes} from '../../timeline/page/stage.js';
-import {sayWhy, showChain, source} from '../../timeline/page/why.js';
-import {Lost, Refused, ask} from './link.js';
-import {studio} from './state.js';
-import {showTab} from './tabs.js';
+import {page, Refused} from '../../timeline/page/stage.js';
+import {showTab} from '../../timeline/page/tabs.js';
+import {sayWhy, showChain} from '../../timeline/page/why.js';
 
 /** The hops of a chain that the server found, with their lines in the run. */
 export function hopsOf({chain}) {
@@ -17,7 +15,8 @@ export function hopsOf({chain}) {
 
 /** The chain of a line, from the server. */
 async function askedChain(run, line) {
-  const answer = await ask('why', {number: studio.number, row: run.numberOf(line, run.moteOf(line))});
+  const row = run.numberOf(line, run.moteOf(line));
+  const answer = await page.backend.ask('why', {number: page.studio.number, row});
   showTab('why');
   if (answer.said) throw new Error(answer.said);
   return {hops: hopsOf(answer), about: ''};
@@ -32,13 +31,13 @@ export function askQuestion(text) {
 
 /** Answers the question with a chain, or with the near misses. */
 async function answerWhy() {
-  const pane = panes[0], question = byId('why-asked').value.trim();
+  const pane = page.panes[0], question = byId('why-asked').value.trim();
   if (!pane || !question) return;
   let answer;
   try {
-    answer = await ask('why', {number: studio.number, question});
+    answer = await page.backend.ask('why', {number: page.studio.number, question});
   } catch (fault) {
-    if (fault instanceof Lost || fault instanceof Refused) return;
+    if (fault instanceof Refused) return;
     throw fault;
   }
   if (answer.said) return sayWhy(answer.said);
@@ -54,13 +53,13 @@ async function answerWhy() {
 /** Something that came near, as a button if a row of the report shows it. */
 function missButton(mote, {words, line: row}) {
   const text = `mote ${mote}: ${words}`;
-  return row ? lineButton(`line ${row} of the report`, text, '', false, () => chooseRow(panes[0], row)) :
+  return row ? lineButton(`line ${row} of the report`, text, '', false, () => chooseRow(page.panes[0], row)) :
     element('span', '', withPlaces(text));
 }
 
 /** Lets the server find causes from now on. */
 export function beginWhy() {
-  source.chainOf = askedChain;
+  page.chainOf = askedChain;
   const form = element('form'), input = element('input');
   form.className = 'bar';
   Object.assign(input, {id: 'why-asked', type: 'text', spellcheck: false, autocomplete: 'off', size: 44,

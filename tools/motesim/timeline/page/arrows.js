@@ -4,8 +4,8 @@ import {RECV, SEND, lowerBound} from './data.js';
 import {byId} from './dom.js';
 import {colours, drawArrow, head, path, stroke} from './forms.js';
 import {arrivalOf} from './index.js';
-import {AXIS, FULL_LANE, SMALL_LANE} from './layout.js';
-import {chosen} from './stage.js';
+import {FULL_LANE, SMALL_LANE} from './layout.js';
+import {page} from './stage.js';
 
 const FEW = 250, MANY = 2500, MOST_ARROWS = 12000, MOST_VISITED = 15000;
 
@@ -19,15 +19,16 @@ function arrowEnds(pane, k, c) {
 
 /** Collects the copies whose arrows cross the view; from a great many packets a sample is counted. */
 function copiesInView(pane) {
-  const {run, drawn} = pane, found = [], begin = pane.moment(pane.gutter), end = pane.moment(pane.width);
+  const {run, drawn} = pane, found = [], {left, top, right, bottom} = pane.seen;
+  const begin = pane.moment(left), end = pane.moment(right);
   const first = lowerBound(run.packetAt, begin - run.longest - 1), last = lowerBound(run.packetAt, end + 1, first);
-  const stride = Math.max(1, Math.ceil((last - first) / MOST_VISITED)), bottom = pane.height;
+  const stride = Math.max(1, Math.ceil((last - first) / MOST_VISITED));
   let copies = 0;
   for (let k = first; k < last; k += stride) {
     const y0 = pane.laneTop(run.packetSender[k]);
     for (let c = run.copyStart[k]; c < run.copyStart[k + 1]; c++) {
       const y1 = pane.laneTop(run.copyTo[c]);
-      if (y0 < AXIS - pane.lane && y1 < AXIS - pane.lane || y0 > bottom && y1 > bottom) continue;
+      if (y0 < top - pane.lane && y1 < top - pane.lane || y0 > bottom && y1 > bottom) continue;
       if (run.packetAt[k] + (run.copyAfter[c] || run.longest) < begin) continue;
       copies++;
       if (found.length < 2 * MOST_ARROWS) found.push(k, c);
@@ -41,11 +42,13 @@ function copiesInView(pane) {
 export function drawArrows(pane) {
   const c = pane.context, found = copiesInView(pane), {drawn, run} = pane;
   const wish = byId('arrows').value;
-  pane.arrows = [];
-  if (wish === 'none' || wish === 'auto' && (drawn.copies > MANY || pane.lane < 4)) return;
-  const crowded = drawn.copies > FEW, size = pane.lane < 14 ? 3 : 4;
+  // (a strip has arrows if the other lanes have)
+  if (!pane.strip) Object.assign(pane, {isCrowded: drawn.copies > FEW, hasArrows: wish === 'all' ||
+    wish === 'auto' && drawn.copies <= MANY && pane.lane >= 4});
+  if (!pane.hasArrows) return;
+  const size = pane.lane < 14 ? 3 : 4;
   c.save();
-  c.globalAlpha = crowded ? 0.4 : 0.85;
+  c.globalAlpha = pane.isCrowded ? 0.4 : 0.85;
   for (let i = 0; i < found.length; i += 2) {
     const k = found[i], copy = found[i + 1], [x0, y0, x1, y1] = arrowEnds(pane, k, copy);
     drawArrow(c, x0, y0, x1, y1, run.copyFate[copy], 1, size);
@@ -73,23 +76,23 @@ export function arrowNear(pane, x, y, reach) {
 
 /** Draws the selection: a ring around its line, the arrows of its packet, bows from an event's post to its takes. */
 export function drawChosen(pane) {
-  if (chosen.pane !== pane) return;
+  if (page.chosen.pane !== pane) return;
   const {run, context: c} = pane, low = pane.lane < SMALL_LANE;
   const y = line => low ? pane.laneTop(run.moteOf(line)) + pane.lane / 2 :
     pane.lineY(run.silent[line] ? SEND : run.kind[line], run.moteOf(line));
   const x = line => pane.lineX(line, run.moteOf(line));
-  if (chosen.k >= 0) {
-    for (let copy = run.copyStart[chosen.k]; copy < run.copyStart[chosen.k + 1]; copy++) {
-      const [x0, y0, x1, y1] = arrowEnds(pane, chosen.k, copy);
+  if (page.chosen.k >= 0) {
+    for (let copy = run.copyStart[page.chosen.k]; copy < run.copyStart[page.chosen.k + 1]; copy++) {
+      const [x0, y0, x1, y1] = arrowEnds(pane, page.chosen.k, copy);
       path(c, [x0, y0, x1, y1]);
       c.save();
       c.globalAlpha = 0.6;
-      stroke(c, colours.halo, copy === chosen.copy ? 9 : 6);
+      stroke(c, colours.halo, copy === page.chosen.copy ? 9 : 6);
       c.restore();
-      drawArrow(c, x0, y0, x1, y1, run.copyFate[copy], copy === chosen.copy ? 3 : 2, 5);
+      drawArrow(c, x0, y0, x1, y1, run.copyFate[copy], copy === page.chosen.copy ? 3 : 2, 5);
     }
   }
-  for (const [from, to] of chosen.bows) {
+  for (const [from, to] of page.chosen.bows) {
     const x0 = x(from), y0 = y(from), x1 = x(to), y1 = y(to), lift = Math.max(8, Math.min(26, pane.lane * 0.5));
     c.beginPath();
     c.moveTo(x0, y0);
@@ -97,9 +100,9 @@ export function drawChosen(pane) {
     stroke(c, colours.mark, 2);
     head(c, x1, y1 - lift, x1, y1 - 4, 7, colours.mark, true);
   }
-  if (chosen.line >= 0) {
+  if (page.chosen.line >= 0) {
     c.beginPath();
-    c.arc(x(chosen.line), y(chosen.line), Math.max(7, Math.min(11, pane.lane * 0.3)), 0, 7);
+    c.arc(x(page.chosen.line), y(page.chosen.line), Math.max(7, Math.min(11, pane.lane * 0.3)), 0, 7);
     stroke(c, colours.mark, 2.5);
   }
 }

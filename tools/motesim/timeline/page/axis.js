@@ -2,19 +2,19 @@
 // The frame of a pane's lanes: axis, grid, bands, the names of motes, and the moment that the map shows.
 import {colours, fill, path} from './forms.js';
 import {AXIS, SMALL_LANE} from './layout.js';
-import {chosen, play} from './stage.js';
-import {niceStep, time} from './time.js';
+import {page} from './stage.js';
+import {niceStep} from './time.js';
 
 /** The axis of moments. */
 export function drawAxis(pane) {
-  const c = pane.context, step = niceStep(76 / time.scale), first = Math.max(0, Math.ceil(time.begin / step) * step);
-  const last = Math.min(time.end, pane.moment(pane.width));
+  const {time} = page, c = pane.front, step = niceStep(76 / time.scale);
+  const first = Math.max(0, Math.ceil(time.begin / step) * step), last = Math.min(time.end, pane.moment(pane.width));
   c.fillStyle = colours.panel;
   c.fillRect(0, 0, pane.width, AXIS);
   c.font = '12px system-ui, "DejaVu Sans", sans-serif';
   c.textAlign = 'center';
   c.textBaseline = 'middle';
-  const middle = time.scale > 26 ? 0.5 : 0;
+  const middle = page.time.scale > 26 ? 0.5 : 0;
   for (let moment = first; moment <= last; moment += step) {
     const x = pane.x(moment);
     c.fillStyle = colours.edge;
@@ -35,7 +35,7 @@ export function drawAxis(pane) {
 
 /** The grid, and the areas before and after the run. */
 export function drawGrid(pane) {
-  const c = pane.context, step = niceStep(76 / time.scale);
+  const {time} = page, c = pane.context, step = niceStep(76 / time.scale);
   const first = Math.max(0, Math.ceil(time.begin / step) * step), last = Math.min(time.end, pane.moment(pane.width));
   c.fillStyle = colours.grid;
   for (let moment = first; moment <= last; moment += step)
@@ -66,7 +66,7 @@ export function drawBands(pane, from, to) {
 
 /** The column of the names of motes. */
 export function drawColumn(pane, from, to) {
-  const {context: c} = pane;
+  const {front: c} = pane;
   c.fillStyle = colours.panel;
   for (let place = from; place < to; place++) c.fillRect(0, pane.laneTopOfPlace(place), pane.gutter - 1,
     Math.max(1, pane.lane + 0.5));
@@ -76,13 +76,15 @@ export function drawColumn(pane, from, to) {
 
 /** The names of motes, in that column. */
 export function drawNames(pane, from, to) {
-  const {run, context: c} = pane;
+  const {run, front: c} = pane;
   const step = pane.lane >= 11 ? 1 : niceStep(13 / pane.lane), several = run.programs.length > 1;
+  const shown = page.chosen.pane === pane ? page.chosen.mote : -1;
   c.textBaseline = 'middle';
   for (let place = from; place < to; place++) {
     const mote = pane.order[place], y = pane.laneTopOfPlace(place);
-    const isChosen = chosen.pane === pane && chosen.mote === mote;
-    if (mote % step && !isChosen) continue;
+    const isChosen = mote === shown;
+    // (the name of the chosen mote is there alone)
+    if (!isChosen && (mote % step || shown >= 0 && Math.abs(pane.laneTop(shown) - y) < 11)) continue;
     if (isChosen) {
       c.fillStyle = colours.halo;
       c.fillRect(0, y, pane.gutter - 1, Math.max(2, pane.lane));
@@ -99,21 +101,18 @@ export function drawNames(pane, from, to) {
   }
 }
 
-/** The moment that the map shows, on the lanes. */
+/** The moment that the map shows, on the lanes and on the axis. */
 export function drawCursor(pane) {
-  const c = pane.context, moment = Math.floor(play.now), x = pane.x(moment), wide = Math.max(1.5, time.scale);
+  const {time} = page, c = pane.over, x = pane.x(Math.floor(page.play.now)), wide = Math.max(1.5, time.scale);
+  c.clearRect(0, 0, pane.width, pane.height);
   if (x + wide < pane.gutter || x > pane.width) return;
-  c.save();
   c.globalAlpha = time.scale > 60 ? 0.08 : time.scale > 3 ? 0.16 : 0.8;
   c.fillStyle = colours.cursor;
-  c.fillRect(Math.max(pane.gutter, x), AXIS, wide, pane.height);
-  c.restore();
-}
-
-/** The same moment, on the axis. */
-export function drawCursorHead(pane) {
-  const c = pane.context, x = pane.x(Math.floor(play.now)) + Math.max(1.5, time.scale) / 2;
-  if (x < pane.gutter || x > pane.width) return;
-  path(c, [x - 5, AXIS - 7, x + 5, AXIS - 7, x, AXIS - 1], true);
+  const left = Math.max(pane.gutter, x);
+  c.fillRect(left, AXIS, x + wide - left, pane.height);
+  c.globalAlpha = 1;
+  const middle = x + wide / 2;
+  if (middle < pane.gutter || middle > pane.width) return;
+  path(c, [middle - 5, AXIS - 7, middle + 5, AXIS - 7, middle, AXIS - 1], true);
   fill(c, colours.cursor);
 }

@@ -33,6 +33,7 @@ export class Run {
   at = NONE; kind = NONE; p = NONE; x = NONE; e = NONE; w = NONE;
   packetAt = NONE; packetSender = NONE; packetValue = NONE; copyCount = NONE;
   copyTo = NONE; copyAfter = NONE;
+  number = 0;
   processes = NO_NAMES; events = NO_NAMES; programs = NO_NAMES;
   sentStart = NONE; sentPackets = NONE; postStart = NONE; postLines = NONE;
 

@@ -5,7 +5,7 @@ import {byId, element, lineButton, list, makeButton, table} from './dom.js';
 import {redraw} from './draw.js';
 import {COLLIDED, FATE_WORDS, GONE, MEDIUM, REFUSED, RING, UNHEARD, arrivalOf} from './index.js';
 import {setNow} from './play.js';
-import {choose, chosen, offers, panes, play} from './stage.js';
+import {choose, page} from './stage.js';
 import {revealMoment} from './time.js';
 import {count} from './words.js';
 
@@ -14,7 +14,7 @@ const MOST_LISTED = 120;
 /** A line of a trace as a button that selects it. */
 function traceButton(pane, line, what) {
   const {run} = pane, mote = run.moteOf(line);
-  return lineButton(`line ${run.numberOf(line, mote)}`, run.text(line), what, chosen.line === line,
+  return lineButton(`line ${run.numberOf(line, mote)}`, run.text(line), what, page.chosen.line === line,
     () => chooseLine(pane, line, true));
 }
 
@@ -33,18 +33,18 @@ export function selectNothing() {
 export function chooseLine(pane, line, show) {
   const {run} = pane, mote = run.moteOf(line), kind = run.kind[line];
   choose({pane, mote, line});
-  if (kind === SEND) chosen.k = run.packetOf(mote, run.x[line]);
+  if (kind === SEND) page.chosen.k = run.packetOf(mote, run.x[line]);
   else if (kind === RECV || kind === LOST || kind === COLLIDE || kind === DEAF) {
-    chosen.k = run.packetOf(run.p[line], run.x[line]);
-    chosen.copy = chosen.k < 0 ? -1 : run.copyFor(chosen.k, mote);
+    page.chosen.k = run.packetOf(run.p[line], run.x[line]);
+    page.chosen.copy = page.chosen.k < 0 ? -1 : run.copyFor(page.chosen.k, mote);
   }
   tell(pane, show);
 }
 
 /** The selection, in a form that finds it in another run; or null. */
 export function chosenInWords() {
-  if (!chosen.pane) return null;
-  const {pane: {run}, mote, line, k, copy} = chosen;
+  if (!page.chosen.pane) return null;
+  const {pane: {run}, mote, line, k, copy} = page.chosen;
   if (line >= 0) return {mote, at: run.at[line], words: run.words(line)};
   if (k >= 0) return {mote, sender: run.packetSender[k], number: run.packetNumber[k], to: run.copyTo[copy]};
   return {mote};
@@ -82,18 +82,18 @@ export function chooseMote(pane, mote, show) {
 
 /** Lists the selection, and draws it. */
 function tell(pane, show) {
-  const box = byId('details'), {run} = pane, {line, k} = chosen;
+  const box = byId('details'), {run} = pane, {line, k} = page.chosen;
   box.replaceChildren();
   if (line >= 0 || k >= 0) {
-    const moment = line >= 0 ? run.at[line] : arrivalOf(run, k, chosen.copy);
+    const moment = line >= 0 ? run.at[line] : arrivalOf(run, k, page.chosen.copy);
     setNow(Math.min(moment, run.end));
     if (show) revealMoment(moment);
   }
-  if (show) pane.reveal(chosen.mote);
-  if (panes.length > 1) box.append(element('p', `In ${run.name}:`));
+  if (show) pane.reveal(page.chosen.mote);
+  if (page.panes.length > 1) box.append(element('p', `In ${run.name}:`));
   if (k >= 0) tellPacket(box, pane);
   if (line >= 0 && [POST, TAKE, DROP].includes(run.kind[line])) tellEvent(box, pane);
-  if (line >= 0) for (const offer of offers) offer(box, pane);
+  if (line >= 0) for (const offer of page.offers) offer(box, pane);
   if (line >= 0) tellTurn(box, pane); else if (k < 0) tellMote(box, pane);
   box.classList.remove('empty');
   speak(pane);
@@ -102,16 +102,16 @@ function tell(pane, show) {
 
 /** Announces the selection to screen readers. */
 function speak(pane) {
-  const {run} = pane, {line, k, mote} = chosen, parts = [`Mote ${mote}`];
+  const {run} = pane, {line, k, mote} = page.chosen, parts = [`Mote ${mote}`];
   if (line >= 0) parts.push(`moment ${run.at[line]}`, run.words(line));
   if (k >= 0) parts.push(`packet ${run.packetNumber[k]} of mote ${run.packetSender[k]}`);
-  if (chosen.copy >= 0) parts.push(FATE_WORDS[run.copyFate[chosen.copy]]);
+  if (page.chosen.copy >= 0) parts.push(FATE_WORDS[run.copyFate[page.chosen.copy]]);
   byId('spoken').textContent = parts.join(', ');
 }
 
 /** Adds a packet: the medium's line, the send, and each copy with its fate. */
 function tellPacket(box, pane) {
-  const {run} = pane, {k, mote} = chosen, s = run.packetSender[k];
+  const {run} = pane, {k, mote} = page.chosen, s = run.packetSender[k];
   box.append(element('h2', `Packet ${run.packetNumber[k]} of mote ${s}, value ${run.packetValue[k]}`));
   const items = [];
   if (run.sendLine[k] >= 0) items.push(traceButton(pane, run.sendLine[k], `sent by mote ${s}`));
@@ -120,13 +120,13 @@ function tellPacket(box, pane) {
     const what = `mote ${to}: ${FATE_WORDS[fate]}`;
     if (line >= 0) {
       items.push(traceButton(pane, line, what));
-      if (chosen.line === line && hand >= 0) items.push(traceButton(pane, hand, 'handed on, in the same turn'));
-      if (chosen.line === run.sendLine[k]) chosen.next.push(line);
-      if (chosen.line === line) chosen.next = [hand >= 0 ? hand : run.sendLine[k]];
+      if (page.chosen.line === line && hand >= 0) items.push(traceButton(pane, hand, 'handed on, in the same turn'));
+      if (page.chosen.line === run.sendLine[k]) page.chosen.next.push(line);
+      if (page.chosen.line === line) page.chosen.next = [hand >= 0 ? hand : run.sendLine[k]];
     } else {
       const arrives = arrivalOf(run, k, copy);
       items.push(lineButton(`to ${to}`, fate === MEDIUM ? `${to}@lost` : `${to}@${arrives}`, what,
-        chosen.copy === copy,
+        page.chosen.copy === copy,
         () => chooseCopy(pane, k, copy, true)));
     }
     if (items.length > MOST_LISTED) {
@@ -141,7 +141,7 @@ function tellPacket(box, pane) {
 
 /** Adds an event, from its post to its takes or drop. */
 function tellEvent(box, pane) {
-  const {run} = pane, {line, mote} = chosen, serial = run.x[line], post = run.postOf(mote, serial), items = [];
+  const {run} = pane, {line, mote} = page.chosen, serial = run.x[line], post = run.postOf(mote, serial), items = [];
   box.append(element('h2', `Event ${serial} of mote ${mote}: ${run.events[run.e[line]]} ${run.w[line]}`));
   if (post >= 0) items.push(traceButton(pane, post,
     run.at[post] < run.at[line] ? `${count(run.at[line] - run.at[post], 'moment')} before` : 'posted'));
@@ -151,14 +151,14 @@ function tellEvent(box, pane) {
     if ((run.kind[i] === TAKE || run.kind[i] === DROP) && run.x[i] > serial) break;
     if (!isOf) continue;
     items.push(traceButton(pane, i, run.kind[i] === TAKE ? 'taken' : 'dropped: the process isn\'t started'));
-    if (post >= 0) chosen.bows.push([post, i]);
-    if (chosen.line === post && !chosen.next.length) chosen.next.push(i);
+    if (post >= 0) page.chosen.bows.push([post, i]);
+    if (page.chosen.line === post && !page.chosen.next.length) page.chosen.next.push(i);
   }
   if (items.length === (post >= 0 ? 1 : 0)) items.push(element('span', 'It is still waiting when the run ends.'));
-  if (chosen.line !== post) {
+  if (page.chosen.line !== post) {
     const [, to] = run.turn(line, mote);
     for (let i = line + 1; i < to && run.kind[i] !== TAKE; i++) if (run.kind[i] === SEND || run.kind[i] === POST)
-      chosen.next.push(i);
+      page.chosen.next.push(i);
   }
   if (run.silent[line]) items.push(element('span', 'This timer sends in other runs; in this run it doesn\'t.'));
   for (const copy of copiesOfTurn(run, line, mote)) {
@@ -182,7 +182,7 @@ function copiesOfTurn(run, line, mote) {
 
 /** Adds all lines that the mote wrote at this moment. */
 function tellTurn(box, pane) {
-  const {run} = pane, {line, mote} = chosen, [from, to] = run.turn(line, mote), items = [];
+  const {run} = pane, {line, mote} = page.chosen, [from, to] = run.turn(line, mote), items = [];
   box.append(element(box.children.length ? 'h3' : 'h2', `Mote ${mote} at moment ${run.at[line]}: its turn`));
   const first = Math.max(from, Math.min(line - MOST_LISTED / 2, to - MOST_LISTED));
   for (let i = first; i < Math.min(to, first + MOST_LISTED); i++) {
@@ -196,7 +196,7 @@ function tellTurn(box, pane) {
 
 /** Adds a mote: its program, the motes that it hears, and the packets of each link. */
 function tellMote(box, pane) {
-  const {run} = pane, {mote} = chosen, sums = new Map(), kinds = new Array(KINDS.length).fill(0);
+  const {run} = pane, {mote} = page.chosen, sums = new Map(), kinds = new Array(KINDS.length).fill(0);
   for (let i = run.traceStart[mote]; i < run.traceStart[mote + 1]; i++) kinds[run.kind[i]]++;
   box.append(element('h2', `Mote ${mote}, which runs ${run.programs[run.begins[mote]]}`));
   const place = run.places ? `It is at ${run.places[mote][0]}, ${run.places[mote][1]}. ` : '';
@@ -226,31 +226,31 @@ function tellMote(box, pane) {
 /** Follows the selection: from a send to a copy, from a copy to its event, from a post to its take, from there to
     the sent packets and posted events. */
 export function follow() {
-  const {pane, next} = chosen;
+  const {pane, next} = page.chosen;
   if (pane && next.length && next[0] >= 0) chooseLine(pane, next[0], true);
 }
 
 /** Selects the line before or after the selected one; if there is none, the first in view. */
 export function walk(pane, by) {
   const {run} = pane;
-  if (chosen.pane !== pane) {
+  if (page.chosen.pane !== pane) {
     const [from] = pane.lanesInView(), mote = pane.order[Math.min(from, pane.order.length - 1)];
     const line = pane.linesInView(mote)[0];
     return line < run.traceStart[mote + 1] ? chooseLine(pane, line, true) : chooseMote(pane, mote, true);
   }
-  const {mote} = chosen, first = run.traceStart[mote], end = run.traceStart[mote + 1];
+  const {mote, line} = page.chosen, first = run.traceStart[mote], end = run.traceStart[mote + 1];
   if (first === end) return;
-  const now = chosen.line >= 0 ? chosen.line + by : lowerBound(run.at, Math.floor(play.now), first, end - 1);
+  const now = line >= 0 ? line + by : lowerBound(run.at, Math.floor(page.play.now), first, end - 1);
   chooseLine(pane, Math.max(first, Math.min(end - 1, now)), true);
 }
 
 /** Selects the same moment on the lane above or below. */
 export function walkLanes(pane, by) {
-  if (chosen.pane !== pane) return walk(pane, 0);
-  const {run} = pane, place = pane.place[chosen.mote] + by;
+  if (page.chosen.pane !== pane) return walk(pane, 0);
+  const {run} = pane, place = pane.place[page.chosen.mote] + by;
   if (place < 0 || place >= pane.order.length) return;
   const mote = pane.order[place], first = run.traceStart[mote], end = run.traceStart[mote + 1];
-  const moment = chosen.line >= 0 ? run.at[chosen.line] : Math.floor(play.now);
+  const moment = page.chosen.line >= 0 ? run.at[page.chosen.line] : Math.floor(page.play.now);
   if (first === end) return chooseMote(pane, mote, true);
   chooseLine(pane, Math.min(end - 1, lowerBound(run.at, moment, first, end)), true);
 }

@@ -1,5 +1,6 @@
 // @ts-check
 // Elements of the page.
+import {page} from './stage.js';
 
 /** @type {(id: string) => any} */
 export const byId = id => document.getElementById(id);
@@ -35,9 +36,6 @@ export function makeButton(name, act) {
 // A line of a program in its file, as in `line 24 (start (2).toml:34)`.
 const FILE_LINE = /(?<=line \d+ \()(.+?):(\d+)(?=\))/g;
 
-/** What shows a line of the file of the programs, counted from 1: the studio's editor, if there is one. */
-export const file = {goTo: null};
-
 /** A place in the file of the programs, which a click shows. */
 function filePlace(text, line) {
   const made = Object.assign(element('span', text), {className: 'place', tabIndex: 0, title: `Go to line ${line}`});
@@ -45,7 +43,7 @@ function filePlace(text, line) {
   const go = event => {
     event.preventDefault();
     event.stopPropagation();
-    file.goTo(line);
+    page.goToLine(line);
   };
   made.addEventListener('click', go);
   made.addEventListener('keydown', event => { if (event.key === 'Enter' || event.key === ' ') go(event); });
@@ -54,7 +52,7 @@ function filePlace(text, line) {
 
 /** A text in pieces, in which places in the file of the programs can be clicked. */
 export function withPlaces(text) {
-  if (!file.goTo) return [text];
+  if (!page.goToLine) return [text];
   const pieces = [];
   let from = 0;
   for (const found of text.matchAll(FILE_LINE)) {
@@ -72,6 +70,15 @@ export function lineButton(where, text, remark, isCurrent, act) {
   if (remark) button.append(Object.assign(element('span', '', withPlaces(remark)), {className: 'what'}));
   if (isCurrent) button.setAttribute('aria-current', 'true');
   return button;
+}
+
+/** The browser's storage, which may refuse. @param {(storage: Storage) => any} work */
+export function stored(work) {
+  try {
+    return work(localStorage);
+  } catch {
+    return null;
+  }
 }
 
 /** Hands the reader a file. */

@@ -2,12 +2,13 @@
 // The heads of islands: how many packets each sent, and when.
 import {colours} from './forms.js';
 import {AXIS, HEAD} from './layout.js';
-import {niceStep, time} from './time.js';
+import {page} from './stage.js';
+import {niceStep} from './time.js';
 import {count, headInWords} from './words.js';
 
 /** Draws a head: the sends and silences of its motes in each bin of moments. */
 function drawHead(pane, g, most, bin) {
-  const {run, context: c} = pane, group = run.groups[g], y = pane.headTop(g);
+  const {run, front: c} = pane, group = run.groups[g], y = pane.headTop(g);
   if (y > pane.height || y + HEAD < AXIS) return;
   c.fillStyle = colours.panel;
   c.fillRect(0, y, pane.width, HEAD);
@@ -58,7 +59,7 @@ function sumsOf(pane, group, bin, report) {
 
 /** Draws the heads of all islands, to one scale. */
 export function drawHeads(pane) {
-  const {run} = pane, bin = Math.max(1, Math.round(niceStep(9 / time.scale) / run.piece));
+  const {run} = pane, bin = Math.max(1, Math.round(niceStep(9 / page.time.scale) / run.piece));
   let most = 1;
   for (const group of run.groups) sumsOf(pane, group, bin,
     (j, sent, quiet) => { most = Math.max(most, sent + quiet); });

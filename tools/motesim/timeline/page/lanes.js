@@ -1,15 +1,14 @@
 // @ts-check
 // The lanes of a pane: a mark for each line. Marks closer than a pixel or two are thinned, and counted.
 import {drawArrows, drawChosen} from './arrows.js';
-import {drawAxis, drawBands, drawColumn, drawCursor, drawCursorHead, drawGrid, drawNames} from './axis.js';
+import {drawAxis, drawBands, drawColumn, drawGrid, drawNames} from './axis.js';
 import {HALT, KINDS, POST, PRINT, RECV, SEND, START, TAKE, lowerBound} from './data.js';
 import {FORM, colours, path, stroke} from './forms.js';
 import {drawHeads} from './heads.js';
 import {CLASS, OTHER} from './index.js';
 import {APART, AXIS, FULL_LANE, SMALL_LANE} from './layout.js';
 import {drawOverview, drawStrokes} from './overview.js';
-import {overlays, search} from './stage.js';
-import {time} from './time.js';
+import {page} from './stage.js';
 
 const sprites = new Map();
 const MOST_MARKS = 12000, MOST_RINGS = 3000;
@@ -92,12 +91,12 @@ function drawLabel(pane) {
  * take to the next. */
 function drawRuns(pane, mote, from, to, xOf) {
   const {run, context: c} = pane, y = pane.lineY(START, mote), tall = Math.max(5, pane.lane * 0.2),
-    wide = time.scale >= APART;
+    wide = page.time.scale >= APART;
   if (!wide) {
     if (Math.round(pane.x(run.at[from])) === pane.runEnd) return;
     pane.runEnd = Math.round(pane.x(run.at[from]));
     c.fillStyle = colours.run;
-    const broad = Math.max(1.5, Math.min(time.scale * 0.8, 14));
+    const broad = Math.max(1.5, Math.min(page.time.scale * 0.8, 14));
     c.fillRect(xOf(from) - broad / 2, y - tall / 2, broad, tall);
     return;
   }
@@ -125,13 +124,17 @@ function drawLanes(pane, from, to) {
     lines += b - a;
   }
   const most = pane.lane >= FULL_LANE ? MOST_MARKS : MOST_MARKS * 4;
-  pane.most = lines > most ? most / (to - from) : Math.max(900, (pane.width - pane.gutter) * 2);
+  if (!pane.strip) pane.most = lines > most ? most / (to - from) : Math.max(900, (pane.width - pane.gutter) * 2);
   for (let place = from; place < to; place++) drawLane(pane, pane.order[place]);
 }
 
 function drawLane(pane, mote) {
   const {run, drawn} = pane, [from, to] = pane.linesInView(mote), isFull = pane.lane >= FULL_LANE;
-  if (to - from > pane.most) return drawStrokes(pane, mote);
+  // (a strip at a side has forms if the rest of its lane has)
+  if (!pane.strip || pane.strip.right - pane.strip.left === pane.width - pane.gutter) {
+    if (to - from > pane.most) pane.stroked.add(mote); else pane.stroked.delete(mote);
+  }
+  if (pane.stroked.has(mote)) return drawStrokes(pane, mote);
   const r = isFull ? Math.max(3, Math.min(6.5, Math.round(pane.lane * 0.17) / 2)) :
     Math.max(2.5, Math.min(5.5, Math.round(pane.lane * 0.5) / 2));
   const top = pane.laneTop(mote), {kind, at} = run;
@@ -182,7 +185,7 @@ function drawLane(pane, mote) {
 
 /** Draws rings around the lines that a search has found. */
 function drawFound(pane, from, to) {
-  const {run, context: c} = pane, found = search.found[pane.number];
+  const {run, context: c} = pane, found = page.search.found[pane.number];
   if (!found || !found.length) return;
   let inView = 0;
   for (let place = from; place < to; place++) {
@@ -210,34 +213,85 @@ function drawFound(pane, from, to) {
   }
 }
 
-/** Draws the lanes of a pane, with all that is around and over them. */
-export function drawPane(pane) {
-  const c = pane.context;
-  pane.hits = [];
-  pane.drawn = {lines: 0, thinned: 0, low: 0, strokes: 0, rings: 0, unlabelled: 0, asColours: false, copies: 0,
-    arrows: 0};
-  c.fillStyle = colours.paper;
-  c.fillRect(0, 0, pane.width, pane.height);
-  const [from, to] = pane.lanesInView();
+/** Draws the lanes in the part of the pane that is seen, with all that is over them. */
+function drawSeen(pane) {
+  const {left, top, right, bottom} = pane.seen, c = pane.context, [from, to] = pane.lanesInView();
   c.save();
   c.beginPath();
-  c.rect(pane.gutter, AXIS, pane.width, pane.height);
+  c.rect(left, top, right - left, bottom - top);
   c.clip();
+  c.fillStyle = colours.paper;
+  c.fillRect(left, top, right - left, bottom - top);
   drawBands(pane, from, to);
   drawGrid(pane);
-  drawCursor(pane);
   drawArrows(pane);
   if (pane.lane < SMALL_LANE) drawOverview(pane, from, to);
   else drawLanes(pane, from, to);
   drawChosen(pane);
   drawFound(pane, from, to);
-  for (const draw of overlays) draw(pane);
+  for (const draw of page.overlays) draw(pane);
   c.restore();
+}
+
+/** Draws what is around the lanes. */
+function drawAround(pane) {
+  const [from, to] = pane.lanesInView();
+  pane.front.clearRect(0, 0, pane.width, pane.height);
   drawColumn(pane, from, to);
   drawHeads(pane);
   // (over the heads: the name of a low lane is taller than the lane)
   drawNames(pane, from, to);
   drawAxis(pane);
-  drawCursorHead(pane);
   pane.lanes = [from, to];
+  const {begin, scale} = page.time, {run, top, lane} = pane;
+  pane.drawnAt = {run, begin, scale, top, lane};
+}
+
+/** Draws the lanes of a pane, with all that is around and over them. */
+export function drawLanesOf(pane) {
+  pane.hits = [];
+  pane.arrows = [];
+  pane.stroked = new Set();
+  pane.isMoved = false;
+  pane.drawn = {lines: 0, thinned: 0, low: 0, strokes: 0, rings: 0, unlabelled: 0, asColours: false, copies: 0,
+    arrows: 0};
+  drawSeen(pane);
+  drawAround(pane);
+}
+
+/** Moves the last picture of a pane, and draws the strips that come into view; false if more has changed since. */
+export function moveLanes(pane) {
+  const {begin, scale} = page.time, {drawnAt: last, run, lane, dots, width, height, gutter} = pane;
+  if (last.run !== run || last.scale !== scale || last.lane !== lane) return false;
+  const dx = (last.begin - begin) * scale, dy = last.top - pane.top, x = Math.round(dx), y = Math.round(dy);
+  const isExact = Math.abs(dx - x) < 0.01 && Math.abs(dy - y) < 0.01 && x * dots % 1 === 0 && y * dots % 1 === 0;
+  if (!isExact || Math.abs(x) >= width - gutter || Math.abs(y) >= height - AXIS) return false;
+  if (!x && !y) return true;
+  const from = [gutter + Math.max(0, -x), AXIS + Math.max(0, -y)];
+  const size = [width - gutter - Math.abs(x), height - AXIS - Math.abs(y)];
+  pane.context.drawImage(pane.canvas, ...[...from, ...size].map(it => it * dots), from[0] + x, from[1] + y, ...size);
+  shiftPlaces(pane.hits, 2, 1, x, y);
+  shiftPlaces(pane.arrows, 4, 2, x, y);
+  pane.isMoved = true;
+  const {seen} = pane;
+  if (y) drawStrip(pane, {...seen, ...(y > 0 ? {bottom: AXIS + y} : {top: height + y})});
+  if (x) drawStrip(pane, {...seen, ...(x > 0 ? {right: gutter + x} : {left: width + x})});
+  drawAround(pane);
+  return true;
+}
+
+function drawStrip(pane, strip) {
+  pane.strip = strip;
+  drawSeen(pane);
+  pane.strip = null;
+}
+
+/** Moves the places in a list of items, each with `points` numbers of its place and then `more` of others. */
+function shiftPlaces(numbers, points, more, x, y) {
+  for (let i = 0; i < numbers.length; i += more) {
+    for (const end = i + points; i < end; i += 2) {
+      numbers[i] += x;
+      numbers[i + 1] += y;
+    }
+  }
 }

@@ -1,7 +1,7 @@
 // @ts-check
 // The layout of a pane: the places of its motes, moments and lines.
 import {DEAF, DROP, FULL, POST, PRINT, RECV, SEND, TAKE, lowerBound} from './data.js';
-import {time} from './time.js';
+import {page} from './stage.js';
 
 /** The height of the axis, and of the head of an island. */
 export const AXIS = 24;
@@ -12,6 +12,8 @@ export const FULL_LANE = 32;
 export const TALL_LANE = 150;
 /** From this scale on, the lines of a moment are drawn apart. */
 export const APART = 14;
+// The room of a label in front of a strip, which it may reach into.
+const LABEL = 80;
 
 export class Layout {
   constructor(run) {
@@ -20,6 +22,7 @@ export class Layout {
     this.gutter = 70;
     this.width = 200;
     this.height = 200;
+    this.strip = /** @type {{left: number, top: number, right: number, bottom: number}|null} */ (null);
     this.take(run);
   }
 
@@ -73,8 +76,8 @@ export class Layout {
     this.keep();
   }
 
-  x(moment) { return this.gutter + (moment - time.begin) * time.scale; }
-  moment(x) { return time.begin + (x - this.gutter) / time.scale; }
+  x(moment) { return this.gutter + (moment - page.time.begin) * page.time.scale; }
+  moment(x) { return page.time.begin + (x - this.gutter) / page.time.scale; }
 
   laneTopOfPlace(place) {
     return AXIS - this.top + (this.groupOf[this.order[place]] + 1) * HEAD + place * this.lane;
@@ -101,9 +104,9 @@ export class Layout {
   /** The x of a line: within its moment by its place in the turn, if there is room for that. */
   lineX(line, mote, turn) {
     const middle = this.x(this.run.at[line] + 0.5);
-    if (time.scale < APART) return middle;
-    const [from, to] = turn || this.run.turn(line, mote), share = Math.min(1, (time.scale - APART) / 20);
-    return middle + time.scale * 0.86 * share * ((line - from + 0.5) / (to - from) - 0.5);
+    if (page.time.scale < APART) return middle;
+    const [from, to] = turn || this.run.turn(line, mote), share = Math.min(1, (page.time.scale - APART) / 20);
+    return middle + page.time.scale * 0.86 * share * ((line - from + 0.5) / (to - from) - 0.5);
   }
 
   /** The y of a line of a kind: by its row in the lane. */
@@ -130,18 +133,21 @@ export class Layout {
     this.keep();
   }
 
+  /** The part of the pane that is drawn: all lanes, or a strip of them. */
+  get seen() { return this.strip || {left: this.gutter, top: AXIS, right: this.width, bottom: this.height}; }
+
   /** The places of the lanes in view: from, to. */
   lanesInView() {
-    const from = this.placeAt(AXIS);
-    let to = this.placeAt(this.height - 1);
-    if (to < this.order.length && this.laneTopOfPlace(to) < this.height) to++;
+    const {top, bottom} = this.seen, from = this.placeAt(top);
+    let to = this.placeAt(bottom - 1);
+    if (to < this.order.length && this.laneTopOfPlace(to) < bottom) to++;
     return [from, Math.max(from, to)];
   }
 
   /** The lines of a mote that are in view: from, to. */
   linesInView(mote) {
-    const {at, traceStart} = this.run, low = traceStart[mote], high = traceStart[mote + 1];
-    const from = lowerBound(at, Math.floor(this.moment(this.gutter)), low, high);
-    return [from, lowerBound(at, Math.ceil(this.moment(this.width)) + 1, from, high)];
+    const {at, traceStart} = this.run, low = traceStart[mote], high = traceStart[mote + 1], {left, right} = this.seen;
+    const from = lowerBound(at, Math.floor(this.moment(left - (this.strip ? LABEL : 0))), low, high);
+    return [from, lowerBound(at, Math.ceil(this.moment(right)) + 1, from, high)];
   }
 }

@@ -12,84 +12,84 @@ import {AXIS, FULL_LANE, TALL_LANE} from './layout.js';
 import {MapView} from './map.js';
 import {itemAt, itemInWords} from './near.js';
 import {Pane} from './pane.js';
+import {onPinch} from './pinch.js';
 import {fillSpeeds, followNow, setNow, startPlaying, step, stopPlaying} from './play.js';
 import {find, findAgain, goTo} from './search.js';
 import {seriesOf} from './series.js';
-import {chosen, mapOverlays, maps, offers, overlays, page, panes, play, search} from './stage.js';
-import {isWhole, keepTime, leastScale, showTime, time, zoomTime} from './time.js';
+import {page} from './stage.js';
+import {isWhole, keepTime, leastScale, showTime, zoomTime} from './time.js';
 import {offerTips} from './tip.js';
 import {askWhy, closeWhy, drawChain, drawChainOnMap, offerWhy} from './why.js';
 import {count} from './words.js';
 
-/** The height that all panes together may have. The studio measures it in another way. */
-export const room = {forPanes: roomInWindow};
-
+/** The height that all panes together may have, if the page doesn't measure it in another way. */
 function roomInWindow() {
   const isWide = window.innerWidth > 900, above = document.querySelector('header').offsetHeight;
   const isAlone = document.body.classList.contains('only-timeline');
   return Math.max(380, isAlone ? window.innerHeight :
-    isWide ? window.innerHeight - above - (panes.length > 1 ? 76 : 54) : window.innerHeight * 0.68);
+    isWide ? window.innerHeight - above - (page.panes.length > 1 ? 76 : 54) : window.innerHeight * 0.68);
 }
 
 /** Fits panes and maps to the window. */
 export function resize() {
-  if (!panes.length) return;
-  const height = room.forPanes(), titles = panes.length > 1 ? panes.length * 28 : 0;
-  const fits = panes.map(pane => pane.isFit);
-  for (const pane of panes) {
+  if (!page.panes.length) return;
+  const height = (page.roomForPanes || roomInWindow)(), titles = page.panes.length > 1 ? page.panes.length * 28 : 0;
+  const fits = page.panes.map(pane => pane.isFit);
+  for (const pane of page.panes) {
     const wanted = pane.heads + AXIS + pane.order.length * TALL_LANE;
-    pane.resize(Math.round(Math.max(150, Math.min(wanted, (height - titles) / panes.length))));
+    pane.resize(Math.round(Math.max(150, Math.min(wanted, (height - titles) / page.panes.length))));
   }
-  const width = panes[0].width - panes[0].gutter, shown = time.width / time.scale, wasWhole = isWhole();
+  const {time, panes: [first]} = page, width = first.width - first.gutter;
+  const shown = time.width / time.scale, wasWhole = isWhole();
   time.width = width;
   time.scale = wasWhole ? leastScale() : width / shown;
   keepTime();
-  panes.forEach((pane, i) => fits[i] ? pane.fit() : pane.keep());
-  for (const map of maps) map.resize();
+  page.panes.forEach((pane, i) => fits[i] ? pane.fit() : pane.keep());
+  for (const map of page.maps) map.resize();
 }
 
 /** Zooms so that the selection fills the view. */
 function zoomToChosen() {
-  if (chosen.line < 0 && chosen.k < 0) return;
-  const {pane, k, line} = chosen, {run} = pane;
+  if (page.chosen.line < 0 && page.chosen.k < 0) return;
+  const {pane, k, line} = page.chosen, {run} = pane;
   let first = line >= 0 ? run.at[line] : run.packetAt[k], last = first;
   if (k >= 0) {
     first = Math.min(first, run.packetAt[k]);
     for (let c = run.copyStart[k]; c < run.copyStart[k + 1]; c++) last = Math.max(last, arrivalOf(run, k, c));
   }
-  for (const [from, to] of chosen.bows) {
+  for (const [from, to] of page.chosen.bows) {
     first = Math.min(first, run.at[from]);
     last = Math.max(last, run.at[to]);
   }
   const more = Math.max(2, (last - first) * 0.5);
   showTime(Math.floor(first - more), Math.ceil(last + more));
   if (pane.lane < FULL_LANE) pane.zoomLanes(FULL_LANE * 1.3 / pane.lane);
-  pane.reveal(chosen.mote);
+  pane.reveal(page.chosen.mote);
   redraw();
 }
 
 /** Shows the whole run. */
 export function whole() {
-  time.scale = leastScale();
+  page.time.scale = leastScale();
   keepTime();
-  for (const pane of panes) pane.fit();
+  for (const pane of page.panes) pane.fit();
 }
 
 const DO = {
   'zoom-in': () => zoomTime(1.5, aim()),
   'zoom-out': () => zoomTime(1 / 1.5, aim()),
-  left: () => { time.begin -= time.width / time.scale * 0.2; },
-  right: () => { time.begin += time.width / time.scale * 0.2; },
-  up: () => panes.forEach(pane => { pane.top -= Math.max(40, pane.height * 0.2); }),
-  down: () => panes.forEach(pane => { pane.top += Math.max(40, pane.height * 0.2); }),
-  'page-up': () => panes.forEach(pane => { pane.top -= pane.height * 0.8; }),
-  'page-down': () => panes.forEach(pane => { pane.top += pane.height * 0.8; }),
-  taller: () => panes.forEach(pane => pane.zoomLanes(1.4)),
-  lower: () => panes.forEach(pane => pane.zoomLanes(1 / 1.4)),
+  left: () => { page.time.begin -= page.time.width / page.time.scale * 0.2; },
+  right: () => { page.time.begin += page.time.width / page.time.scale * 0.2; },
+  up: () => page.panes.forEach(pane => { pane.top -= Math.max(40, pane.height * 0.2); }),
+  down: () => page.panes.forEach(pane => { pane.top += Math.max(40, pane.height * 0.2); }),
+  'page-up': () => page.panes.forEach(pane => { pane.top -= pane.height * 0.8; }),
+  'page-down': () => page.panes.forEach(pane => { pane.top += pane.height * 0.8; }),
+  taller: () => page.panes.forEach(pane => pane.zoomLanes(1.4)),
+  lower: () => page.panes.forEach(pane => pane.zoomLanes(1 / 1.4)),
   whole,
-  begin: () => { time.begin = 0; },
-  end: () => { time.begin = time.end + 1 - time.width / time.scale; },
-  play: () => play.runs ? stopPlaying() : startPlaying(),
+  begin: () => { page.time.begin = 0; },
+  end: () => { page.time.begin = page.time.end + 1 - page.time.width / page.time.scale; },
+  play: () => page.play.runs ? stopPlaying() : startPlaying(),
   step: () => step(1),
   back: () => step(-1),
 };
@@ -98,7 +98,7 @@ const DO = {
 export function act(name) {
   DO[name]();
   keepTime();
-  for (const pane of panes) pane.keep();
+  for (const pane of page.panes) pane.keep();
   redraw();
 }
 
@@ -117,7 +117,8 @@ function onKey(event) {
   if (isTyping && event.key !== 'Escape') return;
   if (there && (event.key === ' ' || event.key === 'Enter' || event.key.startsWith('Arrow') ||
     event.key.startsWith('Page'))) return;
-  const pane = panes.find(one => one.canvas === document.activeElement) || chosen.pane || panes[0];
+  const {chosen, panes} = page, active = panes.find(one => one.canvas === document.activeElement);
+  const pane = active || chosen.pane || panes[0];
   if (event.key === '[') walk(pane, -1);
   else if (event.key === ']') walk(pane, 1);
   else if (event.key === '{') walkLanes(pane, -1);
@@ -125,8 +126,8 @@ function onKey(event) {
   else if (event.key === 'Enter') follow();
   else if (event.key === 'f' || event.key === 'F') zoomToChosen();
   else if ((event.key === 'w' || event.key === 'W') && chosen.line >= 0) askWhy(chosen.pane, chosen.line);
-  else if (event.key === 'n' || event.key === 'N') goTo(search.at + 1);
-  else if (event.key === 'p' || event.key === 'P') goTo(search.at - 1);
+  else if (event.key === 'n' || event.key === 'N') goTo(page.search.at + 1);
+  else if (event.key === 'p' || event.key === 'P') goTo(page.search.at - 1);
   else if (event.key === '/') byId('words').focus();
   else if (event.key === 'Escape') {
     if (isTyping) event.target.blur(); else {
@@ -143,7 +144,7 @@ function onWheel(pane, event) {
   event.preventDefault();
   const by = event.deltaMode === 1 ? 30 : 1, dx = event.deltaX * by, dy = event.deltaY * by;
   if (event.ctrlKey) pane.zoomLanes(Math.exp(-dy * 0.0015), event.offsetY);
-  else if (event.shiftKey || Math.abs(dx) > Math.abs(dy)) time.begin += (dx || dy) / time.scale;
+  else if (event.shiftKey || Math.abs(dx) > Math.abs(dy)) page.time.begin += Math.round(dx || dy) / page.time.scale;
   else if (event.offsetX < pane.gutter) pane.top += dy;
   else zoomTime(Math.exp(-dy * 0.0015), event.offsetX - pane.gutter);
   keepTime();
@@ -165,6 +166,12 @@ function listenTo(pane) {
   const {canvas} = pane;
   let held = null;
   followMouse(pane);
+  onPinch(canvas, (factor, x) => {
+    held = null;
+    zoomTime(factor, x - pane.gutter);
+    keepTime();
+    redrawLanes();
+  });
   offerTips(canvas, (x, y) => {
     const item = itemAt(pane, x, y);
     return item ? `${itemInWords(pane.run, item)}${item.line !== undefined ? ' (click for more)' : ''}` : '';
@@ -178,10 +185,10 @@ function listenTo(pane) {
   });
   canvas.addEventListener('pointermove', event => {
     if (!held) return;
-    const dx = event.clientX - held.x, dy = event.clientY - held.y;
+    const dx = Math.round(event.clientX - held.x), dy = Math.round(event.clientY - held.y);
     if (!held.moved && Math.hypot(dx, dy) < 4) return;
-    Object.assign(held, {x: event.clientX, y: event.clientY, moved: true});
-    time.begin -= dx / time.scale;
+    Object.assign(held, {x: held.x + dx, y: held.y + dy, moved: true});
+    page.time.begin -= dx / page.time.scale;
     pane.top -= dy;
     keepTime();
     pane.keep();
@@ -201,8 +208,12 @@ export function refit() {
   drawAll();
 }
 
-/** Reacts to mouse, keys and buttons. */
+/** Reacts to mouse, keys and buttons; and lets tests and a reader's console do what they do. */
 export function listen() {
+  page.overlays.push(drawChain);
+  page.mapOverlays.push(drawChainOnMap);
+  page.offers.push(offerWhy);
+  Object.assign(page, {redraw, redrawLanes, drawAll, find, act, setNow, count, seriesOf});
   document.addEventListener('keydown', onKey);
   for (const button of /** @type {NodeListOf<HTMLElement>} */ (document.querySelectorAll('[data-do]')))
     button.addEventListener('click', () => act(button.dataset.do));
@@ -211,8 +222,8 @@ export function listen() {
     find(byId('words').value);
   });
   byId('words').addEventListener('search', event => { if (!event.target.value) find(''); });
-  byId('found-next').addEventListener('click', () => goTo(search.at + 1));
-  byId('found-before').addEventListener('click', () => goTo(search.at - 1));
+  byId('found-next').addEventListener('click', () => goTo(page.search.at + 1));
+  byId('found-before').addEventListener('click', () => goTo(page.search.at - 1));
   byId('arrows').addEventListener('change', redraw);
   byId('now').addEventListener('change', event => {
     stopPlaying();
@@ -233,7 +244,7 @@ function recolour(now) {
   readColours();
   forgetForms();
   drawLegend();
-  for (const map of maps) map.still = null;
+  for (const map of page.maps) map.still = null;
   if (now === true) drawAll(); else redraw();
 }
 
@@ -248,29 +259,32 @@ function addPane(run, number, several) {
     `Timeline of ${run.name}: ${count(run.begins.length, 'mote')}, moments 0 to ${run.end}. ` +
     '[ and ] choose a line, { and } another lane, Enter follows, plus and minus zoom, arrows pan.');
   canvas.setAttribute('aria-describedby', 'drawn');
-  box.append(canvas);
+  const layers = element('div', '', [canvas, element('canvas'), element('canvas')]);
+  layers.className = 'layers';
+  for (const layer of layers.querySelectorAll('canvas + canvas')) layer.setAttribute('aria-hidden', 'true');
+  box.append(layers);
   byId('panes').append(box);
   const pane = new Pane(run, number, box);
   const mapBox = element('section');
   mapBox.className = 'map';
   byId('maps').append(mapBox);
-  panes.push(pane);
-  maps.push(new MapView(pane, mapBox, several));
+  page.panes.push(pane);
+  page.maps.push(new MapView(pane, mapBox, several));
   listenTo(pane);
 }
 
 /** Says how long and how large the runs are. */
 function sayAbout() {
   const about = byId('about');
-  about.textContent = about.title = panes.map(({run}) => `${run.name}: ` +
+  about.textContent = about.title = page.panes.map(({run}) => `${run.name}: ` +
     `${count(run.begins.length, 'mote')}, ${count(run.end + 1, 'moment')}, ${count(run.packets, 'packet')}, ` +
     `a report of ${count(run.rows, 'line')}`).join('; ');
-  byId('now').max = time.end;
+  byId('now').max = page.time.end;
 }
 
 /** Shows the first runs of a page, one above another. */
 export function showRuns(runs) {
-  time.end = Math.max(...runs.map(run => run.end));
+  page.time.end = Math.max(...runs.map(run => run.end));
   runs.forEach((run, number) => addPane(run, number, runs.length > 1));
   sayAbout();
   fillSpeeds();
@@ -282,22 +296,17 @@ export function showRuns(runs) {
 export function showInstead(pane, run) {
   const wasWhole = isWhole(), {isFit} = pane, kept = chosenInWords();
   pane.take(run);
-  maps[pane.number].take(run);
-  time.end = Math.max(...panes.map(one => one.run.end));
+  page.maps[pane.number].take(run);
+  page.time.end = Math.max(...page.panes.map(one => one.run.end));
   sayAbout();
   resize();
-  if (wasWhole) time.scale = leastScale();
+  if (wasWhole) page.time.scale = leastScale();
   keepTime();
   if (isFit) pane.fit(); else pane.keep();
-  play.now = Math.min(play.now, time.end);
-  const now = play.now;
-  if (search.total) findAgain();
+  page.play.now = Math.min(page.play.now, page.time.end);
+  const now = page.play.now;
+  if (page.search.total) findAgain();
   if (kept) chooseAgain(pane, kept);
   setNow(now);
 }
 
-overlays.push(drawChain);
-mapOverlays.push(drawChainOnMap);
-offers.push(offerWhy);
-Object.assign(page, {time, chosen: () => chosen.pane ? chosen : null, redraw, redrawLanes, drawAll, find, act, setNow, count,
-  seriesOf});

@@ -6,8 +6,9 @@ import {redraw} from './draw.js';
 import {FORM, colours, cross, drawArrow, fill, path, star, stroke} from './forms.js';
 import {HANDED, MEDIUM, arrivalOf} from './index.js';
 import {linkInWords, moteInWords} from './near.js';
+import {onPinch} from './pinch.js';
 import {MapLayout} from './places.js';
-import {chosen, mapOverlays, play} from './stage.js';
+import {page} from './stage.js';
 import {offerTips} from './tip.js';
 import {count} from './words.js';
 
@@ -142,9 +143,9 @@ export class MapView extends MapLayout {
     c.drawImage(this.still, 0, 0, this.width, this.height);
     const flying = this.drawFlying();
     for (let m = 0; m < run.begins.length; m++) this.drawMote(m);
-    if (chosen.pane === this.pane && chosen.k >= 0) this.drawChosenPacket();
-    for (const draw of mapOverlays) draw(this);
-    const parts = [`Moment ${Math.floor(play.now)}: ${flying} on the way.`];
+    if (page.chosen.pane === this.pane && page.chosen.k >= 0) this.drawChosenPacket();
+    for (const draw of page.mapOverlays) draw(this);
+    const parts = [`Moment ${Math.floor(page.play.now)}: ${flying} on the way.`];
     if (this.links > MOST_LINKS) parts.push(`${count(this.links, 'link')} not drawn.`);
     if (this.isShort) parts.push('Wide empty stretches are shortened.');
     if (!run.places) parts.push('Without a scenario, the places are not known.');
@@ -152,20 +153,20 @@ export class MapView extends MapLayout {
   }
 
   drawChosenPacket() {
-    const {context: c, run} = this, k = chosen.k, s = run.packetSender[k];
+    const {context: c, run} = this, k = page.chosen.k, s = run.packetSender[k];
     for (let copy = run.copyStart[k]; copy < run.copyStart[k + 1]; copy++) {
       const r = run.copyTo[copy], dx = this.x(r) - this.x(s), dy = this.y(r) - this.y(s),
         long = Math.hypot(dx, dy) || 1;
       const cut = this.radius / long;
       drawArrow(c, this.x(s) + dx * cut, this.y(s) + dy * cut, this.x(r) - dx * cut, this.y(r) - dy * cut,
         run.copyFate[copy],
-        copy === chosen.copy ? 3 : 2, 4);
+        copy === page.chosen.copy ? 3 : 2, 4);
     }
   }
 
   /** Draws a dot for each copy between its sender and its receiver, and a cross for one that is lost on the way. */
   drawFlying() {
-    const {context: c, run} = this, now = play.now;
+    const {context: c, run} = this, now = page.play.now;
     const last = lowerBound(run.packetAt, now + 1e-9);
     let flying = 0;
     for (let k = lowerBound(run.packetAt, now - run.longest); k < last; k++) {
@@ -192,7 +193,8 @@ export class MapView extends MapLayout {
   drawMote(m) {
     const {context: c, run} = this, x = this.x(m), y = this.y(m), r = this.radius;
     if (x < -20 || y < -20 || x > this.width + 20 || y > this.height + 20) return;
-    const now = Math.floor(play.now), from = Math.min(now, Math.floor(play.before) + 1), {at, traceStart, kind} = run;
+    const now = Math.floor(page.play.now), from = Math.min(now, Math.floor(page.play.before) + 1);
+    const {at, traceStart, kind} = run;
     const a = lowerBound(at, from, traceStart[m], traceStart[m + 1]),
       b = lowerBound(at, now + 1, a, traceStart[m + 1]);
     let sends = false, hears = false, trouble = null, silent = false;
@@ -202,7 +204,7 @@ export class MapView extends MapLayout {
       else if (kind[i] === COLLIDE || kind[i] === LOST || kind[i] === DEAF) trouble = KINDS[kind[i]];
       else if (run.silent[i]) silent = true;
     }
-    const isChosen = chosen.pane === this.pane && chosen.mote === m, isHalted = run.haltAt[m] <= now;
+    const isChosen = page.chosen.pane === this.pane && page.chosen.mote === m, isHalted = run.haltAt[m] <= now;
     c.beginPath();
     c.arc(x, y, r, 0, 7);
     fill(c, sends ? colours.send : isHalted ? colours.grid : hears ? colours.recv : colours.run);
@@ -258,18 +260,23 @@ export class MapView extends MapLayout {
     this.canvas.setAttribute('role', 'img');
     this.canvas.setAttribute('aria-label',
       'Map of the motes: who hears whom, and the packets on their way at the moment that is played');
-    this.canvas.addEventListener('wheel', event => {
-      event.preventDefault();
-      this.zoomAt(Math.exp(-event.deltaY * 0.0015), event.offsetX, event.offsetY);
+    const zoom = (factor, x, y) => {
+      held = null;
+      this.zoomAt(factor, x, y);
       this.still = null;
       redraw();
+    };
+    let held = null;
+    onPinch(this.canvas, zoom);
+    this.canvas.addEventListener('wheel', event => {
+      event.preventDefault();
+      zoom(Math.exp(-event.deltaY * 0.0015), event.offsetX, event.offsetY);
     }, {passive: false});
     // (a finger scrolls the page, unless it drags a mote)
     this.canvas.addEventListener('touchstart', event => {
       const [finger] = event.touches, box = this.canvas.getBoundingClientRect();
       if (this.edits && this.edits.hold(finger.clientX - box.x, finger.clientY - box.y) >= 0) event.preventDefault();
     }, {passive: false});
-    let held = null;
     this.canvas.addEventListener('pointerdown', event => {
       held = {x: event.offsetX, y: event.offsetY, moved: false, mote: -1};
       if (this.edits) held.mote = this.edits.hold(event.offsetX, event.offsetY);

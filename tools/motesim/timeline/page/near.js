@@ -4,7 +4,7 @@ import {arrowNear} from './arrows.js';
 import {lowerBound} from './data.js';
 import {FATE_WORDS, delayOf} from './index.js';
 import {SMALL_LANE} from './layout.js';
-import {time} from './time.js';
+import {page} from './stage.js';
 import {count} from './words.js';
 
 /** The item at a point of the lanes: a copy of a packet, a line, or a mote by its name; null if there is none.
@@ -27,7 +27,7 @@ export function itemAt(pane, x, y) {
   if (mote < 0 || pane.lane >= SMALL_LANE) return null;
   const moment = Math.floor(pane.moment(x)), [from, to] = pane.linesInView(mote);
   const near = lowerBound(pane.run.at, moment, from, to);
-  return near < to && (pane.run.at[near] - moment) * time.scale < 6 ? {line: near} : null;
+  return near < to && (pane.run.at[near] - moment) * page.time.scale < 6 ? {line: near} : null;
 }
 
 /** An item of the lanes in words.

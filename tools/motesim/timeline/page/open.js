@@ -1,25 +1,27 @@
 // @ts-check
 // Opens the page of tools/timeline on the runs that it holds.
+import {openAsAddressed} from './address.js';
+import {chainOf} from './causes.js';
 import {Run, lowerBound, unpacked} from './data.js';
 import {chooseLine, chooseMote} from './details.js';
 import {byId, element, lineButton, list} from './dom.js';
 import {drawAll} from './draw.js';
 import {readColours} from './forms.js';
 import {breathe, indexRun} from './index.js';
-import {AXIS, FULL_LANE} from './layout.js';
-import {listen, resize, showRuns, whole} from './main.js';
+import {FULL_LANE} from './layout.js';
+import {listen, showRuns, whole} from './main.js';
 import {setNow} from './play.js';
 import {offerSeries} from './plots.js';
 import {chooseRow} from './rows.js';
-import {chosen, page, panes, play} from './stage.js';
-import {showTime, time} from './time.js';
+import {page} from './stage.js';
+import {showTime} from './time.js';
 
 /** Shows the moments around one, with the lanes of a mote in view. */
 function showAround(moment, mote) {
-  showTime(Math.max(0, moment - 15), Math.min(time.end, moment + 45));
+  showTime(Math.max(0, moment - 15), Math.min(page.time.end, moment + 45));
   setNow(moment);
   if (mote === null) return;
-  for (const pane of panes) {
+  for (const pane of page.panes) {
     if (mote >= pane.order.length) continue;
     if (pane.lane < FULL_LANE) pane.zoomLanes(FULL_LANE * 1.2 / pane.lane);
     pane.reveal(mote);
@@ -32,10 +34,10 @@ const SMALL_PART = 0.1;
 /** Shows the beginning of the run, if no line is later. The button for the whole run shows the rest. */
 function showBeginning() {
   let last = 0;
-  for (const {run: {at, traceStart}} of panes) {
+  for (const {run: {at, traceStart}} of page.panes) {
     for (const end of traceStart) if (end > 0) last = Math.max(last, at[end - 1]);
   }
-  if (last + 1 <= (time.end + 1) * SMALL_PART) showTime(0, Math.ceil(last * 1.2) + 2);
+  if (last + 1 <= (page.time.end + 1) * SMALL_PART) showTime(0, Math.ceil(last * 1.2) + 2);
 }
 
 /** Shows the purpose of the page: its note, or a moment, or the whole run. */
@@ -63,48 +65,25 @@ function further(note, pane) {
 
 /** Shows a note, and its first line that the report has; or the last line of the mote before a missing one. */
 function openAtNote(note) {
-  const box = byId('note'), [pane] = panes;
+  const box = byId('note'), [pane] = page.panes;
   box.hidden = false;
   box.append(element('h2', `Broken: ${note.title}`), ...partsOf(note, pane),
     ...note.others.map(it => further(it, pane)));
   const first = note.lines.find(it => it.row);
   if (first) {
     chooseRow(pane, first.row);
-    showAround(play.now, chosen.pane ? chosen.mote : null);
+    showAround(page.play.now, page.chosen.pane ? page.chosen.mote : null);
   } else if (note.mote !== null) {
     const {run} = pane, begin = run.traceStart[note.mote];
     const end = lowerBound(run.at, note.at + 1, begin, run.traceStart[note.mote + 1]);
     if (end > begin) chooseLine(pane, end - 1, false); else chooseMote(pane, note.mote, false);
-    showAround(end > begin ? play.now : note.at, note.mote);
-  }
-}
-
-/** Follows the page's address after #: from, to, lane (a height), mote, line (a number), only=timeline. */
-function openAsAddressed() {
-  const wish = new URLSearchParams(location.hash.slice(1)), number = name => Number(wish.get(name)), pane = panes[0];
-  if (wish.get('only') === 'timeline') {
-    document.body.classList.add('only-timeline');
-    resize();
-    whole();
-  }
-  if (wish.has('from')) showTime(number('from'), wish.has('to') ? number('to') : number('from') + 60);
-  if (wish.has('lane')) pane.zoomLanes(number('lane') / pane.lane, AXIS);
-  if (wish.has('mote') && number('mote') < pane.order.length) {
-    chooseMote(pane, number('mote'), false);
-    pane.reveal(number('mote'));
-  }
-  if (wish.has('line')) {
-    const found = pane.run.atRow(number('line'));
-    if (found && found.line >= 0) {
-      const after = pane.run.at[found.line] - time.begin, isShown = after >= 0 && after <= time.width / time.scale;
-      chooseLine(pane, found.line, !wish.has('from') || !isShown);
-    }
+    showAround(end > begin ? page.play.now : note.at, note.mote);
   }
 }
 
 /** Selects the first line of a mote at a moment, in the first run that has one. */
 function chooseAt(start, mote) {
-  for (const pane of panes) {
+  for (const pane of page.panes) {
     const {at, traceStart} = pane.run;
     if (mote >= pane.order.length) continue;
     const line = lowerBound(at, start, traceStart[mote], traceStart[mote + 1]);
@@ -113,6 +92,7 @@ function chooseAt(start, mote) {
 }
 
 async function open() {
+  page.chainOf = chainOf;
   const data = JSON.parse(byId('data').textContent), runs = [], begin = performance.now();
   readColours();
   for (const [number, table] of data.runs.entries()) {

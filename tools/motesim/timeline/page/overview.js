@@ -3,51 +3,30 @@
 import {lowerBound} from './data.js';
 import {colours} from './forms.js';
 import {CLASS, HALTED, HEARD, OTHER, PRINTED, SENT, SILENT, TROUBLE} from './index.js';
-import {time} from './time.js';
+import {page} from './stage.js';
 
-/** Adds the classes of one mote's lines to the columns from one to another, each a pixel wide. */
-function addColumns(pane, mote, bits, begin, end) {
-  const {run} = pane, first = pane.moment(pane.gutter), perPixel = 1 / time.scale, share = run.pieces / (run.end + 1);
+/** The classes of lines of one mote in columns from one on, each a pixel wide. */
+export function columnsOf(pane, mote, begin, count) {
+  const {time} = page, {run} = pane, first = pane.moment(pane.gutter), perPixel = 1 / time.scale;
+  const share = run.pieces / (run.end + 1), bits = new Uint8Array(count);
   if (perPixel * share >= 1) {
     const row = mote * run.pieces;
-    for (let j = begin; j < end; j++) {
-      const a = Math.max(0, Math.floor((first + j * perPixel) * share));
-      const b = Math.min(run.pieces, Math.floor((first + (j + 1) * perPixel) * share));
+    for (let j = 0; j < count; j++) {
+      const a = Math.max(0, Math.floor((first + (begin + j) * perPixel) * share));
+      const b = Math.min(run.pieces, Math.floor((first + (begin + j + 1) * perPixel) * share));
       for (let piece = a; piece < b; piece++) bits[j] |= run.overview[row + piece];
     }
-    return;
+    return bits;
   }
   const {at, kind, silent, traceStart} = run, broad = Math.max(1, Math.floor(time.scale * 0.7));
   const last = traceStart[mote + 1];
   const from = lowerBound(at, Math.floor(first + (begin - broad) * perPixel) - 1, traceStart[mote], last);
-  const to = lowerBound(at, Math.ceil(first + (end + broad) * perPixel) + 1, from, last);
+  const to = lowerBound(at, Math.ceil(first + (begin + count + broad) * perPixel) + 1, from, last);
   for (let i = from; i < to; i++) {
-    const x = Math.round((at[i] + 0.5 - first) * time.scale - broad / 2), bit = silent[i] ? SILENT : CLASS[kind[i]];
-    for (let j = Math.max(begin, x); j < Math.min(end, x + broad); j++) bits[j] |= bit;
+    const x = Math.round((at[i] + 0.5 - first) * time.scale - broad / 2) - begin;
+    const bit = silent[i] ? SILENT : CLASS[kind[i]];
+    for (let j = Math.max(0, x); j < Math.min(count, x + broad); j++) bits[j] |= bit;
   }
-}
-
-/** The classes of lines of one mote by columns. They are kept: when time is moved by whole pixels, only the columns
-    that come into view are computed. */
-export function columnsOf(pane, mote, width) {
-  const {run} = pane, {scale} = time, first = pane.moment(pane.gutter);
-  if (!pane.kept || pane.kept.run !== run || pane.kept.scale !== scale || pane.kept.width !== width) {
-    pane.kept = {run, scale, width, columns: new Map()};
-  }
-  const known = pane.kept.columns.get(mote), exact = known ? (known.first - first) * scale : width;
-  const shift = Math.round(exact);
-  if (!known || Math.abs(exact - shift) > 0.01 || Math.abs(shift) >= width) {
-    const bits = new Uint8Array(width);
-    addColumns(pane, mote, bits, 0, width);
-    pane.kept.columns.set(mote, {first, bits});
-    return bits;
-  }
-  if (!shift) return known.bits;
-  const {bits} = known, [begin, end] = shift > 0 ? [0, shift] : [width + shift, width];
-  bits.copyWithin(Math.max(0, shift), Math.max(0, -shift), width - Math.max(0, shift));
-  bits.fill(0, begin, end);
-  addColumns(pane, mote, bits, begin, end);
-  known.first -= shift / scale;
   return bits;
 }
 
@@ -61,9 +40,15 @@ function pixelOf(colour) {
 const CLASS_COLOURS = [[HALTED, 'ink'], [TROUBLE, 'trouble'], [PRINTED, 'print'], [SENT, 'send'], [SILENT, 'quiet'],
   [HEARD, 'recv'], [OTHER, 'run']];
 
+/** The columns that are drawn: the first, and how many. */
+function columnsInView(pane) {
+  const {left, right} = pane.seen;
+  return [left - pane.gutter, Math.max(1, Math.floor(right - left))];
+}
+
 /** Draws lanes too low for forms: each pixel has the colour of its most notable line. */
 export function drawOverview(pane, from, to) {
-  const {run} = pane, width = Math.max(1, Math.floor(pane.width - pane.gutter)), table = new Uint32Array(128);
+  const [begin, width] = columnsInView(pane), table = new Uint32Array(128);
   for (let mask = 1; mask < 128; mask++) {
     table[mask] = pixelOf(colours[CLASS_COLOURS.find(([bit]) => mask & bit)[1]]);
   }
@@ -76,10 +61,9 @@ export function drawOverview(pane, from, to) {
     const image = new ImageData(width, rows), pixels = new Uint32Array(image.data.buffer);
     for (let row = 0, place = first; row < rows; row++) {
       const until = first + Math.floor((row + 1) * (last - first) / rows);
-      let bits = columnsOf(pane, pane.order[place++], width);
-      if (place < until) bits = bits.slice();
+      const bits = columnsOf(pane, pane.order[place++], begin, width);
       for (; place < until; place++) {
-        const more = columnsOf(pane, pane.order[place], width);
+        const more = columnsOf(pane, pane.order[place], begin, width);
         for (let j = 0; j < width; j++) bits[j] |= more[j];
       }
       for (let j = 0, at = row * width; j < width; j++) if (bits[j]) pixels[at + j] = table[bits[j]];
@@ -100,8 +84,8 @@ const STROKES = [[OTHER, 'run', 0.45, 0.55], [HEARD, 'recv', 0.66, 0.94], [SILEN
   [SENT, 'send', 0.16, 0.6], [PRINTED, 'print', 0.08, 0.3], [TROUBLE, 'trouble', 0.04, 0.96], [HALTED, 'ink', 0, 1]];
 
 export function drawStrokes(pane, mote) {
-  const width = Math.max(1, Math.floor(pane.width - pane.gutter)), tall = Math.max(1, Math.round(pane.lane));
-  const bits = columnsOf(pane, mote, width), image = new ImageData(width, tall);
+  const [begin, width] = columnsInView(pane), tall = Math.max(1, Math.round(pane.lane));
+  const bits = columnsOf(pane, mote, begin, width), image = new ImageData(width, tall);
   const pixels = new Uint32Array(image.data.buffer);
   for (const [bit, colour, from, to] of STROKES) {
     const value = pixelOf(colours[colour]), first = Math.floor(tall * from), last = Math.ceil(tall * to);
@@ -115,13 +99,13 @@ export function drawStrokes(pane, mote) {
   pane.drawn.strokes += to - from;
 }
 
-/** Draws a picture with a column for each pixel of the pane. */
+/** Draws a picture with a column for each pixel that is drawn. */
 function paint(pane, image, top, tall) {
   pane.scratch = pane.scratch || document.createElement('canvas');
   pane.scratch.width = image.width;
   pane.scratch.height = image.height;
   pane.scratch.getContext('2d').putImageData(image, 0, 0);
   pane.context.imageSmoothingEnabled = false;
-  pane.context.drawImage(pane.scratch, pane.gutter, top, image.width, tall);
+  pane.context.drawImage(pane.scratch, pane.seen.left, top, image.width, tall);
   pane.context.imageSmoothingEnabled = true;
 }

@@ -6,8 +6,13 @@ export class Pane extends Layout {
   constructor(run, number, box) {
     super(run);
     this.number = number;
-    this.canvas = box.querySelector('canvas');
-    this.context = this.canvas.getContext('2d');
+    // (the lanes; above them the axis, the names and the heads; and above these the moment that the map shows)
+    this.layers = /** @type {HTMLCanvasElement[]} */ ([...box.querySelectorAll('canvas')]);
+    const [context, front, over] = this.layers.map(it => it.getContext('2d'));
+    Object.assign(this, {context, front, over});
+    this.canvas = this.layers[0];
+    this.drawnAt = /** @type {any} */ ({});
+    this.isMoved = false;
   }
 
   /** Makes the canvas as wide as its place on the page. */
@@ -15,10 +20,13 @@ export class Pane extends Layout {
     const dots = window.devicePixelRatio || 1;
     this.width = Math.max(200, this.canvas.parentElement.clientWidth);
     this.height = height;
-    this.canvas.style.height = height + 'px';
-    this.canvas.width = Math.round(this.width * dots);
-    this.canvas.height = Math.round(height * dots);
-    this.context.setTransform(dots, 0, 0, dots, 0, 0);
+    for (const layer of this.layers) {
+      layer.style.height = `${height}px`;
+      layer.width = Math.round(this.width * dots);
+      layer.height = Math.round(height * dots);
+      layer.getContext('2d').setTransform(dots, 0, 0, dots, 0, 0);
+    }
+    this.drawnAt = {};
     this.dots = dots;
     this.gutter = this.width < 560 ? 64 : 74;
   }

@@ -1,10 +1,10 @@
 // @ts-check
 // The moment that the maps show, and playing from moment to moment.
-import {byId, element} from './dom.js';
 import {lowerBound} from './data.js';
-import {redraw} from './draw.js';
-import {panes, play} from './stage.js';
-import {keepTime, time} from './time.js';
+import {byId, element} from './dom.js';
+import {redrawNow} from './draw.js';
+import {page} from './stage.js';
+import {keepTime} from './time.js';
 import {count} from './words.js';
 
 const SPEEDS = [0.5, 1, 2, 5, 10, 20, 50, 100, 200, 500, 1000, 5000, 20000];
@@ -13,76 +13,76 @@ const IDLE = 0.5;
 
 /** Sets the moment that the maps show. */
 export function setNow(moment) {
-  play.now = Math.max(0, Math.min(time.end, moment));
-  play.before = play.now - 1;
-  byId('now').value = Math.floor(play.now);
-  redraw();
+  page.play.now = Math.max(0, Math.min(page.time.end, moment));
+  page.play.before = page.play.now - 1;
+  byId('now').value = Math.floor(page.play.now);
+  redrawNow();
 }
 
 /** The next moment, or the one before, at which anything happens in a run. */
 function nextBusy(now, by) {
   let moment = Math.floor(now) + by;
-  while (moment >= 0 && moment <= time.end && !isBusy(moment)) moment += by;
-  return Math.max(0, Math.min(time.end, moment));
+  while (moment >= 0 && moment <= page.time.end && !isBusy(moment)) moment += by;
+  return Math.max(0, Math.min(page.time.end, moment));
 }
 
-const isBusy = moment => panes.some(pane => pane.run.busy[moment]);
+const isBusy = moment => page.panes.some(pane => pane.run.busy[moment]);
 
 /** True if a packet may be on its way. */
 const isFlying = (run, now) => lowerBound(run.packetAt, now - run.longest) < lowerBound(run.packetAt, now + 1e-9);
 
 /** The moment at which playing goes on: just before the next one at which anything happens, if that is far. */
 export function pastIdle(now, far) {
-  if (isBusy(Math.floor(now)) || panes.some(pane => isFlying(pane.run, now))) return now;
+  if (isBusy(Math.floor(now)) || page.panes.some(pane => isFlying(pane.run, now))) return now;
   const next = nextBusy(now, 1);
   return next - now > far ? next - 1 : now;
 }
 
 export function step(by) {
   stopPlaying();
-  setNow(nextBusy(play.now, by));
+  setNow(nextBusy(page.play.now, by));
   followNow();
 }
 
 /** Keeps the moment that is played in view. */
 export function followNow() {
-  const x = (play.now - time.begin) * time.scale;
-  if (x < 0 || x > time.width * 0.92) {
-    time.begin = play.now - time.width * 0.1 / time.scale;
+  const x = (page.play.now - page.time.begin) * page.time.scale;
+  if (x < 0 || x > page.time.width * 0.92) {
+    page.time.begin = page.play.now - page.time.width * 0.1 / page.time.scale;
     keepTime();
   }
 }
 
 export function stopPlaying() {
-  play.runs = false;
-  play.loop = null;
+  page.play.runs = false;
+  page.play.loop = null;
   byId('play').textContent = 'Play';
 }
 
 export function startPlaying() {
-  if (play.now >= time.end) setNow(0);
-  play.runs = true;
-  play.last = performance.now();
+  if (page.play.now >= page.time.end) setNow(0);
+  page.play.runs = true;
+  page.play.last = performance.now();
   byId('play').textContent = 'Stop';
   requestAnimationFrame(playOn);
 }
 
 function playOn(now) {
-  if (!play.runs) return;
-  const past = Math.min(200, Math.max(0, now - play.last)) / 1000, speed = Number(byId('speed').value);
-  play.last = now;
-  play.before = play.now;
-  play.now = Math.min(time.end, pastIdle(play.now + past * speed, Math.max(2, speed * IDLE)));
-  if (play.loop && play.now >= play.loop[1]) play.now = play.before = play.loop[0];
-  byId('now').value = Math.floor(play.now);
+  if (!page.play.runs) return;
+  const past = Math.min(200, Math.max(0, now - page.play.last)) / 1000, speed = Number(byId('speed').value);
+  page.play.last = now;
+  page.play.before = page.play.now;
+  page.play.now = Math.min(page.time.end, pastIdle(page.play.now + past * speed, Math.max(2, speed * IDLE)));
+  if (page.play.loop && page.play.now >= page.play.loop[1]) page.play.now = page.play.before = page.play.loop[0];
+  byId('now').value = Math.floor(page.play.now);
   followNow();
-  redraw();
-  if (play.now >= time.end) stopPlaying(); else requestAnimationFrame(playOn);
+  redrawNow();
+  if (page.play.now >= page.time.end) stopPlaying(); else requestAnimationFrame(playOn);
 }
 
 /** Offers speeds. The first choice plays the whole run in about 25 seconds. */
 export function fillSpeeds() {
-  const box = byId('speed'), wish = (time.end + 1) / 25;
+  const box = byId('speed'), wish = (page.time.end + 1) / 25;
   let best = SPEEDS[0];
   for (const speed of SPEEDS) {
     if (speed <= wish) best = speed;

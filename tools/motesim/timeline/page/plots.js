@@ -4,7 +4,7 @@ import {element} from './dom.js';
 import {colours} from './forms.js';
 import {followNow, setNow} from './play.js';
 import {intervalOf, seriesOf} from './series.js';
-import {panes} from './stage.js';
+import {page} from './stage.js';
 import {count} from './words.js';
 
 const PLOTS = [['sent', 'packets sent'], ['received', 'copies received'], ['failed', 'copies not received'],
@@ -51,10 +51,10 @@ export function offerSeries() {
   box.append(element('summary', 'Over time'), plots);
   box.addEventListener('toggle', () => {
     if (!box.open || plots.children.length) return;
-    for (const pane of panes) {
+    for (const pane of page.panes) {
       const part = element('div');
       showSeries(pane.run, part);
-      if (panes.length > 1) plots.append(element('h3', pane.run.name));
+      if (page.panes.length > 1) plots.append(element('h3', pane.run.name));
       plots.append(part);
     }
   });

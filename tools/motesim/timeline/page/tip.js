@@ -1,20 +1,18 @@
 // @ts-check
 // A tip at the pointer: what is there, in words.
-import {element} from './dom.js';
+import {byId, element} from './dom.js';
 
 const AWAY = 14;
-/** @type {HTMLElement|null} */
-let box = null;
 
 /** Shows words at the pointer, or nothing if there are none.
  * @param {string} words @param {PointerEvent} event */
 function show(words, event) {
-  if (!box) {
-    box = element('div');
-    box.id = 'tip';
-    box.setAttribute('role', 'tooltip');
-    document.body.append(box);
+  if (!byId('tip')) {
+    const made = Object.assign(element('div'), {id: 'tip'});
+    made.setAttribute('role', 'tooltip');
+    document.body.append(made);
   }
+  const box = byId('tip');
   box.hidden = !words;
   if (!words) return;
   box.textContent = words;

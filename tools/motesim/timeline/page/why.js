@@ -1,6 +1,6 @@
 // @ts-check
 // Why a line is there: the chain of its causes, on the lanes, on the map, and as a list of lines.
-import {chainOf, pathOf} from './causes.js';
+import {pathOf} from './causes.js';
 import {chartOf} from './chart.js';
 import {SEND} from './data.js';
 import {chooseLine, chooseMote} from './details.js';
@@ -8,14 +8,9 @@ import {byId, element, handOut, lineButton, list, makeButton, withPlaces} from '
 import {redraw} from './draw.js';
 import {colours, head, path, stroke} from './forms.js';
 import {SMALL_LANE} from './layout.js';
-import {chosen} from './stage.js';
+import {page} from './stage.js';
 import {showTime} from './time.js';
 import {count} from './words.js';
-
-const why = {pane: null, run: null, hops: [], about: ''};
-
-/** The source of chains: the page's own causes. The studio asks its server instead. */
-export const source = {chainOf};
 
 /** The section that shows a chain: the studio's own, or a new one below the selection. */
 function whyBox() {
@@ -33,7 +28,7 @@ function whyBox() {
 export async function askWhy(pane, line) {
   let found;
   try {
-    found = await source.chainOf(pane.run, line);
+    found = await page.chainOf(pane.run, line);
   } catch (fault) {
     return sayWhy(fault.message);
   }
@@ -52,13 +47,13 @@ export function sayWhy(text, items = []) {
 
 /** Shows a chain: on the lanes and the map, and as buttons. */
 export function showChain(pane, hops, about) {
-  Object.assign(why, {pane, run: pane.run, hops, about});
+  Object.assign(page.why, {pane, run: pane.run, hops, about});
   const box = whyBox(), buttons = element('div'), [first] = hops;
   buttons.className = 'bar';
   buttons.append(makeButton('Show the whole chain', showWholeChain),
     makeButton('Save the chart as SVG', () => saveChart(pane.run, hops)), makeButton('Close', closeWhy));
   const items = hops.map(hop => lineButton(`line ${hop.row} of the report`, `${hop.at} ${hop.words}`,
-    `mote ${hop.mote}: ${hop.because}`, hop.line >= 0 && chosen.line === hop.line, () => chooseHop(pane, hop)));
+    `mote ${hop.mote}: ${hop.because}`, hop.line >= 0 && page.chosen.line === hop.line, () => chooseHop(pane, hop)));
   const chart = element('div');
   chart.className = 'chart';
   chart.innerHTML = chartOf(pane.run, hops);
@@ -71,14 +66,14 @@ export function showChain(pane, hops, about) {
 }
 
 export function closeWhy() {
-  Object.assign(why, {pane: null, run: null, hops: []});
+  Object.assign(page.why, {pane: null, run: null, hops: []});
   whyBox().hidden = true;
   redraw();
 }
 
 /** Zooms so that the whole chain is in view. */
 function showWholeChain() {
-  const {pane, hops} = why, last = hops[0].at, first = Math.min(...hops.map(hop => hop.at));
+  const {pane, hops} = page.why, last = hops[0].at, first = Math.min(...hops.map(hop => hop.at));
   // (a long wait for the first timer would push all else into a corner)
   const from = hops.length > 2 && hops[hops.length - 2].at === 0 && hops.length > 3 ? hops[hops.length - 3].at : first;
   showTime(Math.max(0, from - 2), last + 2);
@@ -89,7 +84,7 @@ function showWholeChain() {
 
 /** Adds the button below a line that is selected. */
 export function offerWhy(box, pane) {
-  const made = makeButton('Why is this line here?', () => askWhy(pane, chosen.line));
+  const made = makeButton('Why is this line here?', () => askWhy(pane, page.chosen.line));
   made.id = 'ask-why';
   made.title = 'The chain of its causes (W)';
   box.append(element('p', '', [made]));
@@ -97,9 +92,9 @@ export function offerWhy(box, pane) {
 
 /** Draws the chain on the lanes: a band from the start to the line, and a ring around each of its lines. */
 export function drawChain(pane) {
-  if (why.pane !== pane || why.run !== pane.run) return;
+  if (page.why.pane !== pane || page.why.run !== pane.run) return;
   const {context: c, run} = pane, low = pane.lane < SMALL_LANE, points = [];
-  for (const {line, mote} of why.hops) {
+  for (const {line, mote} of page.why.hops) {
     const x = line < 0 ? pane.x(0) : pane.lineX(line, mote);
     const y = low || line < 0 ? pane.laneTop(mote) + pane.lane / 2 :
       pane.lineY(run.silent[line] ? SEND : run.kind[line], mote);
@@ -123,10 +118,10 @@ export function drawChain(pane) {
 
 /** Draws the chain on the map: an arrow for each hop of a packet. */
 export function drawChainOnMap(map) {
-  if (why.pane !== map.pane || why.run !== map.run) return;
-  const {context: c} = map, ways = [];
-  for (let i = why.hops.length - 1; i > 0; i--) {
-    if (why.hops[i].mote !== why.hops[i - 1].mote) ways.push([why.hops[i].mote, why.hops[i - 1].mote]);
+  if (page.why.pane !== map.pane || page.why.run !== map.run) return;
+  const {context: c} = map, {hops} = page.why, ways = [];
+  for (let i = hops.length - 1; i > 0; i--) {
+    if (hops[i].mote !== hops[i - 1].mote) ways.push([hops[i].mote, hops[i - 1].mote]);
   }
   c.save();
   for (const [s, r] of ways) {
@@ -140,7 +135,7 @@ export function drawChainOnMap(map) {
     stroke(c, colours.mark, 2.6);
     head(c, x0, y0, x1, y1, 9, colours.mark, true);
   }
-  for (const mote of [why.hops[0].mote, why.hops[why.hops.length - 1].mote]) {
+  for (const {mote} of [hops[0], hops[hops.length - 1]]) {
     c.beginPath();
     c.arc(map.x(mote), map.y(mote), map.radius + 4, 0, 7);
     stroke(c, colours.mark, 2.2);

@@ -1,26 +1,14 @@
 // @ts-check
 // Changes of a scenario's text: motes are moved, added and removed, links lose packets, and numbers are set. All else
 // stays in the text: comments, order and layout.
+import {Refused} from '../../timeline/page/stage.js';
 import {NoToml, readToml} from './toml.js';
 
 export const MOST_PLACE = 30000;
 export const MOST_EVERY = 1000000;
 const MOST_MOTES = 1000;
 
-/** A change that is refused; the message is for the reader. */
-export class EditRefused extends Error {}
-
-/** A piece of the text, from one offset to another, and its replacement.
- * @typedef {{begin: number, end: number, text: string}} Change */
-
-/** The text with changes that don't overlap.
- * @param {string} text @param {Change[]} changes */
-export function applied(text, changes) {
-  const sorted = changes.map((change, i) => ({change, i}))
-    .sort((a, b) => a.change.begin - b.change.begin || a.change.end - b.change.end || a.i - b.i);
-  for (const {change} of sorted.reverse()) text = text.slice(0, change.begin) + change.text + text.slice(change.end);
-  return text;
-}
+/** @typedef {import('../../studio/page/text.js').Change} Change */
 
 class Text {
   /** @param {string} text */
@@ -66,7 +54,7 @@ class Text {
   /** @param {(string|number)[]} path @param {number|boolean} value @returns {Change} */
   set(path, value) {
     const place = this.place(...path);
-    if (!place || !place.value) throw new EditRefused(`The text has no ${path.join(' ')} to change.`);
+    if (!place || !place.value) throw new Refused(`The text has no ${path.join(' ')} to change.`);
     return {begin: place.value[0], end: place.value[1], text: String(value)};
   }
 
@@ -132,7 +120,7 @@ class Text {
 function number(wish, name, least, most) {
   const value = wish[name];
   if (!Number.isInteger(value) || value < least || value > most) {
-    throw new EditRefused(`${name} is a whole number, ${least.toLocaleString('en')} to ${most.toLocaleString('en')}`);
+    throw new Refused(`${name} is a whole number, ${least.toLocaleString('en')} to ${most.toLocaleString('en')}`);
   }
   return value;
 }
@@ -153,16 +141,16 @@ const EDITS = {
   add(text, wish) {
     const [x, y] = placeOf(wish), {program} = wish, m = text.members('mote').length;
     if (!Object.hasOwn(text.tables.programs || {}, program)) {
-      throw new EditRefused(`the scenario has no program ${program}`);
+      throw new Refused(`the scenario has no program ${program}`);
     }
-    if (m >= MOST_MOTES) throw new EditRefused('a scenario has at most 1,000 motes');
+    if (m >= MOST_MOTES) throw new Refused('a scenario has at most 1,000 motes');
     return [[text.appended('mote', [`x = ${x}`, `y = ${y}`, `program = "${program}"`])],
       `Mote ${m}, which runs ${program}, is at ${x}, ${y}.`];
   },
 
   remove(text, wish) {
     const m = mote(text, wish), motes = text.members('mote').length, gone = /** @type {number[]} */ ([]);
-    if (motes === 1) throw new EditRefused('a scenario has at least one mote');
+    if (motes === 1) throw new Refused('a scenario has at least one mote');
     const changes = text.without('mote', [m]);
     text.members('loss').forEach((loss, i) => {
       if (loss.from === m || loss.to === m) return void gone.push(i);
@@ -175,7 +163,7 @@ const EDITS = {
 
   lose(text, wish) {
     const from = mote(text, wish, 'from'), to = mote(text, wish, 'to'), every = number(wish, 'every', 0, MOST_EVERY);
-    if (from === to) throw new EditRefused('a loss is between two motes');
+    if (from === to) throw new Refused('a loss is between two motes');
     const found = text.members('loss').findIndex(it => it.from === from && it.to === to);
     const way = `Mote ${from} to mote ${to}`;
     if (!every) return [found < 0 ? [] : text.without('loss', [found]), `${way} loses nothing.`];
@@ -196,8 +184,8 @@ export function edit(source, wish) {
     const text = new Text(source), [changes, said] = EDITS[wish.what](text, wish);
     return {changes, said};
   } catch (fault) {
-    if (fault instanceof EditRefused) throw fault;
+    if (fault instanceof Refused) throw fault;
     if (!(fault instanceof NoToml || fault instanceof TypeError)) throw fault;
-    throw new EditRefused('The text has an error. Correct it first; then the map can change the text.');
+    throw new Refused('The text has an error. Correct it first; then the map can change the text.');
   }
 }

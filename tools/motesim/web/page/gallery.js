@@ -47,10 +47,10 @@ function drawStill(canvas, text) {
   });
 }
 
-/** Fills the dialog of the examples; `choose` is called with the chosen one.
- * @param {Example[]} cards @param {{file: string, text: string}[]} others @param {(it: any) => void} choose */
-export function beginGallery(cards, others, choose) {
-  const box = byId('gallery');
+/** Fills the dialog of the examples: with cards of those that have a title. `choose` is called with the chosen one.
+ * @param {Example[]} examples @param {(it: any) => void} choose */
+export function beginGallery(examples, choose) {
+  const box = byId('gallery'), cards = examples.filter(it => it.title), others = examples.filter(it => !it.title);
   const open = it => {
     box.close();
     choose(it);
@@ -60,7 +60,7 @@ export function beginGallery(cards, others, choose) {
     canvas.setAttribute('aria-hidden', 'true');
     card.append(canvas, element('strong', it.title), element('span', it.about),
       Object.assign(element('span', it.question), {className: 'question'}));
-    byId('cards').append(card);
+    byId('gallery-cards').append(card);
     return () => drawStill(canvas, it.text);
   });
   byId('others').append(...others.map(it => makeButton(it.file, () => open(it))));

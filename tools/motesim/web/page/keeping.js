@@ -1,21 +1,13 @@
 // @ts-check
 // Where a text comes from and goes to: a link, a file, this page saved with it, and the browser's storage.
-import {byId, handOut} from '../../timeline/page/dom.js';
+import {byId, handOut, stored} from '../../timeline/page/dom.js';
+import {page} from '../../timeline/page/stage.js';
 import {LONGEST_LINK, packed, unpackedText} from './share.js';
 
 const DRAFT = 'motesim draft', STARTED = 'motesim started', LONGEST_FILE = 1 << 20;
 
 /** The page as it was delivered, before anything changed it. */
 const delivered = typeof document === 'undefined' ? '' : `<!DOCTYPE html>\n${document.documentElement.outerHTML}`;
-
-/** The browser's storage, which may refuse. @param {(storage: Storage) => any} work */
-function stored(work) {
-  try {
-    return work(localStorage);
-  } catch {
-    return null;
-  }
-}
 
 /** A number that tells texts apart. @param {string} text */
 const sign = text => [...text].reduce((sum, it) => (sum * 31 + (it.codePointAt(0) || 0)) | 0, text.length);
@@ -77,7 +69,8 @@ export function savePage(text, name) {
 
 /** Shows the ways to share a text. @param {string} text @param {string} name */
 export async function showSharing(text, name) {
-  const link = await linkTo(text), box = byId('sharing');
+  const {line, mote, pane} = page.chosen, box = byId('sharing');
+  const bare = await linkTo(text), link = bare && line >= 0 ? `${bare}&line=${pane.run.numberOf(line, mote)}` : bare;
   byId('sharing-said').textContent = link ?
     `The link carries the whole scenario, in ${link.length.toLocaleString('en')} characters.` :
     'This scenario is too long for a link in a chat or a mail: send the file, or this page saved with it.';

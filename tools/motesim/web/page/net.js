@@ -1,7 +1,7 @@
 // @ts-check
 // The net as a form: the medium, the motes and the losses, for those who don't use a mouse or don't know the text.
 import {byId, element, makeButton} from '../../timeline/page/dom.js';
-import {chosen} from '../../timeline/page/stage.js';
+import {page} from '../../timeline/page/stage.js';
 import {MOST_EVERY, MOST_PLACE} from './edits.js';
 import {readToml} from './toml.js';
 
@@ -62,7 +62,7 @@ function mediumOf({end, medium}, edit) {
 
 /** @param {any} tables @param {(wish: any) => void} edit */
 function motesOf({mote, programs}, edit) {
-  const now = Math.min(Math.max(0, chosen.mote), mote.length - 1), names = Object.keys(programs || {});
+  const now = Math.min(Math.max(0, page.chosen.mote), mote.length - 1), names = Object.keys(programs || {});
   const which = numberInput('net-mote', now, 0, mote.length - 1), last = mote[mote.length - 1];
   const coordinate = (id, value) => numberInput(id, value, -MOST_PLACE, MOST_PLACE);
   const x = coordinate('net-x', mote[now].x), y = coordinate('net-y', mote[now].y);

@@ -5,6 +5,9 @@ import {differing, lineAndColumn, movedOffset} from '../../studio/page/text.js';
 import {Tint} from '../../studio/page/tint.js';
 import {firstState} from '../../studio/page/tokens.js';
 
+// Pixels above and below the line that the reader types.
+export const MARGIN = 8;
+
 export class Pad {
   /** `changed` is called with the whole text after each change by the reader; `words` are those of the notation.
    * @param {(text: string) => void} changed @param {any} words */
@@ -59,11 +62,11 @@ export class Pad {
     this.tint.mark(place && place[0] >= above ? [place[0] - above, place[1], place[2]] : null);
   }
 
-  /** Brings a stretch of the shown text into view.
-   * @param {number} begin */
-  reveal(begin) {
-    const {area} = this, high = parseFloat(getComputedStyle(area).lineHeight);
-    area.scrollTop = Math.max(0, (area.value.slice(0, begin).split('\n').length - 4) * high);
+  /** Brings a row of the shown text into view. @param {number} row */
+  showRow(row) {
+    const {area} = this, {lineHeight, paddingTop} = getComputedStyle(area), high = parseFloat(lineHeight);
+    const top = parseFloat(paddingTop) + row * high;
+    area.scrollTop = Math.min(Math.max(area.scrollTop, top + high + MARGIN - area.clientHeight), top - MARGIN);
   }
 
   /** Selects a stretch of the shown text.
@@ -71,7 +74,7 @@ export class Pad {
   select(begin, end) {
     this.area.setSelectionRange(begin, end);
     this.area.focus({preventScroll: true});
-    this.reveal(begin);
+    this.showRow(lineAndColumn(this.area.value, begin)[0]);
   }
 
   /** Marks a piece of the shown text as the one that was changed, until the text is changed again.
@@ -80,7 +83,7 @@ export class Pad {
     const begin = this.area.value.indexOf(piece), [row, column] = lineAndColumn(this.area.value, Math.max(0, begin));
     if (begin < 0) return;
     this.tint.lit = [row, column, column + piece.length];
-    this.reveal(begin);
+    this.showRow(row);
   }
 
   /** Tab writes two blanks, Enter keeps the indentation, Esc leaves the text.

@@ -46,9 +46,9 @@ export function placeOfFault(text, line) {
   return [row, begin, Math.max(begin + 1, written.trimEnd().length)];
 }
 
-/** The rule that an error breaks, from the table of rules.
+/** The rule that an error breaks, from the table of rules; nothing if it isn't known.
  * @param {Record<string, string>} rules @param {string} line */
 export function ruleOf(rules, line) {
   const program = OF_PROGRAM.exec(line);
-  return rules[program ? `program ${program[2]}` : line.replace(/^motesim: /, '')] || '';
+  return [rules[program ? `program ${program[2]}` : line.replace(/^motesim: /, '')]].filter(Boolean);
 }

@@ -1,23 +1,25 @@
 // @ts-check
 // The page without a server: a scenario that runs while it is changed, its map and its lanes, and the effect of each
 // change in a sentence.
-import {beginFlag, differs, goToDifference} from '../../studio/page/flag.js';
+import {beginFlag, goToDifference} from '../../studio/page/flag.js';
 import {beginLog} from '../../studio/page/log.js';
-import {beginMotes, ground, renewMotes, restoreMotes} from '../../studio/page/motes.js';
-import {replacements, offsetOf} from '../../studio/page/text.js';
+import {beginMotes, renewMotes} from '../../studio/page/motes.js';
+import {beginSteps} from '../../studio/page/steps.js';
+import {applied, offsetOf} from '../../studio/page/text.js';
 import {fillSums} from '../../studio/page/totals.js';
+import {openAsAddressed} from '../../timeline/page/address.js';
 import {selectNothing} from '../../timeline/page/details.js';
-import {byId, element, makeButton} from '../../timeline/page/dom.js';
-import {drawAll, redraw} from '../../timeline/page/draw.js';
-import {drawLegend, readColours} from '../../timeline/page/forms.js';
-import {listen, refit, room, showInstead, showRuns, whole} from '../../timeline/page/main.js';
+import {byId, element} from '../../timeline/page/dom.js';
+import {drawAll} from '../../timeline/page/draw.js';
+import {readColours} from '../../timeline/page/forms.js';
+import {listen, refit, showInstead, showRuns, whole} from '../../timeline/page/main.js';
 import {setNow, startPlaying, stopPlaying} from '../../timeline/page/play.js';
-import {chosen, maps, page, panes, play} from '../../timeline/page/stage.js';
-import {closeWhy, source} from '../../timeline/page/why.js';
+import {page} from '../../timeline/page/stage.js';
+import {beginPanels, beginTabs} from '../../timeline/page/tabs.js';
+import {closeWhy} from '../../timeline/page/why.js';
 import {count} from '../../timeline/page/words.js';
 import {Alone} from './alone.js';
 import {chainOf} from './chain.js';
-import {EditRefused, applied} from './edits.js';
 import {effectInWords} from './effect.js';
 import {beginGallery, firstSentence} from './gallery.js';
 import {History} from './history.js';
@@ -26,20 +28,18 @@ import {beginFiles, forgetDraft, keepDraft, keepInAddress, neverEnded, noteStart
 import {showNet} from './net.js';
 import {Pad} from './pad.js';
 import {programsOf} from './scenario.js';
-import {beginStepping} from './stepping.js';
-import {beginTabs} from './tabs.js';
 
 /** Milliseconds from a key to its run, to the sign of a long run, and to the address of the new text. */
 const PAUSE = 150, LONG = 500, ADDRESS = 1000;
 const ORIGINS = {link: 'This net came with the link.', page: 'This net was saved with the page.',
   draft: 'This is your text of the last time. Examples has the others.'};
-const PANELS = ['log', 'steps', 'sums', 'legend'], PANEL_NAMES = ['Log', 'Steps', 'Sums', 'Forms'];
+const PANELS = [['log', 'Log'], ['steps', 'Steps'], ['sums', 'Sums'], ['legend', 'Forms']];
 
-/** The state of the page. `intro` says where the text came from, `part` is the open tab of the text; `asked` counts the
- * runs that were asked for, `ran` is the last of them that ended, and `fresh` is true until the first run of a text. */
-const web = {backend: /** @type {any} */ (null), pad: /** @type {any} */ (null), history: new History(''), name: '',
-  intro: '', example: /** @type {any} */ (null), part: 'part-program', timer: 0, addressTimer: 0, asked: 0, ran: 0,
-  fresh: true, isWaiting: false, sums: null};
+/** `intro` says where the text came from, `part` is the open tab of the text; `asked` counts the runs that were asked
+ * for, `ran` is the last of them that ended, and `fresh` is true until the first run of a text. */
+page.web = {pad: /** @type {any} */ (null), history: new History(''), name: '', intro: '',
+  example: /** @type {any} */ (null), part: 'part-program', timer: 0, addressTimer: 0, asked: 0, ran: 0, fresh: true,
+  isWaiting: false, sums: null};
 
 const isStill = () => matchMedia('(prefers-reduced-motion: reduce)').matches;
 
@@ -55,8 +55,8 @@ function say(words, is = '', {tries = false, shows = false, reverts = false} = {
 
 /** Says what the open example is about, and offers its change; or where the text came from. */
 function sayIntro() {
-  const {example} = web;
-  if (!example) return say(web.intro);
+  const {example} = page.web;
+  if (!example) return say(page.web.intro);
   byId('try').textContent = example.try || '';
   const words = example.about || firstSentence(example.text) || `The example ${example.file}.`;
   say(words, '', {tries: Boolean(example.try)});
@@ -66,48 +66,48 @@ function sayIntro() {
 
 /** Shows the text in the part that is open. @param {boolean} isNew */
 function showText(isNew = false) {
-  const {text} = web.history, programs = programsOf(text), which = byId('which');
+  const {text} = page.web.history, programs = programsOf(text), which = byId('which');
   const names = programs.map(it => it.name), kept = which.value;
   if (names.join() !== [...which.options].map(it => it.value).join()) {
     which.replaceChildren(...names.map(name => Object.assign(element('option', name), {value: name})));
     if (names.includes(kept)) which.value = kept;
   }
-  const isProgram = web.part === 'part-program' && programs.length > 0;
+  const isProgram = page.web.part === 'part-program' && programs.length > 0;
   which.hidden = !isProgram || names.length < 2;
-  byId('net').hidden = web.part !== 'part-net';
-  byId('editor').hidden = web.part === 'part-net';
-  byId('editor').setAttribute('aria-labelledby', web.part);
-  if (web.part === 'part-net') showNet(text, makeEdit);
+  byId('net').hidden = page.web.part !== 'part-net';
+  byId('editor').hidden = page.web.part === 'part-net';
+  byId('editor').setAttribute('aria-labelledby', page.web.part);
+  if (page.web.part === 'part-net') showNet(text, page.edit);
   const it = programs.find(one => one.name === which.value) || programs[0];
-  web.pad.show(text, isProgram ? it.begin : 0, isProgram ? it.end : text.length, isNew);
-  byId('undo').disabled = !web.history.before;
-  byId('redo').disabled = !web.history.canRedo;
+  page.web.pad.show(text, isProgram ? it.begin : 0, isProgram ? it.end : text.length, isNew);
+  byId('undo').disabled = !page.web.history.before;
+  byId('redo').disabled = !page.web.history.canRedo;
 }
 
 /** Takes a new text of the page, and runs it. @param {string} text @param {string} how */
 function change(text, how) {
-  web.history.take(text, how);
+  page.web.history.take(text, how);
   if (how === 'typed') {
-    byId('undo').disabled = !web.history.before;
+    byId('undo').disabled = !page.web.history.before;
     byId('redo').disabled = true;
   } else showText();
-  clearTimeout(web.timer);
-  web.timer = window.setTimeout(runNow, how === 'typed' ? PAUSE : 0);
+  clearTimeout(page.web.timer);
+  page.web.timer = window.setTimeout(runNow, how === 'typed' ? PAUSE : 0);
   keep();
 }
 
 /** Keeps the text where the reader finds it again. */
 function keep() {
-  clearTimeout(web.addressTimer);
-  web.addressTimer = window.setTimeout(() => {
-    keepDraft(web.history.text, web.name);
-    keepInAddress(web.history.text);
+  clearTimeout(page.web.addressTimer);
+  page.web.addressTimer = window.setTimeout(() => {
+    keepDraft(page.web.history.text, page.web.name);
+    keepInAddress(page.web.history.text);
   }, ADDRESS);
 }
 
 /** Goes back to an earlier text, or on to a later one. @param {number} by */
 function go(by) {
-  if (!web.history.go(by)) return;
+  if (!page.web.history.go(by)) return;
   showText();
   runNow();
   keep();
@@ -116,10 +116,10 @@ function go(by) {
 /** Opens a text: that of an example, or one with an `intro`, which says where it came from.
  * @param {string} text @param {string} name @param {any} example @param {string} intro */
 function open(text, name, example, intro = '') {
-  Object.assign(web, {name, example, intro, fresh: true});
-  web.history.begin(text);
+  Object.assign(page.web, {name, example, intro, fresh: true});
+  page.web.history.begin(text);
   document.title = `${name.replace(/\.toml$/, '')} – motesim`;
-  if (web.part === 'part-net') byId('part-program').click();
+  if (page.web.part === 'part-net') byId('part-program').click();
   showText(true);
   return runNow();
 }
@@ -127,7 +127,7 @@ function open(text, name, example, intro = '') {
 /** @param {any} it an example */
 function openExample(it) {
   forgetDraft();
-  clearTimeout(web.addressTimer);
+  clearTimeout(page.web.addressTimer);
   try {
     history.replaceState(null, '', location.href.split('#')[0]);
   } catch {
@@ -136,44 +136,31 @@ function openExample(it) {
   return open(it.text, `${it.file}.toml`, it);
 }
 
-/** Makes a change that the map or the form asks for. @param {any} wish */
-function makeEdit(wish) {
-  try {
-    const {changes, said} = web.backend.edit(web.history.text, wish);
-    byId('map-said').textContent = said;
-    if (changes.length) change(applied(web.history.text, changes), 'edit');
-  } catch (fault) {
-    if (!(fault instanceof EditRefused)) throw fault;
-    if (maps.length) restoreMotes();
-    say(fault.message, 'bad', {reverts: false});
-  }
-}
-
 /** Makes the change that the example offers. */
 function makeTry() {
-  let {text} = web.history;
-  for (const [old, piece] of Object.entries(web.example.replace)) text = text.split(old).join(piece);
-  const [old] = Object.keys(web.example.replace), piece = web.example.replace[old];
+  let {text} = page.web.history;
+  for (const [old, piece] of Object.entries(page.web.example.replace)) text = text.split(old).join(piece);
+  const [old] = Object.keys(page.web.example.replace), piece = page.web.example.replace[old];
   byId('try').classList.remove('breathes');
-  if (text === web.history.text) {
+  if (text === page.web.history.text) {
     return say('The text no longer has what this would change. Undo, or open the example again.');
   }
   change(text, 'try');
-  web.pad.light(piece);
+  page.web.pad.light(piece);
 }
 
 // Runs.
 
 /** Runs the text, and shows its run, its error, or its limit. */
 async function runNow() {
-  clearTimeout(web.timer);
-  const asked = ++web.asked, {step} = web.history;
-  web.isWaiting = false;
-  setTimeout(() => { byId('stop').hidden = asked !== web.asked || web.ran === asked; }, LONG);
+  clearTimeout(page.web.timer);
+  const asked = ++page.web.asked, {step} = page.web.history;
+  page.web.isWaiting = false;
+  setTimeout(() => { byId('stop').hidden = asked !== page.web.asked || page.web.ran === asked; }, LONG);
   noteStart(step.text);
-  const answer = await web.backend.run({text: step.text, name: web.name});
-  if (answer.superseded || asked !== web.asked) return;
-  web.ran = asked;
+  const answer = await page.backend.run({text: step.text, name: page.web.name});
+  if (answer.superseded || asked !== page.web.asked) return;
+  page.web.ran = asked;
   byId('stop').hidden = true;
   noteStart(null);
   if (answer.fault) showFault(answer.fault);
@@ -182,46 +169,47 @@ async function runNow() {
   page.ready = true;
 }
 
-/** @param {{line: string, words: string, place: number[]|null}} fault */
+/** @param {any} fault */
 function showFault({line, words, place}) {
   document.body.classList.add('stale');
   byId('fault').hidden = false;
-  byId('fault').querySelector('p').textContent = words ? `${words}\n${line}` : line;
+  byId('fault').querySelector('p').textContent = [...words, line].join('\n');
   byId('fault-place').hidden = !place;
-  web.pad.mark(place);
-  const where = place ? ` in line ${place[0] + 1 - (web.part === 'part-program' ? web.pad.rowsBefore : 0)}` : '';
-  say(`The text has an error${where}${panes.length ? ': the last run is shown' : ''}.`, 'bad',
-    {reverts: Boolean(web.history.before)});
+  page.web.pad.mark(place);
+  const {part, pad} = page.web, above = part === 'part-program' ? pad.rowsBefore : 0;
+  const where = place ? ` in line ${place[0] + 1 - above}` : '';
+  say(`The text has an error${where}${page.panes.length ? ': the last run is shown' : ''}.`, 'bad',
+    {reverts: Boolean(page.web.history.before)});
 }
 
 function noFault() {
   document.body.classList.remove('stale');
   byId('fault').hidden = true;
-  web.pad.mark(null);
+  page.web.pad.mark(null);
 }
 
 /** @param {string} words */
 function showLimit(words) {
   noFault();
   document.body.classList.add('stale');
-  say(`${words} Does a loop repeat without waiting?`, 'bad', {reverts: Boolean(web.history.before)});
+  say(`${words} Does a loop repeat without waiting?`, 'bad', {reverts: Boolean(page.web.history.before)});
 }
 
 /** @param {any} run @param {number} took @param {any} step */
 function showRun(run, took, step) {
   noFault();
   step.run = run;
-  const before = web.history.before, against = before && before.run;
-  const {sums, difference} = web.backend.judge(run, against);
-  Object.assign(differs, {first: difference && difference.first, parts: new Map(difference ? difference.parts : [])});
-  if (!panes.length) showFirst(run); else showInstead(panes[0], run);
+  const before = page.web.history.before, against = before && before.run;
+  const {sums, difference} = page.backend.judge({number: run.number, against: against ? against.number : 0});
+  page.differs = {first: difference && difference.first, parts: new Map(difference ? difference.parts : [])};
+  if (!page.panes.length) showFirst(run); else showInstead(page.panes[0], run);
   renewMotes();
-  web.sums = sums;
+  page.web.sums = sums;
   if (!byId('sums').hidden) fillSums(byId('sums'), sums);
-  if (web.part === 'part-net') showText();
+  if (page.web.part === 'part-net') showText();
   byId('about').textContent = `${count(run.begins.length, 'mote')}, ${count(run.end + 1, 'moment')}, ` +
     `${Math.max(1, Math.round(took))} ms`;
-  if (web.fresh) beginShow();
+  if (page.web.fresh) beginShow();
   else if (difference) {
     say(effectInWords(run, against, difference), difference.same ? 'same' : 'differs',
       {shows: Boolean(difference.first), reverts: true});
@@ -234,7 +222,7 @@ function showRun(run, took, step) {
 /** Shows the first run of the page. @param {any} run */
 function showFirst(run) {
   showRuns([run]);
-  maps[0].frame = byId('maps');
+  page.maps[0].frame = byId('maps');
   listen();
   new ResizeObserver(refit).observe(byId('maps'));
   refit();
@@ -242,8 +230,8 @@ function showFirst(run) {
 
 /** Shows an opened text from its beginning; a wave runs over the net of an example. */
 function beginShow() {
-  const {example} = web, [from, to] = example && example.title ? [example.from, example.to] : [0, 0];
-  web.fresh = false;
+  const {example} = page.web, [from, to] = example && example.title ? [example.from, example.to] : [0, 0];
+  page.web.fresh = false;
   whole();
   selectNothing();
   hideCard();
@@ -255,7 +243,7 @@ function beginShow() {
   byId('speed').value = example.speed;
   if (isStill()) return setNow(example.still);
   setNow(from);
-  play.loop = [from, to];
+  page.play.loop = [from, to];
   startPlaying();
 }
 
@@ -266,7 +254,7 @@ function hideCard() { byId('card').hidden = true; }
 /** Shows the card at the pointer, beside what was clicked. @param {number} x @param {number} y */
 function showCard(x, y) {
   const card = byId('card');
-  card.hidden = !chosen.pane;
+  card.hidden = !page.chosen.pane;
   if (card.hidden) return;
   const {width, height} = card.getBoundingClientRect();
   const left = x + 24 + width < innerWidth ? x + 24 : Math.max(8, x - width - 24);
@@ -277,9 +265,9 @@ function showCard(x, y) {
 function beginCard() {
   let before = 0;
   for (const id of ['panes', 'maps']) {
-    byId(id).addEventListener('pointerdown', () => { before = chosen.times; }, true);
+    byId(id).addEventListener('pointerdown', () => { before = page.chosen.times; }, true);
     byId(id).addEventListener('pointerup', event => setTimeout(() => {
-      if (chosen.times !== before) showCard(event.clientX, event.clientY);
+      if (page.chosen.times !== before) showCard(event.clientX, event.clientY);
     }));
   }
   // (the chain of causes makes the card longer)
@@ -294,21 +282,13 @@ function beginCard() {
   document.addEventListener('keydown', event => {
     if (event.key === 'Escape') hideCard();
     const isChoosing = '[]{}wW'.includes(event.key) || event.key === 'Enter';
-    if (!isChoosing || !chosen.pane || document.activeElement !== panes[0].canvas) return;
-    const box = panes[0].canvas.getBoundingClientRect();
+    if (!isChoosing || !page.chosen.pane || document.activeElement !== page.panes[0].canvas) return;
+    const box = page.panes[0].canvas.getBoundingClientRect();
     showCard(box.right - 420, box.top - 160);
   });
 }
 
 // The page.
-
-/** @param {string} id the tab that is opened, or '' */
-function showPanel(id) {
-  for (const name of PANELS) byId(name).hidden = `tab-${name}` !== id;
-  if (id === 'tab-legend') drawLegend();
-  if (id === 'tab-sums' && web.sums) fillSums(byId('sums'), web.sums);
-  redraw();
-}
 
 function beginButtons() {
   byId('undo').addEventListener('click', () => go(-1));
@@ -317,33 +297,28 @@ function beginButtons() {
     go(-1);
     byId('try').focus();
   });
-  byId('try').addEventListener('click', () => web.isWaiting ? runNow() : makeTry());
+  byId('try').addEventListener('click', () => page.web.isWaiting ? runNow() : makeTry());
   byId('show').addEventListener('click', () => {
     stopPlaying();
     goToDifference();
   });
-  byId('share').addEventListener('click', () => showSharing(web.history.text, web.name));
-  byId('stop').addEventListener('click', () => web.backend.stop());
+  byId('share').addEventListener('click', () => showSharing(page.web.history.text, page.web.name));
+  byId('stop').addEventListener('click', () => page.backend.stop());
   byId('which').addEventListener('change', () => showText(true));
   byId('fault-place').addEventListener('click', () => {
-    if (!web.pad.place) return;
-    const [row, from, to] = web.pad.place, above = web.pad.before.length;
-    if (offsetOf(web.history.text, [row, 0]) < above) byId('part-all').click();
-    const begin = offsetOf(web.history.text, [row, from]) - web.pad.before.length;
-    web.pad.select(begin, begin + to - from);
+    if (!page.web.pad.place) return;
+    const [row, from, to] = page.web.pad.place, above = page.web.pad.before.length;
+    if (offsetOf(page.web.history.text, [row, 0]) < above) byId('part-all').click();
+    const begin = offsetOf(page.web.history.text, [row, from]) - page.web.pad.before.length;
+    page.web.pad.select(begin, begin + to - from);
   });
   beginTabs(['part-program', 'part-net', 'part-all'], id => {
-    web.part = id;
+    page.web.part = id;
     showText(true);
   });
-  byId('tabs').append(...PANELS.map((name, i) => {
-    const tab = Object.assign(makeButton(PANEL_NAMES[i], () => {}), {id: `tab-${name}`, tabIndex: i ? -1 : 0});
-    tab.setAttribute('role', 'tab');
-    tab.setAttribute('aria-controls', name);
-    tab.setAttribute('aria-selected', 'false');
-    return tab;
-  }));
-  beginTabs(PANELS.map(name => `tab-${name}`), showPanel, true);
+  beginPanels(PANELS, name => {
+    if (name === 'sums' && page.web.sums) fillSums(byId('sums'), page.web.sums);
+  }, true);
   document.addEventListener('keydown', event => {
     if (!(event.ctrlKey || event.metaKey) || event.altKey) return;
     const key = event.key.toLowerCase(), by = key === 'z' && !event.shiftKey ? -1 : key === 'y' || key === 'z' ? 1 : 0;
@@ -361,23 +336,22 @@ async function moduleOf() {
   return WebAssembly.compile(await new Response(plain).arrayBuffer());
 }
 
-async function begin() {
+/** @param {import('../../timeline/page/stage.js').Backend} backend */
+async function begin(backend) {
   readColours();
-  const data = JSON.parse(byId('data').textContent);
-  room.forPanes = () => Math.max(120, byId('panes').clientHeight);
-  source.chainOf = async (run, line) => chainOf(run, line);
-  const compiled = moduleOf();
-  web.backend = new Alone(compiled, byId('worker').textContent, data.rules);
-  web.pad = new Pad(text => change(text, 'typed'), data.words);
+  page.roomForPanes = () => Math.max(120, byId('panes').clientHeight);
+  page.chainOf = chainOf;
+  page.backend = backend;
+  const {examples, words} = await backend.begin();
+  page.web.pad = new Pad(text => change(text, 'typed'), words);
   beginButtons();
   beginCard();
   beginFlag();
-  beginMotes(makeEdit);
-  beginStepping();
-  beginLog(async (text, unknown) => ({said: `No kind, process or event has the name ${unknown}.`}), 'send mote 3');
-  const examples = data.cards.map(it => ({...it, text: data.texts[it.file]}));
-  const others = Object.keys(data.texts).filter(file => !examples.some(it => it.file === file));
-  beginGallery(examples, others.map(file => ({file, text: data.texts[file]})), openExample);
+  beginMotes(() => page.web.history.text, changes => change(applied(page.web.history.text, changes), 'edit'),
+    words => say(words, 'bad'));
+  beginSteps();
+  beginLog();
+  beginGallery(examples, openExample);
   beginFiles((text, name) => open(text, name, null, `This is ${name}.`), words => say(words, 'bad'));
   let opened = null, broken = '';
   try {
@@ -392,20 +366,21 @@ async function begin() {
   }
   if (neverEnded(opened.text)) return offerRun(opened);
   await open(opened.text, opened.name, null, ORIGINS[opened.from]);
+  if (opened.from === 'link' && page.panes.length) openAsAddressed();
 }
 
 /** Shows a text whose last run never ended, and waits for the reader. @param {any} opened */
 function offerRun({text, name, from}) {
-  Object.assign(web, {name, intro: ORIGINS[from]});
-  web.history.begin(text);
+  Object.assign(page.web, {name, intro: ORIGINS[from]});
+  page.web.history.begin(text);
   showText(true);
   say('The last run of this text never ended, so it waits.', 'bad', {tries: true});
   byId('try').textContent = 'Run it';
-  web.isWaiting = page.ready = true;
+  page.web.isWaiting = page.ready = true;
 }
 
-window.motesim = Object.assign(page, {web, differs, ground});
-begin().catch(fault => {
+window.motesim = page;
+begin(new Alone(moduleOf(), byId('worker').textContent, JSON.parse(byId('data').textContent))).catch(fault => {
   byId('said').textContent = `This page can't run here: ${fault.message}`;
   console.error(fault);
 });

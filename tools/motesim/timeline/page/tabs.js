@@ -1,6 +1,8 @@
 // @ts-check
 // Tabs, of which one is open; in a drawer none may be.
-import {byId} from '../../timeline/page/dom.js';
+import {byId, makeButton} from './dom.js';
+import {redraw} from './draw.js';
+import {drawLegend} from './forms.js';
 
 /** Makes tabs work by mouse and by arrow keys. `show` is called with the name of the tab, or with '' when a drawer
  * closes.
@@ -26,5 +28,27 @@ export function beginTabs(ids, show, mayClose = false) {
       byId(next).focus();
     });
   });
-  return choose;
 }
+
+/** Makes a tab for each panel. `shown` is called with the name of the panel that is open, or with ''.
+ * @param {string[][]} panels the name and the title of each @param {(name: string) => void} shown
+ * @param {boolean} mayClose */
+export function beginPanels(panels, shown, mayClose = false) {
+  byId('tabs').replaceChildren(...panels.map(([id, title], i) => {
+    const tab = Object.assign(makeButton(title, () => {}), {id: `tab-${id}`, tabIndex: i ? -1 : 0});
+    tab.setAttribute('role', 'tab');
+    tab.setAttribute('aria-controls', id);
+    tab.setAttribute('aria-selected', 'false');
+    byId(id).setAttribute('role', 'tabpanel');
+    return tab;
+  }));
+  beginTabs(panels.map(([id]) => `tab-${id}`), open => {
+    for (const [id] of panels) byId(id).hidden = `tab-${id}` !== open;
+    shown(open.slice('tab-'.length));
+    if (open === 'tab-legend') drawLegend();
+    redraw();
+  }, mayClose);
+}
+
+/** Opens a panel. @param {string} name */
+export const showTab = name => byId(`tab-${name}`).click();

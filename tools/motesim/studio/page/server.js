@@ -1,0 +1,53 @@
+// @ts-check
+// What the studio's page asks, answered by its server.
+import {Run} from '../../timeline/page/data.js';
+import {indexRun} from '../../timeline/page/index.js';
+import {Refused} from '../../timeline/page/stage.js';
+import {Lost, keep, lose} from './link.js';
+
+/** @implements {Backend}
+ * @typedef {import('../../timeline/page/stage.js').Answer} Answer
+ * @typedef {import('../../timeline/page/stage.js').Backend} Backend */
+export class Server {
+  /** What it answers besides the first four questions. */
+  can = new Set(['files', 'explain', 'state', 'values', 'why', 'lines', 'checks', 'faults', 'export']);
+
+  begin() { return this.ask('begin', {}); }
+
+  /** Runs a text. @param {{text: string, name: string, pinned: number}} asked @returns {Promise<Answer>} */
+  async run(asked) {
+    const got = await this.ask('run', asked), length = new DataView(got).getUint32(0, true);
+    const {run: table, ...answer} = JSON.parse(new TextDecoder().decode(new Uint8Array(got, 4, length)));
+    if (!table) return answer;
+    const run = new Run(table, got.slice(4 + length));
+    await indexRun(run);
+    return {...answer, run};
+  }
+
+  judge(asked) { return this.ask('judge', asked); }
+  edit(asked) { return this.ask('edit', asked); }
+  stop() { return this.ask('stop', {}); }
+
+  /** Asks for a value, or for the bytes of a run or a page. @param {string} what @param {any} asked */
+  async ask(what, asked) {
+    let answer, got;
+    try {
+      answer = await fetch(what, {method: 'POST', headers: {'Content-Type': 'application/json'}, cache: 'no-store',
+        body: JSON.stringify(asked)});
+      if (answer.ok) got = await answer.arrayBuffer();
+    } catch {
+      lose();
+      throw new Lost();
+    }
+    if (answer.status === 403) {
+      lose();
+      throw new Lost();
+    }
+    if (!answer.ok) throw new Refused(`The studio's answer has the status ${answer.status}.`);
+    keep();
+    if (answer.headers.get('Content-Type') !== 'application/json') return got;
+    const value = JSON.parse(new TextDecoder().decode(got));
+    if (value.refused) throw new Refused(value.refused);
+    return value;
+  }
+}
