@@ -30,7 +30,7 @@ for (const name of names) {
   });
 
   test(`${name}: copies have the fates of the report`, async () => {
-    const run = await runOf(name), words = {received: [0, 1, 2, 8], full: [3], collided: [4], lost: [5], halted: [6],
+    const run = await runOf(name), words = {received: [0, 1, 2, 8], overflowed: [3], collided: [4], lost: [5], halted: [6],
       left: [7]};
     assert.equal(run.copyFate.length, given.runs[name].outcomes.length);
     given.runs[name].outcomes.forEach((what, c) => assert.ok(words[what].includes(run.copyFate[c]), `copy ${c}`));

@@ -70,7 +70,7 @@ test('the state of a mote is what its lines have said so far', async () => {
 
 test('intervals have the values of tools/summary --by', async () => {
   const {name, by, rows} = given.series, run = await runOf(name), its = seriesOf(run, by);
-  for (const column of ['sent', 'received', 'lost', 'ring', 'collided', 'halted', 'late', 'queue']) {
+  for (const column of ['sent', 'received', 'lost', 'overflowed', 'collided', 'halted', 'left', 'queue']) {
     assert.deepEqual(Array.from(its[column]), rows.map(row => row[column]), column);
   }
   assert.equal(intervalOf({end: 59}), 1);

@@ -16,16 +16,16 @@ export function intervalOf(run) {
 /** The columns of a run's intervals of `by` moments, as tools/summary --by has them. */
 export function seriesOf(run, by) {
   const parts = Math.floor(run.end / by) + 1, column = () => new Float64Array(parts);
-  const its = {by, parts, sent: column(), received: column(), lost: column(), ring: column(), collided: column(),
-    halted: column(), late: column(), queue: column(), way: column(), wait: column(), taken: column()};
+  const its = {by, parts, sent: column(), received: column(), lost: column(), overflowed: column(), collided: column(),
+    halted: column(), left: column(), queue: column(), way: column(), wait: column(), taken: column()};
   for (let k = 0; k < run.packets; k++) {
     const sent = Math.floor(run.packetAt[k] / by);
     its.sent[sent]++;
     for (let c = run.copyStart[k]; c < run.copyStart[k + 1]; c++) {
       const fate = run.copyFate[c], came = Math.floor((run.packetAt[k] + run.copyAfter[c]) / by);
       if (fate === MEDIUM) its.lost[sent]++;
-      else if (fate === LEFT) its.late[sent]++;
-      else if (fate === RING) its.ring[came]++;
+      else if (fate === LEFT) its.left[sent]++;
+      else if (fate === RING) its.overflowed[came]++;
       else if (fate === COLLIDED) its.collided[came]++;
       else if (fate === GONE) its.halted[came]++;
       else {
@@ -35,7 +35,7 @@ export function seriesOf(run, by) {
     }
   }
   for (let m = 0; m < run.begins.length; m++) followQueue(run, m, its);
-  its.failed = its.lost.map((lost, i) => lost + its.ring[i] + its.collided[i] + its.halted[i]);
+  its.failed = its.lost.map((lost, i) => lost + its.overflowed[i] + its.collided[i] + its.halted[i]);
   its.delay = its.way.map((way, i) => its.received[i] ? way / its.received[i] : 0);
   its.waited = its.wait.map((wait, i) => its.taken[i] ? wait / its.taken[i] : 0);
   return its;
