@@ -13,21 +13,24 @@ use radio_faults::Fault;
 use std::alloc::{AllocError, Global};
 use std::thread::Threads;
 use survey::{Limits, Survey};
-use survey_workers::survey_in_threads;
+use survey_workers::{Progress, survey_in_threads};
 
-/// Finds the minimal sets of these faults with which a claim about the report doesn't hold, within the limits. The
-/// runs are made in threads, which the function joins, so it may wait.
+/// Finds the minimal sets of these faults with which a claim about the report doesn't hold, within the limits. So
+/// many workers, each with a thread of its own, share the runs. The function joins the threads, so it may wait.
 ///
 /// # Errors
-/// `AllocError` if an allocation fails or a thread can't be started.
-pub fn survey_reports<R: Threads + Sync, N: FaultyRun + Sync, J: Judge + Sync>(
+/// `AllocError` if an allocation fails.
+pub fn survey_reports<R: Threads + Sync, N: FaultyRun + Sync, J: Judge + Sync, P: Progress + Sync>(
     rt: &R,
     alloc: Global,
     net: &N,
     judge: &J,
     candidates: &[Fault],
+    workers: u16,
     limits: Limits,
+    progress: &P,
 ) -> Result<Survey, AllocError>
+    requires workers { 0 < workers }
     requires at_a_time { 0 < limits.at_a_time }
     requires few { length candidates.now < 2 ^ 16 }
     // With each covered set of faults each claim holds, or a listed set within it breaks the claim.
@@ -56,5 +59,5 @@ pub fn survey_reports<R: Threads + Sync, N: FaultyRun + Sync, J: Judge + Sync>(
         judge,
         candidates,
     };
-    survey_in_threads(rt, alloc, &trial, limits)
+    survey_in_threads(rt, alloc, &trial, workers, limits, progress)
 }

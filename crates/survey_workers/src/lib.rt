@@ -1,33 +1,38 @@
 //! Surveys whose runs are made in threads.
 #![tactic(auto)]
 
+mod progress;
+
 ghost use Rattle.std.specs.Prelude.{◌≡◌, ℕ, ◌<◌, ◌≤◌, length, List, IfOk};
 ghost use Rattle.std.specs.List.{All};
 ghost use Rattle.std.specs.Option.{IfSome};
-ghost use Rattle.std.specs.Result.{IsOkAnd};
 ghost use Rattle.std.specs.Thread.{IsSync};
 ghost use Rattle.fault_sets.specs.FaultSet.{IsSet};
 ghost use Rattle.survey.specs.Answers.{AreAnswersOf};
 ghost use Rattle.survey.specs.Breaks.{breaks_of, IsCovered, IsComplete, IsSound, IsMinimal, IsListedOnce, IsCount};
-ghost use Rattle.survey_workers.specs.Answer.{IsAnswerFor};
+ghost use Rattle.survey_workers.specs.Joins.{Joins};
 
+pub use progress::{NoProgress, Progress};
 use std::alloc::{AllocError, Global};
 use std::thread;
 use std::thread::Threads;
-use survey::{Limits, Survey, Trial, survey_with};
+use survey::{Limits, Survey, Trial, survey_with, try_in_turn};
 
-/// Finds the minimal sets of faults that break claims, within the limits. Runs are made at the same time, each in a
-/// thread of its own; no clause speaks of threads. The function joins its threads, so it may wait.
+/// Finds the minimal sets of faults that break claims, within the limits. So many workers, each with a thread of its
+/// own, share the runs of a batch; no clause speaks of threads. The function joins the threads, so it may wait.
 ///
 /// # Errors
-/// `AllocError` if an allocation fails or a thread can't be started.
-pub fn survey_in_threads<R: Threads + Sync, T: Trial + Sync>(
+/// `AllocError` if an allocation fails.
+pub fn survey_in_threads<R: Threads + Sync, T: Trial + Sync, P: Progress>(
     rt: &R,
     alloc: Global,
     trial: &T,
+    workers: u16,
     limits: Limits,
+    progress: &P,
 ) -> Result<Survey, AllocError>
-    requires { 0 < limits.at_a_time }
+    requires workers { 0 < workers }
+    requires at_a_time { 0 < limits.at_a_time }
     ensures complete { IfOk result (λ s. IsComplete (T.candidate_count trial.now) (IsCovered limits.faults s.stopped_at)
         (T.holds trial.now) (T.claim_count trial.now) (breaks_of s.broken.items)) }
     ensures sound { IfOk result (λ s. IsSound (T.candidate_count trial.now) limits.faults (T.holds trial.now)
@@ -47,15 +52,20 @@ pub fn survey_in_threads<R: Threads + Sync, T: Trial + Sync>(
         trial,
         limits,
         &|sets: &[Vec<u16>]| -> Result<Vec<Vec<bool>>, AllocError>
-            requires { IsSync R.row × IsSync T.row × All
+            requires { IsSync R.row × IsSync T.row × (0 < workers) × All
                 (λ set. IsSet (T.candidate_count trial.now) set.items) sets.now }
             ensures { IfOk result (λ v. AreAnswersOf (T.holds trial.entry.now)
                 (T.claim_count trial.entry.now) sets.entry.now v.items) }
-        { try_in_threads(rt, alloc, trial, sets) },
+        {
+            if let Some(next) = sets.first() {
+                progress.tell(next);
+            }
+            try_in_threads(rt, alloc, trial, workers, sets)
+        },
     )
 }
 
-/// Runs with each of the sets, each in a thread of its own.
+/// Runs with each of the sets. Each worker has a part of them, and a thread of its own.
 ///
 /// # Errors
 /// `AllocError` if an allocation fails.
@@ -63,47 +73,41 @@ fn try_in_threads<R: Threads + Sync, T: Trial + Sync>(
     rt: &R,
     alloc: Global,
     trial: &T,
+    workers: u16,
     sets: &[Vec<u16>],
 ) -> Result<Vec<Vec<bool>>, AllocError>
-    requires { All (λ set. IsSet (T.candidate_count trial.now) set.items) sets.now }
-    ensures { IfOk result (λ v. AreAnswersOf (T.holds trial.now) (T.claim_count trial.now) sets.now v.items) }
+    requires workers { 0 < workers }
+    requires sets { All (λ set. IsSet (T.candidate_count trial.now) set.items) sets.now }
+    ensures answers { IfOk result (λ v. AreAnswersOf (T.holds trial.now) (T.claim_count trial.now) sets.now v.items) }
 {
-    let results = thread::map_indices(
+    let size = sets.len() / usize::from(workers) + 1;
+    let parts = thread::map_chunks(
         rt,
         alloc,
-        sets.len(),
-        &|at: usize| -> Result<Vec<bool>, AllocError>
-            requires { (at < length sets.now) × All (λ set. IsSet (T.candidate_count trial.now) set.items) sets.now }
-            ensures { IsAnswerFor (T.holds trial.entry.now) (T.claim_count trial.entry.now) sets.entry.now at result }
-        { try_one(alloc, trial, sets, at) },
+        sets,
+        size,
+        &|_start: usize, part: &[Vec<u16>]| -> Result<Vec<Vec<bool>>, AllocError>
+            requires { All (λ set. IsSet (T.candidate_count trial.now) set.items) part.now }
+            ensures { IfOk result (λ v. AreAnswersOf (T.holds trial.entry.now)
+                (T.claim_count trial.entry.now) part.entry.now v.items) }
+        { try_in_turn(alloc, trial, part) },
     )?;
+    joined(alloc, parts)
+}
+
+/// The answers of all workers, in order.
+///
+/// # Errors
+/// `AllocError` if a worker returned it, or an allocation fails.
+fn joined(
+    alloc: Global,
+    parts: Vec<Result<Vec<Vec<bool>>, AllocError>>,
+) -> Result<Vec<Vec<bool>>, AllocError>
+    ensures joins { IfOk result (λ all. Joins parts.items all.items) }
+{
     let mut answers = Vec::new(alloc);
-    for result in &results {
-        answers.push(answer_of(result)?)?;
+    for part in parts {
+        answers.append(&mut part?)?;
     }
     Ok(answers)
-}
-
-/// The answer of a thread.
-fn answer_of(given: &Result<Vec<bool>, AllocError>) -> Result<Vec<bool>, AllocError>
-    ensures { IfOk result (λ a. IsOkAnd given.now (λ b. a.items ≡ b.items)) }
-{
-    match given {
-        Ok(answer) => answer.clone(),
-        Err(_) => Err(AllocError),
-    }
-}
-
-/// Runs with the set at this index.
-fn try_one<T: Trial>(
-    alloc: Global,
-    trial: &T,
-    sets: &[Vec<u16>],
-    at: usize,
-) -> Result<Vec<bool>, AllocError>
-    requires at { at < length sets.now }
-    requires sets { All (λ set. IsSet (T.candidate_count trial.now) set.items) sets.now }
-    ensures { IsAnswerFor (T.holds trial.now) (T.claim_count trial.now) sets.now at result }
-{
-    trial.try_set(alloc, &sets[at])
 }

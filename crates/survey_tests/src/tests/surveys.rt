@@ -3,7 +3,7 @@
 use crate::Case;
 use std::test::Fail;
 use survey::{Limits, Survey, survey};
-use survey_workers::survey_in_threads;
+use survey_workers::{NoProgress, survey_in_threads};
 use test_helpers::same_text;
 
 /// The limits of a survey of at most two faults.
@@ -33,7 +33,7 @@ fn both_breaks_are_found_by_threads(rt: HostRuntime) -> Result<(), Fail> {
     let mut text = String::new(rt.alloc());
     write_found(
         &mut text,
-        &survey_in_threads(&rt, rt.alloc(), &Case, PAIRS)?,
+        &survey_in_threads(&rt, rt.alloc(), &Case, 2, PAIRS, &NoProgress)?,
     );
     same_text(text.as_str(), "[1] 0|[0, 2] 0|5 None")
 }
