@@ -109,11 +109,11 @@ class PageWhy:
 
     def fate(self, mote: Mote, sent: Line, arrival: int | None) -> str:
         if arrival is None or arrival > self.run.end:
-            return 'lost' if arrival is None else 'late'
+            return 'lost' if arrival is None else 'left'
         line = next((it for it in mote.lines if it.cause is sent and it.how in ('arrived', 'overflow', 'collided')),
                     None)
         if line is None or line.how != 'arrived':
-            return 'halted' if line is None else 'ring' if line.how == 'overflow' else 'collided'
+            return 'halted' if line is None else 'overflowed' if line.how == 'overflow' else 'collided'
         handed = next((it for it in mote.lines if it.cause is line), None)
         if handed is None or handed.words.split(' ')[0] != 'post':
             return 'halted' if handed is None else handed.words.split(' ')[0]

@@ -38,12 +38,12 @@ class Mote:
 class Outcome(NamedTuple):
     """The outcome of a copy. `what` is one of
 
-    lost      the medium lost it
-    received  the mote received it: it has a line `recv`
-    full      eight packets were waiting already: a line `lost`
-    collided  it met others: a line `collide`
-    halted    it arrived at a mote that had halted: no line
-    left      it would have arrived after the end: no line
+    lost        the medium lost it
+    received    the mote received it: it has a line `recv`
+    overflowed  eight packets were waiting already: a line `lost`
+    collided    it met others: a line `collide`
+    halted      it arrived at a mote that had halted: no line
+    left        it would have arrived after the end: no line
     """
     packet: Packet
     copy: Copy

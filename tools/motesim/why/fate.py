@@ -11,7 +11,8 @@ from motesim.why.source import At, Source
 class Fate(NamedTuple):
     """The fate of a copy.
 
-    how    taken, dropped, waiting (in the queue at the end), full, deaf, ring, collided, lost, halted, late, unheard
+    how    taken, dropped, waiting (in the queue at the end), full, deaf, overflowed, collided, lost, halted, left,
+           unheard
     words  the fate in words
     at     the moment at which the fate was decided
     where  the line of a trace that shows the fate; None if no line shows it
@@ -102,7 +103,7 @@ def fate_of(source: Source, row: int, words: list[str], to: int) -> Fate:
 def of_arrival(source: Source, sender: int, number: int, to: int, at: int, row: int) -> Fate:
     """The fate of a copy that the medium carried."""
     if at > source.scenario.end:
-        return Fate('late', 'it would arrive at %d, after the end' % at, at, None, row)
+        return Fate('left', 'it would arrive at %d, after the end' % at, at, None, row)
     lines = source.traces.lines(to)
     place = source.traces.arrivals(to).get((sender, number))
     if place is None:
@@ -114,4 +115,4 @@ def of_arrival(source: Source, sender: int, number: int, to: int, at: int, row: 
         return after_recv(source, where)
     words = 'it arrived at %d, when %d packets were waiting' % (at, RING) if kind == 'lost' else (
         'it collided at %d with %s' % (at, others(source, where)))
-    return Fate('ring' if kind == 'lost' else 'collided', words, at, where, source.traces.row(where))
+    return Fate('overflowed' if kind == 'lost' else 'collided', words, at, where, source.traces.row(where))

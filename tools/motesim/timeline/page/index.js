@@ -4,10 +4,10 @@
 import {BUSY, COLLIDE, DEAF, DROP, FULL, HALT, KINDS, LOST, POST, PRINT, RECV, SEND, START, TAKE} from './data.js';
 
 /** The fates of a copy. */
-const FATES = ['handed', 'full', 'deaf', 'ring', 'collided', 'lost', 'gone', 'left', 'received'];
+const FATES = ['handed', 'full', 'deaf', 'overflowed', 'collided', 'lost', 'gone', 'left', 'received'];
 export const [HANDED, REFUSED, UNHEARD, RING, COLLIDED, MEDIUM, GONE, LEFT, RECEIVED] = FATES.keys();
 export const FATE_WORDS = ['received and handed on', 'received, but the event queue was full',
-  'received, but the program has no receiver', 'lost: eight packets were waiting already', 'collided with others',
+  'received, but the program has no receiver', 'overflowed: eight packets were waiting already', 'collided with others',
   'lost on the way', 'arrived at a mote that had halted', 'would arrive after the end', 'received, but not handed on'];
 
 /** Classes of lines in the overview, the most notable last. */
