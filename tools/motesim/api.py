@@ -89,7 +89,7 @@ def expect(found: Run, sentences: Sequence[str] | str) -> list[Kept]:
     texts = [sentences] if isinstance(sentences, str) else list(sentences)
     judge = Judge(found.report, found.scenario)
     broken = [judge.broken(it) for it in read_all(texts, names_of(found.scenario))]
-    return [Kept(text, it is None, it.why if it else '', it.row if it else None) for text, it in zip(texts, broken)]
+    return [Kept(text, it is None, it.words if it else '', it.row if it else None) for text, it in zip(texts, broken)]
 
 
 def compare(one: Run, other: Run) -> Comparison:

@@ -455,19 +455,21 @@ class Fields(unittest.TestCase):
         self.assertEqual(read_fields({'none': '1 / (value - value)'})[0].of(7), 0)
         self.assertEqual(of_line((origin, seq), 'print p 1031'), ' (origin 1, seq 7)')
         self.assertEqual((of_line((origin, seq), 'take 1 p'), of_line((), 'send 1 9')), ('', ''))
-        for wrong in ({'Origin': 'value'}, {'a': 'value +'}, {'a': 'other'}, {'a': 3}, {'a': 'value ** 2'},
-                      {'a': '99999'}, {'a': "__import__('os')"}):
+        wrongs: list[dict[str, object]] = [{'Origin': 'value'}, {'a': 'value +'}, {'a': 'other'}, {'a': 3},
+                                           {'a': 'value ** 2'}, {'a': '99999'}, {'a': "__import__('os')"}]
+        for wrong in wrongs:
             with self.assertRaisesRegex(Fault, 'is not a formula'):
                 read_fields(wrong)
 
     def test_sentences_with_fields(self) -> None:
         names = Names(('p',), 4, fields=read_fields(self.FIELDS))
-        one, other = (read_sentence('mote 0 prints p %s' % it, names) for it in ('with origin 1, seq 7', '1031'))
-        self.assertIsInstance(one, Does)
-        self.assertEqual(one.deed.patterns[0][2], Value('any', values=frozenset([1031])))
-        self.assertEqual(other.deed.patterns[0][2], Value('number', 1031))
-        every = read_sentence('every mote sends with seq 7 at least 2 times by 9', names)
-        self.assertEqual(every.deed.patterns[0][2].values, frozenset(range(7, 65536, 1024)))
+        for words, value in (('mote 0 prints p with origin 1, seq 7', Value('any', values=frozenset([1031]))),
+                             ('mote 0 prints p 1031', Value('number', 1031)),
+                             ('every mote sends with seq 7 at least 2 times by 9',
+                              Value('any', values=frozenset(range(7, 65536, 1024))))):
+            read = read_sentence(words, names)
+            assert isinstance(read, Does)
+            self.assertEqual(read.deed.patterns[0][2], value)
         for wrong in 'mote 0 prints p with sek 7', 'mote 0 prints p with seq', 'mote 0 prints p with':
             with self.assertRaises(SentenceFault):
                 read_sentence(wrong, names)

@@ -19,7 +19,7 @@ def imports(path: Path) -> Iterator[tuple[str, bool]]:
     inner = {id(it) for part in ast.walk(tree) if isinstance(part, ast.FunctionDef) for it in ast.walk(part)}
     for it in ast.walk(tree):
         if isinstance(it, ast.ImportFrom) and (it.module or '').partition('.')[0] == 'motesim':
-            for name in [it.module.split('.')[1]] if it.module != 'motesim' else [part.name for part in it.names]:
+            for name in [str(it.module).split('.')[1]] if it.module != 'motesim' else [part.name for part in it.names]:
                 yield name, id(it) in inner
 
 

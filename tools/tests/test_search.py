@@ -806,6 +806,24 @@ program = "flood.mote"
             self.assertIn('found.csv; make the scenario of the plan by `tools/scenario net.plan.toml -o NAME.toml`; '
                           'then `tools/studio FILE --against NAME.toml` shows both\n', said)
 
+    def test_a_search_is_repeated_for_each_value_of_a_parameter(self) -> None:
+        plan = ('end = 100\n[medium]\nrange = 10\nbase = 2\nper = 1000\n[parameters]\nseed = 1\n[places]\nrule = "line"\n'
+                'count = 3\nstep = 10\nprogram = "flood.mote"\n')
+        with tempfile.TemporaryDirectory() as room:
+            folder = Path(room)
+            (folder / 'net.plan.toml').write_text(plan)
+            # (with the seed 2 no packet is sent on, so that mote 1 isn't needed for what mote 2 prints)
+            (folder / 'flood.mote').write_text(PROGRAM.replace('set t 10;', 'set t (10 * ${seed});'))
+            words = ['--expect', 'mote 2 prints flood 7 by 24', '--expect', 'mote 0 sends', '--faults', 'links']
+            status, said, seen = search(folder, *words, '--repeat', 'seed=1,2,3', scenario='net.plan.toml')
+            self.assertEqual(status, 1, seen)
+            self.assertIn('seed = 1: 1 of 2 expectations hold in every run, 1 is broken; 4 runs\n', said)
+            self.assertIn('seed = 3: 1 of 1 expectations hold in every run; 4 runs\n', said)
+            self.assertIn('broken with these values of seed, out of 3:\n  2  link 0 to 1 loses everything  (1, 2)\n', said)
+            self.assertTrue((folder / 'net.search/seed_1/net_lose_0_1_1.toml').exists())
+            for given, wanted in (('size=3', 'has no parameter size'), ('seed', '--repeat is for a parameter of a plan')):
+                self.assertIn(wanted, search(folder, *words, '--repeat', given, scenario='net.plan.toml')[2])
+
     def test_a_value_of_a_parameter_with_which_a_number_is_too_great_has_a_remark(self) -> None:
         plan = ('end = 100\n[medium]\nrange = 10\nbase = 2\nper = 1000\n[parameters]\nperiod = 400\n[places]\n'
                 'rule = "line"\ncount = 2\nstep = 10\nprogram = "flood.mote"\n')

@@ -56,6 +56,9 @@ def arguments() -> argparse.ArgumentParser:
     words.add_argument('--queues', default='8,4,2,1', metavar='NUMBERS', help='for `queues`: the lengths')
     words.add_argument('--set', action='append', default=[], metavar='NAME=VALUES',
                        help='for `values` and `parameters`: the other values')
+    words.add_argument('--repeat', metavar='NAME=VALUES',
+                       help='of a plan: search once for each of these values of a parameter, such as seed=1..5, and show '
+                            'with how many of them each set breaks an expectation')
     words.add_argument('--step', type=int, default=0, metavar='N',
                        help='for `places`: the distance by which a mote is moved (a quarter of the range)')
     words.add_argument('--random', type=int, default=0, metavar='N',

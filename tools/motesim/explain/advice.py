@@ -57,7 +57,7 @@ def _attempts(source: str, fault: ProgramError) -> Iterator[Correction]:
     if fault.kind == BAD_TOKEN:
         yield from _small_letters(source, fault.token)
     if fault.kind == UNEXPECTED:
-        yield from _signs(source, tokens, at, fault.may)
+        yield from _signs(source, tokens, at, fault)
     if fault.kind in (UNEXPECTED, UNKNOWN, BAD_TARGET):
         yield from _nearest(source, fault)
     if fault.kind == UNKNOWN:
@@ -83,10 +83,10 @@ def _small_letters(source: str, token: Token) -> Iterator[Correction]:
         yield Correction('Names have small letters: `%s`.' % small, (replaced(source, token.line, begin, end, small),))
 
 
-def _signs(source: str, tokens: list[Token], at: int, may: list[str]) -> Iterator[Correction]:
+def _signs(source: str, tokens: list[Token], at: int, fault: ProgramError) -> Iterator[Correction]:
     """Another sign instead of the wrong one, a sign before it, or the text without it; and parentheses."""
     here, last = tokens[at], tokens[max(at - 1, 0)]
-    whole = written(tokens, at) if here.text in OPERATORS and '`%s`' % here.text not in may else None
+    whole = written(tokens, at) if here.text in OPERATORS and not fault.allows(here.text) else None
     if whole:
         first, last_of = (tokens[it] for it in span(tokens, at))
         edits = (replaced(source, here.line, first.column, last_of.column + len(last_of.text), whole),)
@@ -100,11 +100,11 @@ def _signs(source: str, tokens: list[Token], at: int, may: list[str]) -> Iterato
             replaced(source, here.line, opened.column, here.column + 1, blank + last.text),))
     end = last.column + len(last.text)
     for sign in SIGNS:
-        if '`%s`' % sign in may and at:
+        if fault.allows(sign) and at:
             yield Correction('`%s` is missing behind `%s`.' % (sign, last.text), (
                 replaced(source, last.line, end, end, ' {' if sign == '{' else sign),))
     for sign in ('=', '=='):
-        if '`%s`' % sign in may and here.text in ('=', '=='):
+        if fault.allows(sign) and here.text in ('=', '=='):
             yield Correction('`=` assigns, and `==` compares.', (
                 replaced(source, here.line, here.column, here.column + len(here.text), sign),))
     if here.text in (*SIGNS, ','):
@@ -115,8 +115,7 @@ def _signs(source: str, tokens: list[Token], at: int, may: list[str]) -> Iterato
 def _nearest(source: str, fault: ProgramError) -> Iterator[Correction]:
     """The allowed word that is most similar to the one that is there."""
     word, token = fault.token.text, fault.token
-    known = [name for it in fault.may for name in (
-        it.partition(' (')[2].rstrip(')').split(', ') if ' (' in it else [it.strip('`')] if it[0] == '`' else [])]
+    known = [name for it in fault.may for name in it.names]
     names = [it for it in known if it.isidentifier()]
     like = (MEANT[word] if MEANT.get(word) in names else nearest(word, names)) if word else None
     if like:
@@ -126,7 +125,7 @@ def _nearest(source: str, fault: ProgramError) -> Iterator[Correction]:
 
 def _declarations(source: str, tokens: list[Token], at: int, fault: ProgramError) -> Iterator[Correction]:
     """The declaration of an unknown name: at the head of its code, or above the processes."""
-    name, kinds = fault.token.text, [it.partition(' (')[0] for it in fault.may]
+    name, kinds = fault.token.text, [it.kind for it in fault.may]
     code = max((place for place in range(at) if tokens[place].text == 'code'), default=-1)
     first = next((it.line for it in tokens if it.text == 'process'), 1)
     for kind, form in ABOVE.items():
@@ -134,7 +133,7 @@ def _declarations(source: str, tokens: list[Token], at: int, fault: ProgramError
             yield Correction('No %s has this name. Declare it above the processes.' % kind.split()[1], (
                 Edit(first, first - 1, (form % name,)),))
     # (a word at the beginning of a statement is a variable if an assignment follows)
-    is_used = '`print`' not in fault.may or tokens[at + 1].text == '='
+    is_used = not fault.allows('print') or tokens[at + 1].text == '='
     for kind, form in AT_HEAD.items() if code >= 0 and is_used else ():
         if kind in kinds:
             below = code + 2

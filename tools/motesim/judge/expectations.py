@@ -171,7 +171,7 @@ def read_all(sentences: list[str], names: Names) -> list[Sentence]:
 
 def more_of(broken: Broken, rows: Sequence[str], fields: Sequence[Field] = ()) -> list[str]:
     """The lines that are shown for a broken sentence, with the fields of their values."""
-    why = broken.why.split('\n')
+    why = broken.words.split('\n')
     if broken.row is None:
         return why
     row = rows[broken.row - 1]

@@ -46,11 +46,18 @@ class Broken(NamedTuple):
     row    the first row of the report that shows it, from 1, or None
     lacks  the motes that have too few lines, if lines are missing
     kind   the kind of the reason: number, value, more, list, last, than, order, apart, motes, copies, medium, hears
+    shows  what the row is, if it doesn't break the sentence by itself, such as `the next is`
     """
     why: str
     row: int | None = None
     lacks: Lack | None = None
     kind: str = 'number'
+    shows: str = ''
+
+    @property
+    def words(self) -> str:
+        """The reason, as it stands above the row."""
+        return '; '.join(filter(None, [self.why, self.shows]))
 
 
 class Event(NamedTuple):
@@ -188,7 +195,7 @@ class Judge:
             return Broken(why, spare)
         later = [event for event in events if event.line.at > span[0] and not within(event.line.at, span)]
         lacks = Lack(motes, span, len(inside), count.least)
-        return Broken(why + '; the next is', later[0].row, lacks) if later else Broken(why, lacks=lacks)
+        return Broken(why, later[0].row, lacks, shows='the next is') if later else Broken(why, lacks=lacks)
 
     def listed(self, deed: Deed, mote: int) -> list[Set[int]]:
         """The wanted values of all lines, in the order of the lines: for each line, the numbers that its value may
@@ -254,7 +261,7 @@ class Judge:
         most = it.count.number * len(two) // (100 if it.count.is_part else 1)
         if len(one) > most or one and it.count.compare == 'fewer than':
             return Broken(why, one[min(most, len(one) - 1)].row, kind='than')
-        return Broken(why + '; the last such line is', one[-1].row, kind='than') if one else Broken(
+        return Broken(why, one[-1].row, kind='than', shows='the last such line is') if one else Broken(
             why, lacks=Lack(motes, span, 0, max(most, 1)), kind='than')
 
     def related(self, it: Does, lines: list[Event], others: list[Event], motes: tuple[int, ...], span: Span
@@ -392,7 +399,7 @@ class Judge:
             (doing, 'does'), ([mote for mote, _ in others], "doesn't")) if motes]
         first = others[0][1]
         return Broken('%s\n%s; the first that doesn\'t is\n%s' % (why, '; '.join(which), first.why), first.row,
-                      first.lacks, 'motes')
+                      first.lacks, 'motes', first.shows)
 
     def part_of_copies(self, it: Copies) -> Broken | None:
         """Checks which share of the copies that were due has an outcome."""

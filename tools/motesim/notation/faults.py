@@ -6,6 +6,7 @@ None; `motesim` reports the same kind and line.
 from __future__ import annotations
 
 import re
+from collections.abc import Iterable
 from dataclasses import dataclass, field
 
 from motesim.notation.grammar import ANY, CAST, SENT, SIGNS, VALUES
@@ -74,12 +75,33 @@ class Token:
         return 'sign' if text in SIGNS else 'bad'
 
 
+class Allowed(str):
+    """What may stand at the place of a fault, as messages show it. `kind` is `word`, the kind of a name such as `a
+    timer`, or empty; `names` has the word, or the known names."""
+    kind: str
+    names: tuple[str, ...]
+
+    def __new__(cls, shown: str, kind: str = '', names: Iterable[str] = ()) -> Allowed:
+        made = super().__new__(cls, shown)
+        made.kind, made.names = kind, tuple(names)
+        return made
+
+
+def words_of(words: Iterable[str]) -> list[Allowed]:
+    """Words that are allowed as they are."""
+    return [Allowed('`%s`' % it, 'word', (it,)) for it in words]
+
+
 @dataclass
 class ProgramError(Exception):
     """The first fault of a program text: its kind, the token that is not allowed, and the allowed ones."""
     kind: int
     token: Token
-    may: list[str] = field(default_factory=list)
+    may: list[Allowed] = field(default_factory=list)
+
+    def allows(self, word: str) -> bool:
+        """Returns whether a word may stand at the place of the fault."""
+        return any(it.kind == 'word' and word in it.names for it in self.may)
 
 
 def tokens_of(text: str) -> list[Token]:
@@ -105,7 +127,7 @@ class _Reader:
 
     def __init__(self, text: str):
         self.tokens, self.at = tokens_of(text), 0
-        self.wanted: list[str] = []
+        self.wanted: list[Allowed] = []
         self.names: dict[str, str] = {}
         self.counts: dict[str, int] = {}
         self.processes: list[str] = []
@@ -117,14 +139,15 @@ class _Reader:
     def token(self) -> Token:
         return self.tokens[self.at]
 
-    def fault(self, kind: int, may: list[str]) -> ProgramError:
+    def fault(self, kind: int, *may: str) -> ProgramError:
         """The fault of the next token, of this kind unless it is not a token at all."""
+        its = [it if isinstance(it, Allowed) else Allowed(it) for it in may]
         if self.token.kind == 'bad':
-            return ProgramError(1, self.token, list(dict.fromkeys(self.wanted + may)))
-        return ProgramError(kind, self.token, may)
+            return ProgramError(1, self.token, list(dict.fromkeys(self.wanted + its)))
+        return ProgramError(kind, self.token, its)
 
     def unexpected(self) -> ProgramError:
-        return self.fault(2, list(dict.fromkeys(self.wanted)))
+        return self.fault(2, *dict.fromkeys(self.wanted))
 
     def step(self) -> str:
         """Consumes the next token."""
@@ -135,7 +158,7 @@ class _Reader:
         """Consumes and returns the next token if it is one of these words; otherwise returns an empty text."""
         if self.token.text in words and self.token.kind != 'end':
             return self.step()
-        self.wanted += ['`%s`' % word for word in words]
+        self.wanted += words_of(words)
         return ''
 
     def need(self, *words: str) -> str:
@@ -147,18 +170,18 @@ class _Reader:
     def is_name(self, what: str) -> bool:
         if self.token.kind == 'name':
             return True
-        self.wanted.append(what)
+        self.wanted.append(Allowed(what))
         return False
 
     def number(self) -> None:
         if self.token.kind != 'number':
-            self.wanted.append('a number, 0 to 65,535')
+            self.wanted.append(Allowed('a number, 0 to 65,535'))
             raise self.unexpected()
         self.checked_number()
 
     def checked_number(self) -> None:
         if len(self.token.text) > 5 or int(self.token.text) > MOST_NUMBER:
-            raise self.fault(5, ['a number, 0 to 65,535'])
+            raise self.fault(5, 'a number, 0 to 65,535')
         self.step()
 
     def declare(self, kind: str) -> str:
@@ -166,17 +189,18 @@ class _Reader:
         if not self.is_name('a new name'):
             raise self.unexpected()
         if self.token.text in self.names:
-            raise self.fault(4, ['a name that is not declared yet'])
+            raise self.fault(4, 'a name that is not declared yet')
         count = self.counts[kind] = self.counts.get(kind, 0) + 1
         if count > MOST[kind]:
-            raise self.fault(8, ['at most %d: %s' % (MOST[kind], COUNTED[kind])])
+            raise self.fault(8, 'at most %d: %s' % (MOST[kind], COUNTED[kind]))
         self.names[self.token.text] = kind
         return self.step()
 
-    def known(self, kind: str) -> list[str]:
+    def known(self, kind: str) -> list[Allowed]:
         """The names of a kind, as the allowed words."""
         found = [name for name, its in self.names.items() if its == kind and name != self.own_thread]
-        return ['%s %s (%s)' % (ARTICLES[kind], kind, ', '.join(found) if found else 'none is declared here')]
+        what = '%s %s' % (ARTICLES[kind], kind)
+        return [Allowed('%s (%s)' % (what, ', '.join(found) if found else 'none is declared here'), what, found)]
 
     def target(self, kind: str) -> str:
         """Reads a known name of this kind."""
@@ -188,12 +212,12 @@ class _Reader:
     def checked_target(self, kind: str) -> str:
         its = self.names.get(self.token.text)
         if its is None:
-            raise self.fault(3, self.known(kind) + self.other_words())
+            raise self.fault(3, *self.known(kind), *self.other_words())
         if its != kind or self.token.text == self.own_thread:
-            raise self.fault(10, self.known(kind) + self.other_words())
+            raise self.fault(10, *self.known(kind), *self.other_words())
         return self.step()
 
-    def other_words(self) -> list[str]:
+    def other_words(self) -> list[Allowed]:
         """The words that are allowed here besides a name."""
         return list(dict.fromkeys(self.wanted))
 
@@ -207,7 +231,7 @@ class _Reader:
             self.number()
             self.need(';')
         if self.token.kind == 'end':
-            raise self.fault(9, ['`process` and the names of the processes'] + list(dict.fromkeys(self.wanted)))
+            raise self.fault(9, '`process` and the names of the processes', *dict.fromkeys(self.wanted))
         self.need('process')
         self.processes.append(self.declare('process'))
         while self.need(',', ';') == ',':
@@ -221,7 +245,7 @@ class _Reader:
             self.need('code')
             self.code(process)
         if self.token.kind != 'end':
-            self.wanted.append('the end of the text: each process has its code')
+            self.wanted.append(Allowed('the end of the text: each process has its code'))
             raise self.unexpected()
 
     def autostart(self) -> None:
@@ -230,14 +254,15 @@ class _Reader:
             if self.token.text in started:
                 left = [name for name in self.processes if name not in started]
                 shown = ', '.join(left) or 'there is none'
-                raise self.fault(4, ['a process that is not named here yet (%s)' % shown])
+                raise self.fault(4, Allowed('a process that is not named here yet (%s)' % shown, '', left))
             started.add(self.target('process'))
             if self.need(',', ';') == ';':
                 return
 
     def code(self, process: str) -> None:
         if self.token.text != process:
-            self.wanted.append('`%s`: each process has one code, in the order of the `process` line' % process)
+            shown = '`%s`: each process has one code, in the order of the `process` line' % process
+            self.wanted.append(Allowed(shown))
             raise self.unexpected()
         self.step()
         outer = dict(self.names)
@@ -269,7 +294,7 @@ class _Reader:
     def open(self, *words: str) -> str:
         """Reads a token that opens a level of nesting."""
         if self.token.text in words and self.level == MOST_LEVELS:
-            raise self.fault(7, ['less: compute a part before, into a variable, or move it to a thread'])
+            raise self.fault(7, 'less: compute a part before, into a variable, or move it to a thread')
         found = self.need(*words)
         self.level += 1
         return found
@@ -286,17 +311,17 @@ class _Reader:
         """Consumes and returns the next token if it is one of these first words of statements; otherwise returns an
         empty text."""
         if self.token.text not in words or self.token.kind == 'end':
-            self.wanted += ['`%s`' % word for word in words if not (self.is_simple and word in WAITS)]
+            self.wanted += words_of(word for word in words if not (self.is_simple and word in WAITS))
             return ''
         if self.is_simple and self.token.text in WAITS:
             others = ', '.join('`%s`' % it for it in STATEMENTS if it not in WAITS)
-            raise self.fault(6, ['a statement that does not wait: ' + others])
+            raise self.fault(6, 'a statement that does not wait: ' + others)
         self.count_statement()
         return self.step()
 
     def count_statement(self) -> None:
         if self.statements == MOST_STATEMENTS:
-            raise self.fault(8, ['no more: a program has at most 4,096 statements'])
+            raise self.fault(8, 'no more: a program has at most 4,096 statements')
         self.statements += 1
 
     def statement(self) -> None:
@@ -362,7 +387,7 @@ class _Reader:
                 self.target(TESTS[word])
             self.need(')')
             return
-        self.wanted += ['a number', '`(`', '`!`']
+        self.wanted += [Allowed('a number'), *words_of('(!')]
         self.target('variable')
 
 

@@ -110,7 +110,7 @@ def changed_program(program: str, kind: str, moment: int) -> str:
         raise NoRoom("it has ''' in a comment, so it can't be copied into a literal string")
     fault = find_fault(program)
     if fault:
-        raise NoRoom('it leaves no room for one more process: %s' % '; '.join(fault.may[:1] or [str(fault.kind)]))
+        raise NoRoom('it leaves no room for one more process: %s' % fault.may[0] if fault.may else fault.kind)
     return program
 
 

@@ -12,7 +12,7 @@ from motesim.files import refuse_inputs
 from motesim.judge.expectations import beside, parts_of, read_all, text_of
 from motesim.judge.sentences import Names, Refused, Sentence, names_of
 from motesim.plan.plan import Plan
-from motesim.plan.tables import Value
+from motesim.plan.tables import Value, text_of_value
 from motesim.scenario.fields import Field
 from motesim.search.asking import Asking
 from motesim.search.change import NUMBERS, Base
@@ -108,9 +108,8 @@ def fields_of(words: argparse.Namespace) -> tuple[Field, ...]:
     return parts_of(text_of(path), str(path))[0].fields if path.is_file() else ()
 
 
-def asking_of(words: argparse.Namespace) -> Asking:
-    """Returns the request of the command line."""
-    base = base_of(Path(words.scenario))
+def asking_of(words: argparse.Namespace, base: Base) -> Asking:
+    """Returns the request of the command line for a scenario."""
     base.scenario_itself.fields = fields_of(words)
     texts, sentences = sentences_of(words, names_of(base.scenario_itself))
     bounds = Bounds(words.at_most, words.random, words.seed, words.most_runs, words.most_seconds)
@@ -165,17 +164,23 @@ def small_names(asking: Asking, found: list[Found]) -> list[str]:
     return ['small_%d.toml' % number for number, it in enumerate(asking.texts, 1) if it in broken]
 
 
-def last_line(search: Search, found: list[Found], folder: Path, base: Base) -> str:
-    """The last line: how many expectations hold."""
+def result_line(search: Search, found: list[Found]) -> str:
+    """How many expectations hold in the runs of a search."""
     wanted, holding = (bin(mask).count('1') for mask in (search.known.wanted, search.holding))
-    if not (search.runs or search.ended_by):
-        return ('no run was made, so nothing is known about %s: choose other kinds of faults with --faults'
-                % counted(wanted, 'expectation', 'expectations'))
     broken = len({sentence for it in found for sentence in it.sentences})
     which = 'every run' if is_whole(search) else 'every run that was made'
     said = '%d of %d expectations hold in %s' % (holding, wanted, which)
     said += ', %d %s broken' % (broken, 'is' if broken == 1 else 'are') if broken else ''
-    said += '; {:,} runs'.format(search.runs)
+    return said + '; {:,} runs'.format(search.runs)
+
+
+def last_line(search: Search, found: list[Found], folder: Path, base: Base) -> str:
+    """The last line: how many expectations hold."""
+    if not (search.runs or search.ended_by):
+        wanted = bin(search.known.wanted).count('1')
+        return ('no run was made, so nothing is known about %s: choose other kinds of faults with --faults'
+                % counted(wanted, 'expectation', 'expectations'))
+    said = result_line(search, found)
     if found:
         said += '\n%s in %s, with the table found.csv; ' % (
             counted(len(found), 'counter-example is', 'counter-examples are'), folder)
@@ -206,10 +211,19 @@ def status_of(words: argparse.Namespace) -> int:
         raise Fault('SCENARIO is missing: tools/search --help says more')
     if words.dask:
         packages.need('distributed')
-    asking = asking_of(words)
+    base = base_of(Path(words.scenario))
     folder = Path(words.output) if words.output else Path(
         Path(words.scenario).name.removesuffix('.toml').removesuffix('.plan') + '.search')
+    if words.repeat:
+        return repeated(words, base, folder)
+    asking = asking_of(words, base)
     refuse_all_inputs(words, asking, folder)
+    search = searched(words, asking, folder)
+    return show(words, asking, search, folder)
+
+
+def searched(words: argparse.Namespace, asking: Asking, folder: Path) -> Search:
+    """The search of a request, whose files are in a folder."""
     if len(asking.plain.broken) == len(asking.texts):
         raise Fault('%s breaks each of the expectations without a fault, so there is nothing to search for; tools/expect '
                     'shows why' % words.scenario)
@@ -220,4 +234,33 @@ def status_of(words: argparse.Namespace) -> int:
     with Break() as stop:
         search = asking.search(words.jobs, kept, progress.show, lambda: stop.is_asked, words.dask)
     progress.end(search)
-    return show(words, asking, search, folder)
+    return search
+
+
+def repeated(words: argparse.Namespace, base: Base, folder: Path) -> int:
+    """Searches once for each value of a plan's parameter, and shows with how many of them each set breaks an
+    expectation. Returns the status."""
+    name, _, text = words.repeat.partition('=')
+    if base.plan is None or not text:
+        raise Fault('--repeat is for a parameter of a plan: tools/search NAME.plan.toml --repeat seed=1..5')
+    if words.shrink or words.json or words.csv:
+        raise Fault('--repeat can\'t be combined with --shrink, --json or --csv')
+    base.plan.with_given({name: 0})
+    sets, values = dict[str, list[str]](), values_of(text)
+    for value in values:
+        shown = text_of_value(value)
+        asking = asking_of(words, base.with_parameters({name: value}))
+        here = folder / ('%s_%s' % (name, shown))
+        search = searched(words, asking, here)
+        found = found_by(search, asking.texts, asking.base)
+        write_files(found, asking.base, asking.texts, here)
+        print('%s = %s: %s' % (name, shown, result_line(search, found)))
+        for it in found:
+            sets.setdefault(it.words, []).append(shown)
+        if search.is_stopped:
+            return INTERRUPTED
+    if sets:
+        print('\nbroken with these values of %s, out of %d:' % (name, len(values)))
+    for faults, its in sorted(sets.items(), key=lambda pair: -len(pair[1])):
+        print('%3d  %s  (%s)' % (len(its), faults, ', '.join(its)))
+    return 1 if sets else 0

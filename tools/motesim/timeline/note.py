@@ -47,7 +47,7 @@ def note_of(run: Run, sentence: str, broken: Broken | None, more: tuple[str, ...
         return Note(sentence, '', tuple(map(Line, more)))
     source = source_of(run)
     if broken.row:
-        return Note(sentence, broken.why, (Line(_text(source, broken.row), broken.row),))
+        return Note(sentence, broken.words, (Line(_text(source, broken.row), broken.row),))
     try:
         asker = Asker(source)
         found = asker.about(sentence)

@@ -168,14 +168,14 @@ class Asker:
 
     def of_broken(self, it: Does | Copies | Packets, broken: Broken) -> Asked | Missing:
         """The line that breaks a sentence, or the lines that it lacks."""
-        why = broken.why.partition('; the next is')[0].replace('\n', '; ')
+        why = broken.why.replace('\n', '; ')
         if isinstance(it, Does) and broken.lacks:
             motes, span = broken.lacks.motes, broken.lacks.span
             sentence, found = replace(it, than=None, relation=None), tuple(self.judge.done(it.deed, motes))
             return Missing(sentence, motes, span, found, why)
         where = self.line(broken.row)
         if where:
-            return Asked(where, False, '; '.join(filter(None, [why, self.of_losses(where, it)])))
+            return Asked(where, False, '; '.join(filter(None, [why, broken.shows, self.of_losses(where, it)])))
         never = outcome_never(it, self.judge) if isinstance(it, Copies) else ''
         raise Unasked('; '.join(filter(None, [why, never])), False)
 
