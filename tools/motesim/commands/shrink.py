@@ -54,7 +54,7 @@ def main() -> int:
                        help='an expectation that has to hold after each step; or parts that stay, with commas between '
                             'them: end, medium, places, numbers (the values of `self` and `from`), programs')
     words.add_argument('--fault', action='append', default=[], metavar='FAULT',
-                       help='add this fault to the scenario, such as `lose 0 1 1` (the forms are above); the '
+                       help='add this fault to the scenario, such as `lose 0 1 1` (--help lists the forms); the '
                             'expectation has to hold without the fault, and to be broken with it')
     words.add_argument('--steps', action='store_true', help='show each step')
     words.add_argument('--most-runs', type=int, metavar='N', help='make at most N runs')
