@@ -454,7 +454,9 @@ class Fields(unittest.TestCase):
                          [(0, 0), (0, 1023), (1, 0), (63, 1023)])
         self.assertEqual(read_fields({'none': '1 / (value - value)'})[0].of(7), 0)
         self.assertEqual(of_line((origin, seq), 'print p 1031'), ' (origin 1, seq 7)')
-        self.assertEqual((of_line((origin, seq), 'take 1 p'), of_line((), 'send 1 9')), ('', ''))
+        for words in 'take 1 p', 'lost 1 1031', 'halt':
+            self.assertEqual(of_line((origin, seq), words), '')
+        self.assertEqual(of_line((), 'send 1 9'), '')
         wrongs: list[dict[str, object]] = [{'Origin': 'value'}, {'a': 'value +'}, {'a': 'other'}, {'a': 3},
                                            {'a': 'value ** 2'}, {'a': '99999'}, {'a': "__import__('os')"}]
         for wrong in wrongs:

@@ -12,6 +12,7 @@ from motesim.faults import Fault
 from motesim.report import KINDS, Report
 from motesim.report.run import Run
 from motesim.scenario import Scenario
+from motesim.scenario.fields import read_fields
 from motesim.timeline.columns import data_of
 from motesim.timeline.html import page_of, write_page
 from motesim.timeline.note import Line, Note
@@ -87,6 +88,15 @@ class Data(unittest.TestCase):
         self.assertEqual(columns['copyAfter'], [2, 2, 0, 2, 2])
         self.assertEqual(said['places'], [[0, 0], [5, 0], [10, 0]])
         self.assertEqual(said['losses'], [[0, 1, 2]])
+        self.assertNotIn('fields', said)
+
+    def test_the_fields_of_values_are_those_that_are_declared(self) -> None:
+        run = small_network()
+        assert run.scenario
+        run.scenario.fields = read_fields({'half': 'value / 2', 'odd': 'value % 2'})
+        found = data_of(run)[0]['fields']
+        self.assertEqual(set(found), {*run.report.log.value, *run.report.trace.of['print']['value']})
+        self.assertEqual(found[10], ' (half 5, odd 0)')
 
     def test_packets_out_of_their_numbers_are_a_fault(self) -> None:
         text = SILENT.replace('2 send 0 7', '2 send 1 7').replace('recv 0 0 7', 'recv 0 1 7').replace('2 0 0 7',

@@ -20,12 +20,16 @@ def main() -> int:
     words.add_argument('--title', help='the title of the page; by default the name of the file')
     asked = words.parse_args()
     from motesim.files import refuse_inputs
+    from motesim.judge.expectations import fields_beside
     from motesim.output import beside
     from motesim.report.run import read_run
     from motesim.timeline.html import write_page
     name = 'run' if asked.file == '-' else Path(asked.file).stem
     page = asked.page or str(beside(asked.file, name + '.html'))
     refuse_inputs(page, [asked.file, asked.scenario])
-    write_page(page, asked.title or name, [read_run(asked.file, asked.scenario)])
+    run = read_run(asked.file, asked.scenario)
+    if run.scenario:
+        run.scenario.fields = fields_beside(asked.scenario or asked.file)
+    write_page(page, asked.title or name, [run])
     print(page)
     return 0

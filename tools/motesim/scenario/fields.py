@@ -18,7 +18,7 @@ from motesim.faults import Fault
 VALUES = 1 << 16
 NAME = re.compile('[a-z][a-z0-9_]*')
 # The kinds of lines whose last word is a packet's value or a printed one.
-KINDS = ('print', 'send', 'recv', 'lost', 'collide')
+KINDS = ('print', 'send', 'recv')
 SIGNS: dict[type, Callable[[int, int], int]] = {
     ast.Add: operator.add, ast.Sub: operator.sub, ast.Mult: operator.mul, ast.Div: operator.floordiv,
     ast.Mod: operator.mod}

@@ -17,6 +17,7 @@ from motesim.report import KINDS, LOST, Log, Report
 from motesim.runner.batch import each_part
 from motesim.report.run import Run
 from motesim.scenario import Scenario
+from motesim.scenario.fields import in_words
 
 ALL = 0xFFFF
 LEVEL = 6
@@ -169,13 +170,20 @@ def _of_scenario(scenario: Scenario | None) -> dict[str, Any]:
     }
 
 
+def _fields_of(run: Run) -> dict[str, dict[int, str]]:
+    """The fields of each value that a mote printed or sent, if the format of packets is declared."""
+    fields = run.scenario.fields if run.scenario else ()
+    values = {*run.report.log.value, *run.report.trace.of['print']['value']} if fields else ()
+    return {'fields': {it: in_words(fields, it) for it in sorted(values)}} if fields else {}
+
+
 def table_of(run: Run, columns: Columns) -> dict[str, Any]:
     """The table of names and numbers that the page needs besides the columns of a run."""
     end = run.scenario.end if run.scenario else _last_moment(run.report)
     return {
         'name': run.name, 'end': max(end, _last_moment(run.report)), 'left': run.report.left,
         'programs': columns.programs, 'processes': columns.processes, 'events': columns.events,
-        'columns': columns.table(), **_of_scenario(run.scenario),
+        'columns': columns.table(), **_of_scenario(run.scenario), **_fields_of(run),
     }
 
 

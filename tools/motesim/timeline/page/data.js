@@ -36,6 +36,8 @@ export class Run {
   number = 0;
   processes = NO_NAMES; events = NO_NAMES; programs = NO_NAMES;
   sentStart = NONE; sentPackets = NONE; postStart = NONE; postLines = NONE;
+  /** @type {Record<number, string>} the fields of values, if the format of packets is declared */
+  fields = {};
 
   /** @param {any} said the names and the columns, each with its kind of numbers @param {ArrayBuffer} buffer */
   constructor(said, buffer) {
@@ -136,6 +138,9 @@ export class Run {
   }
 
   text(i) { return `${this.at[i]} ${this.words(i)}`; }
+
+  /** The words of a trace line, with the fields of its value. */
+  told(i) { return this.words(i) + ([PRINT, SEND, RECV].includes(this.kind[i]) && this.fields[this.w[i]] || ''); }
 
   packetText(k) {
     const parts = [`${this.packetAt[k]} ${this.packetSender[k]} ${this.packetNumber[k]} ${this.packetValue[k]}`];

@@ -14,7 +14,7 @@ const MOST_LISTED = 120;
 /** A line of a trace as a button that selects it. */
 function traceButton(pane, line, what) {
   const {run} = pane, mote = run.moteOf(line);
-  return lineButton(`line ${run.numberOf(line, mote)}`, run.text(line), what, page.chosen.line === line,
+  return lineButton(`line ${run.numberOf(line, mote)}`, `${run.at[line]} ${run.told(line)}`, what, page.chosen.line === line,
     () => chooseLine(pane, line, true));
 }
 
@@ -103,7 +103,7 @@ function tell(pane, show) {
 /** Announces the selection to screen readers. */
 function speak(pane) {
   const {run} = pane, {line, k, mote} = page.chosen, parts = [`Mote ${mote}`];
-  if (line >= 0) parts.push(`moment ${run.at[line]}`, run.words(line));
+  if (line >= 0) parts.push(`moment ${run.at[line]}`, run.told(line));
   if (k >= 0) parts.push(`packet ${run.packetNumber[k]} of mote ${run.packetSender[k]}`);
   if (page.chosen.copy >= 0) parts.push(FATE_WORDS[run.copyFate[page.chosen.copy]]);
   byId('spoken').textContent = parts.join(', ');

@@ -35,7 +35,7 @@ export function itemAt(pane, x, y) {
 export function itemInWords(run, item) {
   if (item.mote !== undefined) return moteInWords(run, item.mote);
   const {line, k, copy} = item;
-  if (line !== undefined) return `mote ${run.moteOf(line)}, moment ${run.at[line]}: ${run.words(line)}`;
+  if (line !== undefined) return `mote ${run.moteOf(line)}, moment ${run.at[line]}: ${run.told(line)}`;
   return `packet ${run.packetNumber[k]} of mote ${run.packetSender[k]} to mote ${run.copyTo[copy]}, sent at ` +
     `${run.packetAt[k]}: ${FATE_WORDS[run.copyFate[copy]]}`;
 }
