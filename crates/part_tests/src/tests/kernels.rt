@@ -1,5 +1,6 @@
 //! Kernels of whole programs. Their results and lines were worked out by hand.
 
+use super::PRINT_THEN_YIELD;
 use mote_program::read;
 use process_kernel::{Kernel, KernelError, Out, Ran};
 use program_tree::{Proc, Program};
@@ -124,7 +125,14 @@ fn tells(alloc: Global, program: &str, acts: &[Act], want: &str) -> Result<(), F
 }
 
 /// Programs, the calls of their kernels, and the text that is written about these calls.
-static CASES: [(&str, &[Act], &str); 4] = [
+static CASES: [(&str, &[Act], &str); 5] = [
+    // After the boot, the process waits for an event, and nothing is left to do.
+    (
+        PRINT_THEN_YIELD,
+        &[Act::Look, Act::Boot, Act::Look, Act::RunOut(1)],
+        "7 false false false None|Left(0)|0 Start(Etimer)|0 Start(Ctimer)|0 Start(Radio)|0 Start(Own(0))|\
+         0 Print(Own(0), 1)|7 true false false None|Left(0)|",
+    ),
     (
         SENDER,
         &[Act::Look, Act::Boot, Act::Look],

@@ -29,7 +29,8 @@ fn scenario(alloc: Global) -> Result<String, AllocError> {
 }
 
 /// Each of four workers is started, with fork-join in each of two windows, and with null messages once. Each worker
-/// takes the ten turns of each of its 50 motes, and no turn twice: 0x1f4 turns.
+/// takes the ten turns of each of its 50 motes, and no turn twice: 0x1f4 turns. These turns overlap in time: at each of
+/// three moments of one window, all workers meet inside a turn.
 #[test]
 fn starts_and_turns_of_many_motes(rt: HostRuntime) -> Result<(), Fail> {
     let scenario = scenario(rt.alloc())?;
@@ -39,9 +40,12 @@ fn starts_and_turns_of_many_motes(rt: HostRuntime) -> Result<(), Fail> {
         &Trials {
             scenario: scenario.as_str(),
             over_inboxes: false,
-            cases: &[(Watch::Each, 4, cut.of.as_slice(), 5)],
-            joins: "Same(0) 2000200020002 1f401f401f401f4|",
-            marks: "Same(0) 1000100010001 1f401f401f401f4|",
+            cases: &[
+                (Watch::Each, 4, cut.of.as_slice(), 5),
+                (Watch::Meetings, 4, cut.of.as_slice(), 5),
+            ],
+            joins: "Same(0) 2000200020002 1f401f401f401f4|Same(0) 40404 40404|",
+            marks: "Same(0) 1000100010001 1f401f401f401f4|Same(0) 40404 40404|",
         },
     )
 }

@@ -16,8 +16,8 @@ pub(super) enum Watch {
     Each,
     /// The start of worker 0's turn at moment 1, and if worker 1 sees it inside its turn at moment 0.
     Ahead,
-    /// For each moment, the number of workers that begin their turns, and the number of workers that see inside their
-    /// turns that all have begun.
+    /// For each moment, the number of workers whose first mote begins its turn, and the number of workers that see
+    /// inside this turn that all have begun theirs.
     Meetings,
     /// Nothing. The source of random bytes fails after this many calls.
     Fails(u64),
@@ -97,8 +97,14 @@ impl<'a> Observer<'a> {
         }
     }
 
-    /// Lets a worker wait inside its turn of a moment, for a while, until all workers have begun their turns of that
-    /// moment. Each worker has one mote.
+    /// Returns whether the mote before this one has another worker, or isn't there.
+    fn is_first(&self, worker: u16, mote: u16) -> bool {
+        let before = usize::from(mote).wrapping_sub(1);
+        self.owners.get(before) != Some(&worker)
+    }
+
+    /// Lets a worker wait inside the turn of its first mote at a moment, for a while, until all workers have begun
+    /// these turns. The motes of a worker have consecutive numbers.
     fn meet(&self, moment: u64) {
         let one = match moment {
             0 => 1,
@@ -124,7 +130,11 @@ impl Gate for Observer<'_> {
                 self.second.fetch_add(one_of(worker), SeqCst);
             }
             Watch::Ahead => self.wait_for_worker_0(worker, moment),
-            Watch::Meetings => self.meet(moment),
+            Watch::Meetings => {
+                if self.is_first(worker, mote) {
+                    self.meet(moment);
+                }
+            }
             Watch::Fails(_) => {}
         }
     }
