@@ -1,22 +1,92 @@
 """The place of the tests: the tools that they test are found from here, and called in a folder of a test."""
 import os
+import pkgutil
+import runpy
+import select
+import signal
 import subprocess
 import sys
 import tempfile
 import unittest
+from collections.abc import Mapping
+from functools import cache
+from importlib import import_module
 from pathlib import Path
-from typing import Any
+from typing import IO, NoReturn
 
 TOOLS = Path(__file__).resolve().parent.parent
 TOP = TOOLS.parent
 sys.path.insert(0, str(TOOLS))
 # (a line that tools say once a day is said each time)
 os.environ['MOTESIM_SEEN'] = os.devnull + '/none'
+SECONDS = 120
 
 
-def call(tool: str, *words: str, **how: Any) -> subprocess.CompletedProcess[str]:
-    """Runs a tool in a process of its own."""
-    return subprocess.run([sys.executable, '-B', str(TOOLS / tool), *words], capture_output=True, text=True, **how)
+@cache
+def load_tools() -> None:
+    """Loads the modules of the tools, which forked processes need not load again."""
+    import motesim
+    for module in pkgutil.walk_packages(motesim.__path__, 'motesim.'):
+        import_module(module.name)
+
+
+def become_tool(path: Path, words: tuple[str, ...], cwd: Path | str | None, env: Mapping[str, str] | None,
+                streams: list[IO[bytes]]) -> NoReturn:
+    """Runs a tool in this forked process, as a new process would, and ends it."""
+    status = 1
+    try:
+        for number, stream in enumerate(streams):
+            os.dup2(stream.fileno(), number)
+        sys.stdin, sys.stdout, sys.stderr = (
+            open(number, mode, encoding='utf-8', errors=errors, closefd=False) for number, mode, errors in
+            ((0, 'r', 'strict'), (1, 'w', 'strict'), (2, 'w', 'backslashreplace')))
+        os.chdir(cwd or '.')
+        if env is not None:
+            os.environ.clear()
+            os.environ.update(env)
+        sys.argv, sys.path[0] = [str(path), *words], str(path.parent)
+        try:
+            runpy.run_path(str(path), run_name='__main__')
+            status = 0
+        except SystemExit as end:
+            status = end.code if isinstance(end.code, int) else 0
+        except BaseException:
+            sys.excepthook(*sys.exc_info())
+        for stream in sys.stdout, sys.stderr:
+            stream.flush()
+    finally:
+        os._exit(status)
+
+
+def call(tool: str, *words: str, cwd: Path | str | None = None, env: Mapping[str, str] | None = None, input: str = '',
+         timeout: float = SECONDS, check: bool = False) -> subprocess.CompletedProcess[str]:
+    """Runs a tool in a process of its own, which is forked: a new one would need most of its time to load modules."""
+    load_tools()
+    path = TOOLS / tool
+    with tempfile.TemporaryFile() as given, tempfile.TemporaryFile() as out, tempfile.TemporaryFile() as err:
+        given.write(input.encode())
+        given.seek(0)
+        child = os.fork()
+        if child == 0:
+            become_tool(path, words, cwd, env, [given, out, err])
+        ended = os.pidfd_open(child)
+        try:
+            is_late = not select.select([ended], [], [], timeout)[0]
+            if is_late:
+                os.kill(child, signal.SIGKILL)
+            status = os.waitstatus_to_exitcode(os.waitpid(child, 0)[1])
+        finally:
+            os.close(ended)
+        texts = []
+        for stream in out, err:
+            stream.seek(0)
+            texts.append(stream.read().decode())
+    done = subprocess.CompletedProcess([str(path), *words], status, *texts)
+    if is_late:
+        raise subprocess.TimeoutExpired(done.args, timeout, *texts)
+    if check:
+        done.check_returncode()
+    return done
 
 
 def room_of(test: unittest.TestCase) -> Path:

@@ -8,12 +8,12 @@ from motesim.faults import Fault
 from motesim.report.run import program_path
 
 
-def interpreter_with(test: unittest.TestCase, module: str) -> str:
+def interpreter_with(test: unittest.TestCase | type[unittest.TestCase], module: str) -> str:
     """An interpreter that has a module."""
     if packages.is_here(module):
         return sys.executable
     if not packages.has(module):
-        test.skipTest('%s is not installed' % packages.DEBIAN[module])
+        raise unittest.SkipTest('%s is not installed' % packages.DEBIAN[module])
     return packages.SYSTEM
 
 

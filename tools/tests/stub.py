@@ -14,7 +14,7 @@ import time
 from collections.abc import Sequence
 from pathlib import Path
 
-STUB = '''#!%s
+STUB = '''#!%s -IS
 import re, resource, sys, time, tomllib
 for limit, most in (resource.RLIMIT_AS, 1 << 30), (resource.RLIMIT_CPU, 120), (resource.RLIMIT_CORE, 0):
     most = min(it for it in (most, *resource.getrlimit(limit)) if it >= 0)

@@ -2,76 +2,82 @@
 import subprocess
 import tempfile
 import unittest
-from collections.abc import Iterator
-from contextlib import contextmanager
 from pathlib import Path
 
 import here  # noqa: F401
 import test_search
 import test_sweep
+from motesim.runner import program_path
 from skips import interpreter_with, need_program
 
-CLUSTER = '''import sys
-from distributed import LocalCluster
+# A scheduler with two workers. It prints its address, and then runs each line that it gets.
+CLUSTER = '''import os, sys
+from distributed import Client, LocalCluster
+def name(program):
+    os.environ['MOTESIM'] = program
 if __name__ == '__main__':
-    with LocalCluster(n_workers=%d, threads_per_worker=1, dashboard_address=None, local_directory='.') as cluster:
-        print(cluster.scheduler_address, flush=True)
-        sys.stdin.read()
+    with LocalCluster(n_workers=2, threads_per_worker=1, dashboard_address=None, local_directory='.') as cluster:
+        with Client(cluster) as client:
+            print(cluster.scheduler_address, flush=True)
+            for line in sys.stdin:
+                exec(line)
+                print('done', flush=True)
 '''
 
 
-@contextmanager
-def cluster(test: unittest.TestCase, workers: int, environment: dict[str, str] | None = None) -> Iterator[str]:
-    """The address of a scheduler."""
-    interpreter = interpreter_with(test, 'distributed')
-    with tempfile.TemporaryDirectory() as folder:
-        (Path(folder) / 'cluster.py').write_text(CLUSTER % workers)
-        process = subprocess.Popen([interpreter, 'cluster.py'], cwd=folder, env=environment, text=True,
-                                   stdin=subprocess.PIPE, stdout=subprocess.PIPE, stderr=subprocess.DEVNULL)
-        assert process.stdin and process.stdout
-        try:
-            yield process.stdout.readline().strip()
-        finally:
-            process.stdin.close()
-            process.wait(60)
-            process.stdout.close()
+class Cluster(test_sweep.Bed):
+    process: 'subprocess.Popen[str]'
+    address: str
 
+    @classmethod
+    def setUpClass(cls) -> None:
+        folder = tempfile.TemporaryDirectory()
+        cls.addClassCleanup(folder.cleanup)
+        (Path(folder.name) / 'cluster.py').write_text(CLUSTER)
+        cls.process = subprocess.Popen([interpreter_with(cls, 'distributed'), 'cluster.py'], cwd=folder.name, text=True,
+                                       stdin=subprocess.PIPE, stdout=subprocess.PIPE, stderr=subprocess.DEVNULL)
+        cls.addClassCleanup(cls.process.communicate)
+        assert cls.process.stdout
+        cls.address = cls.process.stdout.readline().strip()
 
-class Sweeps(test_sweep.Bed):
+    def tell(self, line: str) -> None:
+        assert self.process.stdin and self.process.stdout
+        print(line, file=self.process.stdin, flush=True)
+        self.assertEqual(self.process.stdout.readline(), 'done\n')
+
+    def tell_program(self, path: Path) -> None:
+        self.tell('client.run(name, %r)' % str(path))
+
     def test_the_rows_are_the_same(self) -> None:
+        self.tell_program(self.stub)
         self.sweep(*self.words)
-        with cluster(self, 2, self.here()) as address:
-            done = self.sweep(*self.words, '-o', 'dask.csv', '--dask', address)
+        done = self.sweep(*self.words, '-o', 'dask.csv', '--dask', self.address)
         self.assertEqual((done.returncode, done.stdout, done.stderr),
                          (0, 'dask.csv: 6 runs, 6 of them now, 0 with an error\n', ''))
         self.assertEqual((self.folder / 'dask.csv').read_bytes(), (self.folder / 'net.csv').read_bytes())
-        gone = self.sweep(*self.words, '-o', 'gone.csv', '--dask', address)
-        self.assertEqual(gone.returncode, 2)
-        self.assertIn('no Dask scheduler answers at', gone.stderr)
 
-    def test_another_motesim_on_the_workers_is_a_fault(self) -> None:
+    def test_the_sets_are_the_same(self) -> None:
+        need_program(self)
+        self.tell_program(program_path())
+        words = '--faults', 'links,motes', '--at-most', '2'
+        with test_search.folder_with() as folder:
+            alone = test_search.minimal_sets(folder, *words)
+            there = test_search.minimal_sets(folder, *words, '--dask', self.address)
+        self.assertEqual(there[0], alone[0])
+        self.assertEqual(there[1]['covered'], alone[1]['covered'])
+
+    def test_what_the_cluster_lacks_is_reported(self) -> None:
+        """The built program, workers, and a scheduler."""
         other = self.folder / 'other'
         other.write_text(self.stub.read_text() + '# another\n')
         other.chmod(0o755)
-        with cluster(self, 2, {**self.here(), 'MOTESIM': str(other)}) as address:
-            done = self.sweep(*self.words, '--dask', address)
+        self.tell_program(other)
+        done = self.sweep(*self.words, '--dask', self.address)
         self.assertEqual((done.returncode, done.stdout.split('\n')[0]),
                          (1, 'net.csv: 6 runs, 6 of them now, 6 with an error'))
         self.assertIn('differs from the motesim of the command', done.stdout)
-
-    def test_a_scheduler_without_workers_is_reported(self) -> None:
-        with cluster(self, 0) as address:
-            done = self.sweep(*self.words, '--dask', address)
-        self.assertEqual(done.returncode, 2)
-        self.assertIn('has no workers', done.stderr)
-
-
-class Searches(unittest.TestCase):
-    def test_the_sets_are_the_same(self) -> None:
-        need_program(self)
-        words = '--faults', 'links,motes', '--at-most', '2'
-        with test_search.folder_with() as folder, cluster(self, 2) as address:
-            alone = test_search.minimal_sets(folder, *words)
-            there = test_search.minimal_sets(folder, *words, '--dask', address)
-        self.assertEqual(there[0], alone[0])
-        self.assertEqual(there[1]['covered'], alone[1]['covered'])
+        self.tell('cluster.scale(0)')
+        for address, seen in (self.address, 'has no workers'), ('tcp://127.0.0.1:9', 'no Dask scheduler answers at'):
+            done = self.sweep(*self.words, '-o', 'none.csv', '--dask', address)
+            self.assertEqual(done.returncode, 2)
+            self.assertIn(seen, done.stderr)

@@ -4,7 +4,7 @@ import subprocess
 import sys
 import unittest
 
-from here import TOOLS
+from here import TOOLS, call
 from motesim.commands import export, search, shrink, studio, sweep
 from motesim.experiments import asked
 from motesim.export.command import ENDS
@@ -16,6 +16,20 @@ COMMANDS = sorted(path.stem for path in (TOOLS / 'motesim/commands').glob('[a-z]
 HEAVY = ('motesim.report', 'motesim.judge', 'motesim.runner', 'motesim.scenario',
          'subprocess', 'multiprocessing', 'tomllib')
 
+# Prints the help of each command, and what it has imported, in a process of its own.
+HELPS = '''import os, sys
+from importlib import import_module
+sys.path.insert(0, sys.argv[1])
+for name in sys.argv[2:]:
+    if os.fork() == 0:
+        sys.argv = [name, '--help']
+        try:
+            import_module('motesim.commands.' + name).main()
+        finally:
+            print('imported', *sys.modules, flush=True)
+            os._exit(0)
+    os.wait()
+'''
 NO_NAME = '-o needs the name of a file or a folder, not -'
 
 
@@ -27,16 +41,13 @@ class Commands(unittest.TestCase):
         self.assertGreater(len(COMMANDS), 14)
 
     def test_help_imports_nothing_that_only_the_work_needs(self) -> None:
-        for name in COMMANDS:
-            with self.subTest(name):
-                source = ('import sys; sys.path.insert(0, %r); sys.argv = [%r, "--help"]\n'
-                          'from motesim.commands.%s import main\n' 'try: main()\n'
-                          'finally: print("imported", *sys.modules)') % (str(TOOLS), name, name)
-                done = subprocess.run([sys.executable, '-B', '-I', '-S', '-c', source], capture_output=True, text=True)
-                self.assertEqual((done.returncode, done.stderr), (0, ''))
-                self.assertTrue(done.stdout.startswith('usage: '), done.stdout)
-                imported = re.split(r'\nimported ', done.stdout)[1].split()
-                self.assertFalse(set(HEAVY) & set(imported), name)
+        done = subprocess.run([sys.executable, '-B', '-I', '-S', '-c', HELPS, TOOLS, *COMMANDS], capture_output=True,
+                              text=True)
+        self.assertEqual((done.returncode, done.stderr), (0, ''))
+        helps = re.findall(r'^usage: .*?^imported (.*?)$', done.stdout, re.M | re.S)
+        self.assertEqual(len(helps), len(COMMANDS))
+        for name, imported in zip(COMMANDS, helps):
+            self.assertFalse(set(HEAVY) & set(imported.split()), name)
 
     def test_an_error_in_an_option_is_one_line(self) -> None:
         for words, said in ((('plot', 'a.csv', '--confidence', 'x'), "argument --confidence: invalid float value: 'x'"),
@@ -47,7 +58,7 @@ class Commands(unittest.TestCase):
                             (('scenario', 'a.plan.toml', '-o', '-'), NO_NAME),
                             (('grade', 'a.toml', 'b.toml', '-o', '-'), NO_NAME),
                             (('summary',), 'the following arguments are required: REPORT')):
-            done = subprocess.run([sys.executable, '-B', TOOLS / words[0], *words[1:]], capture_output=True, text=True)
+            done = call(*words)
             line = '%s: %s (--help lists the options)\n' % (words[0], said)
             self.assertEqual((done.returncode, done.stdout, done.stderr), (2, '', line))
 

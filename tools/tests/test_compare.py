@@ -1,13 +1,11 @@
 """The place at which two reports diverge, by compare. The reports are worked out by hand."""
 import random
-import subprocess
-import sys
 import tempfile
 import unittest
 from collections import Counter
 from pathlib import Path
 
-from here import TOOLS
+from here import call
 from motesim.comparison import reports as compare
 from motesim.comparison import scenarios as scenario_differences
 from motesim.comparison.columns import MEDIUM
@@ -282,14 +280,13 @@ class Command(unittest.TestCase):
             for path, text in zip(paths, (A, B, 'no report\n')):
                 path.write_text(text, encoding='ascii')
             for pair, status in ((0, 0), 0), ((0, 1), 1), ((0, 2), 2), ((2, 0), 2):
-                words = [sys.executable, '-B', str(TOOLS / 'compare'), *(str(paths[it]) for it in pair)]
-                done = subprocess.run(words, capture_output=True, text=True)
+                done = call('compare', *(str(paths[it]) for it in pair))
                 self.assertEqual(done.returncode, status)
                 self.assertEqual(done.stderr.count('\n'), int(status == 2))
                 self.assertEqual(bool(done.stdout), status != 2)
 
     def test_standard_input_is_one_of_them_alone(self) -> None:
-        done = subprocess.run([str(TOOLS / 'compare'), '-', '-'], input=A, capture_output=True, text=True)
+        done = call('compare', '-', '-', input=A)
         self.assertEqual((done.returncode, done.stdout), (2, ''))
         self.assertEqual(done.stderr, "compare: A and B can't both be standard input: one of them is a file\n")
 
@@ -298,6 +295,5 @@ class Command(unittest.TestCase):
             paths = [Path(folder) / name for name in ('a', 'b', 'page.html')]
             for path, text in zip(paths, (A, B)):
                 path.write_text(text, encoding='ascii')
-            words = [sys.executable, '-B', str(TOOLS / 'compare'), *map(str, paths[:2]), '--html', str(paths[2])]
-            self.assertEqual(subprocess.run(words, capture_output=True).returncode, 1)
+            self.assertEqual(call('compare', *map(str, paths[:2]), '--html', str(paths[2])).returncode, 1)
             self.assertIn('<title>', paths[2].read_text(encoding='utf-8'))

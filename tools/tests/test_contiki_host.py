@@ -2,13 +2,12 @@
 import re
 import shutil
 import subprocess
-import sys
 import tempfile
 import tomllib
 import unittest
 from pathlib import Path
 
-from here import TOOLS, TOP
+from here import TOOLS, TOP, call
 from skips import need_command, need_program
 
 from motesim.report.run import program_path
@@ -67,8 +66,7 @@ class Host(unittest.TestCase):
 
 
 def export(scenario: Path, folder: Path) -> None:
-    subprocess.run([sys.executable, str(TOOLS / 'export'), str(scenario), '--form', 'contiki', '--host',
-                    '-o', str(folder)], check=True, capture_output=True)
+    call('export', str(scenario), '--form', 'contiki', '--host', '-o', str(folder), check=True)
 
 
 def host_report(folder: Path) -> str:

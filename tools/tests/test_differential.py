@@ -122,9 +122,11 @@ class Mutants(unittest.TestCase):
 
     def test_most_are_noticed(self) -> None:
         edits = tomllib.loads(MUTANTS.read_text('utf-8'))['mutant']
-        noticed = [edit['rule'] for number, edit in enumerate(edits)
-                   if next(self.noticed(self.mutant(number, edit)), None) is not None]
-        self.assertGreaterEqual(len(noticed), LEAST_NOTICED, set(it['rule'] for it in edits) - set(noticed))
+        noticed = (edit['rule'] for number, edit in enumerate(edits)
+                   if next(self.noticed(self.mutant(number, edit)), None) is not None)
+        # (more of them would only need more time)
+        found = list(itertools.islice(noticed, LEAST_NOTICED))
+        self.assertEqual(len(found), LEAST_NOTICED, found)
 
 
 class Command(unittest.TestCase):

@@ -3,11 +3,10 @@ import json
 import os
 import re
 import subprocess
-import sys
 import unittest
 from collections import Counter
 
-from here import TOOLS, TOP, room_of
+from here import TOOLS, TOP, call, room_of
 from motesim.export import pcapng, perfetto, times, vcd
 from motesim.report import Report
 from skips import interpreter_with, need_command
@@ -136,7 +135,7 @@ class ExportTest(unittest.TestCase):
                               env={**os.environ, 'LC_ALL': 'C.UTF-8'})
 
     def export(self, *words: str) -> str:
-        done = self.run_it(sys.executable, '-B', str(TOOLS / 'export'), *words)
+        done = call('export', *words, cwd=self.folder)
         self.assertEqual((done.returncode, done.stderr), (0, ''))
         return done.stdout
 
@@ -232,7 +231,7 @@ class ExportTest(unittest.TestCase):
             (('a.report', '--to', 'gif'), 'invalid choice'),
             (('late.report', '--to', 'pcapng'), 'a number that is too great'),
         ]:
-            done = self.run_it(sys.executable, '-B', str(TOOLS / 'export'), *words)
+            done = call('export', *words, cwd=self.folder)
             self.assertEqual((done.returncode, done.stdout), (2, ''))
             self.assertIn(seen, done.stderr)
         self.assertEqual(sorted(it.name for it in self.folder.iterdir()), ['a.report', 'late.report'])

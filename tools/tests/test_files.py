@@ -10,7 +10,7 @@ from collections.abc import Iterator
 from pathlib import Path
 from unittest import mock
 
-from here import TOOLS, room_of
+from here import TOOLS, call, room_of
 from motesim.faults import SHOW, Fault
 from motesim.files import NotWritten, write_whole
 from motesim.report import Report
@@ -103,28 +103,28 @@ class Whole(Room):
 class OddNames(Room):
     """File names that are not UTF-8, or that the terminal can't show."""
 
-    def run_it(self, *words: str | Path | bytes, **here: str) -> tuple[int, bytes]:
-        env = {**os.environ, 'MOTESIM': str(write_stub(self.room)), **here}
-        done = subprocess.run([sys.executable, '-B', *words], cwd=self.room, env=env, capture_output=True)
-        self.assertNotIn(b'Traceback', done.stderr)
-        return done.returncode, done.stdout
+    def here(self, **variables: str) -> dict[str, str]:
+        return {**os.environ, 'MOTESIM': str(write_stub(self.room)), **variables}
+
+    def run_it(self, *words: str) -> str:
+        done = call(*words, cwd=self.room, env=self.here())
+        self.assertEqual((done.returncode, 'Traceback' in done.stderr), (0, False), words)
+        return done.stdout
 
     def test_each_tool_takes_them(self) -> None:
-        name = b'net\xff.toml'
-        Path(os.fsdecode(os.fsencode(self.room) + b'/' + name)).write_text(SCENARIO)
-        Path(os.fsdecode(os.fsencode(self.room) + b'/net\xff.expect.toml')).write_text('expect = ["no mote halts"]\n')
+        name = os.fsdecode(b'net\xff.toml')
+        (self.room / name).write_text(SCENARIO)
+        (self.room / os.fsdecode(b'net\xff.expect.toml')).write_text('expect = ["no mote halts"]\n')
         for tool in 'summary', 'explain', 'expect', 'timeline':
-            status, _ = self.run_it(str(TOOLS / tool), name)
-            self.assertEqual(status, 0, tool)
-        status, said = self.run_it(str(TOOLS / 'compare'), name, name)
-        self.assertEqual(status, 0)
-        self.assertIn(b'net\\udcff.toml', said)
-        self.assertEqual(self.run_it(str(TOOLS / 'export'), name, '--to', 'csv')[0], 0)
+            self.run_it(tool, name)
+        self.assertIn('net\\udcff.toml', self.run_it('compare', name, name))
+        self.run_it('export', name, '--to', 'csv')
 
     def test_a_terminal_without_the_letters(self) -> None:
         (self.room / 'n\u00e9t.toml').write_text(SCENARIO)
-        status, said = self.run_it(str(TOOLS / 'timeline'), 'n\u00e9t.toml', PYTHONIOENCODING='ascii')
-        self.assertEqual((status, said), (0, b'n\\xe9t.html\n'))
+        done = subprocess.run([TOOLS / 'timeline', 'n\u00e9t.toml'], cwd=self.room, capture_output=True,
+                              env=self.here(PYTHONIOENCODING='ascii'))
+        self.assertEqual((done.returncode, done.stdout), (0, b'n\\xe9t.html\n'))
 
 
 class OwnErrors(unittest.TestCase):

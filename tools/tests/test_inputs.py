@@ -1,10 +1,9 @@
 """No tool replaces its own inputs by a file that it writes, even if the two names of the file differ."""
 import os
 import subprocess
-import sys
 import unittest
 
-from here import TOOLS, room_of
+from here import TOOLS, call, room_of
 from motesim.faults import Fault
 from motesim.files import refuse_inputs
 from skips import interpreter_with, need_program
@@ -69,8 +68,7 @@ class Inputs(unittest.TestCase):
         """The result of a tool; in the arguments `_` is a space."""
         tool, *more = words.split()
         given = [it if it in FILES else it.replace('_', ' ') for it in more]
-        return subprocess.run([sys.executable, '-B', TOOLS / tool, *given], cwd=self.room, capture_output=True,
-                              text=True)
+        return call(tool, *given, cwd=self.room)
 
     def test_each_tool_refuses_to_replace_its_inputs(self) -> None:
         need_program(self)

@@ -1,12 +1,9 @@
 """The worked studies in a small form, which still show what examples/studies/README.md says."""
 import csv
-import os
-import subprocess
-import sys
 import unittest
 from pathlib import Path
 
-from here import TOOLS, TOP, call, room_of
+from here import TOP, call, room_of
 from motesim.analysis.command import table_path
 from motesim.analysis.of_plan import plots_of
 from motesim.plan.plan import Plan
@@ -24,8 +21,7 @@ class StudiesTest(unittest.TestCase):
         need_program(self)
         interpreter_with(self, 'matplotlib')
         plan = STUDIES / (name + '.plan.toml')
-        command = [sys.executable, '-B', str(TOOLS / 'sweep'), str(plan), '--plot', '--seconds', '500', *words]
-        done = subprocess.run(command, cwd=self.folder, capture_output=True, text=True, env=dict(os.environ))
+        done = call('sweep', str(plan), '--plot', '--seconds', '500', *words, cwd=self.folder)
         self.assertEqual(done.returncode, 0, done)
         pictures = {it.file for it in plots_of(Plan.read(plan))}
         made = {it.name for it in self.folder.iterdir()} - {name + '.csv'}
@@ -75,7 +71,7 @@ class StudiesTest(unittest.TestCase):
     def test_trickle_in_phase_collides_more(self) -> None:
         need_program(self)
         words = [it for name in ('phases=1,256', 'seed=1,2', 'enough=1', 'step=20') for it in ('--vary', name)]
-        done = call('sweep', str(STUDIES / 'trickle.plan.toml'), *words, cwd=self.folder, env=dict(os.environ))
+        done = call('sweep', str(STUDIES / 'trickle.plan.toml'), *words, cwd=self.folder)
         self.assertEqual(done.returncode, 0, done)
         found = {(int(row['phases']), row['seed']): int(row['collided']) for row in self.rows('trickle')}
         for seed in '1', '2':

@@ -10,7 +10,7 @@ import unittest
 from pathlib import Path
 from unittest import mock
 
-from here import TOOLS, room_of
+from here import TOOLS, call, room_of
 from motesim.faults import Fault
 from motesim.experiments.measures import Bench, MeasureFault, imports_of, read_measure
 from motesim.experiments.one_run import digest, run_job
@@ -218,7 +218,11 @@ class Bed(unittest.TestCase):
         return {**os.environ, 'MOTESIM': str(self.stub)}
 
     def sweep(self, *words: str) -> subprocess.CompletedProcess[str]:
-        return subprocess.run(self.command(*words), cwd=self.folder, env=self.here(), capture_output=True, text=True)
+        return call('sweep', 'net.plan.toml', *words, cwd=self.folder, env=self.here())
+
+    def run_it(self, *words: str) -> subprocess.CompletedProcess[str]:
+        """A sweep with the built program."""
+        return call('sweep', 'net.plan.toml', *words, cwd=self.folder)
 
     def rows(self, name: str = 'net.csv') -> list[dict[str, str]]:
         with open(self.folder / name, newline='') as file:
@@ -351,9 +355,8 @@ class SweepTest(Bed):
         need_program(self)
         (self.folder / 'net.plan.toml').write_text(PLAN)
         (self.folder / 'a.mote').write_text('process a; autostart a; code a { body { print ${period}; } }')
-        command = self.command('--vary', 'period=1..3', '--measure', 'delivery: every mote prints a -> mote 0 prints a',
-                               '--measure', 'flow ratio: print a -> print a')
-        done = subprocess.run(command, cwd=self.folder, capture_output=True, text=True)
+        done = self.run_it('--vary', 'period=1..3', '--measure', 'delivery: every mote prints a -> mote 0 prints a',
+                           '--measure', 'flow ratio: print a -> print a')
         self.assertEqual(done.stderr, 'sweep: warning: same-value, in 3 of 3 runs: two messages have the same value, so '
                                       'a measure can\'t tell them apart\n')
 
@@ -364,12 +367,9 @@ class SweepTest(Bed):
         for words, counts in (('mote 0 prints a -> mote 0 prints a', 1), ('mote 0 prints a -> some mote prints a', 1),
                               ('mote 0 prints a -> mote 1 prints a', 0)):
             (self.folder / 'net.csv').unlink(missing_ok=True)
-            done = subprocess.run(self.command('--vary', 'period=1..3', '--measure', 'delivery: ' + words),
-                                  cwd=self.folder, capture_output=True, text=True)
+            done = self.run_it('--vary', 'period=1..3', '--measure', 'delivery: ' + words)
             self.assertEqual(done.stderr.count('sweep: warning: own-line, in 3 of 3 runs: '), counts, (words, done))
-        done = subprocess.run(self.command('--vary', 'period=1', '--measure',
-                                           'delay: mote 0 prints a -> mote 0 prints a'),
-                              cwd=self.folder, capture_output=True, text=True)
+        done = self.run_it('--vary', 'period=1', '--measure', 'delay: mote 0 prints a -> mote 0 prints a')
         self.assertIn('both expectations are the same, so they are fulfilled at the same moment', done.stderr)
 
     def test_faults_are_rows(self) -> None:

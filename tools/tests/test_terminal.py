@@ -1,9 +1,7 @@
 """What tools print never commands a terminal, whatever names somebody else chose."""
-import subprocess
-import sys
 import unittest
 
-from here import TOOLS, room_of
+from here import call, room_of
 from motesim.terminal import one_line, plain
 from skips import need_program
 
@@ -16,9 +14,8 @@ class Terminal(unittest.TestCase):
 
     def printed(self, tool: str, *words: str) -> str:
         """The output and the errors of a tool."""
-        done = subprocess.run([sys.executable, '-B', str(TOOLS / tool), *words], cwd=self.top, capture_output=True,
-                              timeout=120)
-        return (done.stdout + done.stderr).decode()
+        done = call(tool, *words, cwd=self.top)
+        return done.stdout + done.stderr
 
     def test_signs_that_a_terminal_obeys(self) -> None:
         self.assertEqual(plain('a\x1b[2K\x9b1m\rb\r\n\tc\n'), 'a\\x1b[2K\\x9b1m\\rb\r\n\tc\n')
