@@ -43,7 +43,7 @@ def has_commands(block: re.Match[str]) -> bool:
 
 def printed_by(commands: str, folder: Path, program: Path) -> str:
     """The output of commands, on both streams."""
-    environment = {**os.environ, 'MOTESIM': str(program), 'LC_ALL': 'C.UTF-8', 'PYTHONDONTWRITEBYTECODE': '1'}
+    environment = {'PYTHONDONTWRITEBYTECODE': '1', **os.environ, 'MOTESIM': str(program), 'LC_ALL': 'C.UTF-8'}
     done = subprocess.run(['timeout', str(SECONDS), 'bash', '-c', commands], cwd=folder, env=environment,
                           stdin=subprocess.DEVNULL, stdout=subprocess.PIPE, stderr=subprocess.STDOUT)
     text = done.stdout.decode('utf-8', 'backslashreplace')

@@ -34,14 +34,14 @@ def pytest(together: str) -> list[str]:
     if python is None:
         raise Fault(NO_PYTEST)
     parallel = ['-n', str(os.cpu_count()), '--dist', 'load' + together] if has('xdist', python) else []
-    return [python, '-B', '-m', 'pytest', *FLAGS, *parallel]
+    return [python, '-m', 'pytest', *FLAGS, *parallel]
 
 
 def become(called: list[str], **environment: str) -> NoReturn:
     """Replaces this process by another command. The tools that it starts find this interpreter first: `python3` may be
     a script that looks for the interpreter at each start, as pyenv's is, and needs as long as a tool itself."""
     path = os.pathsep.join([str(Path(sys.executable).parent), os.environ.get('PATH', os.defpath)])
-    os.execvpe(called[0], called, {**os.environ, 'PYTHONDONTWRITEBYTECODE': '1', 'PATH': path, **environment})
+    os.execvpe(called[0], called, {'PYTHONDONTWRITEBYTECODE': '1', **os.environ, 'PATH': path, **environment})
 
 
 def asked_of(module: Path, named: str | None) -> tuple[list[str], list[str]]:

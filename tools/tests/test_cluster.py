@@ -1,7 +1,6 @@
 """Work by a real Dask scheduler with two workers: what tools/sweep and tools/search find is the same as without it."""
 import subprocess
 import tempfile
-import unittest
 from pathlib import Path
 
 import here  # noqa: F401

@@ -6,6 +6,7 @@ from collections.abc import Sequence
 from xml.etree import ElementTree
 
 from here import call, room_of
+from motesim import packages
 from motesim.cells import Cell, line_of
 from motesim.experiments.results import Head
 from skips import interpreter_with
@@ -40,6 +41,13 @@ left out: 1 run with an error
 
 
 class PlotTest(unittest.TestCase):
+    @classmethod
+    def setUpClass(cls) -> None:
+        # (the processes that draw a picture are forked from this one)
+        if packages.is_here('matplotlib'):
+            packages.load('matplotlib').use('Agg')
+            packages.load('matplotlib.pyplot')
+
     def setUp(self) -> None:
         self.folder = room_of(self)
         self.write([*RUNS, FAULTY])
