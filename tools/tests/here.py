@@ -19,7 +19,8 @@ TOP = TOOLS.parent
 sys.path.insert(0, str(TOOLS))
 # (a line that tools say once a day is said each time)
 os.environ['MOTESIM_SEEN'] = os.devnull + '/none'
-SECONDS = 120
+# (a busy machine may need long)
+SECONDS = 600
 
 
 @cache
