@@ -296,6 +296,13 @@ UnknownName'''),
 ]
 
 
+class KnownTest(unittest.TestCase):
+    def test_the_scenario_of_a_plan_is_that_of_its_text(self) -> None:
+        for text in PLAN, PLAN.replace('[places]', '[queue]\nflood = 4\n[places]', 1):
+            known, made = plan(text).builder({}).with_text()
+            self.assertEqual(vars(known), vars(Scenario.parse(made)))
+
+
 class FaultsTest(unittest.TestCase):
     def seen(self, text: str) -> str:
         with self.assertRaises(Fault) as caught:

@@ -25,7 +25,7 @@ from motesim.cells import Cell
 from motesim.text import known
 from motesim.text import nearest
 from motesim.judge import judge as judges
-from motesim.summary import counts as summary
+from motesim.summary import counts
 from motesim.faults import Fault
 from motesim.summary.flows import NAMES as FLOW_NAMES
 from motesim.summary.flows import FlowFault, flow_rows, read_flow, same_value, same_value_in_flow
@@ -39,7 +39,7 @@ from motesim.scenario import Scenario
 from motesim.scenario.scenario import hops_over
 from motesim.judge.sentences import Copies, Does, Motes, Names, Packets, Refused, Sentence, read_sentence
 
-SUMMARY = ('sent', 'copies', *OUTCOMES, 'ratio', *summary.COUNTED.values(), 'halt')
+SUMMARY = ('sent', 'copies', *OUTCOMES, 'ratio', *counts.COUNTED.values(), 'halt')
 REACHABLE, LOSS = 'reachable', 'loss'
 FLOWS = tuple(FLOW_NAMES[1:])
 # Measures of one sentence, and those of two, `A -> B`.
@@ -80,8 +80,7 @@ class Bench:
     @cached_property
     def summary(self) -> tuple[list[dict[str, Any]], dict[str, Any]]:
         """The rows of tools/summary: those of the motes, and that of the net."""
-        motes, net, _ = summary.summary(self.run)
-        return motes, net
+        return counts.of_motes(self.run.report, counts.counted_links(self.run.report))
 
 
 def _no_warning(bench: Bench) -> str:

@@ -121,13 +121,13 @@ def run_job(work: Work, job: Job) -> Result:
         with at_most(work.seconds, not_finished(work.seconds)):
             plan = Plan(work.plan, work.text, Files(Path(work.folder), job.files))
             builder = plan.builder(job.given)
-            text = builder.scenario()
+            known, text = builder.with_text()
             made = made._replace(scenario=digest(text.encode()), rejected=builder.rejected)
         limits = Limits(BUSY * work.seconds, report=work.most_bytes, processor=work.seconds)
         got = Runner(program_here(work.program, work.program_digest), limits).answer(text.encode())
         if got.status:
             raise ProgramFault(got.fault.decode('utf-8', 'backslashreplace').strip() or 'status %d' % got.status)
-        known, read = Scenario.parse(text), Report.parse(got.report)
+        read = Report.parse(got.report)
         places = digest(repr([(it.x, it.y) for it in known.places]).encode())
         found = measured(work, Bench(Run(work.plan, read, known), job.given), known)
         return made._replace(measures=found.measures, note=found.note, warnings=found.warnings, places=places,

@@ -53,6 +53,7 @@ class Statement:
     block: Block = ()
     otherwise: Block = ()
     into: str = ''
+    has_else: bool = False
 
     @property
     def waits(self) -> bool:
@@ -174,8 +175,8 @@ class _Reader:
         first = self.take()
         kind = first.text
         if kind in ('if', 'while'):
-            test, block = self.expression(), self.block()
-            return Statement(kind, first, (), test, block, self.block() if self.takes('else') else ())
+            test, block, has_else = self.expression(), self.block(), self.takes('else')
+            return Statement(kind, first, (), test, block, self.block() if has_else else (), has_else=has_else)
         if self.takes('='):
             found = Statement('=', first, (first,), self.expression())
         elif 'E' in STATEMENTS[kind].form.rstrip(';').split():

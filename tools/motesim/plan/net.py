@@ -4,6 +4,7 @@ from __future__ import annotations
 import re
 from collections import Counter
 from collections.abc import Iterator, Mapping, Sequence
+from functools import lru_cache
 from pathlib import PurePath
 from typing import Any
 
@@ -18,11 +19,14 @@ from motesim.plan.keys import (
     OTHER, PLACES, TOP,
 )
 from motesim.plan.tables import Key, NoParameter, PlanFault, Tables, filled, needed, optional, shown, text_of_value
-from motesim.plan.text import Mote, Net, scenario_text
+from motesim.plan.text import Mote, Net, scenario_text, tables_of
+from motesim.scenario import Scenario
 from motesim.scenario.encodings import decoded
 from motesim.scenario.faults import Path, Place
 from motesim.toml import MARK
 
+# The error of a program's text: the runs of a sweep have few different texts.
+find_fault = lru_cache(64)(program_faults.find_fault)
 # What no rule for losses does.
 BY_CHANCE = ' (for losses by chance see docs/use/STATISTICS.md)'
 
@@ -62,6 +66,11 @@ class Builder:
                 for name, key in TOP.items() if key.kind is not object and name in self.tables.top}
 
     def scenario(self) -> str:
+        """The scenario's text."""
+        return self.with_text()[1]
+
+    def with_text(self) -> tuple[Scenario, str]:
+        """The scenario, and its text."""
         motes = self.motes()
         losses = self.losses(motes)
         queue = self.queue()
@@ -71,7 +80,7 @@ class Builder:
         if len(text.encode()) > MOST_BYTES:
             raise self.tables.fault((), 'The scenario would have %s bytes.' % '{:,}'.format(len(text.encode())),
                                     'a plan whose scenario has at most 1,048,576 bytes')
-        return text
+        return Scenario(tables_of(net)), text
 
     def head(self) -> list[str]:
         """The scenario's comment on its origin."""
@@ -135,7 +144,7 @@ class Builder:
             place = Place(line + 1, fault.at - (source.rfind('\n', 0, fault.at) + 1), len(fault.name) + 3)
             raise PlanFault(shown(file, source, place, 'The plan has no parameter `%s`.' % fault.name,
                                   self.tables.names())) from None
-        fault_there = program_faults.find_fault(text)
+        fault_there = find_fault(text)
         if fault_there:
             name = file if text == source else '%s, with its parameters' % file
             token, rule = fault_there.token, '%s: %s' % program_faults.RULES[fault_there.kind]

@@ -2,7 +2,7 @@
 from __future__ import annotations
 
 from collections.abc import Iterator, Mapping, Sequence
-from typing import NamedTuple
+from typing import Any, NamedTuple
 
 ESCAPES = {'\\': '\\\\', '"': '\\"', '\n': '\\n', '\t': '\\t', '\r': '\\r'}
 
@@ -63,6 +63,14 @@ def _lines(net: Net) -> Iterator[str]:
         yield '[[mote]]\nx = %d\ny = %d\nprogram = "%s"' % mote
     for (sender, to), every in sorted(net.losses.items()):
         yield '[[loss]]\nfrom = %d\nto = %d\nevery = %d' % (sender, to, every)
+
+
+def tables_of(net: Net) -> dict[str, Any]:
+    """The tables of the text, as a reader of TOML returns them."""
+    return {'version': 2, 'end': net.end, 'programs': dict(sorted(net.programs.items())),
+            'medium': {'range': net.range, 'base': net.base, 'per': net.per, 'collide': net.collide},
+            'queue': dict(sorted(net.queue.items())), 'mote': [it._asdict() for it in net.motes],
+            'loss': [{'from': sender, 'to': to, 'every': every} for (sender, to), every in sorted(net.losses.items())]}
 
 
 def comment(line: str) -> str:

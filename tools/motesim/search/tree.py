@@ -1,18 +1,14 @@
-"""Programs as immutable trees, from which smaller programs can be made.
+"""Programs as immutable trees without places, from which smaller programs can be made.
 
-`read_program(text)` returns the tree of a text that is a program; `program_text(program)` writes it in the canonical
-layout of docs/use/LANGUAGE.md. An expression is a word, a test such as `fired(t)`, a negation or an operation.
+`read_program(text)` returns the tree of a text that is a program, made from that of `motesim.notation.tree`;
+`program_text(program)` writes it in the canonical layout of docs/use/LANGUAGE.md. An expression is a word, a test such as
+`fired(t)`, a negation or an operation.
 """
 from __future__ import annotations
 
 from typing import NamedTuple, TypeAlias
 
-from motesim.notation.faults import tokens_of
-
-TESTS = ('is', 'fired', 'expired', 'gone', 'running', 'count')
-# The statements whose last part is an expression, with the number of words between their keyword and the expression.
-BEFORE_EXPRESSION = {'print': 0, 'send': 0, 'yield_until': 0, 'wait_until': 0, 'wait_while': 0, 'set': 1, 'post': 2,
-                     'synch': 2, 'broadcast': 1}
+from motesim.notation import tree
 
 
 class Test(NamedTuple):
@@ -84,119 +80,39 @@ class Program(NamedTuple):
     codes: tuple[Code, ...]
 
 
-class _Reader:
-    """Reads a text that is known to be a program."""
-
-    def __init__(self, text: str):
-        self.words, self.at = [token.text for token in tokens_of(text)], 0
-
-    @property
-    def word(self) -> str:
-        return self.words[self.at]
-
-    def step(self) -> str:
-        self.at += 1
-        return self.words[self.at - 1]
-
-    def accept(self, word: str) -> bool:
-        is_here = self.word == word
-        self.at += is_here
-        return is_here
-
-    def names(self) -> tuple[str, ...]:
-        """Names with commas between them, up to the semicolon."""
-        found = [self.step()]
-        while self.step() == ',':
-            found.append(self.step())
-        return tuple(found)
-
-    def number(self) -> tuple[str, int]:
-        """A name, `=`, a number and the semicolon."""
-        name, _, number, _ = (self.step() for _ in range(4))
-        return name, int(number)
-
-    def program(self) -> Program:
-        events: list[str] = []
-        semaphores: list[tuple[str, int]] = []
-        while self.accept('event'):
-            events += self.names()
-        while self.accept('semaphore'):
-            semaphores.append(self.number())
-        self.step()
-        processes = self.names()
-        autostart = self.names() if self.accept('autostart') else ()
-        receiver = self.names()[0] if self.accept('receiver') else None
-        codes = tuple(self.code() for _ in processes)
-        return Program(tuple(events), tuple(semaphores), autostart, receiver, codes)
-
-    def code(self) -> Code:
-        self.step()
-        process = self.step()
-        self.step()
-        variables: list[tuple[str, int]] = []
-        timers: list[str] = []
-        parts: list[Part] = []
-        while self.accept('var'):
-            variables.append(self.number())
-        while self.accept('etimer'):
-            timers += self.names()
-        while self.word in ('ctimer', 'thread', 'onpoll', 'onexit', 'body'):
-            words: tuple[str, ...] = (self.step(),)
-            if words[0] in ('ctimer', 'thread'):
-                words += (self.step(),)
-            parts.append(Part(words, self.block()))
-        self.step()
-        return Code(process, tuple(variables), tuple(timers), tuple(parts))
-
-    def block(self) -> Block:
-        self.step()
-        found: list[Statement] = []
-        while not self.accept('}'):
-            found.append(self.statement())
-        return tuple(found)
-
-    def statement(self) -> Statement:
-        word = self.step()
-        if word == 'if':
-            test, yes = self.expression(), self.block()
-            return If(test, yes, self.block() if self.accept('else') else None)
-        if word == 'while':
-            return While(self.expression(), self.block())
-        words: tuple[str, ...] = (word,)
-        value = None
-        if self.word == '=':
-            words += (self.step(),)
-            value = self.expression()
-        elif word in BEFORE_EXPRESSION:
-            words += tuple(self.step() for _ in range(BEFORE_EXPRESSION[word]))
-            value = self.expression()
-        else:
-            while self.word != ';':
-                words += (self.step(),)
-        behind: tuple[str, ...] = ()
-        while not self.accept(';'):
-            behind += (self.step(),)
-        return Plain(words, value, behind)
-
-    def expression(self) -> Expression:
-        word = self.step()
-        if word == '!':
-            return Not(self.expression())
-        if word == '(':
-            left, operator, right = self.expression(), self.step(), self.expression()
-            self.step()
-            return Operation(left, operator, right)
-        if word in TESTS:
-            self.step()
-            name = self.step()
-            self.step()
-            return Test(word, name)
-        return word
-
-
 def read_program(text: str) -> Program:
     """The tree of a text that is a program."""
-    return _Reader(text).program()
+    read = tree.read_program(text)
+    return Program(tuple(it.text for it in read.events), tuple(read.semaphores.items()), read.autostart,
+                   read.receiver.text if read.receiver else None, tuple(map(_code, read.codes)))
+
+
+def _code(it: tree.Code) -> Code:
+    parts = tuple(Part((part.kind, part.name) if part.name else (part.kind,), _block(part.block)) for part in it.parts)
+    return Code(it.process.text, tuple(it.variables.items()), tuple(timer.text for timer in it.timers), parts)
+
+
+def _block(block: tree.Block) -> Block:
+    return tuple(map(_statement, block))
+
+
+def _statement(it: tree.Statement) -> Statement:
+    value = None if it.value is None else _expression(it.value)
+    if it.kind in ('if', 'while') and value is not None:
+        no = _block(it.otherwise) if it.has_else else None
+        return If(value, _block(it.block), no) if it.kind == 'if' else While(value, _block(it.block))
+    names = tuple(name.text for name in it.names)
+    return Plain((*names, '=') if it.kind == '=' else (it.kind, *names), value, ('into', it.into) if it.into else ())
+
+
+def _expression(it: tree.Expression) -> Expression:
+    if isinstance(it, tree.Test):
+        return Test(it.token.text, it.of)
+    if isinstance(it, tree.Not):
+        return Not(_expression(it.inner))
+    if isinstance(it, tree.Operation):
+        return Operation(_expression(it.left), it.token.text, _expression(it.right))
+    return it.token.text
 
 
 def expression_text(it: Expression) -> str:

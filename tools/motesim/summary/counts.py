@@ -107,14 +107,19 @@ def by_link(report: Report, scenario: Scenario | None, became: Counter[tuple[Lin
             for link in sorted(delays)]
 
 
-def summary(run: Run) -> tuple[list[Row], Row, list[Row]]:
-    """The rows of the motes, that of the net, and those of the links."""
-    links = counted_links(run.report)
+def of_motes(report: Report, links: Counter[tuple[Link, str]]) -> tuple[list[Row], Row]:
+    """The rows of the motes, and that of the net, from the counts of the links."""
     receivers: Counter[Any] = Counter()
     for ((_, to), what), number in links.items():
         receivers[to, what] += number
-    motes = by_mote(run.report, receivers)
-    return motes, of_net(motes), by_link(run.report, run.scenario, links)
+    motes = by_mote(report, receivers)
+    return motes, of_net(motes)
+
+
+def summary(run: Run) -> tuple[list[Row], Row, list[Row]]:
+    """The rows of the motes, that of the net, and those of the links."""
+    links = counted_links(run.report)
+    return *of_motes(run.report, links), by_link(run.report, run.scenario, links)
 
 
 def shown(value: int | float | str | None) -> str:
