@@ -1,4 +1,4 @@
-"""The grammar of programs as data: the text that docs/use/LANGUAGE.md has, and its productions.
+"""The productions of the grammar of programs, whose text docs/use/LANGUAGE.md has.
 
 A production is a list of alternatives, each of which is a list of parts: a quoted text, a symbol, or such a list in
 brackets or braces.
@@ -11,33 +11,9 @@ from dataclasses import dataclass
 from functools import cache
 from typing import NamedTuple
 
-GRAMMAR = '''
-program    = { "event" NAME ";" } { "semaphore" NAME "=" NUMBER ";" }
-             "process" NAME { "," NAME } ";"
-             [ "autostart" PROCESS { "," PROCESS } ";" ] [ "receiver" PROCESS ";" ] { code }
-code       = "code" PROCESS "{" { "var" NAME "=" NUMBER ";" } { "etimer" NAME ";" } { "ctimer" NAME block }
-             { "thread" NAME block } [ "onpoll" block ] [ "onexit" block ] "body" block "}"
-block      = "{" { statement } "}"
-statement  = VARIABLE "=" expression ";"
-           | "print" expression ";" | "send" expression ";"
-           | "if" expression block [ "else" block ] | "while" expression block
-           | "yield" ";" | "yield_until" expression ";" | "wait_until" expression ";" | "wait_while" expression ";"
-           | "spawn" THREAD ";" | "restart" ";" | "exit" ";" | "pause" ";"
-           | "acquire" SEMAPHORE ";" | "signal" SEMAPHORE ";"
-           | "post" PROCESS sent expression into ";" | "broadcast" cast expression into ";"
-           | "synch" PROCESS sent expression ";"
-           | "poll" PROCESS ";" | "start" PROCESS ";" | "kill" PROCESS ";"
-           | "set" TIMER expression ";" | "reset" TIMER ";" | "restart_timer" TIMER ";" | "stop" TIMER ";"
-into       = [ "into" VARIABLE ]
-cast       = EVENT | "continue" | "msg" | "com" | "packet"
-sent       = cast | "exit"
-any        = sent | "init" | "poll" | "exited" | "timer"
-expression = NUMBER | VARIABLE | "data" | "from" | "now" | "self"
-           | "is" "(" any ")" | "fired" "(" TIMER ")" | "expired" "(" TIMER ")"
-           | "gone" "(" PROCESS ")" | "running" "(" PROCESS ")" | "count" "(" SEMAPHORE ")"
-           | "!" expression | "(" expression operator expression ")"
-operator   = "+" | "-" | "*" | "/" | "%" | "==" | "!=" | "<" | "<=" | ">" | ">=" | "&&" | "||"
-'''
+from motesim.notation.written import grammar
+
+GRAMMAR = grammar()
 TOKEN = re.compile(r'"[^"]+"|\w+|[={}\[\]|]')
 
 
