@@ -153,7 +153,7 @@ class Sentences(unittest.TestCase):
         for sentence, why, row in SENTENCES:
             with self.subTest(sentence):
                 broken = judge.broken(read_sentence(sentence, names))
-                self.assertEqual((broken.why, broken.row) if broken else (None, None), (why, row))
+                self.assertEqual((broken.words, broken.row) if broken else (None, None), (why, row))
 
     def test_many_lines_of_one_moment(self) -> None:
         """Eight thousand packets come and go in one moment: square work would need 15 s."""

@@ -7,7 +7,7 @@ from __future__ import annotations
 import dataclasses
 import itertools
 from collections.abc import Callable, Sequence
-from dataclasses import dataclass, replace
+from dataclasses import dataclass
 from pathlib import Path
 from typing import Any, NamedTuple
 
@@ -22,7 +22,7 @@ from motesim.scenario import Scenario, ScenarioFault
 from motesim.scenario.encodings import decoded
 from motesim.scenario.faults import TOP
 from motesim.scenario.fields import Field, of_line, read_fields
-from motesim.judge.sentences import Names, Refused, Sentence, SentenceFault, lacking, names_of, read_sentence
+from motesim.judge.sentences import Names, Refused, Sentence, SentenceFault, names_of, read_sentence
 from motesim.toml import NoToml, read_toml
 
 LONGEST_SHOWN = 150
@@ -222,18 +222,6 @@ def known_of(text: str, fields: tuple[Field, ...] = ()) -> tuple[Scenario | None
         return known, names_of(known)
     except ScenarioFault:
         return None, Names(fields=fields)
-
-
-def judged_each(scenario: str, part: Part) -> tuple[list[Verdict], list[str]]:
-    """The verdicts of a part, and for each sentence the name that the scenario lacks; a sentence with such a name
-    doesn't hold."""
-    names = known_of(scenario, part.fields)[1]
-    lacks = [lacking(it, names) for it in part.sentences]
-    readable = [it for it, lack in zip(part.sentences, lacks) if not lack]
-    verdicts = iter(judged(scenario, replace(part, sentences=readable)))
-    found = [Verdict(it, False, ['the scenario has %s' % lack]) if lack else next(verdicts)
-             for it, lack in zip(part.sentences, lacks)]
-    return found + list(verdicts), lacks
 
 
 def judged(scenario: str, part: Part, run: Callable[[bytes], Answer] | None = None) -> list[Verdict]:

@@ -19,7 +19,9 @@ def remark_of(sentence: Sentence, judge: Judge, holds: bool) -> str:
         return never
     if isinstance(sentence, Does) and not judge.chosen(sentence.motes) and sentence.motes.count is None:
         return OF_NO_MOTE % ('false' if sentence.motes.kind == 'some' else 'true')
-    return remark_on(sentence, judge) if holds else ''
+    if not holds:
+        return of_events(sentence, judge) if isinstance(sentence, Does) else ''
+    return remark_on(sentence, judge)
 
 
 def remark_on(sentence: Sentence, judge: Judge) -> str:

@@ -6,7 +6,7 @@ from __future__ import annotations
 
 from collections.abc import Callable, Iterable, Iterator, Set
 
-from motesim.judge.sentences import Deed, Does, Motes, Sentence, Value
+from motesim.judge.sentences import Deed, Value
 from motesim.report import MOST_WORD
 
 SETS = ('heard', 'linked')
@@ -30,8 +30,3 @@ def remark_on(deed: Deed, motes: Iterable[int], values_of: ValuesOf) -> str:
     """A remark for the reason of a broken sentence; an empty text if all wanted values have at most 16 bits."""
     found = next(wide_values(deed, motes, values_of), None)
     return '; no mote can print or send %d, which has more than 16 bits' % found[1] if found else ''
-
-
-def chosen_of(motes: Motes, count: int) -> list[int]:
-    """The motes of a net that a sentence is about."""
-    return [it for it in (range(count) if motes.numbers is None else sorted(motes.numbers)) if it not in motes.but]

@@ -33,7 +33,6 @@ SECONDS_AHEAD = 0.02
 MOST_AHEAD = 32
 # The seconds between two checks of the clock while workers work.
 TICK = 0.2
-SECONDS_TO_END = 2.0
 # The option of prctl(2) for the signal that a process gets when its parent ends.
 PR_SET_PDEATHSIG = 1
 # The most processes that share one piece of work.

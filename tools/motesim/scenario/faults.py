@@ -313,11 +313,6 @@ def places(text: str) -> dict[Path, Place]:
     return found
 
 
-def last_outside(text: str) -> int:
-    """The last line that begins outside any text of several lines; if such a text has no end, its first line."""
-    return max((number for number, _ in _lines(text)), default=1)
-
-
 def first_table(text: str) -> int | None:
     """The line on which the first table is named."""
     return next((number for number, line in _lines(text) if HEADER.match(line)), None)

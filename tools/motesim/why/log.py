@@ -15,7 +15,7 @@ from motesim.judge.judge import Span
 from motesim.report import FIELDS, MOST_MOMENT
 from motesim.scenario.fields import Field, of_line
 from motesim.why.question import Asker
-from motesim.why.source import At, Source, Traces, read_traces, traces_of
+from motesim.why.source import Source, Traces, read_traces, traces_of
 
 
 class Filter(NamedTuple):
