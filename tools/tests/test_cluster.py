@@ -1,4 +1,5 @@
 """Work by a real Dask scheduler with two workers: what tools/sweep and tools/search find is the same as without it."""
+import os
 import subprocess
 import tempfile
 from pathlib import Path
@@ -24,6 +25,11 @@ if __name__ == '__main__':
 '''
 
 
+# Dask's own measurements wake each process fifty times a second.
+IDLE = {'DASK_DISTRIBUTED__ADMIN__TICK__INTERVAL': '1s', 'DASK_DISTRIBUTED__WORKER__PROFILE__INTERVAL': '10s',
+        'DASK_DISTRIBUTED__ADMIN__SYSTEM_MONITOR__INTERVAL': '10s'}
+
+
 class Cluster(test_sweep.Bed):
     process: 'subprocess.Popen[str]'
     address: str
@@ -34,6 +40,7 @@ class Cluster(test_sweep.Bed):
         cls.addClassCleanup(folder.cleanup)
         (Path(folder.name) / 'cluster.py').write_text(CLUSTER)
         cls.process = subprocess.Popen([interpreter_with(cls, 'distributed'), 'cluster.py'], cwd=folder.name, text=True,
+                                       env={**os.environ, **IDLE},
                                        stdin=subprocess.PIPE, stdout=subprocess.PIPE, stderr=subprocess.DEVNULL)
         cls.addClassCleanup(cls.process.communicate)
         assert cls.process.stdout

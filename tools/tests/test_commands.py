@@ -63,8 +63,9 @@ class Commands(unittest.TestCase):
             self.assertEqual((done.returncode, done.stdout, done.stderr), (2, '', line))
 
     def test_defaults_are_those_of_the_libraries(self) -> None:
-        usual = one_program.Limits()
+        usual = one_program.LIMITS
         self.assertEqual((search.SECONDS, search.BYTES, shrink.SECONDS), (usual.seconds, usual.report, usual.seconds))
-        self.assertEqual((studio.SECONDS, studio.MEMORY, studio.REPORT), runs.Limits())
+        megabytes = [it // runs.MEGABYTE for it in (runs.LIMITS.memory, runs.LIMITS.report)]
+        self.assertEqual([studio.SECONDS, studio.MEMORY, studio.REPORT], [runs.LIMITS.seconds, *megabytes])
         self.assertEqual((sweep.MOST_BYTES, sweep.MOST_SECONDS), (asked.MOST_BYTES, asked.MOST_SECONDS))
         self.assertEqual(export.FORMS, tuple(ENDS))

@@ -27,7 +27,6 @@ from motesim.grading.marks import Mark, Marks
 from motesim.grading.nets import cut_off, nets_of, program_of
 from motesim.grading.page import page_of
 from motesim.grading.pages import HEAD
-from motesim.grading.progress import Progress
 from motesim.grading import tables
 from motesim.grading.tables import cell, csv_of
 from motesim.grading.warned import warned_of
@@ -638,11 +637,9 @@ class Pages(Folder):
         self.assertEqual(len(set(names)), len(names), names)
 
     def test_progress(self) -> None:
-        with mock.patch('motesim.grading.progress.SHOWN_EVERY', 0), contextlib.redirect_stderr(io.StringIO()) as seen:
-            progress = Progress(2)
-            progress.add('anna.toml')
-            progress.end()
-        self.assertEqual(seen.getvalue(), 'grade: 1 of 2 solutions are graded; the last one is anna.toml\n')
+        with mock.patch('motesim.progress.ELSEWHERE', 0):
+            self.grade()
+        self.assertEqual(self.seen, 'grade: 1 of 1 solutions are graded; the last one is anna.toml\n')
 
 
 def commands_of(session: int) -> list[str]:

@@ -26,6 +26,7 @@ from motesim.judge.sentences import names_of, read_sentence
 from motesim.plan.plan import Plan
 from motesim.report.report import Report
 from motesim.report.run import answer, program_path
+from motesim.runner import LimitMet
 from motesim.scenario.scenario import Scenario
 from motesim.search.added import DIES, LATE, NoRoom, changed_program
 from motesim.search.change import Base, CannotChange
@@ -33,7 +34,7 @@ from motesim.search.cuts import cut_of
 from motesim.search.faults import Asked, FaultyPart, change_of, faults_of
 from motesim.search.halting import without_halts
 from motesim.search.kept import Kept
-from motesim.search.one_program import Limits, OneProgram
+from motesim.search.one_program import LIMITS, OneProgram
 from motesim.search.quick_judge import QuickJudge
 from motesim.search.search import Bounds, Search
 from motesim.search.sets import Known, count_of
@@ -996,17 +997,18 @@ class Programs(unittest.TestCase):
 
     def test_answers(self) -> None:
         with tempfile.TemporaryDirectory() as folder:
-            one = OneProgram(self.program(folder, 'cat; echo told >&2; exit 3\n'), Limits())
+            one = OneProgram(self.program(folder, 'cat; echo told >&2; exit 3\n'), LIMITS)
             for text in b'a long text', b'short':
                 found = one.run(text)
-                self.assertEqual((found.status, found.report, found.fault), (3, text, 'told'))
+                self.assertEqual((found.status, found.report, found.fault), (3, text, b'told\n'))
 
     def test_limits_in_another_thread(self) -> None:
         with tempfile.TemporaryDirectory() as folder, ThreadPoolExecutor(1) as thread:
-            one = OneProgram(self.program(folder, 'cat\n'), Limits())
+            one = OneProgram(self.program(folder, 'cat\n'), LIMITS)
             self.assertEqual(thread.submit(one.run, b'text').result().report, b'text')
-            late = OneProgram(self.program(folder, 'exec sleep 60\n'), Limits(seconds=0.2))
-            self.assertEqual(thread.submit(late.run, b'').result().stopped, 'no answer in 0.2 seconds')
+            late = OneProgram(self.program(folder, 'exec sleep 60\n'), LIMITS._replace(seconds=0.2))
+            with self.assertRaisesRegex(LimitMet, 'no answer in 0.2 seconds'):
+                thread.submit(late.run, b'').result()
 
     def test_limit_on_memory(self) -> None:
         need_program(self)
@@ -1014,16 +1016,19 @@ class Programs(unittest.TestCase):
         text = DIAMOND.replace('end = 100', 'end = 1000000').replace(
             'set t 10;', 'set t 1; while 1 { yield_until fired(t); known = 0; set t 1; '
             'while (known < 2000) { print 1; known = (known + 1); } }')
-        one = OneProgram(str(program_path().resolve()), Limits(60, memory=50_000_000))
+        one = OneProgram(str(program_path().resolve()), LIMITS._replace(seconds=60, memory=50_000_000))
         self.addCleanup(one.close)
-        self.assertEqual(one.run(text.encode()).stopped, 'more than 50,000,000 bytes of memory')
-        self.assertEqual(one.run(DIAMOND.encode()).stopped, '')
+        with self.assertRaisesRegex(LimitMet, 'more than 47 megabytes of memory'):
+            one.run(text.encode())
+        self.assertEqual(one.run(DIAMOND.encode()).why, '')
 
     def test_limits(self) -> None:
         with tempfile.TemporaryDirectory() as folder:
-            late = OneProgram(self.program(folder, 'exec sleep 60\n'), Limits(seconds=0.2))
+            late = OneProgram(self.program(folder, 'exec sleep 60\n'), LIMITS._replace(seconds=0.2))
             begin = time.monotonic()
-            self.assertEqual(late.run(b'').stopped, 'no answer in 0.2 seconds')
+            with self.assertRaisesRegex(LimitMet, 'no answer in 0.2 seconds'):
+                late.run(b'')
             self.assertLess(time.monotonic() - begin, 10)
-            long = OneProgram(self.program(folder, 'exec cat /dev/zero\n'), Limits(report=100_000))
-            self.assertEqual(long.run(b'').stopped, 'the report is longer than 100,000 bytes')
+            long = OneProgram(self.program(folder, 'exec cat /dev/zero\n'), LIMITS._replace(report=100_000))
+            with self.assertRaisesRegex(LimitMet, 'the report is longer than 100,000 bytes'):
+                long.run(b'')

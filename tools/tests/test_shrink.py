@@ -23,7 +23,7 @@ from motesim.search.following import follow
 from motesim.search.forms import FORMS, form_of
 from motesim.search.found import Found
 from motesim.search.net import loss_steps, mote_steps, net_of, number_steps, parts, program_steps, without_motes
-from motesim.search.one_program import Limits, OneProgram
+from motesim.search.one_program import LIMITS, OneProgram
 from motesim.search.shrink import Shrinking, case_of, parts_and_sentences
 from motesim.search.shrink_command import STOPPED
 from motesim.search.shrink_found import chosen
@@ -164,7 +164,7 @@ class Following(unittest.TestCase):
 class Shrinks(unittest.TestCase):
     def setUp(self) -> None:
         need_program(self)
-        self.program = OneProgram(str(program_path().resolve()), Limits())
+        self.program = OneProgram(str(program_path().resolve()), LIMITS)
         self.addCleanup(self.program.close)
 
     def way(self, text: str, sentence: Any) -> Any:
@@ -358,10 +358,8 @@ class Shrinks(unittest.TestCase):
                 self.assertRegex(done.stdout, '\n  %s +%s\n' % (form_of(name), words))
 
     def test_the_progress_is_shown_if_standard_error_is_a_file(self) -> None:
-        with folder_with() as folder:
-            source = SOURCE % 'from motesim.search import progress\nprogress.ELSEWHERE = 0\n'
-            done = subprocess.run([sys.executable, '-B', '-c', source, 'diamond.toml', REACHED, '--fault', 'silent 0'],
-                                  cwd=folder, capture_output=True, text=True)
+        with folder_with() as folder, mock.patch('motesim.progress.ELSEWHERE', 0):
+            done = call('shrink', 'diamond.toml', REACHED, '--fault', 'silent 0', cwd=folder)
             self.assertEqual(done.returncode, 0, done.stderr)
             self.assertRegex(done.stderr, r'^diamond.small.toml: 0 steps, 2 runs \(no limit: --most-runs sets one\)\n')
             self.assertRegex(done.stderr, r'\ndiamond.small.toml: [1-9]\d* steps, \d+ runs \(no limit.*\)\n$')

@@ -24,7 +24,7 @@ from motesim.studio import answers, guides
 from motesim.studio.command import pinned
 from motesim.studio.desk import Changed, Desk
 from motesim.scenario.edits import applied, edit
-from motesim.studio.runs import LimitMet, Limits, Runs, Superseded
+from motesim.studio.runs import LIMITS, MEGABYTE, LimitMet, Runs, Superseded
 from motesim.studio.server import Server
 from motesim.studio.session import Session
 from test_studio_page import EXPECTED, NET
@@ -295,7 +295,7 @@ class Running(unittest.TestCase):
         self.addCleanup(program.__exit__, None, None, None)
 
     def run_text(self, text: str, **limits: Any) -> Any:
-        runs = Runs(Limits(**limits))
+        runs = Runs(LIMITS._replace(**limits))
         return runs.run(runs.ask(), text.encode())
 
     def test_a_run_answers_what_the_program_does(self) -> None:
@@ -307,8 +307,8 @@ class Running(unittest.TestCase):
     def test_each_limit_stops_a_run_and_says_how_to_raise_it(self) -> None:
         for word, limits, limit, option in [
                 ('never_ends', {'seconds': 1}, 'no answer in 1 seconds', '--seconds'),
-                ('long_report', {'output': 1}, 'the report is longer than 1,048,576 bytes', '--report'),
-                ('much_memory', {'memory': 400}, 'the run needs more than 400 megabytes of memory', '--memory')]:
+                ('long_report', {'report': MEGABYTE}, 'the report is longer than 1,048,576 bytes', '--report'),
+                ('much_memory', {'memory': 400 * MEGABYTE}, 'the run needs more than 400 megabytes of memory', '--memory')]:
             begin = time.monotonic()
             with self.assertRaises(LimitMet, msg=word) as caught:
                 self.run_text('# %s\n%s' % (word, NET), **limits)
@@ -317,7 +317,7 @@ class Running(unittest.TestCase):
 
     def test_a_newer_text_stops_the_run_before_and_none_run_at_once(self) -> None:
         ended: list[object] = []
-        runs, alive = Runs(Limits(seconds=60)), []
+        runs, alive = Runs(LIMITS._replace(seconds=60)), []
 
         def one(text: str) -> None:
             ticket = runs.ask()
@@ -352,7 +352,7 @@ class Answering(unittest.TestCase):
         self.file = room_of(self) / 'net.toml'
         self.file.write_text(NET)
         self.file.with_suffix('.expect.toml').write_text(EXPECTED)
-        self.server = Server(Session(Desk(self.file), Runs(Limits())))
+        self.server = Server(Session(Desk(self.file), Runs()))
         threading.Thread(target=self.server.serve_forever, kwargs={'poll_interval': 0.05}, daemon=True).start()
         self.addCleanup(self.server.server_close)
         self.addCleanup(self.server.shutdown)
@@ -453,7 +453,7 @@ class Answering(unittest.TestCase):
             self.assertTrue(goes_on())
             runs.ask()
             self.assertFalse(goes_on())
-            runs.limits = Limits(seconds=0)
+            runs.limits = LIMITS._replace(seconds=0)
             self.ask('advise', text=NET, number=runs.newest)
             self.assertFalse(busiest.call_args.kwargs['goes_on']())
 
@@ -546,7 +546,7 @@ class Command(unittest.TestCase):
 
     def test_a_missing_editor_is_no_fault(self) -> None:
         with mock.patch('motesim.studio.server.CODEMIRROR', None), tempfile.TemporaryDirectory() as room:
-            server = Server(Session(Desk(Path(room, 'a.toml')), Runs(Limits())), None)
+            server = Server(Session(Desk(Path(room, 'a.toml')), Runs()), None)
             self.assertFalse(server.session.has_editor)
             self.assertNotIn(b'codemirror/', server.page())
             server.server_close()

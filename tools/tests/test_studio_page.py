@@ -9,7 +9,7 @@ from here import TOP, room_of
 import stand_in
 from browser import InBrowser
 from motesim.studio.desk import Desk
-from motesim.studio.runs import Limits, Runs
+from motesim.studio.runs import LIMITS, MEGABYTE, Limits, Runs
 from motesim.studio.server import CODEMIRROR, Server, has_editor
 from motesim.studio.session import Session
 
@@ -87,7 +87,7 @@ class Page(InBrowser):
             self.server.server_close()
             self.server = None
 
-    def open(self, limits: Limits = Limits(), codemirror: Any = CODEMIRROR, named: Path | None = None) -> None:
+    def open(self, limits: Limits = LIMITS, codemirror: Any = CODEMIRROR, named: Path | None = None) -> None:
         session = Session(Desk(named or self.file), Runs(limits))
         self.serve(Server(session, codemirror))
         self.stack.callback(self.stop)
@@ -268,7 +268,7 @@ class Page(InBrowser):
         self.assertEqual(self.value('[text, document.getElementById("words").value]'), [NET, 'print'])
 
     def test_a_long_run_can_be_stopped(self) -> None:
-        self.open(Limits(seconds=30))
+        self.open(LIMITS._replace(seconds=30))
         self.value('m.editor().replace("# Two", "# never_ends Two")')
         self.wait('!document.getElementById("stop").hidden')
         self.value('document.getElementById("stop").click()')
@@ -281,7 +281,7 @@ class Page(InBrowser):
 
     def test_a_page_without_a_run_offers_none(self) -> None:
         self.file.write_text('# long_report\n' + NET)
-        self.open(Limits(output=1))
+        self.open(LIMITS._replace(report=MEGABYTE))
         ids = '["pin", "export", "play"].map(id => document.getElementById(id).disabled)'
         self.assertEqual(self.value(ids), [True, True, True])
         self.value('m.editor().replace("long_report", "short")')
@@ -401,7 +401,7 @@ class Page(InBrowser):
 
     def test_it_begins_at_the_first_difference_from_another_scenario(self) -> None:
         other = NET.replace('send 6;', 'send 9;')
-        session = Session(Desk(self.file), Runs(Limits()), against=other)
+        session = Session(Desk(self.file), Runs(), against=other)
         self.serve(Server(session, CODEMIRROR))
         self.stack.callback(self.stop)
         self.browser.size(1400, 900)
@@ -591,7 +591,7 @@ class Page(InBrowser):
         self.assertIn('Stop 1 of 1', self.shown('steps'))
 
     def test_a_run_past_its_limit_is_stopped(self) -> None:
-        self.open(Limits(seconds=5))
+        self.open(LIMITS._replace(seconds=5))
         self.value('m.editor().replace("# Two", "# never_ends Two")')
         self.wait('!document.getElementById("notice").hidden')
         self.assertIn('stopped: no answer in 5 seconds.', self.shown('notice'))
@@ -607,7 +607,7 @@ class Page(InBrowser):
     def test_results_of_an_earlier_text_are_marked(self) -> None:
         """While a new run goes on, or its text has an error, no tab is green and the panels say so."""
         (self.room / 'net.expect.toml').write_text('expect = ["mote 1 prints talker 1"]')
-        self.open(Limits(seconds=30))
+        self.open(LIMITS._replace(seconds=30))
         self.assertEqual(self.tab('checks'), ['Checks 1/1', 'good'])
         for name in 'checks', 'sums':
             self.value('document.getElementById("tab-%s").click()' % name)

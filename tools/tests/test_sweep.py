@@ -2,6 +2,7 @@
 import csv
 import gc
 import os
+import re
 import signal
 import subprocess
 import sys
@@ -12,6 +13,7 @@ from unittest import mock
 
 from here import TOOLS, call, room_of
 from motesim.faults import Fault
+from motesim.experiments.doubts import QUEUE_FULL, RECEIVER_FULL, of_full
 from motesim.experiments.measures import Bench, MeasureFault, imports_of, read_measure
 from motesim.experiments.one_run import digest, run_job
 from motesim.plan.plan import Plan
@@ -372,6 +374,12 @@ class SweepTest(Bed):
         done = self.run_it('--vary', 'period=1', '--measure', 'delay: mote 0 prints a -> mote 0 prints a')
         self.assertIn('both expectations are the same, so they are fulfilled at the same moment', done.stderr)
 
+    def test_copies_and_packets_without_room_are_reported(self) -> None:
+        for ring, refused, event, codes in (0, 0, 'packet 5', []), (1, 0, 'packet 5', [RECEIVER_FULL]), (
+                1, 1, 'packet 5', [RECEIVER_FULL, QUEUE_FULL]), (0, 1, 'msg 5', []):
+            report = Report.parse('mote 0 p\n0 start a\n2 full a %s\nmedium\nleft 0\n' % event)
+            self.assertEqual(list(of_full({'overflowed': ring, 'refused': refused}, report)), codes, event)
+
     def test_faults_are_rows(self) -> None:
         for name, line in ('long', '// long'), ('refuse', '// refuse'), ('text', 'code a'):
             (self.folder / (name + '.mote')).write_text(MOTE + line + '\n')
@@ -575,15 +583,7 @@ class SweepTest(Bed):
         self.assertIn('SystemExit: 3', self.rows()[1]['note'])
 
     def test_progress_is_on_standard_error(self) -> None:
-        source = '''import sys, time
-from motesim.experiments import progress as sweep_progress
-sweep_progress.SHOWN_EVERY = 0
-progress = sweep_progress.Progress(3)
-progress.begin -= 60
-progress.add(False)
-progress.add(True)
-'''
-        done = subprocess.run([sys.executable, '-B', '-c', source], capture_output=True, text=True,
-                              env={**os.environ, 'PYTHONPATH': str(TOOLS)})
-        self.assertEqual(done.stderr.split('\n'), ['1 of 3 runs, 0 with an error, 2:00 left',
-                                                   '2 of 3 runs, 1 with an error, 0:30 left', ''])
+        with mock.patch('motesim.progress.ELSEWHERE', 0):
+            done = self.sweep('--vary', 'period=1..2', '--measure', 'prints')
+        self.assertEqual(re.sub(r'\d+:\d\d', '0:00', done.stderr).split('\n'), [
+            '%d of 2 runs, 0 with an error, 0:00 left' % it for it in (1, 2)] + [''])

@@ -1,11 +1,31 @@
 """What tools print never commands a terminal, whatever names somebody else chose."""
+import io
 import unittest
+from unittest import mock
 
 from here import call, room_of
-from motesim.terminal import one_line, plain
+from motesim.progress import Progress
+from motesim.terminal import CLEAR, one_line, plain
 from skips import need_program
 
 ERASE = '\r\x1b[2K'
+
+
+class ProgressTest(unittest.TestCase):
+    def shown(self, is_terminal: bool, elsewhere: float = 0) -> str:
+        """What is written if a line may be due once."""
+        seen = io.StringIO()
+        seen.isatty = lambda: is_terminal  # type: ignore[method-assign]
+        with mock.patch.multiple('motesim.progress', ON_TERMINAL=0, ELSEWHERE=elsewhere), mock.patch('sys.stderr', seen):
+            progress = Progress()
+            if progress.is_due():
+                progress.show('1 of 2')
+            progress.end()
+        return seen.getvalue()
+
+    def test_a_terminal_has_one_line_that_is_removed_and_a_file_has_lines(self) -> None:
+        self.assertEqual(self.shown(True), CLEAR + '1 of 2' + CLEAR)
+        self.assertEqual((self.shown(False), self.shown(False, 60)), ('1 of 2\n', ''))
 
 
 class Terminal(unittest.TestCase):

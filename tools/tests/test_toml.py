@@ -6,7 +6,7 @@ import sys
 import time
 import unittest
 
-from here import TOOLS, call, room_of
+from here import call, room_of
 from motesim.toml import NoToml, pieces, read_toml
 from stub import processes_of, run_whole, write_stub
 
@@ -95,8 +95,8 @@ class Tools(unittest.TestCase):
                             ['sweep', '--measure', 'sent']):
             for name in TEXTS:
                 with self.subTest(tool=tool, name=name):
-                    done = run_whole([sys.executable, '-B', str(TOOLS / tool), name + '.toml', *more], self.folder,
-                                     MOTESIM=str(self.stub))
+                    done = call(tool, name + '.toml', *more, cwd=self.folder,
+                                env={**os.environ, 'MOTESIM': str(self.stub)})
                     self.assertNotIn('Traceback', done.stderr.replace('Traceback (most recent call last):\n  File "%s'
                                                                       % self.stub, ''))
                     self.assertIn(done.returncode, (1, 2))

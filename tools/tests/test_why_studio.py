@@ -12,7 +12,7 @@ from motesim.report import Report
 from motesim.report.run import Run
 from motesim.scenario import Scenario
 from motesim.studio.desk import Desk
-from motesim.studio.runs import Limits, Runs
+from motesim.studio.runs import Runs
 from motesim.studio.server import CODEMIRROR, Server, has_editor
 from motesim.studio.session import Session
 from motesim.why.studio import Causes
@@ -75,7 +75,7 @@ class Page(InBrowser):
         self.file = file = room_of(self) / 'flooding.toml'
         file.write_text((TOP / 'examples/flooding.toml').read_text())
         file.with_suffix('.expect.toml').write_text('expect = ["mote 0 prints flood 1"]\n')
-        self.server = Server(Session(Desk(file), Runs(Limits())), CODEMIRROR)
+        self.server = Server(Session(Desk(file), Runs()), CODEMIRROR)
         threading.Thread(target=self.server.serve_forever, kwargs={'poll_interval': 0.05}, daemon=True).start()
         self.addCleanup(self.stop)
         self.browser.size(1500, 1100)

@@ -126,7 +126,7 @@ def run_job(work: Work, job: Job) -> Result:
         limits = Limits(BUSY * work.seconds, report=work.most_bytes, processor=work.seconds)
         got = Runner(program_here(work.program, work.program_digest), limits).answer(text.encode())
         if got.status:
-            raise ProgramFault(got.fault.decode('utf-8', 'backslashreplace').strip() or 'status %d' % got.status)
+            raise ProgramFault(got.why)
         read = Report.parse(got.report)
         places = digest(repr([(it.x, it.y) for it in known.places]).encode())
         found = measured(work, Bench(Run(work.plan, read, known), job.given), known)

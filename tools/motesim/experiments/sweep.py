@@ -4,6 +4,7 @@ from __future__ import annotations
 import argparse
 import contextlib
 import sys
+import time
 from collections import Counter
 from collections.abc import Iterable, Iterator, Mapping
 from pathlib import Path
@@ -13,7 +14,6 @@ from motesim.experiments.asked import Sweep, known_names, measures_of, sources_o
 from motesim.experiments.doubts import MEANINGS
 from motesim.experiments.measures import file_of
 from motesim.experiments.one_run import DIGITS, Job, Result, Work, digest
-from motesim.experiments.progress import Progress
 from motesim.cells import text_of
 from motesim.experiments.results import Head, Results, Row
 from motesim.experiments.runs import Stopped, run_by_dask, run_here
@@ -22,8 +22,10 @@ from motesim.files import refuse_inputs
 from motesim.output import beside
 from motesim.plan.plan import UNUSED, Plan
 from motesim.plan.tables import Value, text_of_value, value_of_text
+from motesim.progress import Progress
 from motesim.runner.optimized import optimized_path
 from motesim.runner.versions import kit_version, program_digest, program_version
+from motesim.runner.waiting import clock
 
 
 class Sweeper:
@@ -120,14 +122,18 @@ class Sweeper:
         missing = self.missing()
         if not missing:
             return 0
-        jobs, work, progress = self.jobs(missing), self.work(), Progress(len(missing))
+        jobs, work, progress, made, failed = self.jobs(missing), self.work(), Progress(), 0, 0
         results = (run_by_dask(jobs, work, len(missing), address) if address else
                    run_here(jobs, work, min(processes, len(missing))))
         try:
             for result in results:
                 self.rows[result.place] = self.row(result)
                 self.file.add(self.rows[result.place])
-                progress.add(bool(result.fault))
+                made, failed = made + 1, failed + bool(result.fault)
+                if progress.is_due():
+                    left = (time.monotonic() - progress.begun) / made * (len(missing) - made)
+                    progress.show('%d of %d runs, %d with an error, %s left' % (
+                        made, len(missing), failed, clock(left)))
         finally:
             progress.end()
         self.write()

@@ -4,7 +4,7 @@ from __future__ import annotations
 
 import re
 import tomllib
-from collections.abc import Iterator
+from collections.abc import Iterator, Mapping
 from functools import cache
 from pathlib import Path
 from typing import NamedTuple
@@ -14,13 +14,12 @@ from motesim.notation.faults import ProgramError
 from motesim.notation.grammar import RESERVED
 
 PIECE = re.compile(r'<\w+>|\w+|[^\w\s]')
-FORMS = {'number': r'\d+', 'value': r'[^;]+?', 'rest': r'[^;]+?', 'text': r'"[^"]*"', 'sign': r'[-+*/%]', 'timer': '[ec]timer',
-         'static': r'(?:static\s+)?', 'function': r'(?!(?:%s)\b)[a-z]\w*' % '|'.join(RESERVED),
-         'type': r'(?:(?:static|const|volatile|unsigned|signed)\s+)*(?:u?int(?:8|16|32)?(?:_t)?|char|short|long|bool)'}
+FORMS = {'number': r'\d+', 'value': r'[^;]+?', 'rest': r'[^;]+?', 'text': r'"[^"]*"', 'sign': r'[-+*/%]',
+         'function': r'(?!(?:%s)\b)[a-z]\w*' % '|'.join(RESERVED)}
 # A longer line isn't looked at.
 LONGEST = 400
 # Those that don't begin and end with a letter or digit.
-NO_WORDS = ('sign', 'text', 'value', 'rest', 'static')
+NO_WORDS = ('sign', 'text', 'value', 'rest')
 WORD = 'a word'
 
 
@@ -31,17 +30,18 @@ class Habit(NamedTuple):
     why: str
 
 
-def pattern_of(written: str) -> re.Pattern[str]:
+def pattern_of(written: str, forms: Mapping[str, str]) -> re.Pattern[str]:
     """A pattern in which blanks may stand between all words and signs. A name that occurs twice is the same word."""
     found, last, known = '', '', set[str]()
     for it in PIECE.findall(written):
         name = it[1:-1] if it[0] == '<' else ''
-        is_word = name not in NO_WORDS if name else it[0].isalnum()
+        form = forms.get(name, r'[a-zA-Z_]\w*')
+        is_word = name not in NO_WORDS and not re.fullmatch(form, '') if name else it[0].isalnum()
         if found:
             found += '' if last in '+-' and it == last else r'\s+' if is_word and last == WORD else r'\s*'
         elif is_word:
             found += r'\b'
-        group = '(?P=%s)' % name if name in known else '(?P<%s>%s)' % (name, FORMS.get(name, r'[a-zA-Z_]\w*'))
+        group = '(?P=%s)' % name if name in known else '(?P<%s>%s)' % (name, form)
         found += group if name else re.escape(it)
         last = WORD if is_word else it
         known.add(name)
@@ -50,8 +50,9 @@ def pattern_of(written: str) -> re.Pattern[str]:
 
 @cache
 def habits() -> tuple[Habit, ...]:
-    rows = tomllib.loads((Path(__file__).with_name('habits.toml')).read_text('utf-8'))['habit']
-    return tuple(Habit(pattern_of(it['written']), it.get('becomes'), it['why']) for it in rows)
+    read = tomllib.loads(Path(__file__).with_name('habits.toml').read_text('utf-8'))
+    forms = {**FORMS, **read['forms']}
+    return tuple(Habit(pattern_of(it['written'], forms), it.get('becomes'), it['why']) for it in read['habit'])
 
 
 def of_line(source: str, fault: ProgramError) -> Iterator[Correction]:

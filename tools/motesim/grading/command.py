@@ -18,7 +18,7 @@ from motesim.grading.nets import (
 )
 from motesim.grading.own import OF_KEY
 from motesim.grading.pages import keep_names, pages_of, remove_earlier
-from motesim.grading.progress import Progress
+from motesim.progress import Progress
 from motesim.judge.expectations import parts_of, read_all, text_of
 from motesim.judge.sentences import Names, names_of
 from motesim.runner import Limits, program_path, run_each
@@ -29,6 +29,8 @@ MEGABYTE = 1 << 20
 PATIENCE = 10
 # The most names of solutions that an error lists.
 MOST_NAMES = 20
+# The width of the line about the progress.
+WIDTH = 100
 # The most nets or files in a remark.
 MOST_LISTED = 5
 # The seconds for each net in addition to its run: for reading and judging its report.
@@ -39,11 +41,13 @@ def grade(entries: Sequence[Entry], task: Task, jobs: int | None = None) -> list
     """The marks of all entries, in their order."""
     seconds = (task.limits.seconds + SPARE) * max(1, len(task.nets))
     found: dict[int, Marks] = {}
-    progress = Progress(len(entries))
+    progress = Progress()
     for done in run_each(task.of, enumerate(entries, 1), workers=jobs, seconds=seconds):
         number, entry = done.item
         found[number] = (done.result or unmarked(entry.name, done.fault or 'it can\'t be graded')).in_lines()
-        progress.add(entry.name)
+        if progress.is_due():
+            progress.show(('grade: %d of %d solutions are graded; the last one is %s' % (
+                len(found), len(entries), entry.name))[:WIDTH])
     progress.end()
     return [found[number] for number in sorted(found)]
 

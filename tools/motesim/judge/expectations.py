@@ -189,7 +189,7 @@ def same_report(rows: Sequence[str], wanted: str) -> Verdict:
 
 def refused(part: Part, sentences: list[Sentence], got: Answer) -> list[Verdict]:
     """The verdicts on a scenario that has no report."""
-    line = got.fault.decode('utf-8', 'backslashreplace').strip() or 'status %d' % got.status
+    line = got.why
     more, found = ['%s: %s' % (REFUSED, line)], []
     for text, sentence in zip(part.sentences, sentences):
         holds = isinstance(sentence, Refused) and got == Answer(1, b'', ('motesim: %s\n' % sentence.fault).encode())

@@ -36,6 +36,11 @@ class Answer(NamedTuple):
     report: bytes
     fault: bytes
 
+    @property
+    def why(self) -> str:
+        """Why there is no report; an empty text if there is one."""
+        return (self.fault.decode('utf-8', 'backslashreplace').strip() or 'status %d' % self.status) * bool(self.status)
+
 
 LimitName = Literal['seconds', 'memory', 'report', 'processor']
 
@@ -264,6 +269,5 @@ class Runner:
         """The report of a scenario. Raises `NoReport` if the binary refuses it."""
         got = self.answer(scenario, *arguments)
         if got.status:
-            why = got.fault.decode('utf-8', 'backslashreplace').strip() or 'status %d' % got.status
-            raise NoReport('the scenario has no report: %s' % why)
+            raise NoReport('the scenario has no report: %s' % got.why)
         return got.report

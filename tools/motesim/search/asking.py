@@ -13,7 +13,8 @@ from motesim.search.faults import (
     WHY_NONE, Asked, absent_kinds, after_packets, faults_of, untried_copies, without_effect,
 )
 from motesim.search.kept import Kept
-from motesim.search.one_program import Limits, OneProgram
+from motesim.runner import Limits
+from motesim.search.one_program import LIMITS, OneProgram
 from motesim.search.prepare import plain_run, prepare
 from motesim.search.runner import Here, OnCluster, Runner
 from motesim.search.search import Bounds, Search
@@ -33,7 +34,7 @@ class Asking:
     once."""
 
     def __init__(self, base: Base, texts: list[str], sentences: list[Sentence], asked: Asked, bounds: Bounds,
-                 limits: Limits = Limits()):
+                 limits: Limits = LIMITS):
         self.base, self.texts, self.sentences, self.bounds, self.limits = base, texts, sentences, bounds, limits
         self.path = optimized_path()
         program = OneProgram(str(self.path), limits)

@@ -22,9 +22,9 @@ from motesim.search.found import (
     write_files, write_whole,
 )
 from motesim.search.kept import Kept
-from motesim.search.one_program import Limits
+from motesim.search.one_program import LIMITS
 from motesim.search.numbers import LEAST, numbers_of_words
-from motesim.search.progress import Progress
+from motesim.search.progress import ProgressOfSearch
 from motesim.search.search import Bounds, Search
 from motesim.search.shrink import parts_and_sentences
 from motesim.search.shrink_found import shrink_each
@@ -113,7 +113,7 @@ def asking_of(words: argparse.Namespace, base: Base) -> Asking:
     base.scenario_itself.fields = fields_of(words)
     texts, sentences = sentences_of(words, names_of(base.scenario_itself))
     bounds = Bounds(words.at_most, words.random, words.seed, words.most_runs, words.most_seconds)
-    return Asking(base, texts, sentences, asked_of(words), bounds, Limits(words.seconds, words.bytes))
+    return Asking(base, texts, sentences, asked_of(words), bounds, LIMITS._replace(seconds=words.seconds, report=words.bytes))
 
 
 def refuse_all_inputs(words: argparse.Namespace, asking: Asking, folder: Path) -> None:
@@ -152,8 +152,8 @@ def show(words: argparse.Namespace, asking: Asking, search: Search, folder: Path
             print(line_of_earlier(earlier, folder))
     if search.is_stopped:
         return INTERRUPTED
-    if words.shrink and shrink_each(asking, search, found, folder, Progress(words.progress), words.json == '-',
-                                    parts_and_sentences(words.keep)):
+    if words.shrink and shrink_each(asking, search, found, folder, ProgressOfSearch(words.progress),
+                                    words.json == '-', parts_and_sentences(words.keep)):
         return INTERRUPTED
     return 1 if found else 0 if search.runs else 2
 
@@ -230,10 +230,10 @@ def searched(words: argparse.Namespace, asking: Asking, folder: Path) -> Search:
     folder.mkdir(parents=True, exist_ok=True)
     kept = Kept()
     kept.open(folder / STATE, asking.digest(), words.resume)
-    progress = Progress(words.progress)
+    progress = ProgressOfSearch(words.progress)
     with Break() as stop:
-        search = asking.search(words.jobs, kept, progress.show, lambda: stop.is_asked, words.dask)
-    progress.end(search)
+        search = asking.search(words.jobs, kept, progress.show_sets, lambda: stop.is_asked, words.dask)
+    progress.end_search(search)
     return search
 
 

@@ -11,24 +11,15 @@ import signal
 import threading
 import time
 from types import FrameType
-from typing import NamedTuple
+
+from motesim.runner.process import Answer, LimitMet, Limits
+from motesim.runner.programs import ProgramFault
 
 SPAWNED = [signal.SIGPIPE, signal.SIGXFSZ]
 
 
-class Limits(NamedTuple):
-    """The limits of a run: seconds, bytes of its report, and bytes of memory."""
-    seconds: float = 10.0
-    report: int = 16_000_000
-    memory: int = 1_024_000_000
-
-
-class Answer(NamedTuple):
-    """The result of a run. If the run was stopped, `stopped` names the limit."""
-    status: int
-    report: bytes
-    fault: str
-    stopped: str = ''
+# The usual limits.
+LIMITS = Limits(10.0, 1 << 30, 16_000_000)
 
 
 class _Late(Exception):
@@ -41,6 +32,8 @@ def _ring(number: int, frame: FrameType | None) -> None:
 
 # The shortest and the longest pause between two checks of a run, in seconds, if no alarm can be set.
 PAUSE, LONGEST_PAUSE = 0.0005, 0.02
+# The most bytes of a fault that are kept.
+MOST_FAULT = 400
 
 
 class OneProgram:
@@ -56,7 +49,7 @@ class OneProgram:
         self.actions = [(os.POSIX_SPAWN_DUP2, file, at) for at, file in enumerate(files)]
 
     def run(self, scenario: bytes) -> Answer:
-        """Runs a scenario and returns the result."""
+        """The answer to a scenario. Raises `LimitMet` or another `ProgramFault` if the run was ended early."""
         for file in self.given, self.report, self.fault:
             os.ftruncate(file, 0)
             os.lseek(file, 0, os.SEEK_SET)
@@ -116,14 +109,15 @@ class OneProgram:
     def answer(self, status: int | None) -> Answer:
         size = os.fstat(self.report).st_size
         if status is None:
-            return Answer(1, b'', '', 'no answer in %g seconds' % self.limits.seconds)
+            raise LimitMet('seconds', self.limits)
         if status == -signal.SIGXFSZ or size >= self.limits.report:
-            return Answer(1, b'', '', 'the report is longer than {:,} bytes'.format(self.limits.report))
-        told = os.pread(self.fault, 400, 0).decode('utf-8', 'backslashreplace').strip()
-        if status < 0 or told == 'motesim: out of memory':
-            return Answer(1, b'', '', 'it ended by signal %d' % -status if status < 0 else
-                          'more than {:,} bytes of memory'.format(self.limits.memory))
-        return Answer(status, os.pread(self.report, size, 0), told)
+            raise LimitMet('report', self.limits)
+        if status < 0:
+            raise ProgramFault('it ended by signal %d' % -status)
+        fault = os.pread(self.fault, MOST_FAULT, 0)
+        if fault == b'motesim: out of memory\n':
+            raise LimitMet('memory', self.limits)
+        return Answer(status, os.pread(self.report, size, 0), fault)
 
     def close(self) -> None:
         for file in self.given, self.report, self.fault:

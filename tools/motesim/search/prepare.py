@@ -12,6 +12,7 @@ from collections.abc import Callable
 from typing import NamedTuple
 
 from motesim.faults import Fault
+from motesim.runner.programs import ProgramFault
 from motesim.search.added import DIES, LATE, NoRoom, added_name, halts
 from motesim.search.change import Base, CannotChange, Change
 from motesim.search.faults import FaultyPart
@@ -41,10 +42,13 @@ class Plain(NamedTuple):
 
 def plain_run(base: Base, program: OneProgram, sentences: list[Sentence]) -> Plain:
     """Runs the scenario without a fault."""
-    answer = program.run(base.source.encode())
-    if answer.stopped or answer.status:
-        raise Fault('%s has no report, even if no fault is added: %s' % (
-            base.name, answer.stopped + LIMITS if answer.stopped else answer.fault))
+    try:
+        answer = program.run(base.source.encode())
+        why = answer.why
+    except ProgramFault as fault:
+        why = '%s%s' % (fault, LIMITS)
+    if why:
+        raise Fault('%s has no report, even if no fault is added: %s' % (base.name, why))
     sections = answer.report.partition(b'\nmedium\n')[0].split(b'\nmote ')
     return Plain(answer.report, QuickJudge(sentences).broken(answer.report, base.scenario_itself),
                  [section.count(b' send ') for section in sections],
@@ -72,9 +76,12 @@ def difference(base: Base, plain: Plain, program: OneProgram, mote: int, kind: s
     the report with the process."""
     change = Change()
     change.added[mote] = kind, base.scenario_itself.end + 1 if kind == DIES else 0
-    answer = program.run(base.text(change).encode())
-    if answer.stopped or answer.status:
-        return answer.stopped or answer.fault, b''
+    try:
+        answer = program.run(base.text(change).encode())
+    except ProgramFault as fault:
+        return str(fault), b''
+    if answer.status:
+        return answer.why, b''
     name = added_name(base.tables['programs'][base.scenario_itself.places[mote].program], kind)
     here, there = (without_process(report, mote, name) for report in (answer.report, plain.report))
     if here == there:

@@ -14,6 +14,7 @@ from motesim.faults import Fault
 from motesim.judge.judge import Broken, Judge
 from motesim.judge.sentences import Sentence, SentenceFault, names_of, read_sentence
 from motesim.report import Report
+from motesim.runner.programs import ProgramFault
 from motesim.scenario.fields import Field
 from motesim.scenario.scenario import Scenario
 from motesim.search.change import Base, Change
@@ -140,11 +141,14 @@ class Shrinking:
     def seen(self, text: str) -> Seen | None:
         """The report of a text, or None if there is no report, or if it is too long."""
         self.runs += 1
-        answer = self.program.run(text.encode())
+        try:
+            answer = self.program.run(text.encode())
+        except ProgramFault:
+            return None
         self.last = max(self.last, len(answer.report))
         scenario = self.scenario(text)
         is_long = self.longest is not None and len(answer.report) > self.longest and scenario.end < self.first_end
-        return None if answer.status or answer.stopped or is_long else Seen(answer.report, scenario)
+        return None if answer.status or is_long else Seen(answer.report, scenario)
 
     def scenario(self, text: str) -> Scenario:
         found = Scenario.parse(text)

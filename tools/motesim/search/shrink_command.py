@@ -15,14 +15,14 @@ from motesim.judge.expectations import beside, fields_beside, parts_of, read_all
 from motesim.judge.judge import Judge
 from motesim.judge.sentences import names_of
 from motesim.report import Report
-from motesim.runner.programs import program_path
+from motesim.runner.programs import ProgramFault, program_path
 from motesim.scenario.scenario import Scenario
 from motesim.search.change import Base
 from motesim.search.faults import effect_of
 from motesim.search.found import counted, toml_text, write_whole
 from motesim.search.net import PARTS, Net, net_of
-from motesim.search.one_program import Limits, OneProgram
-from motesim.search.progress import Progress
+from motesim.search.one_program import LIMITS, OneProgram
+from motesim.search.progress import ProgressOfSearch
 from motesim.search.shrink import Case, Shrinking, case_of, parts_and_sentences
 from motesim.search.smaller import statements_in
 
@@ -34,9 +34,13 @@ def first_broken(base: Base, path: Path, program: OneProgram) -> str:
     """The first sentence of a file of expectations that a scenario breaks."""
     texts = parts_of(text_of(path), str(path))[0].sentences
     sentences = read_all(texts, names_of(base.scenario_itself))
-    answer = program.run(base.source.encode())
-    if answer.status or answer.stopped:
-        raise Fault('%s has no report: %s' % (base.name, answer.stopped or answer.fault))
+    try:
+        answer = program.run(base.source.encode())
+        why = answer.why
+    except ProgramFault as fault:
+        why = str(fault)
+    if why:
+        raise Fault('%s has no report: %s' % (base.name, why))
     judge = Judge(Report.parse(answer.report), base.scenario_itself)
     for text, sentence in zip(texts, sentences):
         if judge.broken(sentence):
@@ -116,7 +120,7 @@ class Work:
         self.path = Path(asked.scenario)
         self.output = Path(asked.output or self.path.name.removesuffix('.toml') + '.small.toml')
         self.begun = time.monotonic()
-        self.progress = Progress()
+        self.progress = ProgressOfSearch()
 
     def why_over(self, runs: int) -> str:
         """The reason why the tool can't make this many runs; an empty text if it can."""
@@ -157,7 +161,7 @@ class Work:
         shrinking.is_over = partial(self.is_over, shrinking)
         before = shrinking.text
         shrinking.run()
-        self.progress.end_shrinking()
+        self.progress.end()
         why = '' if shrinking.is_whole else self.why_over(shrinking.runs + runs_of(shrinking.case))
         if not shrinking.taken:
             self.need_runs(shrinking.runs, why)
@@ -192,7 +196,7 @@ def differing(shrinking: Shrinking) -> list[str]:
 
 def status_of(asked: argparse.Namespace) -> int:
     """The work of tools/shrink; returns the status."""
-    program = OneProgram(str(program_path().resolve()), Limits(asked.seconds))
+    program = OneProgram(str(program_path().resolve()), LIMITS._replace(seconds=asked.seconds))
     with BreakOfRun(program) as stop:
         try:
             return Work(asked, program, stop).status()

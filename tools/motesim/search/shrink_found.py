@@ -9,7 +9,7 @@ from motesim.runner.interrupt import Break
 from motesim.search.asking import Asking
 from motesim.search.found import Found, counted
 from motesim.search.one_program import OneProgram
-from motesim.search.progress import Progress
+from motesim.search.progress import ProgressOfSearch
 from motesim.search.search import Search
 from motesim.search.shrink import Case, Shrinking, case_of
 from motesim.search.shrink_command import differing, limit_in_words, runs_of, sizes, why_over, write_result
@@ -37,7 +37,7 @@ class Allowance:
         bounds, before = self.search.bounds, self.search.given + self.runs
         return limit_in_words(bounds.seconds, None if bounds.runs is None else bounds.runs - before)
 
-    def is_over(self, shrinking: Shrinking, progress: Progress, name: str) -> bool:
+    def is_over(self, shrinking: Shrinking, progress: ProgressOfSearch, name: str) -> bool:
         """Shows the progress; returns whether the next step can't be tried."""
         progress.show_shrinking(name, len(shrinking.taken), shrinking.runs, self.limit())
         return bool(self.why_over(shrinking.runs + runs_of(shrinking.case)))
@@ -50,7 +50,7 @@ def case_of_found(asking: Asking, first: Found, sentence: str, keeps: Keeps) -> 
     return case_of(asking.base.with_parameters(given).source, sentence, effects, keeps[1], 'programs' in keeps[0])
 
 
-def shrink_each(asking: Asking, search: Search, found: list[Found], folder: Path, progress: Progress,
+def shrink_each(asking: Asking, search: Search, found: list[Found], folder: Path, progress: ProgressOfSearch,
                 is_quiet: bool, keeps: Keeps = (frozenset(), ())) -> bool:
     """Makes a counter-example of each expectation as small as possible: without the faults the expectation holds, but
     with them it doesn't. It is the smallest one, the worst of several, and one that cuts nobody off if there is one.
@@ -72,7 +72,7 @@ def shrink_each(asking: Asking, search: Search, found: list[Found], folder: Path
             shrinking = Shrinking(program, case, keeps=keeps[0], fields=asking.base.scenario_itself.fields)
             shrinking.is_over = partial(allowance.is_over, shrinking, progress, path.name)
             shrinking.run()
-            progress.end_shrinking()
+            progress.end()
             why = '' if shrinking.is_whole else allowance.why_over(shrinking.runs + runs_of(shrinking.case))
             allowance.runs += shrinking.runs
             write_result(shrinking, case.net, Path(asking.base.name).name, path)

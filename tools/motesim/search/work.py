@@ -4,12 +4,14 @@ from __future__ import annotations
 from collections.abc import Mapping
 from typing import NamedTuple
 
+from motesim.runner import Answer, Limits
+from motesim.runner.programs import ProgramFault
 from motesim.scenario.scenario import Scenario
 from motesim.search.change import NOT_SO, Base, CannotChange, Change
 from motesim.search.added import NoRoom
 from motesim.search.faults import FaultyPart, change_of
 from motesim.search.halting import without_halts
-from motesim.search.one_program import Answer, Limits, OneProgram
+from motesim.search.one_program import OneProgram
 from motesim.search.quick_judge import QuickJudge
 from motesim.search.sets import Set
 from motesim.search.single_packets import loses_more
@@ -93,10 +95,10 @@ class Bench:
             answer = self.answer(found)
         except (CannotChange, NoRoom) as fault:
             return Outcome(found, UNMADE, 0, str(fault))
-        if answer.stopped:
-            return Outcome(found, STOPPED, 0, answer.stopped)
+        except ProgramFault as fault:
+            return Outcome(found, STOPPED, 0, str(fault))
         if answer.status:
-            return Outcome(found, UNMADE, 0, answer.fault or 'status %d' % answer.status)
+            return Outcome(found, UNMADE, 0, answer.why)
         losses = self.base.with_parameters(change.parameters).scenario_itself.losses
         if loses_more([self.faults[number] for number in found], answer.report, losses):
             return Outcome(found, MORE)

@@ -14,10 +14,11 @@ from pathlib import Path
 
 from motesim.faults import Fault, in_words
 from motesim.judge.expectations import text_of
+from motesim.runner import Limits
 from motesim.runner.programs import program_path
 from motesim.report.run import refuse_others
 from motesim.studio.desk import Desk
-from motesim.studio.runs import Limits, Runs
+from motesim.studio.runs import MEGABYTE, Runs
 from motesim.studio.server import Server
 from motesim.studio.session import Session
 
@@ -85,7 +86,7 @@ def status_of(asked: argparse.Namespace) -> int:
     # (the studio runs for hours, so it needs the garbage collector, unlike other commands)
     gc.enable()
     program_path()
-    runs = Runs(Limits(asked.seconds, asked.memory, asked.report))
+    runs = Runs(Limits(asked.seconds, asked.memory * MEGABYTE, asked.report * MEGABYTE))
     session = Session(Desk(asked.file), runs, against=pinned(asked.against) if asked.against else None)
     session.desk.first()
     try:

@@ -1,27 +1,21 @@
 """Runs of `motesim` within limits: one at a time; a newer run stops the previous one.
 
-    runs = Runs(Limits())
+    runs = Runs()
     ticket = runs.ask()                 # stops the previous run, if it still runs
     got = runs.run(ticket, scenario)    # an `Answer`; raises `Superseded` if there is a newer ticket
 """
 from __future__ import annotations
 
 import threading
-from typing import NamedTuple
 
 from motesim import runner
 from motesim.faults import Fault
-from motesim.runner import Answer, Runner, Running
+from motesim.runner import Answer, Limits, Runner, Running
 
 MEGABYTE = 1 << 20
+# The usual limits.
+LIMITS = Limits(10, 1024 * MEGABYTE, 16 * MEGABYTE)
 RAISE = 'The run was stopped: %s. Start tools/studio with a larger --%s.'
-
-
-class Limits(NamedTuple):
-    """The limits of a run: seconds, and megabytes of memory and of output."""
-    seconds: float = 10
-    memory: int = 1024
-    output: int = 16
 
 
 class Superseded(Fault):
@@ -35,7 +29,7 @@ class LimitMet(Fault):
 class Runs:
     """Runs of `motesim`, one at a time."""
 
-    def __init__(self, limits: Limits):
+    def __init__(self, limits: Limits = LIMITS):
         self.limits = limits
         self.newest = 0
         self.turn = threading.Lock()
@@ -57,8 +51,7 @@ class Runs:
 
     def run(self, ticket: int, scenario: bytes) -> Answer:
         """The answer of `motesim`."""
-        seconds, memory, output = self.limits
-        limited = Runner(limits=runner.Limits(seconds, memory * MEGABYTE, output * MEGABYTE))
+        limited = Runner(limits=self.limits)
         with self.turn:
             with self.state:
                 self.check(ticket)

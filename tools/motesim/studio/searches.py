@@ -18,8 +18,8 @@ from pathlib import Path
 from typing import Any, NamedTuple
 
 from motesim.faults import Fault
+from motesim.runner import Limits
 from motesim.search.faults import KINDS
-from motesim.studio.runs import MEGABYTE, Limits
 
 TOOLS = Path(__file__).resolve().parent.parent.parent
 SEARCH = 'from motesim.commands.search import main; main()'
@@ -64,7 +64,7 @@ class Going:
         (self.folder / NAME).write_text(wanted.text, 'utf-8', newline='')
         words = [NAME, '--faults', ','.join(wanted.kinds), '--at-most', str(wanted.at_most), '--json', 'found.json',
                  '-o', 'found', '--progress', '--seconds', str(limits.seconds), '--bytes',
-                 str(limits.output * MEGABYTE)]
+                 str(limits.report)]
         for sentence in wanted.sentences:
             words += ['--expect', sentence]
         self.process = self.started(SEARCH, words)

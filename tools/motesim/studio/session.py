@@ -104,8 +104,8 @@ class Session:
         files = [] if self.desk.folder == self.desk.examples else self.desk.names('folder')
         opened = json.loads(self.opened(self.desk.first()).data)
         return as_json({**opened, 'examples': examples, 'files': files, 'folder': str(self.desk.folder),
-                     'editor': self.has_editor, 'limits': self.runs.limits._asdict(), 'against': self.against,
-                     'kinds': [[kind, KINDS[kind][1]] for kind in OF_PAGE],
+                        'editor': self.has_editor, 'against': self.against,
+                        'kinds': [[kind, KINDS[kind][1]] for kind in OF_PAGE],
                         'words': {'colours': COLOURS, 'naming': NAMING}})
 
     def open(self, asked: dict[str, Any]) -> Answered:
