@@ -6,6 +6,7 @@ from collections import Counter
 from pathlib import Path
 
 from here import call
+from motesim.comparison.scenarios import of_text
 from motesim.comparison import reports as compare
 from motesim.comparison import scenarios as scenario_differences
 from motesim.comparison.columns import MEDIUM
@@ -242,6 +243,12 @@ every = 2
         for change in changes:
             text = text.replace(*change)
         return scenario_differences.differences(Scenario.parse(self.A), Scenario.parse(text))
+
+    def test_lines_of_programs_are_counted_as_diff_counts_them(self) -> None:
+        for a, b, wanted in (('x\ny\nz', 'x\nnew\ny\nz', '0 lines only in A, 1 only in B; the first is line 2'),
+                             ('x\ny\nz', 'z', '2 lines only in A, 0 only in B; the first is line 1'),
+                             ('x\ny', 'x\nw', 'differs in its line 2')):
+            self.assertIn(wanted, next(of_text('p', a, b)))
 
     def test_each_part_is_told(self) -> None:
         self.assertEqual(self.seen(), [])

@@ -47,6 +47,14 @@ class Habits(unittest.TestCase):
                     self.assertEqual(found.edits, ())
         self.assertEqual({it.why for it in habits()} - said, set())
 
+    def test_a_value_under_the_name_that_it_has_elsewhere(self) -> None:
+        text = 'process a;\nautostart a;\ncode a {\n  var seen = 0;\n  body {\n    print %s;\n  }\n}\n'
+        fault = find_fault(text % 'sender')
+        assert fault
+        found = advice(text % 'sender', fault)
+        assert found
+        self.assertEqual(found.applied(text % 'sender'), text % 'from')
+
     def test_half_a_line_has_an_explanation(self) -> None:
         for place, typed, _ in ROWS[::6]:
             for end in range(len(typed)):

@@ -963,6 +963,14 @@ code flood {
             self.assertEqual(status, 2)
             self.assertIn('belongs to another search', seen)
 
+    def test_names_and_numbers_are_told_rightly(self) -> None:
+        with folder_with() as folder:
+            self.assertIn('did you mean --set range=..?', search(folder, '--set', 'rnge=5')[2])
+            said = search(folder, '--faults', 'collisions')[1]
+            self.assertIn('\n1 single fault: 1 run\n', said)
+            (folder / 'broken.expect.toml').write_text('expect = ["mote 0 prints"]')
+            self.assertIn('tools/expect shows why', search(folder, 'broken.expect.toml')[2])
+
     def test_values_that_are_set_need_no_kind(self) -> None:
         with folder_with() as folder:
             alone = search(folder, '--set', 'range=5,10')
