@@ -409,7 +409,8 @@ class Pages(InBrowser):
     def test_all_that_is_drawn_has_a_name_for_readers_of_screens(self) -> None:
         self.open(small_network())
         unnamed = self.value('''Array.from(document.querySelectorAll("button, input, select, canvas")).filter(it =>
-          !it.getAttribute("aria-hidden") && !(it.textContent.trim() && it.matches("button")) && !it.getAttribute("aria-label") &&
+          !it.getAttribute("aria-hidden") && !(it.textContent.trim() && it.matches("button")) &&
+          !it.getAttribute("aria-label") &&
           !(it.labels && it.labels.length)).length''')
         self.assertEqual(unnamed, 0)
 
@@ -523,15 +524,16 @@ class Pages(InBrowser):
                 })()""" % (json.dumps(lane), x, y))
                 self.assertEqual((moved, differing), (bool(x or lane), 0), (lane, x, y))
 
-    def test_playing_draws_the_moment_on_a_canvas_of_its_own(self) -> None:
+    def test_playing_moves_a_canvas_of_its_own(self) -> None:
         self.open(small_network())
-        seen = self.value("""(async () => {
-          const layers = pane.layers.map(it => it.toDataURL());
+        is_same, was, now = self.value("""(async () => {
+          const where = () => pane.over.canvas.style.transform, was = where(), lanes = pane.canvas.toDataURL();
           m.setNow(8);
           await new Promise(done => requestAnimationFrame(() => requestAnimationFrame(done)));
-          return pane.layers.map((it, i) => it.toDataURL() === layers[i]);
+          return [pane.canvas.toDataURL() === lanes, was, where()];
         })()""")
-        self.assertEqual(seen, [True, True, False])
+        self.assertTrue(is_same)
+        self.assertNotEqual(was, now)
 
     def test_many_lanes_are_drawn_as_colours_and_what_is_not_drawn_is_said(self) -> None:
         self.open(Run('many', Report.parse(many(900, 40)), None))

@@ -101,18 +101,29 @@ export function drawNames(pane, from, to) {
   }
 }
 
-/** The moment that the map shows, on the lanes and on the axis. */
+// The room on both sides of the moment for its head.
+const HEAD = 6;
+
+/** The moment that the map shows, on the lanes and on the axis: a canvas of its own, which is moved. */
 export function drawCursor(pane) {
-  const {time} = page, c = pane.over, x = pane.x(Math.floor(page.play.now)), wide = Math.max(1.5, time.scale);
-  c.clearRect(0, 0, pane.width, pane.height);
-  if (x + wide < pane.gutter || x > pane.width) return;
-  c.globalAlpha = time.scale > 60 ? 0.08 : time.scale > 3 ? 0.16 : 0.8;
+  const {time} = page, {over: c, dots, height} = pane, {canvas} = c, wide = Math.max(1.5, time.scale);
+  const x = pane.x(Math.floor(page.play.now)), middle = x + wide / 2;
+  const left = Math.max(pane.gutter, x), right = Math.min(pane.width, x + wide);
+  canvas.hidden = right < left;
+  if (canvas.hidden) return;
+  canvas.style.transform = `translateX(${left - HEAD}px)`;
+  const shape = [right - left, middle - left, height, dots, colours.cursor].join();
+  if (pane.cursorShape === shape) return;
+  pane.cursorShape = shape;
+  Object.assign(canvas, {width: Math.ceil((right - left + 2 * HEAD) * dots), height: Math.round(height * dots)});
+  Object.assign(canvas.style, {width: `${canvas.width / dots}px`, height: `${height}px`});
+  c.scale(dots, dots);
   c.fillStyle = colours.cursor;
-  const left = Math.max(pane.gutter, x);
-  c.fillRect(left, AXIS, x + wide - left, pane.height);
+  c.globalAlpha = time.scale > 60 ? 0.08 : time.scale > 3 ? 0.16 : 0.8;
+  c.fillRect(HEAD, AXIS, right - left, height);
   c.globalAlpha = 1;
-  const middle = x + wide / 2;
   if (middle < pane.gutter || middle > pane.width) return;
-  path(c, [middle - 5, AXIS - 7, middle + 5, AXIS - 7, middle, AXIS - 1], true);
+  const at = middle - left + HEAD;
+  path(c, [at - 5, AXIS - 7, at + 5, AXIS - 7, at, AXIS - 1], true);
   fill(c, colours.cursor);
 }

@@ -14,8 +14,8 @@ const MOST_LISTED = 120;
 /** A line of a trace as a button that selects it. */
 function traceButton(pane, line, what) {
   const {run} = pane, mote = run.moteOf(line);
-  return lineButton(`line ${run.numberOf(line, mote)}`, `${run.at[line]} ${run.told(line)}`, what, page.chosen.line === line,
-    () => chooseLine(pane, line, true));
+  return lineButton(`line ${run.numberOf(line, mote)}`, `${run.at[line]} ${run.told(line)}`, what,
+    page.chosen.line === line, () => chooseLine(pane, line, true));
 }
 
 export function selectNothing() {

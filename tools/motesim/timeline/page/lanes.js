@@ -236,7 +236,7 @@ function drawSeen(pane) {
 /** Draws what is around the lanes. */
 function drawAround(pane) {
   const [from, to] = pane.lanesInView();
-  pane.front.clearRect(0, 0, pane.width, pane.height);
+  pane.showLanes();
   drawColumn(pane, from, to);
   drawHeads(pane);
   // (over the heads: the name of a low lane is taller than the lane)
@@ -267,9 +267,7 @@ export function moveLanes(pane) {
   const isExact = Math.abs(dx - x) < 0.01 && Math.abs(dy - y) < 0.01 && x * dots % 1 === 0 && y * dots % 1 === 0;
   if (!isExact || Math.abs(x) >= width - gutter || Math.abs(y) >= height - AXIS) return false;
   if (!x && !y) return true;
-  const from = [gutter + Math.max(0, -x), AXIS + Math.max(0, -y)];
-  const size = [width - gutter - Math.abs(x), height - AXIS - Math.abs(y)];
-  pane.context.drawImage(pane.canvas, ...[...from, ...size].map(it => it * dots), from[0] + x, from[1] + y, ...size);
+  pane.shiftLanes(x, y, AXIS);
   shiftPlaces(pane.hits, 2, 1, x, y);
   shiftPlaces(pane.arrows, 4, 2, x, y);
   pane.isMoved = true;

@@ -259,9 +259,9 @@ function addPane(run, number, several) {
     `Timeline of ${run.name}: ${count(run.begins.length, 'mote')}, moments 0 to ${run.end}. ` +
     '[ and ] choose a line, { and } another lane, Enter follows, plus and minus zoom, arrows pan.');
   canvas.setAttribute('aria-describedby', 'drawn');
-  const layers = element('div', '', [canvas, element('canvas'), element('canvas')]);
+  const layers = element('div', '', [canvas, Object.assign(element('canvas'), {className: 'cursor'})]);
   layers.className = 'layers';
-  for (const layer of layers.querySelectorAll('canvas + canvas')) layer.setAttribute('aria-hidden', 'true');
+  layers.lastChild.setAttribute('aria-hidden', 'true');
   box.append(layers);
   byId('panes').append(box);
   const pane = new Pane(run, number, box);
