@@ -40,9 +40,10 @@ function copiesInView(pane) {
 }
 
 export function drawArrows(pane) {
+  // (a strip has arrows if the other lanes have)
+  if (pane.strip && !pane.hasArrows) return;
   const c = pane.context, found = copiesInView(pane), {drawn, run} = pane;
   const wish = byId('arrows').value;
-  // (a strip has arrows if the other lanes have)
   if (!pane.strip) Object.assign(pane, {isCrowded: drawn.copies > FEW, hasArrows: wish === 'all' ||
     wish === 'auto' && drawn.copies <= MANY && pane.lane >= 4});
   if (!pane.hasArrows) return;
