@@ -8,7 +8,6 @@ from collections import Counter
 from collections.abc import Callable
 from typing import NamedTuple
 
-from motesim.explain.explanation import place_of_token
 from motesim.faults import Fault
 from motesim.notation.faults import Token
 from motesim.notation.tree import read_program, statements_of, written
@@ -16,6 +15,7 @@ from motesim.report import Report
 from motesim.runner import LimitMet, Limits, ProgramFault, Runner
 from motesim.report.run import Answer
 from motesim.scenario import Scenario
+from motesim.scenario.in_programs import place_of_token
 from motesim.terminal import one_line
 
 MEGABYTE = 1 << 20

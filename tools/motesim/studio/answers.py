@@ -7,7 +7,7 @@ from typing import Any, NamedTuple
 
 from motesim.comparison.columns import MEDIUM
 from motesim.comparison.reports import Difference, compared, differences, lists_of, origin, packet_of, row_of
-from motesim.explain.explanation import TEXT, correction_of, explanation, place_of_fault, place_of_token
+from motesim.explain.explanation import TEXT, correction_of, explanation, place_of_fault
 from motesim.explain.said import in_words
 from motesim.explain.warnings import warnings
 from motesim.faults import Fault
@@ -19,6 +19,7 @@ from motesim.report import Report
 from motesim.report.run import Run
 from motesim.scenario import Scenario
 from motesim.scenario.faults import Place, place_of
+from motesim.scenario.in_programs import place_of_token
 from motesim.summary.counts import LINK_NAMES, summary
 
 MOST_ROWS, MOST_LINKS, MOST_PARTS, MOST_WARNINGS = 12, 400, 1_000, 20
