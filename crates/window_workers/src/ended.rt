@@ -1,4 +1,4 @@
-//! The results of the workers at the end, and the number of copies left.
+//! The results of the workers at the end, the number of copies left, and the end of the inboxes.
 
 ghost use Rattle.std.specs.Prelude.{◌≡◌, ◌+◌, length, IfOk};
 ghost use Rattle.std.specs.List.{AllByRecursion as Each, AllZip, sum_by};
@@ -9,6 +9,7 @@ ghost use Rattle.window_workers.specs.Over.{TellsWhatItKept};
 use copy_exchange::known;
 use copy_inbox::{Inbox, Taker};
 use std::alloc::{AllocError, Global};
+use std::sync::Wait;
 use worker_window::{Ended, Share};
 
 /// Takes the shares of all workers apart, and returns their results.
@@ -69,4 +70,13 @@ pub fn left_of_all(ended: &[Ended], pairs: &[(Inbox, Taker)]) -> Result<u64, All
         ≡ left + sum_by (λ pair. length (taken_by pair.1)) pairs.now) }
 {
     plus(left_to_come(ended)?, left_in_inboxes(pairs)?)
+}
+
+/// Closes all inboxes. The copies that are left in them would arrive after the end, and are dropped.
+pub fn close_all<R: Wait>(rt: &R, pairs: Vec<(Inbox, Taker)>)
+    requires settled { Each (λ pair. IsSettled pair.0 pair.1) pairs.items }
+{
+    for (inbox, taker) in pairs {
+        let _left = inbox.close(rt, taker);
+    }
 }

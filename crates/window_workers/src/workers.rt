@@ -17,7 +17,7 @@ ghost use Rattle.serial_run.specs.NetRun.{IsReportOf};
 ghost use Rattle.window_workers.specs.Sync.{IsForKind};
 ghost use Rattle.window_workers.specs.declared.sync.SyncKind.TheVariants.{Marks};
 
-use crate::ended::{end_all, left_of_all};
+use crate::ended::{close_all, end_all, left_of_all};
 use crate::fits::fault_of;
 use crate::medium_log::medium_log;
 use crate::refusal::of_refused;
@@ -193,7 +193,7 @@ where
 
 /// Runs a net with this many workers, each in threads of its own, and returns its report. The report is that of the
 /// run on one thread, for any partition and both kinds of synchronisation. The inboxes are made for the run. At the
-/// end of the run, they are dropped with the copies that are left in them.
+/// end of the run, they are closed, and the copies that are left in them are dropped.
 ///
 /// # Errors
 /// `Workers`, `CutLength` or `CutWorker`, the first that applies, exactly if the partition doesn't fit. Otherwise,
@@ -227,6 +227,7 @@ where
     let Ok(pairs) = make_inboxes(alloc, usize::from(workers), sync.has_marks()) else {
         return Err(RunError::Memory);
     };
-    let (report, _pairs) = run_fitting(rt, alloc, net, cut, sync, gate, pairs)?;
+    let (report, pairs) = run_inboxes(rt, alloc, net, cut, sync, gate, pairs)?;
+    close_all(rt, pairs);
     Ok(report)
 }
