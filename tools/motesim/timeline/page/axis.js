@@ -65,11 +65,10 @@ export function drawBands(pane, from, to) {
 }
 
 /** The column of the names of motes. */
-export function drawColumn(pane, from, to) {
+export function drawColumn(pane) {
   const {front: c} = pane;
   c.fillStyle = colours.panel;
-  for (let place = from; place < to; place++) c.fillRect(0, pane.laneTopOfPlace(place), pane.gutter - 1,
-    Math.max(1, pane.lane + 0.5));
+  c.fillRect(0, AXIS, pane.gutter - 1, pane.height);
   c.fillStyle = colours.edge;
   c.fillRect(pane.gutter - 1, AXIS, 1, pane.height);
 }

@@ -237,7 +237,7 @@ function drawSeen(pane) {
 function drawAround(pane) {
   const [from, to] = pane.lanesInView();
   pane.showLanes();
-  drawColumn(pane, from, to);
+  drawColumn(pane);
   drawHeads(pane);
   // (over the heads: the name of a low lane is taller than the lane)
   drawNames(pane, from, to);
