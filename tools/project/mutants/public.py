@@ -68,7 +68,10 @@ def listed() -> dict[str, str]:
 
 
 def note() -> None:
-    """Deletes the listed functions that have such a mutant now."""
-    shown = with_evidence()
-    left = {name: reason for name, reason in listed().items() if name not in shown}
-    LISTED.write_text(HEAD_LINE + ''.join('%s\t%s\n' % it for it in sorted(left.items())), 'utf-8')
+    """Deletes the listed functions that have such a mutant now, or are gone, and lists the others as open."""
+    lacking, known = public_functions() - with_evidence(), listed()
+    LISTED.write_text(HEAD_LINE + ''.join('%s\t%s\n' % (it, known.get(it, 'open')) for it in sorted(lacking)), 'utf-8')
+
+
+if __name__ == '__main__':
+    note()
