@@ -69,7 +69,7 @@ class Sources(unittest.TestCase):
             for found, block in zip((light, dark), blocks):
                 found.update(re.findall(r'--([a-z-]+): (#[0-9a-f]{6})', block))
         for scheme in light, {**light, **dark}:
-            for ground in 'paper', 'panel', 'band':
+            for ground in 'paper', 'panel', 'band', 'note', 'mark-line':
                 for text in 'ink', 'quiet', 'send', 'recv', 'trouble', 'print', 'timer', 'good', 'bad':
                     self.assertGreaterEqual(contrast(scheme[text], scheme[ground]), 4.5, (text, ground))
                 for line in 'line', 'mark':
