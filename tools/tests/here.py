@@ -12,7 +12,7 @@ from collections.abc import Mapping
 from functools import cache
 from importlib import import_module
 from pathlib import Path
-from typing import IO, NoReturn
+from typing import Any, IO, NoReturn
 
 TOOLS = Path(__file__).resolve().parent.parent
 TOP = TOOLS.parent
@@ -38,9 +38,9 @@ def become_tool(path: Path, words: tuple[str, ...], cwd: Path | str | None, env:
     try:
         for number, stream in enumerate(streams):
             os.dup2(stream.fileno(), number)
-        sys.stdin, sys.stdout, sys.stderr = (
-            open(number, mode, encoding='utf-8', errors=errors, closefd=False) for number, mode, errors in
-            ((0, 'r', 'strict'), (1, 'w', 'strict'), (2, 'w', 'backslashreplace')))
+        made: list[Any] = [open(number, mode, encoding='utf-8', errors=errors, closefd=False) for number, mode, errors in
+                           ((0, 'r', 'strict'), (1, 'w', 'strict'), (2, 'w', 'backslashreplace'))]
+        sys.stdin, sys.stdout, sys.stderr = made
         os.chdir(cwd or '.')
         if env is not None:
             os.environ.clear()
@@ -53,8 +53,8 @@ def become_tool(path: Path, words: tuple[str, ...], cwd: Path | str | None, env:
             status = end.code if isinstance(end.code, int) else 0
         except BaseException:
             sys.excepthook(*sys.exc_info())
-        for stream in sys.stdout, sys.stderr:
-            stream.flush()
+        for written in sys.stdout, sys.stderr:
+            written.flush()
     finally:
         os._exit(status)
 
