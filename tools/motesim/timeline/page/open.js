@@ -104,9 +104,9 @@ async function open() {
   }
   showRuns(runs);
   offerSeries();
+  listen();
   openAt(data);
   openAsAddressed();
-  listen();
   Object.assign(page, {opened: performance.now() - begin, ready: true});
   drawAll();
 }
