@@ -1,0 +1,47 @@
+-- The text of numbers, and of sets of numbers.
+use Rattle.std.specs.Prelude.{ℕ, Bool, false, ◌==◌, nat_lt, if◌then◌else◌, Option, Some, None, List, [], ◌∷◌, ◌++◌}
+use Rattle.std.specs.Prelude.{codes, decimal}
+use Rattle.std.specs.List.{flat_map}
+use Rattle.claims.specs.declared.set.Span.{Span}
+use Rattle.claims.specs.declared.set.Set.{Set}
+
+-- the singular if the number is 1, and the plural otherwise
+abbrev pub noun : (number : ℕ) → (one many : List ℕ) → List ℕ
+noun number one many = if number == 1 then one else many
+
+-- `7`, or `7 to 9`
+abbrev pub span_text : Span → List ℕ
+span_text s = if s.from == s.to then decimal s.from else decimal s.from ++ (codes " to " ++ decimal s.to)
+
+abbrev pub next_span : Span → List ℕ
+next_span s = codes " or " ++ span_text s
+
+-- `1`, `1 or 3 or 7 to 9`, or `none`
+abbrev pub set_text : List Span → List ℕ
+set_text [] = codes "none"
+set_text (s ∷ ss) = span_text s ++ flat_map next_span ss
+
+abbrev pub is_one_number : List Span → Bool
+is_one_number [] = false
+is_one_number (s ∷ []) = s.from == s.to
+is_one_number (s ∷ t ∷ ss) = false
+
+-- `by mote 3`, or `by motes 1 to 3`, if the word is `by`; nothing, if there is no set
+abbrev pub motes_text : (word : List ℕ) → Option Set → List ℕ
+motes_text word None = []
+motes_text word (Some s) =
+    word ++ ((if is_one_number s.spans.items then codes " mote " else codes " motes ") ++ set_text s.spans.items)
+
+-- a label and a set; nothing, if there is no set
+abbrev pub part_text : (label : List ℕ) → Option Set → List ℕ
+part_text label None = []
+part_text label (Some s) = label ++ set_text s.spans.items
+
+-- `at 60`, `from 0 to 60`, or `from 61 on`; nothing, for all moments
+abbrev pub period_text : Span → List ℕ
+period_text s =
+    if s.from == s.to then codes " at " ++ decimal s.from
+    else if nat_lt s.to 18446744073709551615
+    then codes " from " ++ (decimal s.from ++ (codes " to " ++ decimal s.to))
+    else if s.from == 0 then []
+    else codes " from " ++ (decimal s.from ++ codes " on")

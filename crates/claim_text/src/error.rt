@@ -1,0 +1,55 @@
+//! The errors of texts of claims.
+ghost use Rattle.std.specs.Prelude.{◌≡◌};
+ghost use Rattle.claim_text.specs.declared.error.Stop.TheVariants as stop;
+ghost use Rattle.claim_text.specs.declared.error.ClaimsError.TheVariants as fault;
+
+use std::alloc::{AllocError, AllocFailed};
+
+/// The reason why a text isn't read as claims.
+#[derive(Clone, Copy, Debug, PartialEq, Eq)]
+pub enum ClaimsError {
+    /// An allocation failed.
+    Memory,
+    /// A line that isn't the text of a claim: its number among all lines, from 1, and the number of its first byte
+    /// that doesn't fit, from 1.
+    NotAClaim { line: usize, column: usize },
+}
+
+/// The reason why the reader stops within a line.
+#[derive(Clone, Copy)]
+pub enum Stop {
+    Memory,
+    Unexpected,
+}
+
+impl From<AllocError> for Stop {
+    ghost from_gives = { λ _ e. e ≡ stop.Memory };
+
+    fn from(_error: AllocError) -> Self {
+        Stop::Memory
+    }
+}
+
+impl<T: Drop> From<AllocFailed<T>> for Stop {
+    ghost from_gives = { λ _ e. e ≡ stop.Memory };
+
+    fn from(_error: AllocFailed<T>) -> Self {
+        Stop::Memory
+    }
+}
+
+impl From<AllocError> for ClaimsError {
+    ghost from_gives = { λ _ e. e ≡ fault.Memory };
+
+    fn from(_error: AllocError) -> Self {
+        ClaimsError::Memory
+    }
+}
+
+impl<T: Drop> From<AllocFailed<T>> for ClaimsError {
+    ghost from_gives = { λ _ e. e ≡ fault.Memory };
+
+    fn from(_error: AllocFailed<T>) -> Self {
+        ClaimsError::Memory
+    }
+}

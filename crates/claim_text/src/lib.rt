@@ -1,0 +1,65 @@
+//! The text of claims: one line of regular words for each claim.
+//!
+//! ```text
+//! each of motes 1 to 24: at least 1 line "print process flood value 1" from 0 to 60
+//! exactly 0 of motes 0 to 24: at least 1 line "halt"
+//! mote 6: every line "send" is within 0 moments after some line "recv"
+//! the net: exactly 75 packets sent from 0 to 160
+//! ```
+//!
+//! In the grammar, brackets enclose what may be missing, and braces what may be repeated or missing.
+//!
+//! ```text
+//! claim   = [("each" | LIMITS) " of "] ["these: "] GROUP {"; " GROUP}         without cases: "no cases"
+//! GROUP   = ("mote " N | "motes " MOTES | "the net") ": " TEST {" and " TEST}      without tests: "always"
+//! MOTES   = N [" to " N] {", " N [" to " N]}
+//! LIMITS  = "exactly " N | "at most " N | "at least " N [" and at most " N]
+//! TEST    = LIMITS " " COUNT | "every line " DEED " is" ORDER
+//!         | N " times the number of " COUNT (" is at most " | " is less than ") N " times the number of " COUNT
+//!         | "the lines " DEED " have in order of time exactly " ("the values " SET {", " SET} | "no values")
+//!         | "the lines " DEED " have in any order exactly " ("the values " N {", " N} | "no values")
+//!         | "the last line " DEED " has the value " SET
+//! COUNT   = "lines " DEED [ORDER] | "packets sent" [" by" TO] [PERIOD] | "copies" [" to" TO] ARRIVAL
+//!         | "copies left at the end" | "lines in the report"                  in the singular behind the number 1
+//! ARRIVAL = " sent" [PERIOD] " and lost by the medium" | " lost by the medium or due by " N
+//! ORDER   = (" after " | " within " N " moments after " | " within " N " moments before ") ("some" | "no")
+//!           " line " DEED | [" not"] " before every line " DEED
+//! DEED    = (PATTERN {" or " PATTERN} | "of no kind") ([PERIOD] | " of no mote" | " of " OF {" and of " OF})
+//! OF      = "mote " N [PERIOD] | "motes " MOTES " together" [PERIOD]
+//! PERIOD  = " at " N | " from " N " to " N | " from " N " on"
+//! PATTERN = '"' (KIND {" or " KIND} | "nothing") [" process " NAME] [" serial " SET] [" event " SET]
+//!           [" sender " SET] [" packet " SET] [" value " SET] '"'
+//! SET     = N [" to " N] {" or " N [" to " N]} | "none"
+//! TO      = " mote " N | " motes " SET
+//! ```
+//!
+//! Of the texts that the grammar allows for a claim, one is its text: neighbouring cases that differ in their mote
+//! alone are one group, neighbouring motes with one period too, and motes with consecutive numbers are a span. A claim
+//! on all of its cases has `each`, or nothing if it has one case; several groups have `these`. A period of all moments
+//! is left out. So is the mote of a case: the only mote whose lines its first test is about.
+//!
+//! Each text that `read_claims` accepts is that of the claims that it returns. It isn't proved that it accepts the
+//! text of each claim; the tests write random claims, and read them again.
+#![tactic(auto)]
+
+mod broken;
+mod counted;
+mod deed;
+mod entry;
+mod error;
+mod kinds;
+mod limits;
+mod lines;
+mod numbers;
+mod order;
+mod pattern;
+mod read;
+mod scanner;
+mod subject;
+mod test;
+mod write;
+
+pub use broken::write_break;
+pub use error::ClaimsError;
+pub use lines::read_claims;
+pub use write::write_claim;

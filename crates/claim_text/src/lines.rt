@@ -1,0 +1,101 @@
+//! Reads a text of claims, line by line.
+ghost use Rattle.std.specs.Prelude.{◌≡◌, ◌++◌, [], map, IsTrue, IfOk, OnOk};
+ghost use Rattle.claim_text.specs.ClaimText.{text_of};
+ghost use Rattle.claim_text.specs.ClaimLines.{is_claim_line, line_if_claim, claim_lines};
+
+use crate::error::{ClaimsError, Stop};
+use crate::read;
+use crate::scanner::Scanner;
+use crate::write::write_claim;
+use claims::Claim;
+use program_tree::Names;
+use std::alloc::Global;
+
+fn is_claim_line(line: &[u8]) -> bool
+    ensures value { result ≡ is_claim_line line.now }
+{
+    match line {
+        [] => false,
+        [first, ..] => *first != b'#',
+    }
+}
+
+/// The number of bytes at which two texts begin alike.
+fn common(a: &[u8], b: &[u8]) -> usize {
+    a.iter().zip(b).take_while(|(a, b)| a == b).count()
+}
+
+fn not_a_claim(line: usize, before: usize) -> ClaimsError {
+    ClaimsError::NotAClaim {
+        line,
+        column: before.saturating_add(1),
+    }
+}
+
+/// Returns whether a line is this text.
+fn is_text(text: &str, line: &[u8]) -> bool
+    ensures same { IsTrue result → text.now ≡ line.now }
+{
+    text.as_bytes() == line
+}
+
+fn read_line(alloc: Global, names: &Names, line: &[u8], number: usize) -> Result<Claim, ClaimsError>
+    ensures text { IfOk result (λ c. text_of names.now c ≡ line.now) }
+{
+    let mut scanner = Scanner { rest: line };
+    let claim = match read::claim(alloc, &mut scanner, names) {
+        Ok(claim) => claim,
+        Err(Stop::Memory) => return Err(ClaimsError::Memory),
+        Err(Stop::Unexpected) => {
+            let left = scanner.rest.len();
+            return Err(not_a_claim(number, line.len().saturating_sub(left)));
+        }
+    };
+    let text = write_claim(alloc, names, &claim)?;
+    if is_text(text.as_str(), line) {
+        Ok(claim)
+    } else {
+        Err(not_a_claim(number, common(text.as_bytes(), line)))
+    }
+}
+
+fn add_line(
+    alloc: Global,
+    names: &Names,
+    claims: &mut Vec<Claim>,
+    line: &[u8],
+    number: usize,
+) -> Result<(), ClaimsError>
+    ensures added { OnOk result (map (text_of names.now) claims.new.items
+        ≡ map (text_of names.now) claims.old.items ++ line_if_claim line.now) }
+{
+    if is_claim_line(line) {
+        let claim = read_line(alloc, names, line, number)?;
+        claims.push(claim)?;
+    }
+    Ok(())
+}
+
+/// Reads claims, one a line. Empty lines, and lines that begin with `#`, are skipped. The texts of the claims are the
+/// other lines.
+///
+/// # Errors
+/// `NotAClaim` for the first line that isn't read, and `Memory` if an allocation fails.
+pub fn read_claims(alloc: Global, names: &Names, text: &[u8]) -> Result<Vec<Claim>, ClaimsError>
+    ensures texts { IfOk result (λ cs. map (text_of names.now) cs.items ≡ claim_lines [] text.now) }
+{
+    let mut claims = Vec::new(alloc);
+    let mut line = Vec::new(alloc);
+    let mut number: usize = 1;
+    for byte in text {
+        if *byte == b'\n' {
+            add_line(alloc, names, &mut claims, line.as_slice(), number)?;
+            line.clear();
+            number = number.saturating_add(1);
+        } else {
+            line.push(*byte)?;
+        }
+    }
+    add_line(alloc, names, &mut claims, line.as_slice(), number)?;
+    Ok(claims)
+}
