@@ -56,7 +56,7 @@ NOT_COMPILED = 'motesim isn\'t compiled yet: start ./run FILE.toml once, which c
 NO_NODE = 'without the Rattle kit, which compiles motesim, a WebAssembly module can run: install node (on Debian ' \
           '`apt-get install nodejs`), or open %s in a browser'
 OTHER_SOURCES = 'there is no Rattle kit here, which compiles motesim, and web/motesim.wasm was made from other ' \
-                'sources: take both from one commit, or name a compiled motesim in the environment variable MOTESIM'
+                'sources than those in crates/; to run it nevertheless, set the environment variable MOTESIM to %s'
 WAITING = 'waiting for motesim, which another command is compiling; this usually needs about a minute'
 STILL = 'still waiting for the motesim that another command is compiling (%s so far)'
 
@@ -205,7 +205,9 @@ def nothing_runs() -> str:
     """Why no motesim can run here, and what to do."""
     if shutil.which('rt'):
         return NOT_COMPILED
-    return OTHER_SOURCES if shutil.which('node') and read_about() else NO_NODE % (TOP / 'web/motesim.html')
+    if shutil.which('node') and read_about():
+        return OTHER_SOURCES % (TOP / 'web/motesim')
+    return NO_NODE % (TOP / 'web/motesim.html')
 
 
 def is_module(program: Path) -> bool:
