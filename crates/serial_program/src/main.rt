@@ -9,8 +9,9 @@ use std::alloc::Global;
 use std::io::{Read, Write};
 use std::process::ExitCode;
 
-/// Simulates the scenario in `input` on one thread. It writes the report to `output`, or the line of an error to
-/// `errors`, and returns the exit status: 0 for a report, 1 for an error.
+/// Simulates the scenario in `input` on one thread. It writes the report to `output`, and returns the exit status: 0
+/// for a report, 1 for an error. After an error, nothing is written to `errors` but the line of the error, or a prefix
+/// of this line: a clause of `status_of` says so. Only tests show that the whole line is written.
 fn run_serial<R: Read, W: Write, E: Write>(
     alloc: Global,
     input: &mut R,

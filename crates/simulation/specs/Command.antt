@@ -3,10 +3,12 @@ use Rattle.std.specs.Prelude.{◌≡◌, ◌≢◌, ◌⊎◌, ℕ, List, Option
 use Rattle.std.specs.Io.KnownBytes.{Keeps}
 use Rattle.clap.specs.declared.error.kind.ErrorKind.{ErrorKind}
 use Rattle.clap.specs.declared.error.kind.ErrorKind.TheVariants as kind
+use Rattle.simulation.specs.FaultLines.{AppendsPrefix, written_line}
 use Rattle.simulation.specs.Words.{AsksFor, FaultOf}
 use Rattle.simulation.specs.Simulation.{SimulatedWith, SimulatedSome, Unwritten, way_of}
 use Rattle.simulation.specs.declared.command_line.Asked.{Asked}
 use Rattle.simulation.specs.declared.error.SimError.{SimError}
+use Rattle.simulation.specs.declared.error.SimError.TheVariants as error
 
 -- the exit status of a simulation
 abbrev pub status_of : Result (Unit {0}) SimError → ℕ
@@ -36,6 +38,8 @@ pub record Simulates (asked : Asked) (old new : Streams) (status : ℕ) : Type 0
   pub unwritten : IfErr answer (Unwritten old.output new.output)
   pub status_is : status ≡ status_of answer
   pub quiet : answer ≡ Ok tt → Keeps old.errors new.errors
+  -- the line of an error is written to `errors`, or a part of it, up to the place at which writing failed
+  pub line : IfErr answer (λ e. AppendsPrefix old.errors new.errors (written_line e))
 
 -- the exit status if the arguments are refused, or ask for help
 abbrev pub status_of_words : ErrorKind → ℕ
@@ -51,6 +55,8 @@ pub record RefusesWords (k : ErrorKind) (old new : Streams) (status : ℕ) : Typ
   pub unread : new.input ≡ old.input
   pub fault : status ≢ 0 → Keeps old.output new.output
   pub help : status ≡ 0 → Keeps old.errors new.errors
+  -- if an allocation failed, nothing but the line of this error is written to `errors`
+  pub memory : k ≡ kind.OutOfMemory → AppendsPrefix old.errors new.errors (written_line error.Memory)
 
 -- the contents of the command's streams before and after it ran with these arguments, and the exit status that it
 -- returned; the first argument is the program's name

@@ -65,8 +65,8 @@ abbrev pub MayRun : Way → Type 0
 MayRun None = Unit {0}
 MayRun (Some way) = MayWork way.0
 
--- the cause of a run's error: a number of workers that isn't allowed; otherwise, a failed allocation or, with workers,
--- a failed thread
+-- the error of a run: `Workers` if the number of workers isn't allowed; otherwise `Memory` or, with workers, `Thread`
+-- (only tests show that an allocation or a thread failed)
 abbrev pub RefusesRun : Way → RunError → Type 0
 RefusesRun way run.Workers = ¬ MayRun way
 RefusesRun way run.CutLength = ⊥

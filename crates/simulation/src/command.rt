@@ -1,10 +1,12 @@
 //! The command. It reads a scenario from a file or from standard input, and writes its report to standard output; the
-//! line of an error goes to standard error.
+//! line of an error goes to standard error. No contract says that a write succeeds, so of a line or of help, the
+//! contracts state at most that nothing else is written; tests show that the whole text is written.
 
-ghost use Rattle.std.specs.Prelude.{◌≡◌, ◌≢◌, None, IsSome, IfSome, Ok, IfErr, OnOk};
-ghost use Rattle.std.specs.Io.KnownBytes.{Appends, Keeps};
+ghost use Rattle.std.specs.Prelude.{◌≡◌, ◌≢◌, None, IsSome, IfSome, Ok, IfErr};
+ghost use Rattle.std.specs.Io.KnownBytes.{Keeps};
 ghost use Rattle.clap.specs.Words.{kind_of};
-ghost use Rattle.simulation.specs.FaultLines.{written_line};
+ghost use Rattle.clap.specs.declared.error.kind.ErrorKind.TheVariants as kind;
+ghost use Rattle.simulation.specs.FaultLines.{AppendsPrefix, written_line};
 ghost use Rattle.simulation.specs.Command.{Commands, Simulates, status_of, status_of_words, streams};
 ghost use Rattle.simulation.specs.Words.{texts_of};
 ghost use Rattle.simulation.specs.Simulation.{SimulatedWith, SimulatedSome, Unwritten, way_of};
@@ -13,28 +15,24 @@ ghost use Rattle.simulation.specs.declared.error.SimError.TheVariants as fault;
 use crate::command_line::{Asked, asked_by};
 use crate::end_to_end::{simulate, simulate_serial};
 use crate::error::SimError;
+use crate::fault_line::report_fault;
 use crate::options::Options;
 use clap::error::ErrorKind;
 use std::fs;
-use std::io::{self, Read, Write};
+use std::io::{Read, Write};
 use std::random::RandomSource;
 use std::rt::Files;
 use std::sync::Wait;
 use std::thread::Threads;
 use window_workers::{Gate, NoGate};
 
-/// Writes the line that reports an error: the program's name, and then the error's text.
-fn report_fault<E: Write>(fault: &SimError, errors: &mut E) -> io::Result<()>
-    ensures appends { OnOk result (Appends (E.contents errors.old) (E.contents errors.new) (written_line fault.now)) }
-{
-    writeln!(errors, "motesim: {fault}")
-}
-
-/// Returns the exit status of a simulation: 0, or 1 after an error. It writes the line that reports the error to
-/// `errors`; the status is the same if this fails.
+/// Returns the exit status of a simulation: 0, or 1 after an error. After an error, nothing is written to `errors` but
+/// the line that reports the error, or a prefix of this line; the status is the same if writing fails.
 pub fn status_of<E: Write>(answer: Result<(), SimError>, errors: &mut E) -> u8
     ensures status { result ≡ status_of answer }
     ensures quiet { answer ≡ Ok tt → Keeps (E.contents errors.old) (E.contents errors.new) }
+    ensures line { IfErr answer
+        (λ fault. AppendsPrefix (E.contents errors.old) (E.contents errors.new) (written_line fault)) }
 {
     match answer {
         Ok(()) => 0,
@@ -46,11 +44,14 @@ pub fn status_of<E: Write>(answer: Result<(), SimError>, errors: &mut E) -> u8
 }
 
 /// Writes help to `output` if the arguments ask for it, or the error of the arguments to `errors`, and returns the
-/// exit status. If an allocation failed, the status is that of a simulation that ran out of memory.
+/// exit status. Only tests show the texts. If an allocation failed, the status and the line are those of a simulation
+/// that ran out of memory.
 fn status_of_words<W: Write, E: Write>(error: &clap::Error, output: &mut W, errors: &mut E) -> u8
     ensures status { result ≡ status_of_words (kind_of error.now) }
     ensures fault { result ≢ 0 → Keeps (W.contents output.old) (W.contents output.new) }
     ensures help { result ≡ 0 → Keeps (E.contents errors.old) (E.contents errors.new) }
+    ensures memory { kind_of error.now ≡ kind.OutOfMemory
+        → AppendsPrefix (E.contents errors.old) (E.contents errors.new) (written_line fault.Memory) }
 {
     match error.kind() {
         ErrorKind::OutOfMemory => status_of(Err(SimError::Memory), errors),
@@ -190,8 +191,11 @@ where
 
 /// Runs the program with these arguments; the first is the program's name. It simulates the scenario in the file that
 /// the arguments name or, without a file, the scenario in `input`, on one thread or with workers. It writes the report
-/// to `output`, and the line of an error to `errors`. If the arguments ask for help, it writes the help to `output`;
-/// if they have an error, it writes the error to `errors`.
+/// to `output`. After an error, nothing is written to `errors` but the line of the error, or a prefix of this line; the
+/// test `faults_and_failing_streams` shows that the whole line is written.
+///
+/// If the arguments ask for help, nothing is written to `errors`; if they have an error, nothing is written to
+/// `output`. Only tests show the text of the help, and the text about an error of the arguments.
 ///
 /// It returns the exit status: 0 for a report or help, 1 for an error, and 2 for an error of the arguments. The status
 /// is the same if the help or the error can't be written.

@@ -6,6 +6,7 @@ mod command;
 mod command_line;
 mod end_to_end;
 mod error;
+mod fault_line;
 mod input;
 pub mod laws;
 mod options;
