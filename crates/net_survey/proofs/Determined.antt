@@ -1,0 +1,54 @@
+-- A survey of the one report of a net with each list of faults.
+use Rattle.std.proofs.Common.{◌≡◌, ℕ, ◌≤◌, Bool, List, length, None, Result, Ok, Err, IfOk}
+use Rattle.std.specs.Option.{IfSome}
+use Rattle.std.specs.declared.alloc.AllocError.{AllocError}
+use Rattle.radio_medium.specs.Medium.{medium_fault}
+use Rattle.mote_net.specs.Net.{NetModel}
+use Rattle.mote_net.specs.Report.{ReportModel, report_of}
+use Rattle.mote_net.specs.declared.report.Report.{Report}
+use Rattle.serial_run.specs.NetRun.{IsReportOf}
+use Rattle.serial_run.proofs.Unique.{report_is_one}
+use Rattle.fault_sets.specs.FaultSet.{IsSet}
+use Rattle.survey.specs.Breaks.{breaks_of, IsCovered, IsComplete, IsSound, IsMinimal, IsListedOnce, IsCount}
+use Rattle.survey.specs.declared.broken.Survey.{Survey}
+use Rattle.survey.specs.declared.search.Limits.{Limits}
+use Rattle.radio_faults.specs.declared.fault.Fault.{Fault}
+use Rattle.radio_faults.proofs.Valid.{faults_keep_the_medium}
+use Rattle.report_survey.specs.Chosen.{holds_with}
+use Rattle.faulty_run.specs.NetFaults.{net_with}
+use Rattle.faulty_run.proofs.OneReport.{report_with, report_with_is}
+use Rattle.net_survey.specs.NetSurvey.{IsSurveyOf}
+
+module _ (n : NetModel) (fault : medium_fault n.radio ≡ None) (placed : length n.radio.places ≡ length n.motes) where
+  report_is : (faults : List Fault) → IsReportOf (net_with faults n) (report_with (net_with faults n))
+  report_is faults = report_with_is (net_with faults n) (faults_keep_the_medium n.radio faults fault) placed
+
+  pub run_is : (faults : List Fault) (r : Result Report AllocError) → IfOk r (λ x. IsReportOf (net_with faults n) (report_of x))
+      → IfOk r (λ x. report_of x ≡ report_with (net_with faults n))
+  run_is faults (Ok x) is = report_is_one (net_with faults n) (report_with (net_with faults n)) (report_of x) (report_is faults) is
+  run_is faults (Err e) is = tt
+
+  abbrev pub holding : (holds : ReportModel → ℕ → Bool) → List Fault → List ℕ → ℕ → Bool
+  holding holds candidates = holds_with (λ faults. report_with (net_with faults n)) holds candidates
+
+  pub surveyed : (claims : ℕ) (holds : ReportModel → ℕ → Bool) (candidates : List Fault) (limits : Limits) (r : Result Survey AllocError)
+      → IfOk r (λ s. IsComplete (length candidates) (IsCovered limits.faults s.stopped_at) (holding holds candidates) claims (breaks_of s.broken.items))
+      → IfOk r (λ s. IsSound (length candidates) limits.faults (holding holds candidates) claims (breaks_of s.broken.items))
+      → IfOk r (λ s. IsMinimal (length candidates) (holding holds candidates) (breaks_of s.broken.items))
+      → IfOk r (λ s. IsListedOnce (breaks_of s.broken.items))
+      → IfOk r (λ s. IsCount (length candidates) (IsCovered limits.faults s.stopped_at) (holding holds candidates) claims s.trials)
+      → IfOk r (λ s. s.trials ≤ limits.trials)
+      → IfOk r (λ s. IfSome s.stopped_at (λ set. (s.trials ≡ limits.trials) × IsSet (length candidates) set.items × (length set.items ≤ limits.faults)))
+      → IfOk r (IsSurveyOf n claims holds candidates limits)
+  surveyed claims holds candidates limits (Ok s) complete sound minimal once count limit stopped = record {
+    report = λ faults. report_with (net_with faults n);
+    reports = report_is;
+    complete = complete;
+    sound = sound;
+    minimal = minimal;
+    once = once;
+    count = count;
+    limit = limit;
+    stopped = stopped;
+  }
+  surveyed claims holds candidates limits (Err e) complete sound minimal once count limit stopped = tt
