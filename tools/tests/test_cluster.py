@@ -58,8 +58,8 @@ class Cluster(test_sweep.Bed):
         self.tell_program(self.stub)
         self.sweep(*self.words)
         done = self.sweep(*self.words, '-o', 'dask.csv', '--dask', self.address)
-        self.assertEqual((done.returncode, done.stdout, done.stderr),
-                         (0, 'dask.csv: 6 runs, 6 of them now, 0 with an error\n', ''))
+        # (standard error may show the progress, on a busy machine)
+        self.assertEqual((done.returncode, done.stdout), (0, 'dask.csv: 6 runs, 6 of them now, 0 with an error\n'))
         self.assertEqual((self.folder / 'dask.csv').read_bytes(), (self.folder / 'net.csv').read_bytes())
 
     def test_the_sets_are_the_same(self) -> None:
