@@ -1,0 +1,3 @@
+mod claims;
+mod nets;
+mod surveys;
