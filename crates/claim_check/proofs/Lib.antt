@@ -1,3 +1,0 @@
-mod Answered
-mod SharedNames
-mod WordFacts

@@ -1,3 +1,0 @@
-mod claims;
-mod nets;
-mod surveys;
