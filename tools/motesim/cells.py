@@ -1,9 +1,9 @@
-"""Lines of CSV."""
+"""Rows of tables: as lines of CSV, and as text in columns."""
 from __future__ import annotations
 
 import csv
 import io
-from collections.abc import Iterable
+from collections.abc import Collection, Iterable, Iterator, Sequence
 
 Cell = int | float | str | None
 
@@ -17,3 +17,12 @@ def line_of(values: Iterable[Cell]) -> str:
     out = io.StringIO(newline='')
     csv.writer(out, lineterminator='\n').writerow([text_of(value) for value in values])
     return out.getvalue()
+
+
+def aligned(rows: Iterable[Sequence[str]], lefts: Collection[int] = ()) -> Iterator[str]:
+    """Rows of texts in columns: those of these numbers are aligned left, the others right."""
+    texts = list(rows)
+    widths = [max(map(len, column)) for column in zip(*texts)]
+    for row in texts:
+        yield ' '.join(text.ljust(width) if column in lefts else text.rjust(width)
+                       for column, (text, width) in enumerate(zip(row, widths))).rstrip()

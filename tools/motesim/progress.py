@@ -10,6 +10,11 @@ from motesim.terminal import write_over
 ON_TERMINAL, ELSEWHERE = 0.2, 30.0
 
 
+def clock(seconds: float) -> str:
+    """Minutes and seconds."""
+    return '%d:%02d' % divmod(max(0, int(seconds)), 60)
+
+
 class Progress:
     """On a terminal one line, which changes; elsewhere a line now and then."""
 

@@ -1,11 +1,10 @@
 """Compiles `motesim` without proving it, if no binary of these sources is built. ./run and tools/pack use this module.
 
-The binary is kept in out/programs by a digest of the sources (motesim.runner.programs). It is compiled quickly, and
-`motesim.runner.programs.optimize` has it replaced by an optimized one. `python3 -m project.compile` does both.
+The binary is kept in out/programs by a digest of the sources (motesim.runner.programs). `python3 -m project.compile`
+compiles it.
 """
 from __future__ import annotations
 
-import contextlib
 import os
 import shutil
 import subprocess
@@ -15,14 +14,15 @@ import time
 from pathlib import Path
 
 from motesim.faults import Fault
-from motesim.runner.programs import (COMPILES, NICENESS, PARTS, PROGRAMS, TOP, compiled_kept, is_program,
-                                     optimize)
-from motesim.runner.waiting import is_free
+from motesim.runner.programs import PROGRAMS, TOP, compiled_kept, is_program
 from project import kit
-from project.running import end_on_signals, locked
+from project.running import end_on_signals, is_locked, locked
 
-COMPILING = 'motesim is not built yet: compiling it, without a proof; this needs about a minute; ' \
-            'after that, a faster binary is compiled in the background'
+COMPILING = 'motesim is not built yet: compiling it, without a proof; this needs one or two minutes'
+# The file that the process which compiles a binary has locked.
+COMPILES = PROGRAMS / 'compiling.lock'
+# The niceness of a compilation in the background: the user's other work goes first, but doesn't starve it.
+NICENESS = 5
 WAITING = 'another run is compiling the program; this one waits for it'
 
 
@@ -33,15 +33,14 @@ def make(kept: Path) -> None:
         shutil.rmtree(left, ignore_errors=True)
     began = time.time()
     with tempfile.TemporaryDirectory(prefix='room-', dir=PROGRAMS) as room:
-        made, parts = Path(room) / kept.name, Path(room) / PARTS
-        said = kit.compiled(kept.name, TOP, Path(room), made, parts)
+        made = Path(room) / kept.name
+        said = kit.compiled(kept.name, TOP, Path(room), made, Path(room) / 'parts')
         if said is not None:
             raise Fault('the program was not compiled, as these lines say:\n%s' % said.rstrip())
         # (a source that is edited meanwhile is newer than the binary)
         os.utime(made, (began, began))
         shutil.rmtree(kept.parent, ignore_errors=True)
         kept.parent.mkdir()
-        os.replace(parts, kept.parent / PARTS)
         os.replace(made, kept)
 
 
@@ -58,15 +57,12 @@ def compile_program() -> Path:
 
 
 def compile_in_background() -> None:
-    """Starts a process that compiles the binary of these sources, and an optimized one after it, unless another
-    process compiles it."""
-    with contextlib.suppress(FileNotFoundError), open(COMPILES, 'rb') as held:
-        if not is_free(held):
-            return
-    subprocess.Popen(['nice', '-n', str(NICENESS), sys.executable, '-Bm', __name__], stdin=subprocess.DEVNULL,
-                     stdout=subprocess.DEVNULL, stderr=subprocess.DEVNULL, start_new_session=True,
-                     env={**os.environ, 'PYTHONPATH': str(TOP / 'tools')})
+    """Starts a process that compiles the binary of these sources, unless another process compiles it."""
+    if not is_locked(COMPILES):
+        subprocess.Popen(['nice', '-n', str(NICENESS), sys.executable, '-Bm', __name__], stdin=subprocess.DEVNULL,
+                         stdout=subprocess.DEVNULL, stderr=subprocess.DEVNULL, start_new_session=True,
+                         env={**os.environ, 'PYTHONPATH': str(TOP / 'tools')})
 
 
 if __name__ == '__main__':
-    optimize(compile_program())
+    compile_program()

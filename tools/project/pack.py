@@ -9,8 +9,7 @@ Its tools need Python 3.11 or newer. Nothing is installed, and nothing is fetche
 The archive has only files that git knows. To add folders and files of your own, such as an exercise and its worksheet,
 list them: tools/pack examples/mylab worksheet.pdf. Files from outside this tree are at the top of the archive.
 
-If such a folder has the plan and the results of a study, the README.md of the archive says how to repeat the study. If
-the results lack runs of the plan, tools/pack says so.
+If such a folder has the plan and the results of a study, the README.md of the archive says how to repeat the study.
 
 Without --for-teachers, some files are left out, even if you list them: docs/use/TEACHING.md, key.csv, and each file with
 a word in its name, or in its folder's name, that begins with `solution`, `hidden`, `answer` or `marks`. Files and
@@ -24,7 +23,6 @@ same tree and binary yield the same archive, byte for byte.
 """
 from __future__ import annotations
 
-import contextlib
 import gzip
 import hashlib
 import importlib
@@ -36,16 +34,12 @@ from collections.abc import Collection, Iterable, Iterator, Sequence
 from pathlib import Path, PurePosixPath
 from typing import NamedTuple
 
-from motesim.experiments.asked import sweep_of
-from motesim.experiments.results import read_results
 from motesim.experiments.sweep import name_of_results
 from motesim.command import command
 from motesim.faults import Fault
 from motesim.files import refuse_inputs
 from motesim.plan.plan import Plan
-from motesim.runner.optimized import wait_for_optimized
 from motesim.runner.programs import COMPILED, TOP, is_proved, program_of_sources, program_path
-from motesim.runner.versions import ANOTHER
 from motesim.scenario import kinds
 from motesim.terminal import one_line
 from motesim.version import KIT, VERSION
@@ -73,9 +67,7 @@ def template(name: str) -> str:
 def program() -> Path:
     """The binary that MOTESIM names, or the proved binary of these sources, or one that is compiled without a
     proof."""
-    found = program_path() if os.environ.get('MOTESIM') else program_of_sources() or compile_program()
-    wait_for_optimized(found)
-    return found
+    return program_path() if os.environ.get('MOTESIM') else program_of_sources() or compile_program()
 
 
 def licenses() -> dict[str, bytes]:
@@ -130,10 +122,7 @@ class Sorted(NamedTuple):
         lines += ['Left out: %s (%s)' % (one_line(name), why) for name, why in self.left_out.items()]
         lines += ['Not packed: %s, which the plan %s needs' % (one_line(file), one_line(plan))
                   for plan in self.added for file in self.lacks(plan)]
-        lines += ['Not finished: %s has %d of the %d runs of %s' % (one_line(results), count, runs, one_line(plan))
-                  for plan, results, count, runs in self.unfinished()]
-        return lines + ['Made with MOTESIM: %s. The first line of a repeated sweep may differ' % one_line(it)
-                        for it in self.added if names_another_program(self.packed[it])]
+        return lines
 
     def studies(self) -> dict[str, tuple[list[str], list[str]]]:
         """The added folders with a study: for each, its plans and its results."""
@@ -144,18 +133,6 @@ class Sorted(NamedTuple):
             if folder and (is_plan or is_results(path)):
                 found.setdefault(folder, ([], []))[not is_plan].append(name)
         return {folder: its for folder, its in found.items() if all(its)}
-
-    def unfinished(self) -> Iterator[tuple[str, str, int, int]]:
-        """Yields each plan and its results that lack runs of the plan's table `sweep`, with the number of runs in the
-        results, and of all runs."""
-        for plans, results in self.studies().values():
-            for plan, its in pairs_of(plans, results):
-                # (a plan without such a table has no runs of its own)
-                with contextlib.suppress(Fault):
-                    sweep = sweep_of(Plan.read(self.packed[plan]), [], [], None)
-                    found = {sweep.place_of(row) for row in read_results(self.packed[its])[1]} - {None}
-                    if len(found) < sweep.runs() and (found or name_of_results(plan) == PurePosixPath(its).name):
-                        yield plan, its, len(found), sweep.runs()
 
     def lacks(self, name: str) -> list[str]:
         """The files that a packed plan needs with its own values, but that aren't packed at their place next to it.
@@ -197,16 +174,6 @@ def pairs_of(plans: Sequence[str], results: Sequence[str]) -> list[tuple[str, st
 def check_of(plan: str, results: str) -> str:
     """The commands that repeat the runs of a plan in the archive, and compare them with the results."""
     return 'tools/sweep %s -o again.csv && diff again.csv %s' % (plan, results)
-
-
-def names_another_program(path: Path) -> bool:
-    """Returns whether a file has results of tools/sweep from a binary whose version isn't known."""
-    if not is_results(path):
-        return False
-    try:
-        return read_results(path)[0].motesim.startswith(ANOTHER)
-    except Fault:
-        return False
 
 
 def files_of(path: Path) -> Iterator[Path]:

@@ -14,31 +14,25 @@ from pathlib import Path
 
 from motesim.files import write_whole
 from motesim.notation.faults import RULES as PROGRAM_RULES
-from motesim.notation.grammar import COLOURS, NAMING
 from motesim.runner.programs import TOP
 from motesim.scenario.faults import RULES as SCENARIO_RULES
+from motesim.studio.examples import offered
 from motesim.timeline.bundle import bundle
-from motesim.timeline.html import MARK
+from motesim.timeline.html import MARK, TEMPLATE, style
 
-TOOLS = TOP / 'tools/motesim'
-PAGE, STUDIO, TIMELINE = TOOLS / 'web/page', TOOLS / 'studio/page', TOOLS / 'timeline/page'
+PAGE = TOP / 'tools/motesim/web/page'
 MODULE, RUN, HTML = TOP / 'web/motesim.wasm', TOP / 'web/run_module.js', TOP / 'web/motesim.html'
-STYLES = TIMELINE / 'page.css', STUDIO / 'text.css', PAGE / 'web.css'
+# The page may fetch nothing, and run only its own scripts and module.
+POLICY = ('<meta http-equiv="Content-Security-Policy" content="default-src \'none\'; script-src \'unsafe-inline\' '
+          '\'wasm-unsafe-eval\'; worker-src blob:; style-src \'unsafe-inline\'; img-src data: blob:; base-uri '
+          '\'none\'; form-action \'none\'">')
 LONGEST = 900_000
-
-
-def texts() -> dict[str, str]:
-    """The texts of the examples, by the names of their files."""
-    return {path.stem: path.read_text('utf-8') for path in sorted((TOP / 'examples').glob('*.toml'))
-            if not path.name.endswith('.expect.toml')}
 
 
 def data() -> str:
     """The examples, the words of the notation, and the rules that errors break, as JSON."""
     rules = {'program %d' % kind: '%s: %s' % rule for kind, rule in PROGRAM_RULES.items()} | SCENARIO_RULES
-    cards = json.loads((TOOLS / 'web/examples.json').read_text('utf-8'))
-    found = {'cards': cards, 'texts': texts(), 'rules': rules, 'words': {'colours': COLOURS, 'naming': NAMING}}
-    return json.dumps(found, separators=(',', ':'), ensure_ascii=False).replace('<', '\\u003c')
+    return json.dumps({**offered(), 'rules': rules}, separators=(',', ':'), ensure_ascii=False).replace('<', '\\u003c')
 
 
 def script(entry: Path, before: str = '') -> str:
@@ -49,11 +43,11 @@ def script(entry: Path, before: str = '') -> str:
 def make_page(module: bytes) -> str:
     """The text of the page."""
     fill = {
-        'STYLE': ''.join(path.read_text('utf-8') for path in STYLES), 'DATA': data(),
+        'TITLE': 'motesim', 'KIND': 'lone', 'STYLE': style(), 'DATA': data(), 'POLICY': POLICY,
         'MODULE': base64.b64encode(gzip.compress(module, 9, mtime=0)).decode('ascii'),
-        'WORKER': script(PAGE / 'worker.js', RUN.read_text('utf-8')), 'SCRIPT': script(PAGE / 'web.js'),
+        'WORKER': script(PAGE / 'worker.js', RUN.read_text('utf-8')), 'SCRIPT': '<script>\n%s\n</script>' % script(PAGE / 'lone.js'),
     }
-    return MARK.sub(lambda mark: fill[mark[1]], (PAGE / 'web.html').read_text('utf-8'))
+    return MARK.sub(lambda mark: fill[mark[1]], TEMPLATE.read_text('utf-8'))
 
 
 def main() -> int:

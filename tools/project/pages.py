@@ -1,33 +1,40 @@
 """Writes the parts of the pages that are made from the code: tools/dev/pages
 
-The pages of docs/use have tables of options, limits, keys and warnings between two marks:
+The pages have tables of options, limits, keys, errors and warnings, and HEADLINE a list of definitions, between two
+marks:
 
     <!-- written by tools/dev/pages: limits -->
     <!-- end -->
 
-The options of a tool are those of its --help; `./test` checks that the pages are up to date. The grammar of the language
-is written by motesim.notation.written.
+The options of a tool are those of its --help; `./test` checks that the pages are up to date. The words of the syntax
+file for editors are written, too.
 """
 from __future__ import annotations
 
 import argparse
 import importlib
+import json
 import re
 import textwrap
-from collections.abc import Callable, Iterator
+from collections.abc import Callable, Iterable, Iterator
 from unittest import mock
 
-from motesim.explain.said import TEXTS
+from motesim.explain.say import TEXTS
 from motesim.command import command
-from motesim.notation import faults as program
+from motesim.notation import faults
+from motesim.notation import grammar as program
 from motesim.plan import keys as plan
 from motesim.plan.tables import Key
 from motesim.runner.programs import TOP
 from motesim.scenario import faults as scenario
 from motesim.words import Words, words_of
+from project.spec_lists import headline
 
-PAGES = TOP / 'docs/use'
+SYNTAX = TOP / 'tools/editor/syntaxes/mote.tmLanguage.json'
 WIDTH = 120
+# The width of the grammar, and of the names of its rules; a part of a rule: a group in brackets or braces, or a word.
+GRAMMAR_WIDTH, NAME_WIDTH = 116, 10
+PART_OF_RULE = re.compile(r'\{ [^{}]*(?:\{ [^{}]* \})?[^{}]* \}|\[ [^\[\]]* \]|\S+')
 # The options that many tools have, and that the page describes once.
 SHARED = 'seconds', 'memory', 'report', 'bytes', 'jobs', 'dask'
 PART = re.compile(r'(?<=<!-- written by tools/dev/pages: )(?P<name>[\w ]+)(?P<head> -->\n).*?(?=<!-- end -->)', re.S)
@@ -102,16 +109,7 @@ def limits() -> Iterator[str]:
     """The limits for which motesim refuses a scenario."""
     def rows() -> Iterator[tuple[str, ...]]:
         yield 'length of a scenario', '{:,} bytes of UTF-8'.format(scenario.LONGEST_TEXT), '`scenario too long`'
-        tables = {'': scenario.TOP, 'medium': scenario.MEDIUM, 'loss': scenario.LOSS, 'mote': scenario.MOTE}
-        for name, keys in tables.items():
-            for key, rule in keys.items():
-                if rule.kind in (int, list) and (name, key) not in (('loss', 'from'), ('loss', 'to')):
-                    words = scenario.may_of(key, rule).partition(': ')[2].replace('a whole number, ', '')
-                    zero = {'base': '; for 0, `medium fault 2`', 'per': '; for 0, `medium fault 3`',
-                            'every': '; for 0, `medium fault 4`'}.get(key, '')
-                    yield '`%s`' % key, words, '`scenario fault 5`' + zero
-        yield '`programs`', 'at most %d programs' % scenario.MOST_PROGRAMS, '`scenario fault 5`'
-        yield 'length of an event queue', span(scenario.QUEUE.least, scenario.QUEUE.most), '`scenario fault 5`'
+        yield 'number or count of a key', '[the table of keys](#tables-and-keys)', '`scenario fault 5`'
         yield 'name of a program', '1 to 32 characters from `A-Z a-z 0-9 _ -`', '`scenario fault 3`'
         yield 'name in a program', 'at most %d characters' % program.LONGEST_NAME, 'program fault 1'
         yield 'number in a program', span(0, program.MOST_NUMBER), 'program fault 5'
@@ -122,6 +120,37 @@ def limits() -> Iterator[str]:
         yield 'levels of nested blocks and expressions', 'at most %d' % program.MOST_LEVELS, 'program fault 7'
 
     return table(('Item', 'Limit', 'Error'), rows())
+
+
+def scenario_keys() -> Iterator[str]:
+    """The keys of a scenario, table by table."""
+    def value(name: str, rule: scenario.Rule) -> str:
+        second = '; only in version 2' if rule in (scenario.COLLIDE, scenario.QUEUES) else ''
+        kind = scenario.may_of(name, rule).partition(': ')[2].replace('a whole number, ', '')
+        return '%s, %s%s%s' % (rule.means, kind, second, '' if rule.is_needed else '; optional')
+
+    def rows() -> Iterator[tuple[str, ...]]:
+        tables = {'top level': {**scenario.TOP, 'queue': scenario.QUEUES},
+                  '`medium`': {**scenario.MEDIUM, 'collide': scenario.COLLIDE},
+                  'each `mote`': scenario.MOTE, 'each `loss`': scenario.LOSS}
+        for place, keys in tables.items():
+            for number, (name, rule) in enumerate(keys.items()):
+                yield '' if number else place, '`%s`' % name, value(name, rule)
+        yield '`programs`', 'a name of 1 to 32 of `A-Z a-z 0-9 _ -`', 'the text of a program'
+        yield '`queue`', 'the name of a program', value('', scenario.QUEUE)
+
+    return table(('Table', 'Key', 'Value'), rows())
+
+
+def scenario_errors() -> Iterator[str]:
+    """The lines with which motesim refuses a scenario, or ends without a report."""
+    forms = {'program': 'program NAME fault K line L'}
+    return table(('Line', 'When'), (('`motesim: %s`' % forms.get(it, it), said) for it, said in scenario.RULES.items()))
+
+
+def program_errors() -> Iterator[str]:
+    """The kinds of errors in a program."""
+    return table(('Kind', 'Name', 'Rule'), ((str(it), *said) for it, said in faults.RULES.items()))
 
 
 def said(name: str, key: Key) -> str:
@@ -152,8 +181,57 @@ def warnings() -> Iterator[str]:
     return table(('Name', 'Text'), (('`%s`' % name, words(text)) for name, text in TEXTS.items()))
 
 
+def filled(name: str, parts: Iterable[str], between: str) -> list[str]:
+    """A rule on as many lines as it needs: each further line begins with the separator of the parts."""
+    lines, line = [], '%-*s = ' % (NAME_WIDTH, name)
+    begin = len(line)
+    for place, part in enumerate(parts):
+        more = between + part if place else part
+        if len(line) + len(more) > GRAMMAR_WIDTH:
+            lines.append(line)
+            line = ' ' * (begin if between == ' ' else begin - 2) + more.lstrip()
+        else:
+            line += more
+    return [*lines, line]
+
+
+def grammar() -> Iterator[str]:
+    """The grammar of programs."""
+    named = program.alternatives()
+    yield '```'
+    for name in 'program', 'code', 'block', 'statement', 'into', 'cast', 'sent', 'any', 'expression', 'operator':
+        yield from filled(name, named[name], ' | ') if name in named else filled(
+            name, PART_OF_RULE.findall(program.RULES[name]), ' ')
+    yield '```'
+
+
+def reserved() -> Iterator[str]:
+    """The reserved words."""
+    words = dict.fromkeys([*program.DECLARING, *program.STATEMENTS, *program.OTHERS, *program.TESTS,
+                           *program.OF_REPORTS])
+    text = ('These words are reserved, so no name may be one of them: `%s`. The words `radio` and `all` are used in '
+            'reports only.' % ' '.join(words))
+    yield from textwrap.wrap(text, WIDTH - 2, break_on_hyphens=False)
+
+
+def syntax_of(text: str) -> str:
+    """The syntax file with the words of the grammar, the longest ones first."""
+    def of_words(words: Iterable[str]) -> str:
+        return '(%s)' % '|'.join(sorted(words, key=lambda word: (-len(word), word)))
+
+    syntax = json.loads(text)
+    for rule in syntax['repository']['all']['patterns']:
+        if rule.get('name') in program.SCOPES:
+            rule['match'] = '(?<![a-z0-9_])%s(?![a-z0-9_])' % of_words(program.SCOPES[rule['name']])
+        elif 'captures' in rule:
+            rule['match'] = r'(?<![a-z0-9_])%s(\s+)([a-z][a-z0-9_]{0,15})(?![a-z0-9_])' % of_words(program.NAMING)
+    return json.dumps(syntax, indent=2, ensure_ascii=False) + '\n'
+
+
 PARTS: dict[str, Callable[[], Iterator[str]]] = {
-    'limits': limits, 'options': all_options, 'plan keys': plan_keys, 'warnings': warnings}
+    'definitions': lambda: iter(headline(TOP).splitlines()), 'grammar': grammar, 'limits': limits, 'options': all_options,
+    'plan keys': plan_keys, 'program errors': program_errors, 'reserved words': reserved,
+    'scenario errors': scenario_errors, 'scenario keys': scenario_keys, 'warnings': warnings}
 
 
 def page_of(text: str) -> str:
@@ -164,9 +242,10 @@ def page_of(text: str) -> str:
 @command('pages')
 def main() -> int:
     words_of(__doc__).parse_args()
-    for path in sorted(PAGES.glob('*.md')):
+    for path in (*sorted(TOP.glob('docs/*/*.md')), SYNTAX):
         text = path.read_text('utf-8')
-        if page_of(text) != text:
-            path.write_text(page_of(text), 'utf-8')
+        made = syntax_of(text) if path == SYNTAX else page_of(text)
+        if made != text:
+            path.write_text(made, 'utf-8')
             print(path.relative_to(TOP))
     return 0

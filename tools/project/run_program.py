@@ -20,8 +20,7 @@ from pathlib import Path
 from typing import NamedTuple, NoReturn
 
 from motesim.faults import Fault
-from motesim.runner.programs import (IN_NODE, NOT_PROVED, is_compiled, module_program, nothing_runs, optimize,
-                                     program_of_sources, program_path)
+from motesim.runner.programs import (IN_NODE, NOT_PROVED, is_compiled, module_program, nothing_runs, program_of_sources, program_path)
 from motesim.runner.versions import version_line
 from project.compile import compile_in_background, compile_program
 from project.running import ends_with_parent
@@ -34,7 +33,7 @@ Options of ./run itself, which compiles motesim if it isn't built:
       --unproved     Runs a motesim that is compiled without a proof, even if a proved one is built
       --version      Prints the version, and whether the motesim that would run is proved"""
 FAILED, MISUSED = 1, 2
-IN_BACKGROUND = '; a faster one is compiled in the background'
+IN_BACKGROUND = '; motesim is compiled in the background'
 NO_OPTIONS = 'without the Rattle kit, which compiles motesim, there is only its WebAssembly module, which has no ' \
              'options: leave them out'
 
@@ -143,7 +142,6 @@ def program_for(request: Request) -> Path:
         found = without_binary(request)
     if is_compiled(found) and not request.wants_help:
         say('%s: %s' % (NAME, NOT_PROVED))
-        optimize(found)
     return found
 
 

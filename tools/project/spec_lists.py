@@ -1,10 +1,9 @@
-"""Writes the list of definitions into its page: tools/dev/spec_lists
+"""The list of definitions of docs/proof/HEADLINE.md, which tools/dev/pages writes.
 
-docs/proof/HEADLINE.md lists the files on which the theorem rests: the contract of `simulate`
+The page lists the files on which the theorem rests: the contract of `simulate`
 (crates/simulation/specs/Simulation*.antt), the files of specs/ that this contract imports, the files that these import,
 and so on. The list is in order from the top down: the crates from the last of crates.txt to the first, and within a
-crate a file before the files that it imports. It has the first sentence of each file's first comment. `./test` checks
-that the page is up to date.
+crate a file before the files that it imports. It has the first sentence of each file's first comment.
 """
 from __future__ import annotations
 
@@ -14,17 +13,12 @@ from collections import defaultdict
 from graphlib import TopologicalSorter
 from pathlib import Path
 
-from motesim.command import command
 from motesim.faults import Fault
-from motesim.words import words_of
-from motesim.runner.programs import TOP
 
 HEADLINE = 'crates/simulation/specs/Simulation*.antt'
 CONSTANTS = 'TheConstants'
 # An import, with its name if the name has a known form.
 IMPORT = re.compile(r'^(?:pub )?use (?:([\w.]+?)(?:\.\{| as |\.?$))?', re.M)
-# The part of a page that this tool writes, between two marks.
-BETWEEN = re.compile(r'(?<=<!-- written by tools/dev/spec_lists -->\n).*(?=<!-- end -->)', re.S)
 
 
 def crates_of(top: Path) -> list[str]:
@@ -141,29 +135,3 @@ def headline(top: Path) -> str:
         rows.append(item('`%s`: %s' % (path.relative_to(top / 'crates').as_posix(), ', '.join(names))))
     libraries = ', '.join('`%s`' % it for it in sorted(rests.libraries)) or 'none'
     return '\n'.join([*rows, '', '**Libraries** of the kit that these files import: %s.' % libraries, '', ''])
-
-
-# The pages.
-
-LISTS = {'docs/proof/HEADLINE.md': headline}
-
-
-def outdated(top: Path) -> dict[Path, str]:
-    """The pages whose lists are outdated, each with the text that it should have."""
-    found = {}
-    for name, listed in LISTS.items():
-        page, text = (top / name).read_text('utf-8'), listed(top)
-        if not BETWEEN.search(page):
-            raise Fault('%s: the list needs the lines `<!-- written by tools/dev/spec_lists -->` and `<!-- end -->` '
-                        'around it' % name)
-        found[top / name] = BETWEEN.sub(lambda _: text, page)
-    return {page: text for page, text in found.items() if page.read_text('utf-8') != text}
-
-
-@command('spec_lists')
-def main() -> int:
-    words_of(__doc__).parse_args()
-    for page, text in outdated(TOP).items():
-        page.write_text(text, 'utf-8')
-        print('%s: the list was updated' % page)
-    return 0

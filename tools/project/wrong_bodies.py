@@ -30,7 +30,7 @@ from motesim.runner.programs import TOP
 from motesim.words import words_of
 from project import kit
 from project.mutants import log, public
-from project.mutants.checks import CONTRACT, KINDS, NOT_REFUSED, OPEN, UNKNOWN, Trial, Verdict
+from project.mutants.checks import CONTRACT, KINDS, NOT_REFUSED, OPEN, TWIN_ACCEPTED, UNKNOWN, Trial, Verdict
 from project.mutants.edits import Edit, edits_of, groups
 from project.tree import commit
 
@@ -43,8 +43,8 @@ def words() -> argparse.Namespace:
     asked.add_argument('--changed', action='store_true',
                        help='leave out mutants that were refused, or left open, with exactly the same texts')
     asked.add_argument('--gate', action='store_true',
-                       help="try the gate's choice: the mutants in %s that have changed, and a tenth of all that "
-                            "aren't known to be open" % GATE)
+                       help="try the gate's choice: a tenth of all mutants that aren't known to be open, first those in "
+                            "%s that have changed" % GATE)
     asked.add_argument('names', nargs='*', metavar='CRATE or CRATE/NAME', help='crates, or mutants (all)')
     return asked.parse_args()
 
@@ -58,14 +58,14 @@ def named(edits: Sequence[Edit], names: Sequence[str]) -> list[Edit]:
     return [it for it in edits if not names or it.name in names or it.crate.name in names]
 
 
-def tenth(edits: Sequence[Edit], seed: str) -> list[Edit]:
-    """A tenth of the mutants, chosen by a seed: batches, whole except the last, of as few crates as possible, because
-    each crate needs a control."""
-    def place(group: list[Edit]) -> list[bytes]:
-        return [hashlib.sha256((seed + it).encode()).digest() for it in (group[0].crate.name, group[0].name)]
+def in_order(edits: Sequence[Edit], seed: str) -> list[Edit]:
+    """Mutants in an order that a seed chooses: batches of one crate after another, because each crate needs a
+    control."""
+    def place(edit: Edit) -> list[bytes]:
+        return [hashlib.sha256((seed + it).encode()).digest() for it in (edit.crate.name, edit.name)]
 
-    batches = sorted(groups(edits), key=place)
-    return [it for group in batches for it in group][:math.ceil(len(edits) / 10)]
+    batches = sorted(groups(edits), key=lambda group: place(group[0]))
+    return [it for group in batches for it in sorted(group, key=place)]
 
 
 def without_open(edits: Sequence[Edit]) -> list[Edit]:
@@ -76,12 +76,15 @@ def without_open(edits: Sequence[Edit]) -> list[Edit]:
 
 
 def of_gate(edits: Sequence[Edit]) -> list[Edit]:
-    """The mutants that the gate tries."""
-    new, decided = log.changed(it for it in edits if it.file.parent.name == GATE), without_open(edits)
-    of_tenth = tenth(decided, commit())
-    print('%d of %s have changed; a tenth of all, chosen by the commit %s: %d; known to be open, and not tried: %d' % (
-        len(new), GATE, commit()[:8], len(of_tenth), len(edits) - len(decided)), flush=True)
-    return [it for it in edits if it in new or it in of_tenth]
+    """The mutants that the gate tries: a tenth, first those of the gate that have changed."""
+    decided, seed = without_open(edits), commit()
+    new = log.changed(it for it in edits if it.file.parent.name == GATE)
+    order = in_order(new, seed) + in_order([it for it in decided if it not in new], seed)
+    chosen = order[:math.ceil(len(decided) / 10)]
+    print('%d of %d in %s that have changed, and %d others, chosen by the commit %s; known to be open, and not tried: %d' % (
+        len([it for it in chosen if it in new]), len(new), GATE, len([it for it in chosen if it not in new]), seed[:8],
+        len(edits) - len(decided)), flush=True)
+    return [it for it in edits if it in chosen]
 
 
 # The trial.
@@ -128,7 +131,7 @@ def report(found: Mapping[Edit, Verdict]) -> int:
     of_kind = {kind: [edit.name for edit, it in found.items() if it.kind == kind] for kind in KINDS}
     still, failed = [name for it in OPEN for name in of_kind[it]], of_kind[NOT_REFUSED] + of_kind[UNKNOWN]
     print('refused for a goal of a contract: %d, of them with a harmless twin that is accepted: %d' % (
-        len(of_kind[CONTRACT]), sum(it.kind == CONTRACT and edit.twin is not None for edit, it in found.items())))
+        len(of_kind[CONTRACT]), sum(it.why.startswith(TWIN_ACCEPTED) for it in found.values())))
     if still:
         print('skipped: open, because the refusal says little about the contract: %s' % ' '.join(still))
     if failed:

@@ -7,8 +7,10 @@
 """
 from __future__ import annotations
 
+import atexit
 import base64
 import contextlib
+import functools
 import json
 import os
 import shutil
@@ -214,13 +216,57 @@ class Browser:
         self.close()
 
 
+@functools.cache
+def shared() -> tuple[Browser | None, str]:
+    """The browser of this process, in which its tests follow one another; or why there is none."""
+    browser, why = Browser.start()
+    if browser:
+        atexit.register(_close, browser, os.getpid())
+    return browser, why
+
+
+def _close(browser: Browser, process: int) -> None:
+    # (a process that was forked for a test ends too)
+    if os.getpid() == process:
+        browser.close()
+
+
 class InBrowser(unittest.TestCase):
-    """Tests in one browser, which are skipped if it doesn't start."""
+    """Tests in one browser, which are skipped if it doesn't start. Scripts know the page's parts by short names."""
     browser: Any
+    known = ('const m = motesim, pane = m.panes[0], run = pane && pane.run, web = m.web, text = web.history.text, '
+             'by = id => document.getElementById(id), button = (box, words) => '
+             '[...by(box).querySelectorAll("button")].find(it => it.textContent.includes(words))')
 
     @classmethod
     def setUpClass(cls) -> None:
-        cls.browser, why = Browser.start()
+        cls.browser, why = shared()
         if cls.browser is None:
             raise unittest.SkipTest('browser: ' + why)
-        cls.addClassCleanup(cls.browser.close)
+
+    def setUp(self) -> None:
+        self.browser.call('Page.navigate', url='about:blank')
+        self.browser.call('Emulation.setEmulatedMedia', features=[])
+        self.browser.call('Storage.clearDataForOrigin', origin='file://', storageTypes='local_storage')
+        self.browser.faults.clear()
+
+    def tearDown(self) -> None:
+        self.assertEqual(self.browser.faults, [])
+
+    def value(self, script: str) -> Any:
+        return self.browser.run('(() => { %s; return %s; })()' % (self.known, script))
+
+    def wait(self, script: str) -> None:
+        self.browser.wait('(() => { %s; return %s; })()' % (self.known, script))
+
+    def press(self, name: str) -> None:
+        self.value('by(%s).click()' % json.dumps(name))
+
+    def press_in(self, box: str, words: str) -> None:
+        self.value('button(%s, %s).click()' % (json.dumps(box), json.dumps(words)))
+
+    def put(self, text: str) -> None:
+        """Replaces the whole text of the page, as a paste does."""
+        self.press('part-all')
+        self.value('(it => { it.focus(); it.value = %s; it.dispatchEvent(new Event("input")); })(by("text"))'
+                   % json.dumps(text))

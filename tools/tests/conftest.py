@@ -2,7 +2,8 @@
 
 NAME is a file of tools/tests, test_report, or a part of its name; without one all are run. Prints each test that
 fails, with its error, and each that is skipped, with the reason: the program or the package that it lacks. A test that
-lacks the browser fails, unless `--may-skip=browser` allows that. A file without tests fails too. The last line is `N
+lacks the browser fails, unless `--may-skip=browser` allows that. A file without tests fails too. With `--quick`,
+tests with the mark `long` of skips.py are left out. The last line is `N
 passed, M failed, K skipped`. With pytest-xdist as many tests run in parallel as there are processors. After 30 minutes
 the tests are ended.
 """
@@ -24,6 +25,13 @@ HEEDED = (signal.SIGHUP, signal.SIGINT, signal.SIGQUIT)
 
 def pytest_addoption(parser: pytest.Parser) -> None:
     parser.addoption('--may-skip', action='append', default=[], choices=NEEDED)
+    parser.addoption('--quick', action='store_true')
+
+
+def pytest_collection_modifyitems(config: pytest.Config, items: list[pytest.Item]) -> None:
+    if config.getoption('--quick'):
+        items[:] = [item for item in items if not any(
+            getattr(getattr(item, its, None), 'is_long', False) for its in ('obj', 'cls'))]
 
 
 def pytest_configure(config: pytest.Config) -> None:

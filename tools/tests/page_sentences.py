@@ -53,6 +53,33 @@ def net_of(chance: random.Random) -> tuple[str, str, int]:
     return '\n'.join(scenario), '\n'.join([*report, 'medium', *medium, 'left 0', '']), count
 
 
+def program_of(chance: random.Random, names: list[str], motes: int) -> str:
+    """A program whose processes have statements by chance."""
+    def code(name: str) -> str:
+        value, others = chance.choice(('self', 'data', 'n', '%d' % (1 << chance.randrange(motes)))), chance.choice(names)
+        steps = ('print %s;' % value, 'print %d;' % chance.randint(0, 4), 'send %s;' % value, 'n = (n + 1);', 'yield;',
+                 'set t %d; yield_until fired(t);' % chance.randint(1, 9), 'yield_until is(packet); print data;',
+                 'post %s note %d;' % (others, chance.randint(0, 2)), 'kill %s;' % others, 'start %s;' % others,
+                 'if (self == %d) { send %s; }' % (chance.randrange(motes), value))
+        ends = ('while 1 { yield_until is(packet); print data; if (n < 2) { send data; n = (n + 1); } }', 'exit;',
+                'set t %d; yield_until fired(t); while 1 { }' % chance.randint(5, 30))
+        return 'code %s { var n = 0; etimer t; body { %s } }' % (
+            name, ' '.join([*chance.choices(steps, k=chance.randint(1, 6)), chance.choice(ends)]))
+    return 'event note; process %s; autostart %s; receiver %s; %s' % (
+        ', '.join(names), ', '.join(names), chance.choice(names), ' '.join(map(code, names)))
+
+
+def running_net_of(chance: random.Random) -> tuple[str, int]:
+    """A scenario with programs by chance, which have the same processes or not, and the number of motes."""
+    scenario, _, count = net_of(chance)
+    head, _, rest = scenario.partition("p = '")
+    second = chance.choice((['a', 'b'], ['b', 'a'], ['c', 'a', 'b']))
+    rest = ''.join(it + 'program = "%s"' % chance.choice('pq') * (number < count) for number, it in enumerate(
+        rest.partition('\n')[2].split('program = "p"')))
+    return "%sp = '%s'\nq = '%s'\n%s" % (head, program_of(chance, ['a', 'b'], count), program_of(chance, second, count),
+                                         rest), count
+
+
 class Sentences:
     """Sentences about a net with so many motes."""
 

@@ -1,11 +1,24 @@
-"""The needs of tests beyond Python: if one is missing, the test is skipped, and tools/dev/test_tools says why."""
+"""The needs of tests beyond Python: if one is missing, the test is skipped, and tools/dev/test_tools says why. And the
+mark of tests that need long."""
 import shutil
 import sys
 import unittest
+from typing import Any, TypeVar
 
 from motesim import packages
 from motesim.faults import Fault
 from motesim.report.run import program_path
+
+
+Test = TypeVar('Test')
+
+
+def long(test: Test) -> Test:
+    """Marks a test, or a class of tests, that compiles C, installs the tools, calls the kit, starts a cluster, or
+    repeats a study: `./test --quick` leaves it out."""
+    marked: Any = test
+    marked.is_long = True
+    return test
 
 
 def interpreter_with(test: unittest.TestCase | type[unittest.TestCase], module: str) -> str:

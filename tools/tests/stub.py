@@ -5,13 +5,7 @@ Mote n prints P at moment P * (n + 1), where P is what the first `print` of its 
 time, or answer a long report or a fault. It can't grow: it ends at a gigabyte of memory, at two minutes of processor
 time, and after 100 megabytes of its report.
 """
-import contextlib
-import os
-import signal
-import subprocess
 import sys
-import time
-from collections.abc import Sequence
 from pathlib import Path
 
 STUB = '''#!%s -IS
@@ -50,34 +44,3 @@ def write_stub(folder: Path) -> Path:
     path.write_text(STUB % sys.executable)
     path.chmod(0o755)
     return path
-
-
-def processes_of(session: int) -> list[int]:
-    """The numbers of the processes of a session that haven't ended."""
-    found = []
-    for it in Path('/proc').glob('[0-9]*'):
-        with contextlib.suppress(OSError):
-            state, _, _, its = (it / 'stat').read_text().rpartition(')')[2].split()[:4]
-            if its == str(session) and state not in 'ZX':
-                found.append(int(it.name))
-    return found
-
-
-def run_whole(words: Sequence[str], folder: Path, seconds: float = 60,
-              **environment: str) -> subprocess.CompletedProcess[str]:
-    """Runs a command in a session of its own, and ends all that it leaves running, also after its time.
-
-    It returns once all of it has ended: a process that is killed needs a moment, and longer on a busy machine.
-    """
-    with subprocess.Popen(words, cwd=folder, env={**os.environ, **environment}, stdin=subprocess.DEVNULL,
-                          stdout=subprocess.PIPE, stderr=subprocess.PIPE, text=True, start_new_session=True) as ran:
-        try:
-            out, err = ran.communicate(timeout=seconds)
-        finally:
-            end = time.monotonic() + 10
-            while (left := processes_of(ran.pid)) and time.monotonic() < end:
-                for process in left:
-                    with contextlib.suppress(OSError):
-                        os.kill(process, signal.SIGKILL)
-                time.sleep(0.01)
-    return subprocess.CompletedProcess(words, ran.returncode, out, err)

@@ -11,6 +11,7 @@ from here import TOOLS, room_of
 import motesim
 from motesim import packages
 from stub import write_stub
+from skips import long
 
 SCENARIO = '''version = 2
 end = 100
@@ -86,6 +87,7 @@ class Calls(unittest.TestCase):
             motesim.nothing
 
 
+@long
 class Installed(unittest.TestCase):
     def test_pip_installs_it_with_its_pages(self) -> None:
         """The package is built and installed into a folder, and used from there; without a network."""
@@ -106,7 +108,7 @@ class Installed(unittest.TestCase):
                                   text=True)
             self.assertEqual(done.returncode, 0, done.stderr)
             use = 'import motesim, motesim.timeline.html as html; print(motesim.__file__); html.page_of; ' \
-                  'print(len((html.PAGE / "page.html").read_text()) > 99)'
+                  'print(len(html.TEMPLATE.read_text()) > 99)'
             done = subprocess.run([sys.executable, '-B', '-c', use], cwd=room, env={**os.environ,
                 'PYTHONPATH': str(room / 'there')}, capture_output=True, text=True)
             self.assertEqual(done.stdout.splitlines(), [str(room / 'there/motesim/__init__.py'), 'True'], done.stderr)

@@ -1,6 +1,7 @@
 """The scenarios of bench/, and the output of tools/dev/bench about runs. The program is a stand-in."""
 import contextlib
 import io
+import shutil
 import subprocess
 import sys
 import tempfile
@@ -9,7 +10,8 @@ from pathlib import Path
 from unittest import mock
 
 from here import TOP
-from motesim.notation.faults import find_fault
+from motesim.faults import Fault
+from motesim.notation.reader import find_fault
 from motesim.scenario import Scenario
 from project import bench
 
@@ -29,6 +31,45 @@ class Scenarios(unittest.TestCase):
             done = subprocess.run([str(TOP / 'bench' / name), 'x'], capture_output=True, text=True)
             self.assertEqual((done.returncode, done.stdout), (1, ''))
             self.assertIn('bench/%s' % name, done.stderr)
+
+
+    def test_a_part_has_fewer_moments(self) -> None:
+        self.assertIn(b'end = 200000\n', bench.generated('timers'))
+        self.assertIn(b'end = 20000\n', bench.generated('timers', 10))
+
+
+class Host(unittest.TestCase):
+    """Instructions, against compiled C. A stand-in counts."""
+
+    def said(self, report: bytes) -> tuple[str, bool]:
+        said = io.StringIO()
+        with tempfile.TemporaryDirectory() as room, contextlib.redirect_stdout(said), \
+                mock.patch.object(bench, 'HostRuns') as host, \
+                mock.patch.object(bench, 'compilers', return_value=('gcc', 'tcc')), \
+                mock.patch.object(bench, 'instructions_of', side_effect=[(3_000_000, b'left 0'), (2_000_000, report)]):
+            is_same = bench.measure_host(['timers'], str(Path(room) / 'motesim'))
+            self.assertEqual(host.return_value.build.call_args.args[2:], ('gcc', ('-O2',)))
+        return said.getvalue(), is_same
+
+    def test_a_line_has_both_and_their_ratio(self) -> None:
+        self.assertEqual(self.said(b'left 0'), ('timers      motesim 3.0 M, compiled C 2.0 M: 1.50\n', True))
+
+    def test_a_report_that_differs_is_told(self) -> None:
+        said, is_same = self.said(b'left 1')
+        self.assertFalse(is_same)
+        self.assertTrue(said.endswith('1.50  THE REPORTS DIFFER\n'))
+
+    @unittest.skipUnless(shutil.which('valgrind'), 'there is no Valgrind')
+    def test_instructions_are_counted(self) -> None:
+        count, report = bench.instructions_of(['/bin/echo', 'x'])
+        self.assertGreater(count, 1000)
+        self.assertEqual(report, b'x\n')
+        with self.assertRaisesRegex(Fault, '/bin/false ended with status 1'):
+            bench.instructions_of(['/bin/false'])
+
+    def test_without_valgrind(self) -> None:
+        with mock.patch('shutil.which', return_value=None), self.assertRaisesRegex(Fault, 'apt-get install valgrind'):
+            bench.instructions_of(['/bin/echo'])
 
 
 class Ratios(unittest.TestCase):
@@ -67,4 +108,4 @@ class Command(unittest.TestCase):
         self.assertIn('THE REPORTS DIFFER', said)
 
     def test_another_name_is_told(self) -> None:
-        self.assertIn("invalid choice: 'x' (choose from 'beacons'", self.said('none', 'x')[0])
+        self.assertIn('there is no scenario x', self.said('none', 'x')[0])

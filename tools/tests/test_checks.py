@@ -6,6 +6,7 @@ import subprocess
 import sys
 import unittest
 from collections import Counter
+from itertools import product
 from pathlib import Path
 from typing import Any
 from unittest import mock
@@ -17,6 +18,7 @@ from motesim.runner import Answer
 from motesim.report.run import Run
 from motesim.scenario import Scenario
 from project import testing
+from skips import long
 
 # (no test here is worth several processes)
 IN_ONE_PROCESS = '-n0'
@@ -49,16 +51,6 @@ class Check(unittest.TestCase):
 
 
 class Commands(Check):
-    def test_without_a_program_they_fail(self) -> None:
-        self.assertIn('there is no program', self.check('spoil_bytes')[0])
-
-    def test_without_pytest_they_say_what_to_install(self) -> None:
-        self.put_program('true')
-        with mock.patch('project.testing.has', lambda module, python: False), mock.patch.object(
-                sys, 'argv', ['run_cases']):
-            with self.assertRaisesRegex(Fault, 'apt-get install python3-pytest'):
-                testing.check(TOP / 'tests/test_cases.py')
-
     def test_a_program_that_does_not_end_is_reported(self) -> None:
         source = module('differences.py')
         self.put_program('sleep 60')
@@ -75,16 +67,15 @@ class Cases(Check):
         for line in '--- expected', '+++ found', '@@ -1,36 +1,5 @@', '-status: 0', '+status: 3', '-2 recv 0 0 5':
             self.assertIn('\n%s\n' % line, said)
 
-    def test_a_folder_of_cases(self) -> None:
+    def test_a_folder_of_cases_and_a_name_of_no_case(self) -> None:
         self.put_program('cat')
         cases = {it.with_suffix('') for it in (TOP / 'tests/cases/queues').iterdir()}
         self.assertEqual(self.check('run_cases', 'queues')[1], '0 passed, %d failed, 0 skipped' % len(cases))
-
-    def test_a_name_of_no_case(self) -> None:
+        self.program.unlink()
+        self.assertIn('there is no program', self.check('run_cases', 'queues')[0])
         self.put_program('cat')
         said, _, status = self.check('run_cases', 'nets/none')
-        self.assertIn('there is no case nets/none', said)
-        self.assertNotEqual(status, 0)
+        self.assertEqual(('there is no case nets/none' in said, status != 0), (True, True))
 
     def test_files_that_make_no_case(self) -> None:
         case = module('test_cases.py')['Case']
@@ -108,11 +99,7 @@ class SpoiledBytes(Check):
         said, last, status = self.check('spoil_bytes')
         self.assertEqual((last, status), ('1 passed, 7 failed, 0 skipped', 1))
         self.assertIn("180 times scenario fault 1, not 0', '0 times scenario is not UTF-8, not 180", said)
-
-    def test_a_name_is_refused(self) -> None:
-        self.put_program('cat')
-        self.assertIn('spoil_bytes: this command makes all its tests, and can\'t select case: leave it out',
-                      self.check('spoil_bytes', 'case')[0])
+        self.assertIn('can\'t select case', self.check('spoil_bytes', 'case')[0])
 
 
 class ChosenExamples(Check):
@@ -138,26 +125,20 @@ class Workers(Check):
             self.room, odd))
         return self.check('compare_workers', self.scenario)
 
-    def test_each_way_once(self) -> None:
+    def test_each_way_once_and_a_kind_that_differs(self) -> None:
         self.assertEqual(self.compared('none')[1:], ('1 passed, 0 failed, 0 skipped', 0))
         words = (self.room / 'words').read_text().splitlines()
-        self.assertEqual((words[0], len(words)), ('', 21))
-        for workers in 1, 2, 3, 7, 16:
-            for cut in 'block', 'stripe':
-                for sync in 'joins', 'marks':
-                    self.assertEqual(words.count('--workers %d --cut %s --sync %s' % (workers, cut, sync)), 1)
-
-    def test_a_kind_that_differs(self) -> None:
+        ways = ['--workers %d --cut %s --sync %s' % it for it in product((1, 2, 3, 7, 16), ('block', 'stripe'),
+                                                                          ('joins', 'marks'))]
+        self.assertEqual((words[0], sorted(words[1:])), ('', sorted(ways)))
         said, last, status = self.compared('marks')
         self.assertIn('--workers 1 --cut block --sync marks differs:', said)
         self.assertIn('\n-end = 5\n+another\n', said)
         self.assertEqual((last, status), ('0 passed, 1 failed, 0 skipped', 1))
-
-    def test_a_report_that_is_written_down(self) -> None:
+        # (a report that is written down)
         self.put('a.expected', 'end = 6\n')
         said, last, _ = self.compared('none')
-        self.assertIn('on one thread differs:', said)
-        self.assertEqual(last, '0 passed, 1 failed, 0 skipped')
+        self.assertEqual(('on one thread differs:' in said, last), (True, '0 passed, 1 failed, 0 skipped'))
 
 
 PAGE = '''# A page
@@ -350,12 +331,8 @@ class Memory(Check):
         self.assertIn('as a failed thread', lacks(Counter({('other', no_thread): 3}), workers))
         self.assertIn('refused its start', lacks(memory + Counter({('start', no_thread): 2}), many))
 
-    def test_the_runs_without_a_name(self) -> None:
+    def test_the_gate_counts_the_runs(self) -> None:
         names = module('test_memory.py')
-        ways = [' '.join(words) for _, *words in names['RUNS'] if [_, *words] != names['CALLS']]
-        for wanted, number in [('', 5), ('--workers 2 --sync joins', 6), ('--workers 3 --sync joins', 4),
-                               ('--workers 2 --sync marks', 5), ('--workers 3 --sync marks', 4)]:
-            self.assertEqual(ways.count(wanted), number)
         self.assertIn('tools/dev/refuse_memory program %d\n' % len(names['RUNS']), (TOP / 'test').read_text('utf-8'))
         folder, _, test = names['CALLS'][1].rpartition('::')
         source = TOP / 'crates/part_tests/src' / folder.replace('::', '/')
@@ -369,6 +346,7 @@ class Memory(Check):
         return self.check('refuse_memory', scenario, '--', *words)
 
     @unittest.skipUnless(shutil.which('cc'), 'there is no C compiler cc here')
+    @long
     def test_each_request_is_refused(self) -> None:
         for calm in 0, 2:
             self.assertEqual(self.refused(ASKS, CALM=calm, FAULT=NO_MEMORY)[1:], ('1 passed, 0 failed, 0 skipped', 0))
@@ -378,6 +356,7 @@ class Memory(Check):
             self.assertIn('request 2 refused: status 1, ', said)
 
     @unittest.skipUnless(shutil.which('cc'), 'there is no C compiler cc here')
+    @long
     def test_each_start_is_refused(self) -> None:
         # (a start asks for a stack, and for memory of the thread's own; the second one is refused a stack too, though
         # it could use that of a thread that has ended)
@@ -389,6 +368,7 @@ class Memory(Check):
         self.assertEqual(last, '0 passed, 1 failed, 0 skipped')
 
     @unittest.skipUnless(shutil.which('cc'), 'there is no C compiler cc here')
+    @long
     def test_a_program_that_can_not_be_refused_anything(self) -> None:
         said, _, status = self.refused('int main(void) { return 0; }')
         self.assertIn('no request that can be refused', said)

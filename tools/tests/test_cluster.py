@@ -8,7 +8,7 @@ import here  # noqa: F401
 import test_search
 import test_sweep
 from motesim.runner import program_path
-from skips import interpreter_with, need_program
+from skips import interpreter_with, long, need_program
 
 # A scheduler with two workers. It prints its address, and then runs each line that it gets.
 CLUSTER = '''import os, sys
@@ -30,6 +30,7 @@ IDLE = {'DASK_DISTRIBUTED__ADMIN__TICK__INTERVAL': '1s', 'DASK_DISTRIBUTED__WORK
         'DASK_DISTRIBUTED__ADMIN__SYSTEM_MONITOR__INTERVAL': '10s'}
 
 
+@long
 class Cluster(test_sweep.Bed):
     process: 'subprocess.Popen[str]'
     address: str

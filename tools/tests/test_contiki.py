@@ -12,177 +12,16 @@ from motesim.contiki.expressions import Expressions, calculated
 from motesim.contiki.folder import folder_files
 from motesim.contiki.names import Names, file_names
 from motesim.contiki.program_file import ProgramFile
-from motesim.contiki.reader import read_program
-from motesim.contiki.tree import Expression, Not, Number, Operation, Variable
+from motesim.notation.reader import read_program
+from motesim.notation.tree import Expression, Not, Operation, Value, word
 from motesim.scenario import Scenario
+from skips import long
 
 STRICT = ['-std=c99', '-Wall', '-Wextra', '-Werror']
 OPERATORS = ['+', '-', '*', '/', '%', '==', '!=', '<', '<=', '>', '>=', '&&', '||']
 
 # One of each construct, and the C file that a Contiki programmer would write for it.
-PROGRAM = """// Blinks, and counts.
-event full;
-semaphore items = 2;
-process a, b;
-autostart b, a;
-receiver b;
-code a {
-  var n = 40000;                // how many
-  etimer t;
-  ctimer c { print data; }
-  thread rest {
-    yield_until is(full);
-    pause;
-  }
-  onpoll { signal items; }
-  onexit { print data; }
-  body {
-    set t (n / 2);
-    set c 5;
-    // wait for it
-    yield_until fired(t);
-    spawn rest;
-    if ((is(packet) && (data > n)) || !running(b)) {
-      n = (n + data);
-    } else {
-      post b full (n * n) into n;
-    }
-    acquire items;
-  }
-}
-code b {
-  body {
-    while 1 {
-      wait_while gone(a);
-      broadcast msg 0;
-      restart;
-    }
-  }
-}
-"""
-FILE = """#include "contiki.h"
-#include "motesim_radio.h"
-
-static process_event_t full;
-
-static struct pt_sem items;
-
-PROCESS(a_process, "a");
-PROCESS(b_process, "b");
-AUTOSTART_PROCESSES(&b_process, &a_process);
-
-/* Process a */
-static uint16_t n = 40000U;         /* how many */
-static struct etimer t;
-static struct ctimer c;
-static struct pt rest_pt;
-
-static void c_callback(void *ptr);
-RULE
-/* The word of an event; that of a timer or of an exited process is its number. */
-static uint16_t
-word_of(process_event_t ev, process_data_t data)
-{
-  if(ev == PROCESS_EVENT_TIMER) {
-    if(data == &t) {
-      return 0;
-    }
-  }
-  if(ev == PROCESS_EVENT_EXITED) {
-    if(data == &a_process) {
-      return 0;
-    }
-    if(data == &b_process) {
-      return 1;
-    }
-  }
-  return motesim_word(ev, data);
-}
-
-static uint8_t init_done;
-RULE
-/* Done once, by the process that starts first. */
-static void
-init_program(void)
-{
-  if(!init_done) {
-    init_done = 1;
-    full = process_alloc_event();
-    PT_SEM_INIT(&items, 2);
-    motesim_radio_open(&b_process);
-  }
-}
-RULE
-static
-PT_THREAD(rest(struct pt *pt, process_event_t ev))
-{
-  PT_BEGIN(pt);
-
-  PT_YIELD_UNTIL(pt, ev == full);
-  process_post(PROCESS_CURRENT(), PROCESS_EVENT_CONTINUE, NULL);
-  PT_YIELD_UNTIL(pt, ev == PROCESS_EVENT_CONTINUE);
-
-  PT_END(pt);
-}
-RULE
-static void
-c_callback(void *ptr)
-{
-  (void)ptr;
-  MOTESIM_PRINT(1);
-}
-RULE
-static void
-a_poll(void)
-{
-  PT_SEM_SIGNAL(NULL, &items);
-}
-RULE
-static void
-a_exit(process_data_t data)
-{
-  MOTESIM_PRINT((uint16_t)(uintptr_t)data);
-}
-RULE
-PROCESS_THREAD(a_process, ev, data)
-{
-  PROCESS_POLLHANDLER(a_poll());
-  PROCESS_EXITHANDLER(a_exit(data));
-  PROCESS_BEGIN();
-
-  etimer_set(&t, n / 2);
-  ctimer_set(&c, 5, c_callback, NULL);
-  /* wait for it */
-  PROCESS_YIELD_UNTIL(ev == PROCESS_EVENT_TIMER && data == &t);
-  PT_SPAWN(process_pt, &rest_pt, rest(&rest_pt, ev));
-  if((ev == MOTESIM_PACKET && motesim_word(ev, data) > n)
-     || !process_is_running(&b_process)) {
-    n = n + word_of(ev, data);
-  } else {
-    n = process_post(&b_process, full,
-                     (process_data_t)(uintptr_t)(uint16_t)((unsigned)n * n));
-  }
-  PT_SEM_WAIT(process_pt, &items);
-
-  PROCESS_END();
-}
-RULE
-PROCESS_THREAD(b_process, ev, data)
-{
-  PROCESS_BEGIN();
-
-  init_program();
-
-  while(1) {
-    PT_WAIT_WHILE(process_pt, ev == PROCESS_EVENT_EXITED && data == &a_process);
-    process_post(PROCESS_BROADCAST, PROCESS_EVENT_MSG, NULL);
-    PT_RESTART(process_pt);
-  }
-
-  PROCESS_END();
-}
-RULE
-""".replace('RULE', '/*---------------------------------------------------------------------------*/')
+PROGRAM, FILE = ((Path(__file__).parent / 'contiki' / name).read_text('utf-8') for name in ('construct.mote', 'construct.c'))
 
 TOKEN = re.compile(r'\s*(\d+U?|[a-z]\w*|==|!=|<=|>=|&&|\|\||[-+*/%<>!(),])')
 BINDING = [['||'], ['&&'], ['==', '!='], ['<', '<=', '>', '>='], ['+', '-'], ['*', '/', '%']]
@@ -273,22 +112,22 @@ class CValue:
 def some_expression(chance: random.Random, depth: int) -> Expression:
     if depth == 0 or chance.random() < 0.1:
         value = chance.choice([0, 1, 2, 3, 7, 255, 256, 32767, 32768, 65535, chance.randrange(65536)])
-        return Number(value) if chance.random() < 0.4 else Variable(chance.choice('abc'))
+        return Value(word(value if chance.random() < 0.4 else chance.choice('abc')))
     if chance.random() < 0.15:
-        return Not(some_expression(chance, depth - 1))
-    return Operation(some_expression(chance, depth - 1), chance.choice(OPERATORS), some_expression(chance, depth - 1))
+        return Not(word('!'), some_expression(chance, depth - 1))
+    return Operation(word(chance.choice(OPERATORS)), some_expression(chance, depth - 1),
+                     some_expression(chance, depth - 1))
 
 
 def value_of(expression: Expression, variables: dict[str, int]) -> int:
     """The value by the rules of the notation."""
-    if isinstance(expression, Number):
-        return expression.value
-    if isinstance(expression, Variable):
-        return variables[expression.name]
+    if isinstance(expression, Value):
+        return int(expression.token.text) if expression.is_number else variables[expression.token.text]
     if isinstance(expression, Not):
-        return int(not value_of(expression.operand, variables))
+        return int(not value_of(expression.inner, variables))
     assert isinstance(expression, Operation)
-    return calculated(expression.operator, value_of(expression.left, variables), value_of(expression.right, variables))
+    return calculated(expression.token.text, value_of(expression.left, variables),
+                      value_of(expression.right, variables))
 
 
 def file_of(text: str, counts_work: bool = False) -> list[str]:
@@ -325,11 +164,11 @@ class ExpressionTest(unittest.TestCase):
     def test_no_cast_without_need(self) -> None:
         names = Names(read_program('process p; code p { var a = 0; body { } }'))
         writer = Expressions(names, 'p', {}, set(), ['p'])
-        add = Operation(Variable('a'), '+', Number(1))
+        a, add = Value(word('a')), Operation(word('+'), Value(word('a')), Value(word(1)))
         self.assertEqual(writer.loose(add).text, 'a + 1')
         self.assertEqual(writer.value(add).text, '(uint16_t)(a + 1)')
-        self.assertEqual(writer.value(Operation(add, '%', Number(10))).text, '(uint16_t)(a + 1) % 10')
-        self.assertEqual(writer.value(Operation(Variable('a'), '/', Number(0))).text, 'motesim_divide(a, 0)')
+        self.assertEqual(writer.value(Operation(word('%'), add, Value(word(10)))).text, '(uint16_t)(a + 1) % 10')
+        self.assertEqual(writer.value(Operation(word('/'), a, Value(word(0)))).text, 'motesim_divide(a, 0)')
 
 
 class ProgramFileTest(unittest.TestCase):
@@ -394,6 +233,7 @@ class FolderTest(unittest.TestCase):
             self.skipTest('no C compiler is installed: on Debian `apt-get install tcc` installs one')
         return found
 
+    @long
     def test_each_example_compiles_without_warnings(self) -> None:
         compilers = self.compilers()
         for example in sorted((TOP / 'examples').glob('*.toml')):
@@ -426,6 +266,7 @@ class FolderTest(unittest.TestCase):
         for path in (TOOLS / 'contiki_host').glob('*.c'):
             self.assertNotEqual(file_names([path.stem])[path.stem], path.stem)
 
+    @long
     def test_the_makefile_builds_all_programs(self) -> None:
         """With a stand-in for the Makefile of a Contiki tree, which has the rule that makes a program."""
         (self.folder / 'Makefile.include').write_text('%: %.c; @echo $@ $(TARGET) $(PROJECT_SOURCEFILES)\n')

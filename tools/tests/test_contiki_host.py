@@ -8,7 +8,7 @@ import unittest
 from pathlib import Path
 
 from here import TOOLS, TOP, call
-from skips import need_command, need_program
+from skips import long, need_command, need_program
 
 from motesim.report.run import program_path
 
@@ -25,6 +25,7 @@ def report_on_page(name: str) -> str:
     return found.group(1)
 
 
+@long
 class Host(unittest.TestCase):
     def setUp(self) -> None:
         self.folder = Path(tempfile.mkdtemp())
@@ -79,6 +80,7 @@ def motesim_report(scenario: Path) -> str:
     return subprocess.run([str(program_path()), str(scenario)], check=True, capture_output=True, text=True).stdout
 
 
+@long
 class Rules(unittest.TestCase):
     """The reports of two scenarios, exported to C, depend on every rule that mutants.toml has."""
     def setUp(self) -> None:

@@ -14,14 +14,13 @@ from pathlib import Path
 from here import TOOLS, TOP, call
 from motesim.contiki import differential
 from motesim.contiki.coverage import LIMITS, Coverage
-from motesim.contiki.grammar import GRAMMAR, productions
 from motesim.contiki.host_runs import HostFault, HostRuns, compilers
 from motesim.contiki.random_scenario import random_scenario
-from motesim.notation.faults import find_fault
+from motesim.notation.reader import find_fault
 from motesim.runner import Runner
 from motesim.runner.programs import program_path
 from motesim.scenario import Scenario
-from skips import need_program
+from skips import long, need_program
 
 HOST = TOOLS / 'contiki_host'
 MUTANTS = Path(__file__).resolve().parent / 'contiki_host/mutants.toml'
@@ -46,13 +45,6 @@ def answered(seed: str) -> tuple[bytes, bytes]:
 
 
 class Generator(unittest.TestCase):
-    def test_the_grammar_is_that_of_the_page(self) -> None:
-        page = (TOP / 'docs/use/LANGUAGE.md').read_text('utf-8')
-        # (lines are folded in either, at other places)
-        self.assertIn(' '.join(GRAMMAR.split()), ' '.join(page.split()))
-        self.assertEqual(len(productions()['statement']), 25)
-        self.assertEqual(len(productions()['operator']), 13)
-
     def test_scenarios_are_right_and_reach_all_that_there_is(self) -> None:
         coverage = Coverage()
         for seed in range(400):
@@ -90,6 +82,7 @@ class Generator(unittest.TestCase):
             'events': 117, 'semaphores': 64, 'processes': 64, 'variables': 64, 'timers': 64, 'threads': 7})
 
 
+@long
 class Mutants(unittest.TestCase):
     """Edits of the host that break a rule are noticed by some random scenario."""
 
@@ -129,6 +122,7 @@ class Mutants(unittest.TestCase):
         self.assertEqual(len(found), LEAST_NOTICED, found)
 
 
+@long
 class Command(unittest.TestCase):
     def setUp(self) -> None:
         need_program(self)

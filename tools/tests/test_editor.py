@@ -6,8 +6,8 @@ from collections.abc import Iterator
 from typing import Any
 
 from here import TOOLS, TOP
-from motesim.notation import written
-from motesim.notation.grammar import COLOURS, RESERVED, SCOPES, SIGNS, STATEMENTS
+from motesim.notation.grammar import COLOURS, RESERVED, SIGNS
+from project import pages
 
 FOLDER = TOOLS / 'editor'
 
@@ -54,40 +54,17 @@ class Grammars(unittest.TestCase):
         self.assertFalse([word for word in ('counter', 'data2', 'my_print') for name, it in self.rules()
                           if not name.startswith('invalid') and it.fullmatch(word)])
 
-    def test_its_words_are_those_of_the_grammar(self) -> None:
-        """Each class of the editor's words, and each colour of the page's, is made of the one table of words."""
-        for name, pattern in self.rules():
-            words = re.search(r'\(([a-z_|]+)\)\(\?!', pattern.pattern)
-            if name in SCOPES:
-                self.assertEqual(set(words[1].split('|')) if words else set(), SCOPES[name], name)
+    def test_each_word_has_one_colour_on_the_page(self) -> None:
         coloured = [word for words in COLOURS.values() for word in words]
         self.assertEqual((sorted(coloured), len(set(coloured))), (sorted(RESERVED), len(coloured)))
-        self.assertTrue({'radio', 'all'} <= set(coloured))
 
-    def test_the_page_has_the_words_of_the_grammar(self) -> None:
-        page = (TOP / 'docs/use/LANGUAGE.md').read_text('utf-8')
-        named = re.findall(r'no name may be one of them: `([^`]*)`', page)[0].split()
-        self.assertEqual(sorted(named), sorted(RESERVED))
-        rule = re.findall(r'^statement  = (.*?)\n[a-z]+ +=', page, re.M | re.S)[0]
-        for old, new in ('expression', 'E'), ('block', 'B'), ('sent', 'SENT'), ('cast', 'CAST'), ('into', 'INTO'):
-            rule = re.sub(r'(?<!")\b%s\b' % old, new, rule)
-        rule = rule.replace('[ "else" B ]', '"else" B')
-        shown = {' '.join(it.replace('"', ' ').split()).replace(' ;', ';') for it in rule.split('|')}
-        self.assertEqual(shown - {'VARIABLE = E;'}, {it.form for it in STATEMENTS.values()})
-
-    def test_the_page_and_the_syntax_are_made_of_the_grammar(self) -> None:
-        for path, made in (written.PAGE, written.page_of), (written.SYNTAX, written.syntax_of):
-            text = path.read_text('utf-8')
-            self.assertEqual(made(text), text, 'PYTHONPATH=tools python3 -m motesim.notation.written writes it')
-        page = written.PAGE.read_text('utf-8')
-        for old, new in (('"yield" ";"', '"yield"'), ('exit pause', 'exit'), ('cast       =', 'casts      =')):
-            changed = page.replace(old, new)
-            self.assertTrue(changed != page and written.page_of(changed) == page, new)
-        syntax = written.SYNTAX.read_text('utf-8')
-        self.assertEqual(written.syntax_of(syntax.replace('|pause|', '|')), syntax)
+    def test_the_syntax_is_made_of_the_grammar(self) -> None:
+        syntax = pages.SYNTAX.read_text('utf-8')
+        self.assertEqual(pages.syntax_of(syntax), syntax, 'tools/dev/pages writes it')
+        self.assertEqual(pages.syntax_of(syntax.replace('|pause|', '|')), syntax)
 
     def test_the_grammar_has_each_word_that_programs_may_have(self) -> None:
-        found = set(re.findall('"([^" ]+)"', written.grammar()))
+        found = set(re.findall('"([^" ]+)"', '\n'.join(pages.grammar())))
         self.assertEqual(found, RESERVED.difference(('radio', 'all')) | SIGNS)
 
     def test_nothing_in_the_examples_is_marked_as_wrong(self) -> None:

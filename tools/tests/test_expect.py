@@ -15,10 +15,8 @@ from motesim.faults import Fault
 from motesim.judge import remarks, sentences
 from motesim.judge.expectations import UnknownSentence, expect, judged_by, parts_of, read_all
 from motesim.judge.judge import Judge
-from motesim.judge.links import Links
 from motesim.report import Report
 from motesim.runner import programs
-from motesim.report.run import answer
 from motesim.scenario import Scenario
 from motesim.scenario.fields import of_line, read_fields
 from motesim.judge.sentences import EXAMPLES, Does, Names, SentenceFault, Value, names_of, read_sentence
@@ -67,17 +65,9 @@ left 1
 """
 
 # (test_page_judge.py has sentences by chance, and the verdicts of a second judge)
-HOLDS = ['mote 1 prints', 'mote 1 prints flood 1 by 43.', 'mote 1 prints flood 2 between 83 and 90',
-         'mote 1 prints flood at most 1 by 60', 'every mote but 0 prints flood 1 at 40 plus 3 for each hop from mote 0',
-         'at most 1 mote halts', 'fewer than 2 motes halt', 'more than 0 motes halt', 'motes 0, 1 and 2 never halt',
-         'mote 1 prints flood any of 0, 2 or 9 once', 'mote 1 receives any of 1 and 2 from mote 0',
-         'mote 1 never sends any of 2 to 65535', 'mote 1 prints just flood 1 to 2 in any order',
-         'mote 1 finally prints hears the set of motes that it hears but 2 by 48', "mote 1 writes 'collide 2 0' at 49",
-         "mote 1 writes 'collide' or 'print flood' exactly 3 times", 'mote 0 starts flood', 'mote 0 never leaves flood',
-         'no copy overflows', 'some copy is lost', 'exactly 1 copy is left', 'the report has exactly 29 lines',
-         'at most 4 packets are sent in each 10 from 0 to 100', "the medium writes '49 3 0 1 2@lost'",
-         'mote 3 can hear mote 2', 'mote 2 cannot hear mote 3', 'motes 0 cannot hear mote 2',
-         'motes 0 to 1 together send more than once as often as motes 2 to 3 together']
+HOLDS = ['mote 1 prints flood 1 by 43.', 'mote 0 never leaves flood', 'no copy overflows', 'exactly 1 copy is left',
+         'the report has exactly 29 lines', "the medium writes '49 3 0 1 2@lost'", 'mote 3 can hear mote 2',
+         'mote 2 cannot hear mote 3', 'motes 0 cannot hear mote 2', "mote 1 writes 'collide 2 0' at 49"]
 
 # Each with the row of the report that breaks it.
 BROKEN = [
@@ -156,13 +146,6 @@ class Sentences(unittest.TestCase):
                 assert broken is not None
                 self.assertEqual(broken.row, row, broken.why)
 
-    def test_the_greatest_mote_number_is_that_of_the_net(self) -> None:
-        for motes in 3, 4:
-            lines = REPORT.replace('46 print hears 2', '46 print hears %d' % (motes - 1))
-            its = Judge(Report.parse(lines), Scenario.parse(SCENARIO))
-            broken = its.broken(read_sentence('mote 2 finally prints hears the greatest mote number', self.names))
-            self.assertEqual(broken is None, motes == 4, broken)
-
     def test_a_count_behind_prints_is_no_process(self) -> None:
         for words in 'exactly 2 times', 'exactly 2 times from 1 to 4', 'once', 'at most 2 times', 'by 4':
             sentence = 'every mote but 0 prints ' + words
@@ -218,25 +201,6 @@ class Sentences(unittest.TestCase):
             fault = caught.exception
             self.assertEqual(sentence[fault.place:].split(' ')[0], word)
             self.assertTrue(any(it.startswith(wanted) or wanted in it for it in fault.wanted), fault.wanted)
-
-    def test_a_mote_that_no_packet_reaches_is_not_nearer(self) -> None:
-        """Mote 1 hears mote 2, which no packet of mote 0 reaches: the only mote nearer to mote 0 is mote 0."""
-        text = """version = 1
-end = 30
-medium = { range = 10, base = 2, per = 100 }
-loss = [{ from = 1, to = 2, every = 1 }]
-mote = [{ x = 0, y = 0, program = "p" }, { x = 8, y = 0, program = "p" }, { x = 16, y = 0, program = "p" }]
-[programs]
-p = "process near; autostart near; receiver near; code near { body { if (self == 0) { send 1; exit; } %s } }"
-""" % 'yield_until is(packet); print from;'
-        report = answer(text.encode()).report
-        judge = Judge(Report.parse(report), Scenario.parse(text))
-        links = Links(Scenario.parse(text))
-        for words, holds in (('mote 1 prints near a mote that it hears, one hop nearer to mote 0', True),
-                             ('no mote but 0 prints near a mote that it hears, one hop nearer to mote 0', False)):
-            sentence = read_sentence(words, names_of(Scenario.parse(text)))
-            self.assertEqual(judge.broken(sentence) is None, holds)
-        self.assertEqual(links.values(Value('nearer', 0), 1), {0})
 
     def test_allowed_words_that_begin_with_a_comma_have_quotes(self) -> None:
         with self.assertRaisesRegex(SentenceFault, 'Allowed here: ", one hop nearer to mote"'):
@@ -427,22 +391,6 @@ class Page(unittest.TestCase):
         self.assertGreater(len(phrases), 60)
         missing = {phrase for phrase in phrases if not set(re.findall(r'\w+|%', phrase)) <= known}
         self.assertLessEqual(missing, {'per cent', 'print', 'receive', 'send', 'leave', 'write', 'halt', 'start'})
-
-
-class Examples(unittest.TestCase):
-    def test_each_example_has_expectations_that_can_be_read(self) -> None:
-        examples = TOOLS.parent / 'examples'
-        scenarios = [path for path in examples.glob('*.toml') if not path.name.endswith('.expect.toml')]
-        for path in scenarios:
-            text = path.read_text('utf-8')
-            names = names_of(Scenario.parse(text))
-            for part in parts_of(path.with_suffix('.expect.toml').read_text('utf-8'), path.name):
-                for old in part.replace:
-                    self.assertIn(old, text)
-                for sentence in part.sentences:
-                    with self.subTest(example=path.name, sentence=sentence):
-                        read_sentence(sentence, names)
-        self.assertGreater(len(scenarios), 10)
 
 
 class Fields(unittest.TestCase):

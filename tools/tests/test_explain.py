@@ -6,7 +6,6 @@ import re
 import sys
 import tempfile
 import time
-import tomllib
 import unittest
 from collections.abc import Iterator, Sequence
 from pathlib import Path
@@ -15,11 +14,11 @@ from unittest import mock
 from here import TOP
 from motesim.commands import explain as command
 from motesim.explain import explanation as explain
-from motesim.explain import missing
+from motesim.explain.applied import changes
 from motesim.notation import faults as program_faults
+from motesim.notation import reader
 from motesim.report.run import Answer
 from motesim.scenario import faults as scenario_faults
-from motesim.scenario import Scenario
 
 SCENARIO = """version = 1
 end = 5
@@ -70,28 +69,10 @@ PROGRAMS = [
     ('process a;\ncode a { body { if is(timer) { } else { } post a msg 1 into', 2, 2, 59, '', 'a variable'),
 ]
 
-# Parts that the top of the scenario lacks, with the beginning of the hint, the line to add, and the rest of the hint.
-LACKS = [
-    ({'version = 1\n': ''}, '.. has no key `version`. Add above the first table (line 2):', 'version = 1',
-     'Allowed here: the key `version`: a whole number, 1 to 2'),
-    ({'end = 5\n': ''}, '.. has no key `end`. Add above the first table (line 2):', 'end = 100',
-     'Allowed here: the key `end`: a whole number, 0 to 1,000,000'),
-    ({'[medium]\nrange = 10\nbase = 1\nper = 100\n': ''},
-     '.. has no table `[medium]`. Add at the end of the text, or above any other table:', '[medium]',
-     '`per`: a whole number, 1 to 1,000,000'),
-    ({SCENARIO[SCENARIO.index('[programs]'):SCENARIO.index('[[mote]]')]: ''},
-     '.. has no table `[programs]`. Add at the end of the text, or above any other table:', '[programs]',
-     'a key for each program'),
-    ({SCENARIO[SCENARIO.index('[[mote]]'):]: ''},
-     '.. has no table `[[mote]]`. Each mote is one. Add at the end of the text:', '[[mote]]',
-     '`y`: a whole number, -30,000 to 30,000'),
-    ({'version = 1\n': '', 'per = 100': 'per = 100\ncollide = false'},
-     '.. has no key `version`. Add above the first table (line 2):', 'version = 2',
-     'Allowed here: the key `version`: a whole number, 1 to 2'),
-    ({SCENARIO: ''}, '.. has no key `version`. Add:', 'version = 2',
-     'Allowed here: the key `version`'),
-    ({'[medium]': '[medum]'}, '.., line 3:', '[medum]', 'Hint: The table has `medum`: write `medium`.'),
-]
+# Parts without which the scenario isn't one, by the names of what it lacks then.
+PARTS = {'version': 'version = 1\n', 'end': 'end = 5\n', 'medium': '[medium]\nrange = 10\nbase = 1\nper = 100\n',
+         'programs': SCENARIO[SCENARIO.index('[programs]'):SCENARIO.index('[[mote]]')],
+         'mote': SCENARIO[SCENARIO.index('[[mote]]'):]}
 
 # Changes to the scenario, each with the message, and the line and the text that are marked.
 SCENARIOS = [
@@ -137,12 +118,12 @@ class Programs(unittest.TestCase):
     def test_the_first_fault(self) -> None:
         for text, kind, line, column, word, may in PROGRAMS:
             with self.subTest(text[:60]):
-                fault = program_faults.find_fault(text)
+                fault = reader.find_fault(text)
                 if not kind:
                     self.assertIsNone(fault)
                     continue
                 assert fault
-                self.assertEqual((fault.kind, fault.token), (kind, program_faults.Token(word, line, column)))
+                self.assertEqual((fault.kind, *fault.token[:3]), (kind, word, line, column))
                 self.assertTrue(any(may in it for it in fault.may), fault.may)
 
     def test_the_examples_of_the_page(self) -> None:
@@ -150,7 +131,7 @@ class Programs(unittest.TestCase):
         rows = re.findall(r'^\| `(code a .*)` \| (\d+) on line 2', page, re.M)
         self.assertGreater(len(rows), 3)
         for text, kind in rows:
-            fault = program_faults.find_fault('process a;\n' + text)
+            fault = reader.find_fault('process a;\n' + text)
             assert fault
             self.assertEqual((fault.kind, fault.token.line), (int(kind), 2))
 
@@ -158,7 +139,7 @@ class Programs(unittest.TestCase):
         """What is shown of the first fault of a program, which begins on line 7 of a scenario."""
         text = 'version = 2\nend = 9\nmedium = { range = 10, base = 2, per = 100, collide = false }\n' \
                'mote = [{ x = 0, y = 0, program = "p" }]\n[programs]\np = %s\n%s%s\n' % (quotes, source, quotes)
-        fault = program_faults.find_fault(source)
+        fault = reader.find_fault(source)
         assert fault
         return ' '.join(' '.join(explain.of_program('a.toml', text, 'p', fault)).split())
 
@@ -194,25 +175,26 @@ class Scenarios(unittest.TestCase):
             lines = ' '.join(explain.explanation('s.toml', text.encode(), 'motesim: ' + fault.message))
             self.assertNotIn('Write, as', lines)
 
-    def test_what_is_lacking_at_the_top_is_shown_and_nothing_is_marked(self) -> None:
-        for changes, head, begin, more in LACKS:
-            with self.subTest(head + more):
-                text = changed(changes)
-                lines = explain.explanation('..', text.encode(), 'motesim: scenario fault 2')
-                self.assertEqual(lines[:2], [head, '  ' + begin])
-                self.assertIn(more, ' '.join(line.strip() for line in lines))
-                self.assertEqual(sum('^' in line for line in lines), head.endswith('line 3:'))
-                self.assertTrue(all(len(line) < 120 for line in lines))
+    def test_what_is_lacking_at_the_top_is_added(self) -> None:
+        for name, part in PARTS.items():
+            for second in '', 'collide = true\n':
+                with self.subTest(name + second):
+                    text = SCENARIO.replace(part, '')
+                    if second:
+                        text = text.replace('version = 1', 'version = 2').replace('per = 100\n', 'per = 100\n' + second)
+                    lines = explain.explanation('..', text.encode(), 'motesim: scenario fault 2')
+                    self.assertEqual((lines[0], any('^' in it for it in lines)), ('.. has no `%s`.' % name, False))
+                    found = explain.correction_of(text)
+                    assert found
+                    self.assertEqual(found.code, 'scenario-needs')
+                    after = scenario_faults.find_fault(found.applied(text).encode())
+                    # (losses between motes that aren't there are left)
+                    self.assertIn(after and after.message, (None, 'medium fault 4'))
+        self.assertIsNone(scenario_faults.find_fault(list(changes(''))[-1][1].encode()))
 
-    def test_what_is_shown_mends_the_scenario(self) -> None:
-        for version, collide in ('1', ''), ('2', 'collide = true\n'):
-            text = changed({'version = 1': 'version = ' + version, 'per = 100\n': 'per = 100\n' + collide})
-            whole = tomllib.loads(text[:text.index('[[loss]]')])
-            for name in missing.WRITTEN:
-                tables = {key: table for key, table in whole.items() if key != name}
-                shown = tomllib.loads('\n'.join(missing.written(name, tables)))
-                Scenario({**tables, **shown})
-                self.assertEqual(list(shown), [name])
+    def test_a_table_with_another_name_is_meant(self) -> None:
+        text = changed({'[medium]': '[medum]'})
+        self.assertEqual(mark_of(explain.explanation('..', text.encode(), 'motesim: scenario fault 2')), (3, '[medum]'))
 
     def test_a_report_is_named(self) -> None:
         lines = explain.explanation('r', b'mote 0 p\nmedium\nleft 0\n', 'motesim: scenario fault 1')
@@ -293,7 +275,7 @@ class Cases(unittest.TestCase):
                 with self.subTest(case=name):
                     count += 1
                     lines = explain.explanation(name, data, line)
-                    if not re.search(r' has no (key|table) `', lines[0]):
+                    if ' has no `' not in lines[0]:
                         self.assertGreater(mark_of(lines)[0], 0)
                     rule = explain.rule_of(line.removeprefix('motesim: '))
                     self.assertIn(rule.split()[-1], ' '.join(lines[1:]).split())

@@ -185,7 +185,6 @@ class ExportTest(unittest.TestCase):
         for words, count in ('motesim.kind == 0', 6), ('!motesim.arrival', 7):
             self.assertIn('`%s`' % words, page)
             self.assertEqual(len(self.run_it(*read, words).stdout.splitlines()), count)
-        self.assertEqual(self.run_it(*read, 'motesim.receiver == 65535').stdout, '')
 
     def test_the_header_of_packets(self) -> None:
         head = pcapng.header('received', 3, 258, 2 ** 40, 65_535, 1_000_000, 2 ** 33)

@@ -9,6 +9,7 @@ from pathlib import Path
 from typing import Any
 
 from here import TOOLS, TOP
+from motesim.faults import SHOW
 from motesim.runner.versions import version_line
 from motesim.version import VERSION
 
@@ -41,6 +42,13 @@ class Ends(unittest.TestCase):
                            ("open('/nowhere/a')", 'thing: /nowhere/a: No such file or directory\n')]:
             done = self.ended(work)
             self.assertEqual((done.returncode, done.stdout, done.stderr), (2, '', seen))
+
+    def test_an_error_of_the_tool_is_one_line(self) -> None:
+        here = {name: value for name, value in os.environ.items() if name != SHOW}
+        done = self.ended("{}['key']", env=here)
+        said = "thing: an error in the tool itself: KeyError: 'key' (MOTESIM_TRACEBACK=1 shows its place)\n"
+        self.assertEqual((done.returncode, done.stdout, done.stderr), (2, '', said))
+        self.assertIn('Traceback', self.ended("{}['key']", env={**here, SHOW: '1'}).stderr)
 
     def test_a_status_is_handed_on(self) -> None:
         self.assertEqual(self.ended('return 1').returncode, 1)
@@ -81,18 +89,11 @@ class Ends(unittest.TestCase):
 class Tools(unittest.TestCase):
     def test_the_version_is_told(self) -> None:
         seen = version_line() + '\n'
-        for command in TOOLS / 'compare', TOOLS / 'dev/spec_lists', TOP / 'run':
+        for command in TOOLS / 'compare', TOOLS / 'dev/pages', TOP / 'run':
             done = subprocess.run([str(command), '--version'], stdin=subprocess.DEVNULL, capture_output=True, text=True)
             self.assertEqual((done.returncode, done.stdout, done.stderr), (0, seen, ''))
         changes = (TOP / 'CHANGES.md').read_text('utf-8')
         self.assertEqual(re.findall(r'^## (\S+),', changes, re.M)[0], VERSION)
-
-    @unittest.skipUnless(Path('/dev/full').exists(), 'there is no /dev/full here')
-    def test_a_tool_on_a_full_disk(self) -> None:
-        report = TOP / 'tests/cases/nets/two_senders.expected'
-        with open('/dev/full', 'w') as full:
-            done = subprocess.run([str(TOOLS / 'summary'), str(report)], stdout=full, stderr=subprocess.PIPE, text=True)
-        self.assertEqual((done.returncode, done.stderr), (2, 'summary: standard output: No space left on device\n'))
 
     def test_each_command_has_no_more_than_its_lines(self) -> None:
         for path in sorted(TOOLS.iterdir()):

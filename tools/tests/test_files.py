@@ -2,7 +2,6 @@
 import os
 import stat
 import subprocess
-import sys
 import tempfile
 import threading
 import unittest
@@ -11,7 +10,7 @@ from pathlib import Path
 from unittest import mock
 
 from here import TOOLS, call, room_of
-from motesim.faults import SHOW, Fault
+from motesim.faults import Fault
 from motesim.files import NotWritten, write_whole
 from motesim.report import Report
 from motesim.report.run import Run
@@ -125,20 +124,6 @@ class OddNames(Room):
         done = subprocess.run([TOOLS / 'timeline', 'n\u00e9t.toml'], cwd=self.room, capture_output=True,
                               env=self.here(PYTHONIOENCODING='ascii'))
         self.assertEqual((done.returncode, done.stdout), (0, b'n\\xe9t.html\n'))
-
-
-class OwnErrors(unittest.TestCase):
-    SOURCE = ('import sys\nsys.path.insert(0, %r)\nfrom motesim.command import command\n@command("tool")\n'
-              'def main():\n    return {}["key"]\nmain()\n' % str(TOOLS))
-
-    def test_an_error_of_the_tool_is_one_line(self) -> None:
-        here = {name: value for name, value in os.environ.items() if name != SHOW}
-        done = subprocess.run([sys.executable, '-B', '-c', self.SOURCE], env=here, capture_output=True, text=True)
-        said = "tool: an error in the tool itself: KeyError: 'key' (MOTESIM_TRACEBACK=1 shows its place)\n"
-        self.assertEqual((done.returncode, done.stdout, done.stderr), (2, '', said))
-        done = subprocess.run([sys.executable, '-B', '-c', self.SOURCE], env={**here, SHOW: '1'}, capture_output=True,
-                              text=True)
-        self.assertIn('Traceback', done.stderr)
 
 
 class Pages(unittest.TestCase):

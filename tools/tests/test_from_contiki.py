@@ -3,7 +3,7 @@ import re
 import unittest
 
 from here import TOP
-from motesim.notation.faults import find_fault
+from motesim.notation.reader import find_fault
 from motesim.notation.grammar import RESERVED
 from motesim.report.run import answer
 from skips import need_program

@@ -86,7 +86,7 @@ class Packages(unittest.TestCase):
         with tempfile.TemporaryDirectory() as folder:
             room = Path(folder)
             for name, text in {'bin/dpkg-query': 'case " %s " in *" $4 "*) echo un ;; *) echo "ii " ;; esac' % missing,
-                               'bin/id': 'echo %d' % user, 'bin/apt-get': 'echo "$*" >>"%s/calls"; exit %d' % (room,
+                               'bin/id': 'echo %d' % user, 'bin/python3': 'exit 1', 'bin/apt-get': 'echo "$*" >>"%s/calls"; exit %d' % (room,
                     not can_install)}.items():
                 path = room / name
                 path.parent.mkdir(exist_ok=True)

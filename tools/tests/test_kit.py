@@ -10,6 +10,7 @@ from motesim.faults import Fault
 from motesim.version import KIT, LOGIC
 from motesim.runner import programs
 from project import kit
+from skips import long
 
 
 @unittest.skipUnless(shutil.which('rt'), 'the command rt of the Rattle kit is not here')
@@ -31,6 +32,7 @@ class AtHand(unittest.TestCase):
         self.assertEqual(sorted(it.name for it in [*program.below(), program]), programs.crates_of_program(here.TOP))
 
 
+@long
 class Format(unittest.TestCase):
     def test_all_sources_definitions_and_proofs_have_the_format_of_the_kit(self) -> None:
         # (the kit's messages about a file are in the test's output)

@@ -5,6 +5,7 @@ from collections.abc import Iterator
 from pathlib import Path
 
 from here import TOP
+from motesim.version import VERSION
 from project import pages
 
 PAGES = ('*.md', 'docs/**/*.md', 'bench/*.md', 'examples/**/*.md', 'tests/**/*.md', 'tools/**/*.md', 'log/*.md')
@@ -59,12 +60,20 @@ class LinksAndDocs(unittest.TestCase):
         self.assertEqual([*broken_links()], [])
 
     def test_the_parts_that_are_made_from_the_code_are_up_to_date(self) -> None:
-        for path in files('docs/use/*.md'):
+        for path in files('docs/*/*.md'):
             text = path.read_text('utf-8')
             self.assertEqual(pages.page_of(text), text, '%s: tools/dev/pages writes it' % path.name)
         commands = (TOP / 'docs/use/COMMANDS.md').read_text('utf-8')
         self.assertNotEqual(pages.page_of(commands.replace('| `--html FILE` |', '| `--page FILE` |')),
                             commands.replace('| `--html FILE` |', '| `--page FILE` |'))
+
+    def test_the_citation_is_about_this_version(self) -> None:
+        text = (TOP / 'CITATION.cff').read_text('utf-8')
+        found = dict(re.findall(r'^([a-z-]+): *(.*)$', text, re.M))
+        self.assertLessEqual({'authors', 'cff-version', 'message', 'title'}, set(found))
+        self.assertEqual((found['version'], found['cff-version'], found['type']), ('"%s"' % VERSION, '1.2.0', 'software'))
+        changes = (TOP / 'CHANGES.md').read_text('utf-8')
+        self.assertIn('## %s, %s\n' % (VERSION, found['date-released']), changes)
 
     def test_public_items_have_docs(self) -> None:
         self.assertEqual([*faults_of_docs()], [])

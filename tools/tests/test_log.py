@@ -4,17 +4,18 @@ import io
 import json
 import tempfile
 import unittest
+from collections.abc import Iterable
 from pathlib import Path
 from typing import Any
 
 from here import TOP, call
 import skips
 from motesim.faults import Fault
-from motesim.report import FIELDS
+from motesim.report import FIELDS, Report
 from motesim.report.run import answer
 from motesim.scenario import Scenario
-from motesim.why.log import Filter, Log, filtered, kinds_of, numbers_of, of_sentence
-from motesim.why.source import Source, Traces, read_traces
+from motesim.why.log import Filter, Row, filtered, kinds_of, numbers_of, of_sentence, words_of
+from motesim.why.source import Source, read_traces
 
 # Both motes write lines at moment 2; the program of mote 0 has a process that is called `take`.
 REPORT = '''mote 0 p
@@ -35,17 +36,17 @@ left 0
 ALL = Filter(None, tuple(FIELDS), None, None, (0, None))
 
 
-def lines(log: Log) -> list[tuple[int, int, int, str]]:
-    return [(log.moments[it], log.owners[it], log.rows[it], log.words(it)) for it in log.order]
+def lines(rows: Iterable[Row]) -> list[tuple[int, int, int, str]]:
+    return [(at, mote, row, words_of(line)) for at, mote, row, line in rows]
 
 
 class Logs(unittest.TestCase):
     def of(self, **changes: Any) -> list[int]:
         """The lines of the report that a filter leaves, in the order of the log."""
-        return [it[2] for it in lines(filtered(Traces(REPORT.encode()), ALL._replace(**changes)))]
+        return [it[2] for it in lines(filtered(Report.parse(REPORT), ALL._replace(**changes)))]
 
     def test_the_order_is_by_moment_then_by_mote(self) -> None:
-        self.assertEqual(lines(filtered(Traces(REPORT.encode()), ALL)), [
+        self.assertEqual(lines(filtered(Report.parse(REPORT), ALL)), [
             (0, 0, 2, 'start take'), (1, 1, 8, 'start b'), (2, 0, 3, 'post 0 take msg 7'), (2, 0, 4, 'take 0 take'),
             (2, 0, 5, 'print take 3'), (2, 1, 9, 'print b 7'), (2, 1, 10, 'full b com 3'), (5, 0, 6, 'send 0 3'),
             (9, 1, 11, 'recv 0 0 3')])
@@ -94,9 +95,8 @@ class Runs(unittest.TestCase):
         """Each of the 25 motes sends message 1 at 40 plus 3 for each hop from mote 0."""
         data = (TOP / 'examples/flooding.toml').read_bytes()
         source = Source('flooding', answer(data).report, Scenario.parse(data))
-        log = of_sentence(source, 'exactly 25 packets are sent at 40 plus 3 for each hop from mote 0', ALL)
-        self.assertEqual(sorted({it[1] for it in lines(log)}), list(range(25)))
-        self.assertEqual(lines(log)[0][:2], (40, 0))
+        log = lines(of_sentence(source, 'exactly 25 packets are sent at 40 plus 3 for each hop from mote 0', ALL))
+        self.assertEqual((sorted({it[1] for it in log}), log[0][:2]), (list(range(25)), (40, 0)))
         copies = of_sentence(source, 'at least 1 copy arrives at 40 plus 3 for each hop from mote 0', ALL)
         self.assertEqual(lines(copies)[0][:2], (43, 1))
 

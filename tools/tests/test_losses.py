@@ -18,7 +18,7 @@ from motesim.plan.plan import Plan
 from motesim.report import Report
 from motesim.runner.process import Limits, Runner
 from motesim.report.run import program_path
-from skips import need_program
+from skips import long, need_program
 
 WORD = 65_536
 ASSIGNED = re.compile(r'(\w+) = (\(.*\));')
@@ -118,10 +118,7 @@ def measured(cycle: Cycle, motes: int, packets: int, limit: int) -> Measured:
                     fmean((it.low or 0) <= true <= (it.high or 0) for it in sweeps))
 
 
-class ByChance(unittest.TestCase):
-    """The generator of the page, as a program computes it, against what chance would give."""
-    cycle = Cycle(mixing_of('docs/use/STATISTICS.md'))
-
+class Programs(unittest.TestCase):
     def test_all_programs_mix_their_seeds_in_the_same_way(self) -> None:
         page = mixing_of('docs/use/STATISTICS.md')
         self.assertEqual(len(page), 4)
@@ -130,6 +127,16 @@ class ByChance(unittest.TestCase):
             self.assertIn(it, text)
         for file in DRAWING:
             self.assertEqual(mixing_of(file), page, file)
+
+
+@long
+class ByChance(unittest.TestCase):
+    """The generator of the page, as a program computes it, against what chance would give."""
+    cycle: Cycle
+
+    @classmethod
+    def setUpClass(cls) -> None:
+        cls.cycle = Cycle(mixing_of('docs/use/STATISTICS.md'))
 
     def test_more_than_255_motes_draw_as_others_do_with_the_seed_before(self) -> None:
         for mote, seed in (0, 1), (7, 30):

@@ -3,8 +3,7 @@ import re
 import unittest
 
 from here import TOP
-from motesim.notation.faults import find_fault
-from motesim.notation.grammar import RESERVED
+from motesim.notation.reader import find_fault
 from motesim.report.run import answer
 from skips import need_program
 
@@ -97,16 +96,6 @@ class Tables(unittest.TestCase):
                 with self.subTest(form):
                     self.assertIsNone(find_fault(PROGRAM % ('x = %s;' % in_words(form))))
 
-    def test_which_events_are_posted(self) -> None:
-        for event in ('msg', 'com', 'continue', 'packet', 'exit', 'e'):
-            for form in ('post q %s 1;', 'synch q %s 1;', 'broadcast %s 1;', 'x = is(%s);'):
-                with self.subTest(form % event):
-                    refused = event == 'exit' and form.startswith('broadcast')
-                    self.assertEqual(find_fault(PROGRAM % (form % event)) is not None, refused)
-        for event in ('init', 'poll', 'timer', 'exited'):
-            self.assertIsNotNone(find_fault(PROGRAM % ('post q %s 1;' % event)))
-            self.assertIsNone(find_fault(PROGRAM % ('x = is(%s);' % event)))
-
     def test_which_waits_ignore_an_event_that_was_posted_before(self) -> None:
         need_program(self)
         text = page('KERNEL.md')
@@ -130,11 +119,6 @@ class Tables(unittest.TestCase):
             with self.subTest(lines[number]):
                 is_free = {lines[number].split()[0]} == {lines[number + 1].split()[0]}
                 self.assertEqual(find_fault('\n'.join(swapped) % '') is None, is_free)
-
-    def test_the_reserved_words(self) -> None:
-        listed = re.search(r'no name may be one of them: `([^`]*)`', page('LANGUAGE.md'))
-        assert listed
-        self.assertEqual(set(listed[1].split()), RESERVED)
 
 
 class Readme(unittest.TestCase):

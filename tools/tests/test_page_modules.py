@@ -20,11 +20,10 @@ from motesim.timeline.bundle import BundleFault, bundle, modules_of
 from motesim.timeline.columns import data_of
 from motesim.why.chain import chain
 from motesim.why.pages import causes_of
-from motesim.summary.series import Series
 from motesim.why.source import At, Source
 
 PAGES = [TOOLS / 'motesim' / name / 'page' for name in ('timeline', 'studio', 'web')]
-ENTRIES = [PAGES[0] / 'open.js', PAGES[1] / 'studio.js', PAGES[2] / 'web.js', PAGES[2] / 'worker.js']
+ENTRIES = [PAGES[0] / 'open.js', PAGES[1] / 'studio.js', PAGES[2] / 'lone.js', PAGES[2] / 'worker.js']
 # (test_web_modules.py has the data of the other)
 TESTS = sorted(set((TOOLS / 'tests/page').glob('*.test.js')) - {TOOLS / 'tests/page/alone.test.js'})
 CASES = 'ring_overflows', 'nine_copies_collide', 'runaway_beside_another', 'copy_past_the_end'
@@ -114,7 +113,7 @@ class Types(unittest.TestCase):
             for path in folder.glob('*.js'):
                 self.assertTrue(path.read_text().startswith('// @ts-check\n'), path)
         skips.need_command(self, 'tsc', 'node-typescript')
-        options = ['--allowJs', '--noEmit', '--target', 'es2022', '--module', 'es2022', '--moduleResolution', 'node',
+        options = ['--allowJs', '--noEmit', '--noUnusedLocals', '--target', 'es2022', '--module', 'es2022', '--moduleResolution', 'node',
                    '--lib', 'es2022,dom,dom.iterable', '--skipLibCheck']
         done = subprocess.run(['tsc', *options, str(PAGES[0] / 'browser.d.ts'), *map(str, ENTRIES)],
                               capture_output=True, text=True)
@@ -137,10 +136,8 @@ def given() -> dict[str, Any]:
             'sums': sums, 'dropped': dropped, **{name: test_timeline.case(name) for name in CASES}}
     chains = [{'name': 'small', **it} for it in chains_of(small, CHAINS)]
     chains += [{'name': 'dropped', **it} for it in chains_of(dropped, [(0, DROPPED)])]
-    series = list(Series(Report.parse(test_summary.REPORT), 5, 10).rows())
     return {'kinds': list(KINDS), 'words': {'colours': COLOURS, 'naming': NAMING},
-            'runs': {name: run_given(run) for name, run in runs.items()}, 'chains': chains, 'series': {'name': 'sums',
-        'by': 5, 'rows': series}}
+            'runs': {name: run_given(run) for name, run in runs.items()}, 'chains': chains}
 
 
 def chains_of(run: Run, places: list[tuple[int, int]]) -> list[dict[str, Any]]:

@@ -1,6 +1,7 @@
 """Scenarios from plans: the same bytes everywhere, each rule, and each fault with its place."""
 import hashlib
 import math
+import random
 import re
 import subprocess
 import tempfile
@@ -358,8 +359,9 @@ file = "a.svg"
         lines = text.split('\n')
         values = ['-1', '0', '3', '99999999999999999999', '1.5', 'nan', '"x"', '"${step}"', '"${"', 'true', '[]',
                   '[1]', '[[1, 2], [3]]', '{}', '{ a = 1 }', '1979-05-27', '', '"\u0000"']
+        chance = random.Random(1)
         for number, line in enumerate(lines):
-            for value in values:
+            for value in chance.sample(values, 6):
                 changed = [*lines[:number], line.partition(' = ')[0] + ' = ' + value, *lines[number + 1:]]
                 try:
                     plan('\n'.join(changed)).scenario({})

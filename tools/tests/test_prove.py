@@ -12,6 +12,7 @@ from unittest import mock
 from here import room_of  # (it puts tools/ on the path)
 from project import prove
 from project.running import started
+from skips import long
 from unbuilt_tree import Tree, until
 
 
@@ -61,6 +62,7 @@ class Copies(unittest.TestCase):
 
 
 @unittest.skipUnless(shutil.which('rt'), 'the command rt of the Rattle kit is not here')
+@long
 class Proof(Tree):
     """A proof of a small program by the kit."""
 

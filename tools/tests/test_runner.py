@@ -8,13 +8,14 @@ import sys
 import threading
 import time
 import unittest
-from collections.abc import Callable, Iterator
+from collections.abc import Iterator
 from pathlib import Path
 
 from here import TOOLS, room_of
 from motesim.faults import Fault
 from motesim.runner import LimitMet, Limits, NoReport, ProgramFault, Runner, Stopped, ending, run_each
 from motesim.runner.batch import each_part
+from unbuilt_tree import is_alive, until
 
 SCENARIO = '''version = 2
 end = 10
@@ -22,24 +23,6 @@ medium = { range = 10, base = 2, per = 100, collide = false }
 mote = [{ x = 0, y = 0, program = "a" }]
 programs = { a = "process a; code a { body { print 1; } }" }
 '''
-
-
-def is_alive(number: int) -> bool:
-    """Returns whether a process exists, and has not ended."""
-    try:
-        return Path('/proc/%d/stat' % number).read_text().rsplit(')', 1)[1].split()[0] not in 'ZX'
-    except OSError:
-        return False
-
-
-def within(seconds: float, holds: Callable[[], bool]) -> bool:
-    """Returns whether something holds within so many seconds."""
-    end = time.monotonic() + seconds
-    while time.monotonic() < end:
-        if holds():
-            return True
-        time.sleep(0.01)
-    return holds()
 
 
 class Room(unittest.TestCase):
@@ -79,7 +62,7 @@ class Runs(Room):
         self.assertEqual(met.exception.limit, 'seconds')
         self.assertLess(time.monotonic() - began, 10)
         child = int((self.room / 'program.child').read_text())
-        self.assertTrue(within(5, lambda: not is_alive(child)))
+        self.assertTrue(until(lambda: not is_alive(child), 5))
 
     def test_what_outlives_the_program_holds_nothing_up(self) -> None:
         began = time.monotonic()
@@ -128,13 +111,13 @@ class Runs(Room):
             with self.subTest(number), subprocess.Popen(
                     words, cwd=self.room, env={**os.environ, 'MOTESIM': str(program)}, stdout=subprocess.DEVNULL,
                     stderr=subprocess.PIPE, start_new_session=True) as tool:
-                self.assertTrue(within(60, lambda: noted.is_file() and noted.read_text().endswith('\n')))
+                self.assertTrue(until(lambda: noted.is_file() and noted.read_text().endswith('\n'), 60))
                 run = int(noted.read_text())
                 noted.unlink()
                 self.assertNotEqual(os.getpgid(run), os.getpgid(tool.pid))
                 os.killpg(tool.pid, number)
                 said = tool.communicate(timeout=30)[1]
-                is_over = within(5, lambda: not is_alive(run))
+                is_over = until(lambda: not is_alive(run), 5)
                 if not is_over:
                     os.kill(run, signal.SIGKILL)
                 self.assertEqual((is_over, tool.returncode, said), (True, status, b''))
@@ -256,9 +239,9 @@ class Batches(Room):
             return Runner(program).answer(b'').status
         with contextlib.closing(run_each(work, range(9), workers=2)) as found:
             next(found)
-            self.assertTrue(within(10, lambda: len(list(self.room.glob('*.run'))) == 2))
+            self.assertTrue(until(lambda: len(list(self.room.glob('*.run'))) == 2, 10))
         for path in self.room.glob('*.run'):
-            self.assertTrue(within(5, lambda: not is_alive(int(path.stem))))
+            self.assertTrue(until(lambda: not is_alive(int(path.stem)), 5))
 
     def test_stop_begins_nothing_more(self) -> None:
         stop = threading.Event()

@@ -20,7 +20,7 @@ from unittest import mock
 from here import TOOLS, TOP, call
 from motesim.runner.interrupt import Break
 from motesim.faults import Fault
-from motesim.judge.expectations import beside, parts_of, read_all
+from motesim.judge.expectations import beside
 from motesim.judge.judge import Judge
 from motesim.judge.sentences import names_of, read_sentence
 from motesim.plan.plan import Plan
@@ -31,11 +31,10 @@ from motesim.scenario.scenario import Scenario
 from motesim.search.added import DIES, LATE, NoRoom, changed_program
 from motesim.search.change import Base, CannotChange
 from motesim.search.cuts import cut_of
-from motesim.search.faults import Asked, FaultyPart, change_of, faults_of
+from motesim.search.faults import Asked, change_of, faults_of
 from motesim.search.halting import without_halts
 from motesim.search.kept import Kept
 from motesim.search.one_program import LIMITS, OneProgram
-from motesim.search.quick_judge import QuickJudge
 from motesim.search.search import Bounds, Search
 from motesim.search.sets import Known, count_of
 from motesim.search.shrink_found import Allowance
@@ -124,6 +123,14 @@ def folder_with(text: str = DIAMOND, sentences: Sequence[object] = (REACHED,)) -
         path.write_text(text)
         beside(path).write_text('expect = %s\n' % json.dumps(list(sentences)))
         yield Path(folder)
+
+
+def write_plan(folder: Path, parameters: str, old: str, new: str, count: str = '3', more: str = '') -> None:
+    """A plan of motes in a line, whose program has a parameter in the place of a text."""
+    (folder / 'net.plan.toml').write_text(
+        'end = 100\n[medium]\nrange = 10\nbase = 2\nper = 1000\n[parameters]\n%s\n[places]\nrule = "line"\n'
+        'count = %s\nstep = 10\nprogram = "flood.mote"\n%s' % (parameters, count, more))
+    (folder / 'flood.mote').write_text(PROGRAM.replace(old, new))
 
 
 def search(folder: str | Path, *words: str, scenario: str = 'diamond.toml') -> tuple[int, str, str]:
@@ -218,61 +225,45 @@ class Texts(unittest.TestCase):
 
     def test_a_fault_of_a_link_takes_no_loss_away_that_a_parameter_brings(self) -> None:
         with tempfile.TemporaryDirectory() as folder:
-            Path(folder, 'flood.mote').write_text(PROGRAM)
-            plan = Path(folder, 'net.plan.toml')
-            plan.write_text('end = 100\n[medium]\nrange = 10\nbase = 2\nper = 1000\n[parameters]\nevery = 9\n'
-                            '[places]\nrule = "line"\ncount = 2\nstep = 10\nprogram = "flood.mote"\n'
-                            '[[loss]]\nrule = "all"\nevery = "${every}"\n')
-            base = Base.of_plan(Plan.read(plan))
+            write_plan(Path(folder), 'every = 9', '', '', '2', '[[loss]]\nrule = "all"\nevery = "${every}"\n')
+            base = Base.of_plan(Plan.read(Path(folder, 'net.plan.toml')))
             found = faults_by_words(base, kinds=('every', 'parameters'), every=(3,), given={'every': [2, 5]})
             for parameter, every in ('every is 2', 2), ('every is 5', 3):
                 change = change_of([found['link 0 to 1 loses 1 packet in 3'], found[parameter]], base)
                 self.assertEqual(Scenario.parse(base.text(change)).losses[0, 1], every)
 
-    def test_sets_that_cut_the_net_for_any_protocol_are_known(self) -> None:
-        line = DIAMOND.replace('x = 12\ny = 0', 'x = 18\ny = 18').replace('x = 6\ny = -6', 'x = 12\ny = 12')
-        star = DIAMOND.replace('x = 6\ny = 6', 'x = 0\ny = 10').replace('x = 6\ny = -6', 'x = 10\ny = 0').replace(
-            'x = 12\ny = 0', 'x = -10\ny = 0')
-        self.assertEqual(Scenario.parse(star).receivers(0), [1, 2, 3])
-        silent = 'cuts mote %s off: no protocol can deliver from it; no other mote is cut off'
+    LINE = DIAMOND.replace('x = 12\ny = 0', 'x = 18\ny = 18').replace('x = 6\ny = -6', 'x = 12\ny = 12')
+    STAR = DIAMOND.replace('x = 6\ny = 6', 'x = 0\ny = 10').replace('x = 6\ny = -6', 'x = 10\ny = 0').replace(
+        'x = 12\ny = 0', 'x = -10\ny = 0')
+
+    def test_sets_that_cut_the_net_for_any_protocol_are_named(self) -> None:
         for text, words, wanted in (
                 (DIAMOND, ['link 1 to 3 loses everything'], None),
-                (DIAMOND, ['link 1 to 3 loses everything', 'link 2 to 3 loses everything'],
-                 'cuts mote 3 off: no protocol can deliver to it'),
-                (DIAMOND, ['mote 0 is silent'], silent % 0),
-                (DIAMOND, ['mote 1 is silent', 'mote 2 is silent'],
-                 'cuts motes 1, 2 off: no protocol can deliver from them; '
-                 'cuts motes 0, 3 off: no protocol can deliver to them'),
                 (DIAMOND, ['range is 5'],
                  'cuts motes 0, 1, 2, 3 off: no protocol can deliver from them or to them'),
-                (star, ['mote 1 is silent', 'mote 2 is silent'],
+                (self.STAR, ['mote 1 is silent', 'mote 2 is silent'],
                  'cuts motes 1, 2 off: no protocol can deliver from them; no other mote is cut off'),
-                (star, ['link 1 to 0 loses everything', 'link 2 to 0 loses everything'],
-                 'cuts motes 1, 2 off: no protocol can deliver from them'),
-                (line, ['mote 1 is silent'],
+                (self.LINE, ['mote 1 is silent'],
                  'cuts mote 1 off: no protocol can deliver from it; cuts mote 0 off: no protocol can deliver to it; '
                  'cuts the net: no path is left from mote 0 to motes 2, 3'),
-                (line, ['link 1 to 2 loses everything'], 'cuts the net: no path is left from motes 0, 1 to motes 2, 3'),
-                (line, ['link 1 to 2 loses everything', 'link 2 to 1 loses everything'],
-                 'cuts the net: no path is left from motes 0, 1 to motes 2, 3, or back'),
-                (line, ['link 2 to 3 loses everything'], 'cuts mote 3 off: no protocol can deliver to it'),
-                (line + '[[loss]]\nfrom = 1\nto = 2\nevery = 1\n', ['mote 3 is silent'],
-                 'cuts mote 3 off: no protocol can deliver from it; cuts mote 2 off: no protocol can deliver to it')):
+                (self.LINE, ['link 1 to 2 loses everything', 'link 2 to 1 loses everything'],
+                 'cuts the net: no path is left from motes 0, 1 to motes 2, 3, or back')):
             base = base_of(text)
             found = faults_by_words(base, kinds=('links', 'motes', 'values'), values={'range': (5,)})
             cut = cut_of([found[it] for it in words], base)
             self.assertEqual(cut and cut.words, wanted, words)
 
     def test_a_cut_has_each_pair_of_motes_without_a_path(self) -> None:
-        base = base_of()
-        found = list(faults_by_words(base, kinds=('links', 'motes')).values())
-        for faults in itertools.combinations(found, 2):
-            after = base.scenario(change_of(faults, base))
-            lost = {(s, r) for s in range(4) for r in base.scenario_itself.hops_from(s) if r not in after.hops_from(s)}
-            cut = cut_of(faults, base)
-            told = {(s, r) for s, r in itertools.permutations(range(4), 2) if cut and (
-                s in cut.mute or r in cut.deaf or any(s in its and r in others for its, others in cut.apart))}
-            self.assertEqual(told, lost)
+        for base in map(base_of, (DIAMOND, self.LINE, self.STAR)):
+            found = list(faults_by_words(base, kinds=('links', 'motes')).values())
+            for faults in itertools.combinations(found, 2):
+                after = base.scenario(change_of(faults, base))
+                lost = {(s, r) for s in range(4) for r in base.scenario_itself.hops_from(s)
+                        if r not in after.hops_from(s)}
+                cut = cut_of(faults, base)
+                told = {(s, r) for s, r in itertools.permutations(range(4), 2) if cut and (
+                    s in cut.mute or r in cut.deaf or any(s in its and r in others for its, others in cut.apart))}
+                self.assertEqual(told, lost)
 
     def test_failing_mote(self) -> None:
         gone, came, read = self.one('mote 1 fails at 50', kinds=('deaths',), moments=(50,))
@@ -484,47 +475,6 @@ class Counts(unittest.TestCase):
         searched.run(Breaking())
         self.assertEqual(counts, [0, 1, 1, 2, 2, 3, 3, 4])
         self.assertEqual(searched.found, len(known.minimal))
-
-
-class QuickJudging(unittest.TestCase):
-    """The quick judge says what the judge says."""
-
-    MORE = ['every mote sends', 'no mote halts', 'some mote prints', 'exactly 2 motes send twice',
-            'mote 0 receives at most 2 by 50', 'no copy collides', 'at most 3 copies arrive at mote 0 by 60',
-            'exactly 1 copy is left', 'no packet is sent after 60',
-            'at least 2 packets are sent in each 50 from 0 to 99', 'motes 0 to 1 together send',
-            'no copy is lost', 'the report has at most 900 lines', 'mote 1 can hear mote 0',
-            'mote 0 sends more than 1 times as often as mote 1', "mote 0 writes 'start' or 'leave'",
-            "every mote writes 'start etimer'", 'mote 1 receives 1 from mote 0', 'some copy overflows',
-            'every mote sends its number', 'every mote sends its distance from mote 0', 'mote 0 never sends 1',
-            'at least 50 % of the motes send', 'mote 1 sends after mote 0 sends',
-            'every mote sends the greatest mote number', 'no mote sends any of 2 to 511',
-            'mote 0 receives any of 1, 3 or 5 at least twice',
-            'every mote receives at 12 plus 4 for each hop from mote 0', 'no mote but 0 sends its number']
-
-    def test_of_examples_with_faults(self) -> None:
-        need_program(self)
-        for path in sorted((TOP / 'examples').glob('*.toml')):
-            if path.name.endswith('.expect.toml') or path.name == 'wrong.toml':
-                continue
-            text = path.read_text()
-            base = Base(text, path.name)
-            names = names_of(base.scenario_itself)
-            part = parts_of(beside(path).read_text(), path.name)[0]
-            more = [it for it in self.MORE if base.scenario_itself.motes > 1]
-            more += ['some mote prints just %s %s' % (process, value) for process in names.processes or ()
-                     for value in ('its number', 'its distance from mote 0', 'the greatest mote number', '1')]
-            sentences = read_all([*part.sentences, *more], names)
-            quick = QuickJudge(sentences)
-            faults = faults_of(base, Asked(('links', 'motes', 'collisions')))
-            sets: list[list[FaultyPart]] = [[], *([it] for it in faults[::max(1, len(faults) // 4)])]
-            for found in sets:
-                change = change_of(found, base)
-                changed = base.text(change)
-                report, scenario = answer(changed.encode()).report, Scenario.parse(changed)
-                judge = Judge(Report.parse(report), scenario)
-                wanted = [number for number, it in enumerate(sentences) if judge.broken(it)]
-                self.assertEqual(quick.broken(report, base.scenario(change)), wanted, (path.name, found))
 
 
 class Searches(unittest.TestCase):
@@ -770,27 +720,11 @@ class Searches(unittest.TestCase):
             self.assertEqual(minimal_sets(folder, *words)[0], {})
 
     def test_parameters_of_a_plan(self) -> None:
-        plan = """end = 100
-[medium]
-range = 10
-base = 2
-per = 1000
-[parameters]
-motes = 4
-value = 7
-[places]
-rule = "line"
-count = "${motes}"
-step = 10
-program = "flood.mote"
-"""
         with tempfile.TemporaryDirectory() as room:
             folder = Path(room)
-            (folder / 'net.plan.toml').write_text(plan)
-            (folder / 'flood.mote').write_text(PROGRAM.replace('send 7', 'send ${value}'))
+            write_plan(folder, 'motes = 4\nvalue = 7', 'send 7', 'send ${value}', '"${motes}"')
             words = ['--expect', 'some mote prints flood 7', '--expect', 'exactly 4 packets are sent', '--json',
-                     'f.json',
-                     '--faults', 'parameters,motes', '--set', 'motes=2,4', '--set', 'value=7,8', '--at-most', '2']
+                     'f.json', '--faults', 'parameters,motes', '--set', 'motes=2,4', '--set', 'value=7,8', '--at-most', '2']
             status, said, seen = search(folder, *words, scenario='net.plan.toml')
             self.assertEqual(status, 1, seen)
             found = json.loads((folder / 'f.json').read_text())
@@ -808,13 +742,10 @@ program = "flood.mote"
                           'then `tools/studio FILE --against NAME.toml` shows both\n', said)
 
     def test_a_search_is_repeated_for_each_value_of_a_parameter(self) -> None:
-        plan = ('end = 100\n[medium]\nrange = 10\nbase = 2\nper = 1000\n[parameters]\nseed = 1\n[places]\nrule = "line"\n'
-                'count = 3\nstep = 10\nprogram = "flood.mote"\n')
         with tempfile.TemporaryDirectory() as room:
             folder = Path(room)
-            (folder / 'net.plan.toml').write_text(plan)
             # (with the seed 2 no packet is sent on, so that mote 1 isn't needed for what mote 2 prints)
-            (folder / 'flood.mote').write_text(PROGRAM.replace('set t 10;', 'set t (10 * ${seed});'))
+            write_plan(folder, 'seed = 1', 'set t 10;', 'set t (10 * ${seed});')
             words = ['--expect', 'mote 2 prints flood 7 by 24', '--expect', 'mote 0 sends', '--faults', 'links']
             status, said, seen = search(folder, *words, '--repeat', 'seed=1,2,3', scenario='net.plan.toml')
             self.assertEqual(status, 1, seen)
@@ -826,12 +757,9 @@ program = "flood.mote"
                 self.assertIn(wanted, search(folder, *words, '--repeat', given, scenario='net.plan.toml')[2])
 
     def test_a_value_of_a_parameter_with_which_a_number_is_too_great_has_a_remark(self) -> None:
-        plan = ('end = 100\n[medium]\nrange = 10\nbase = 2\nper = 1000\n[parameters]\nperiod = 400\n[places]\n'
-                'rule = "line"\ncount = 2\nstep = 10\nprogram = "flood.mote"\n')
         with tempfile.TemporaryDirectory() as room:
             folder = Path(room)
-            (folder / 'net.plan.toml').write_text(plan)
-            (folder / 'flood.mote').write_text(PROGRAM.replace('set t 10', 'set t (${period} * 90)'))
+            write_plan(folder, 'period = 400', 'set t 10', 'set t (${period} * 90)', '2')
             for values, counted in ('400,800,900', '2 of 3 scenarios of the plan have'), ('800', '1 of 2'), ('9', ''):
                 said = search(folder, '--expect', 'no mote halts', '--set', 'period=' + values,
                               scenario='net.plan.toml')[1]

@@ -28,7 +28,8 @@ from motesim.search.shrink import Shrinking, case_of, parts_and_sentences
 from motesim.search.shrink_command import STOPPED
 from motesim.search.shrink_found import chosen
 from motesim.search.smaller import smaller_numbers
-from motesim.search.tree import program_text, read_program
+from motesim.notation.printer import program_text
+from motesim.notation.reader import read_program
 from motesim.why.cause import Cause, cause_of
 from motesim.why.source import Source
 from skips import need_program
@@ -36,29 +37,8 @@ from test_search import DIAMOND, PROGRAM, REACHED, folder_with
 
 # The command, in a process of its own, after other lines.
 SOURCE = 'import sys\nsys.path.insert(0, %r)\n%%sfrom motesim.commands.shrink import main\nmain()\n' % str(TOOLS)
-CANONICAL = '''process a;
-autostart a;
-code a {
-  etimer t;
-  onpoll {
-  }
-  body {
-    set t 2;
-    while (1 == 1) {
-      if fired(t) {
-        print !data;
-      } else {
-        yield;
-      }
-    }
-  }
-}
-'''
-LOOSE = '''process a ; autostart a;   // one process
-code a { etimer t; onpoll { }
-  body { set t 2 ; while ( 1==1 ) { if fired( t ) { print ! data; } else { yield; } } } }
-'''
-ALL = '''event full, unused;
+ALL = '''event full;
+event unused;
 semaphore items = 3;
 process a, b;
 autostart b, a;
@@ -99,13 +79,9 @@ code b {
   }
 }
 '''
-ALL = ALL.replace('event full, unused;', 'event full;\nevent unused;')
 
 
 class Programs(unittest.TestCase):
-    def test_layout_is_the_canonical_one(self) -> None:
-        self.assertEqual(program_text(read_program(LOOSE)), CANONICAL)
-
     def test_each_form_is_kept(self) -> None:
         self.assertEqual(program_text(read_program(ALL)), ALL)
 

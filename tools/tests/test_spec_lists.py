@@ -1,14 +1,10 @@
 """The list of definitions on which the headline rests, in its order."""
-import contextlib
-import io
-import sys
 import unittest
-from unittest import mock
 
 from here import TOP, room_of
+from motesim.faults import Fault
 from project import spec_lists
 
-MARKS = '<!-- written by tools/dev/spec_lists -->\n<!-- end -->\n'
 FILES = {
     'crates/low/specs/Lib.antt': 'pub mod Near\n',
     'crates.txt': '# Each crate.\nlow: std\nother:\nsimulation may_wait=1: low\n',
@@ -31,7 +27,6 @@ use Rattle.low.specs.declared.place.TheConstants.{MOST}
 ''',
     'crates/low/specs/Near.antt': '-- What is near. `near` is in a second expectation.\nuse lib.ListN.{get}\n',
     'crates/low/src/place.rt': '',
-    'docs/proof/HEADLINE.md': 'before\n%sbehind\n' % MARKS,
 }
 
 LIST = '''
@@ -70,54 +65,20 @@ class Lists(unittest.TestCase):
         path.parent.mkdir(parents=True, exist_ok=True)
         path.write_text(text, 'utf-8')
 
-    def run_it(self) -> str:
-        """What the command says."""
-        said, seen = io.StringIO(), io.StringIO()
-        with mock.patch.object(spec_lists, 'TOP', self.top), mock.patch.object(sys, 'argv', ['spec_lists']):
-            with contextlib.redirect_stdout(said), contextlib.redirect_stderr(seen):
-                with self.assertRaises(SystemExit) as end:
-                    spec_lists.main()
-        self.assertEqual(end.exception.code, 2 if seen.getvalue() else 0)
-        return said.getvalue() + seen.getvalue()
-
     def test_what_is_imported_is_listed_from_the_top_down(self) -> None:
         self.assertEqual(spec_lists.headline(self.top), LIST)
 
-    def test_the_page_is_written_between_its_marks(self) -> None:
-        page = self.top / 'docs/proof/HEADLINE.md'
-        self.assertEqual([*spec_lists.outdated(self.top)], [page])
-        self.assertEqual(self.run_it().count(': the list was updated'), 1)
-        self.assertEqual(page.read_text('utf-8'),
-                         'before\n%sbehind\n' % MARKS.replace('<!-- end', spec_lists.headline(self.top) + '<!-- end'))
-        self.assertEqual((spec_lists.outdated(self.top), self.run_it()), ({}, ''))
-
-    def test_a_page_grows_old_where_a_file_has_a_line_more(self) -> None:
-        self.run_it()
-        self.put('crates/low/specs/Near.antt', FILES['crates/low/specs/Near.antt'] + '\n')
-        self.assertEqual([*spec_lists.outdated(self.top)], [self.top / 'docs/proof/HEADLINE.md'])
-
-    def test_an_import_of_no_file_is_told(self) -> None:
-        self.put('crates/low/specs/Near.antt', '-- What is near.\nuse Rattle.low.specs.Gone.{x}\n')
-        self.assertIn('there is no file for the import Rattle.low.specs.Gone', self.run_it())
-
-    def test_an_import_of_another_form_is_told(self) -> None:
-        self.put('crates/low/specs/Near.antt', '-- What is near.\nuse {x} from Rattle\n')
-        self.assertIn('an import has a form', self.run_it())
-
-    def test_a_file_without_a_comment_is_told(self) -> None:
-        self.put('crates/low/specs/Near.antt', 'abbrev near : Type 0\n')
-        self.assertIn('has to begin with a comment', self.run_it())
-
-    def test_a_page_without_marks_is_told(self) -> None:
-        self.put('docs/proof/HEADLINE.md', 'a page\n')
-        self.assertIn('the list needs the lines', self.run_it())
+    def test_a_file_of_another_form_is_told(self) -> None:
+        for text, said in (('-- What is near.\nuse Rattle.low.specs.Gone.{x}\n',
+                            'there is no file for the import Rattle.low.specs.Gone'),
+                           ('-- What is near.\nuse {x} from Rattle\n', 'an import has a form'),
+                           ('abbrev near : Type 0\n', 'has to begin with a comment')):
+            self.put('crates/low/specs/Near.antt', text)
+            with self.assertRaisesRegex(Fault, said):
+                spec_lists.headline(self.top)
 
 
 class ThisTree(unittest.TestCase):
-    def test_its_pages_are_up_to_date(self) -> None:
-        outdated = [str(it) for it in spec_lists.outdated(TOP)]
-        self.assertEqual(outdated, [], 'these pages have other lists; tools/dev/spec_lists writes them')
-
     def test_the_headline_rests_on_files_that_come_behind_it(self) -> None:
         rests = spec_lists.Rests(TOP)
         self.assertGreater(len(rests.files), 20)

@@ -7,11 +7,22 @@ from here import TOP, call, room_of
 from motesim.analysis.command import table_path
 from motesim.analysis.of_plan import plots_of
 from motesim.plan.plan import Plan
-from skips import interpreter_with, need_program
+from skips import interpreter_with, long, need_program
 
 STUDIES = TOP / 'examples/studies'
 
 
+class PageTest(unittest.TestCase):
+    def test_every_study_is_on_the_page(self) -> None:
+        page = (STUDIES / 'README.md').read_text('utf-8')
+        for plan in STUDIES.glob('*.plan.toml'):
+            self.assertIn('tools/sweep examples/studies/%s --plot' % plan.name, page)
+            for it in plots_of(Plan.read(plan)):
+                self.assertIn('(%s)' % it.file, page)
+                self.assertTrue((STUDIES / it.file).is_file(), it.file)
+
+
+@long
 class StudiesTest(unittest.TestCase):
     def setUp(self) -> None:
         self.folder = room_of(self)
@@ -32,14 +43,6 @@ class StudiesTest(unittest.TestCase):
         with open(self.folder / (name + '.csv'), newline='') as file:
             file.readline()
             return list(csv.DictReader(file))
-
-    def test_every_study_is_on_the_page(self) -> None:
-        page = (STUDIES / 'README.md').read_text('utf-8')
-        for plan in STUDIES.glob('*.plan.toml'):
-            self.assertIn('tools/sweep examples/studies/%s --plot' % plan.name, page)
-            for it in plots_of(Plan.read(plan)):
-                self.assertIn('(%s)' % it.file, page)
-                self.assertTrue((STUDIES / it.file).is_file(), it.file)
 
     def test_density(self) -> None:
         rows = self.study('density', '--vary', 'seed=1,2', '--vary', 'motes=20,50', '--vary', 'period=20,40')

@@ -1,6 +1,5 @@
-"""The studio without a browser: edits of the text, files, runs under limits, and who is answered."""
+"""The studio without a browser: files, runs under limits, and who is answered."""
 import http.client
-import itertools
 import json
 import os
 import signal
@@ -10,142 +9,23 @@ import sys
 import tempfile
 import threading
 import time
-import tomllib
 import unittest
 from pathlib import Path
 from typing import Any
 from unittest import mock
 
 from here import TOOLS, TOP, room_of
+import skips
 import stand_in
 from motesim.faults import Fault
-from motesim.plan.plan import Plan
-from motesim.studio import answers, guides
+from motesim.studio import answers
 from motesim.studio.command import pinned
 from motesim.studio.desk import Changed, Desk
-from motesim.scenario.edits import applied, edit
 from motesim.studio.runs import LIMITS, MEGABYTE, LimitMet, Runs, Superseded
+from motesim.studio.searches import Searches, Wanted
 from motesim.studio.server import Server
 from motesim.studio.session import Session
 from test_studio_page import EXPECTED, NET
-
-LOSSES = NET + '''
-# what is lost
-[[loss]]
-from = 0            # the first
-to = 1
-every = 2
-[[loss]]
-from = 2
-to = 0
-every = 3'''
-
-
-class Edits(unittest.TestCase):
-    def edited(self, text: str, **wish: Any) -> str:
-        return applied(text, edit(text, wish)[0])
-
-    def refused(self, text: str, **wish: Any) -> str:
-        with self.assertRaises(Fault) as caught:
-            edit(text, wish)
-        return str(caught.exception)
-
-    def test_a_moved_mote_changes_two_numbers(self) -> None:
-        note = '               # the first\ny = '
-        self.assertEqual(self.edited(NET, what='move', mote=0, x=-5, y=1_000),
-                         NET.replace('x = 0' + note + '0', 'x = -5' + note + '1000'))
-
-    def test_an_added_mote_stands_behind_the_others(self) -> None:
-        text = self.edited(LOSSES, what='add', x=4, y=-4, program='talk')
-        self.assertIn('program = "talk"\n\n[[mote]]\nx = 4\ny = -4\nprogram = "talk"\n\n# what is lost\n', text)
-        self.assertEqual(len(tomllib.loads(text)['mote']), 4)
-
-    def test_a_mote_is_added_behind_a_text_without_a_last_line_end(self) -> None:
-        text = self.edited(NET.rstrip('\n'), what='add', x=4, y=-4, program='talk')
-        self.assertEqual(tomllib.loads(text)['mote'][3], {'x': 4, 'y': -4, 'program': 'talk'})
-
-    def test_a_removed_mote_takes_its_losses_and_renumbers_the_others(self) -> None:
-        text = self.edited(LOSSES, what='remove', mote=1)
-        self.assertEqual(tomllib.loads(text)['loss'], [{'from': 1, 'to': 0, 'every': 3}])
-        for words in ('# the first', '# what is lost', '# Two motes'):
-            self.assertIn(words, text)
-        self.assertNotIn('x = 8', text)
-        self.assertEqual(tomllib.loads(self.edited(NET, what='remove', mote=2)).get('loss'), None)
-
-    def test_the_last_mote_stays(self) -> None:
-        text = NET
-        for _ in range(2):
-            text = self.edited(text, what='remove', mote=0)
-        self.assertIn('at least one mote', self.refused(text, what='remove', mote=0))
-
-    def test_losses_are_set_changed_and_taken_away(self) -> None:
-        text = self.edited(NET, what='lose', **{'from': 1, 'to': 0}, every=4)
-        self.assertTrue(text.endswith('[[loss]]\nfrom = 1\nto = 0\nevery = 4\n'))
-        self.assertEqual(self.edited(text, what='lose', **{'from': 1, 'to': 0}, every=1), text.replace('= 4', '= 1'))
-        self.assertEqual(self.edited(text, what='lose', **{'from': 1, 'to': 0}, every=0), NET)
-        both = self.edited(LOSSES, what='lose', **{'from': 1, 'to': 0}, every=4)
-        self.assertEqual(len(tomllib.loads(both)['loss']), 3)
-        one = self.edited(LOSSES, what='lose', **{'from': 0, 'to': 1}, every=0)
-        self.assertEqual(tomllib.loads(one)['loss'], [{'from': 2, 'to': 0, 'every': 3}])
-        self.assertIn('# what is lost', one)
-        self.assertEqual(edit(NET, {'what': 'lose', 'from': 0, 'to': 1, 'every': 0})[0], [])
-
-    def test_a_program_text_that_looks_like_tables_is_left_alone(self) -> None:
-        text = NET.replace('  var n = 0;', '  var n = 0;\n// [[mote]]\n// x = 8\n[[mote]]\nx = 8')
-        self.assertEqual(self.edited(text, what='move', mote=1, x=9, y=0), text.replace('x = 8\ny = 0', 'x = 9\ny = 0'))
-
-    def test_motes_of_an_inline_array_are_moved_added_and_removed(self) -> None:
-        for between in ', ', ',\n  ', ', # {x = 7, y = 7}\n', ' , ':
-            first, second = '{ x = 1, y = -2, program = "p" }', '{"y" = 2,x=3 , program = \'p\'}'
-            text = ('end = 1\nmote = [%s%s%s, ]\nloss = [{from = 1, to = 0, every = 2}]\n[programs]\n'
-                    'p = "mote = [{"\n' % (first, between, second))
-            self.assertEqual(self.edited(text, what='move', mote=0, x=-40, y=1),
-                             text.replace('x = 1, y = -2', 'x = -40, y = 1'))
-            self.assertEqual(self.edited(text, what='move', mote=1, x=5, y=6),
-                             text.replace('"y" = 2,x=3 ,', '"y" = 6,x=5 ,'))
-            added = tomllib.loads(self.edited(text, what='add', x=4, y=5, program='p'))['mote'][2]
-            self.assertEqual(added, {'x': 4, 'y': 5, 'program': 'p'})
-            self.assertEqual(self.edited(text, what='lose', **{'from': 1, 'to': 0}, every=7),
-                             text.replace('every = 2', 'every = 7'))
-            without = self.edited(text, what='lose', **{'from': 1, 'to': 0}, every=0)
-            self.assertIn('\nloss = []\n', without)
-            self.assertIn('\nloss = [{ from = 0, to = 1, every = 3 }]\n',
-                          self.edited(without, what='lose', **{'from': 0, 'to': 1}, every=3))
-            self.assertEqual(tomllib.loads(self.edited(text, what='remove', mote=0))['mote'],
-                             [{'y': 2, 'x': 3, 'program': 'p'}])
-            self.assertEqual(len(tomllib.loads(self.edited(text, what='remove', mote=1))['mote']), 1)
-
-    def test_a_removed_mote_takes_its_losses_from_an_inline_array(self) -> None:
-        motes = ', '.join('{ x = %d, y = 0, program = "p" }' % x for x in range(3))
-        for pairs in itertools.permutations([(0, 1), (1, 2), (0, 2)]):
-            for between in ', ', ',\n  ', ', # {from = 7}\n':
-                for end in '', ',', ' , ':
-                    losses = between.join('{ from = %d, to = %d, every = 2 }' % it for it in pairs) + end
-                    text = 'end = 1\nmote = [%s]\nloss = [%s]\n[programs]\np = ""\n' % (motes, losses)
-                    for mote in range(3):
-                        left = tomllib.loads(self.edited(text, what='remove', mote=mote)).get('loss')
-                        self.assertEqual(left, [{'from': 0, 'to': 1, 'every': 2}], text)
-
-    def test_the_only_loss_of_an_inline_array_is_removed_with_its_comma(self) -> None:
-        for end in '', ',', ' ,\n', '\n':
-            text = ('end = 1\nmote = [{ x = 0, y = 0 }, { x = 1, y = 0 }]\nloss = [{ from = 0, to = 1, every = 2 }%s]\n'
-                    % end)
-            for wish in {'what': 'lose', 'from': 0, 'to': 1, 'every': 0}, {'what': 'remove', 'mote': 1}:
-                self.assertEqual(tomllib.loads(self.edited(text, **wish))['loss'], [], text)
-
-    def test_what_the_map_cannot_change_is_refused_and_why(self) -> None:
-        dotted = 'version = 1\nend = 1\nmote = [{x.y = 1}, {x = 3, y = 2, program = "p"}]\n'
-        self.assertIn('cannot change', self.refused(dotted, what='move', mote=0, x=1, y=1))
-        self.assertIn('has an error', self.refused(NET + '[', what='move', mote=0, x=1, y=1))
-        wishes: list[dict[str, Any]] = [{'mote': 3, 'x': 0, 'y': 0}, {'mote': 0, 'x': 30_001, 'y': 0}, {'mote': 0,
-            'x': 0.5, 'y': 0}, {'mote': True, 'x': 0, 'y': 0}, {'mote': 0, 'x': 0}]
-        for wish in wishes:
-            self.assertIn('is a whole number', self.refused(NET, what='move', **wish))
-        self.assertIn('has no program', self.refused(NET, what='add', x=0, y=0, program='q'))
-        self.assertIn('no edit', self.refused(NET, what='burn'))
-
-    def test_places_are_counted_as_browsers_do(self) -> None:
-        self.assertEqual(answers.column16('a\n\U0001f600b', 3), 4)
 
 
 class Files(unittest.TestCase):
@@ -308,7 +188,8 @@ class Running(unittest.TestCase):
         for word, limits, limit, option in [
                 ('never_ends', {'seconds': 1}, 'no answer in 1 seconds', '--seconds'),
                 ('long_report', {'report': MEGABYTE}, 'the report is longer than 1,048,576 bytes', '--report'),
-                ('much_memory', {'memory': 400 * MEGABYTE}, 'the run needs more than 400 megabytes of memory', '--memory')]:
+                ('much_memory', {'memory': 400 * MEGABYTE}, 'the run needs more than 400 megabytes of memory',
+                 '--memory')]:
             begin = time.monotonic()
             with self.assertRaises(LimitMet, msg=word) as caught:
                 self.run_text('# %s\n%s' % (word, NET), **limits)
@@ -378,9 +259,8 @@ class Answering(unittest.TestCase):
         length, = struct.unpack('<I', data[:4])
         return json.loads(data[4:4 + length])
 
-    def judge(self, number: int, against: Any, saved: str = NET, **words: Any) -> Any:
-        return json.loads(self.ask('judge', number=number, against=against, where='folder', name='net.toml',
-                                   saved=saved, **words))
+    def judge(self, number: int, saved: str = NET) -> Any:
+        return json.loads(self.ask('judge', number=number, where='folder', name='net.toml', saved=saved))
 
     def test_an_error_of_the_studio_itself_is_an_answer_too(self) -> None:
         """Without an answer the page would take the studio for lost, connect again, and ask the same, for ever."""
@@ -420,8 +300,11 @@ class Answering(unittest.TestCase):
             self.assertNotIn(word, data)
 
     def test_files_that_are_not_the_pages_are_not_there(self) -> None:
-        for name in ('studio.html', '../server.py', 'codemirror/lib/../../x', 'codemirror/keymap/vim.js', 'net.toml'):
+        for name in ('web.html', '../server.py', 'web/page/../../x', 'web/page/worker.js', 'net.toml'):
             self.assertEqual(self.request('GET', '/%s/%s' % (self.server.token, name))[0], 404, name)
+
+    def test_places_are_counted_as_browsers_do(self) -> None:
+        self.assertEqual(answers.column16('a\n\U0001f600b', 3), 4)
 
     def test_questions_that_are_none_are_told_so(self) -> None:
         path = '/%s/' % self.server.token
@@ -429,20 +312,13 @@ class Answering(unittest.TestCase):
         self.assertIn('refused', json.loads(self.ask('nothing')))
         self.assertIn('refused', json.loads(self.ask('run')))
         self.assertIn('refused', json.loads(self.ask('run', text='\ud800', name='x')))
-        self.assertIn('refused', json.loads(self.ask('edit', text=NET, edit=5)))
         self.assertIn('refused', json.loads(self.ask('export', number=99, title='x')))
 
-    def test_a_run_is_judged_beside_another(self) -> None:
-        first, second = self.run_text(NET)['number'], self.run_text(NET.replace('print 1', 'print 4'))['number']
-        said = self.judge(second, first)
-        self.assertEqual(said['difference']['first'], {
-            'at': 0, 'mote': 0, 'index': 4, 'inMedium': False,
-            'sides': [{'row': 6, 'text': '0 print talker 1', 'why': '', 'has_mote': True},
-                      {'row': 6, 'text': '0 print talker 4', 'why': '', 'has_mote': True}]})
-        self.assertIn('The first difference is at moment 0, in the trace of mote 0:', said['difference']['lines'])
+    def test_a_run_is_judged(self) -> None:
+        said = self.judge(self.run_text(NET.replace('print 1', 'print 4'))['number'])
         self.assertEqual([it['holds'] for it in said['checks']['marks']], [False, True, True])
-        self.assertEqual(said['sums']['motes'][-1][0], 'net')
-        self.assertTrue(self.judge(99, 0, '')['gone'])
+        self.assertIn('timer-never-set', [it['name'] for it in said['warnings']])
+        self.assertTrue(self.judge(99)['gone'])
 
     def test_advice_on_a_stopped_run_ends_with_a_newer_text_or_at_the_limit(self) -> None:
         runs = self.server.session.runs
@@ -469,46 +345,29 @@ class Answering(unittest.TestCase):
         self.assertEqual(self.run_text(wrong)['fault']['corrected'], NET)
         self.assertIsNone(self.run_text(NET.replace('print 1;', 'goto out;'))['fault']['corrected'])
 
-    def test_the_pinned_run_is_kept_however_many_come(self) -> None:
-        pinned = self.run_text(NET)['number']
-        for number in range(8):
-            last = self.run_text(NET + '# %d\n' % number, pinned=pinned)['number']
-        said = self.judge(last, pinned, is_pinned=True)
-        self.assertTrue(said['difference']['same'])
-        self.assertIn('A: the pinned run', said['difference']['lines'])
-
     def test_a_changed_text_is_judged_by_the_sentences_of_its_change(self) -> None:
         text = NET.replace('print 1', 'print 9')
-        checks = self.judge(self.run_text(text)['number'], 0)['checks']
+        checks = self.judge(self.run_text(text)['number'])['checks']
         self.assertEqual((checks['about'], checks['fault']), ('another value', ''))
         self.assertEqual([(it['sentence'], it['holds']) for it in checks['marks']], [('mote 1 prints talker 9', True)])
         self.assertEqual([it['remark'] for it in checks['marks']], [''])
 
     def test_a_remark_is_below_a_sentence_that_needs_no_evidence(self) -> None:
         self.file.with_suffix('.expect.toml').write_text('expect = ["no mote sends from 90 to 99"]')
-        checks = self.judge(self.run_text(NET)['number'], 0)['checks']
+        checks = self.judge(self.run_text(NET)['number'])['checks']
         self.assertEqual([(it['holds'], it['remark']) for it in checks['marks']], [
             (True, 'the run ends at 60, before the interval of this expectation, which begins at 90')])
 
 
-class Guides(unittest.TestCase):
-    def test_each_example_says_what_to_look_at(self) -> None:
-        for path in sorted((TOP / 'examples').glob('*.toml')):
-            if not path.name.endswith('.expect.toml'):
-                self.assertTrue(guides.guide(path.name, path.read_text()), path.name)
-
-    def test_the_guide_leaves_out_what_tools_scenario_writes_about_a_plan(self) -> None:
-        plan = Plan.read(TOP / 'examples/studies/flooding.plan.toml')
-        text = plan.scenario({})
-        self.assertIn('not this file', text.split('\n')[0])
-        self.assertEqual(guides.comment(text), [])
-        self.assertEqual(guides.comment(text.replace('version =', '# Two motes.\nversion =', 1)),
-                         [{'kind': 'comment', 'text': 'Two motes.'}])
-
-    def test_tasks_are_those_of_the_page_on_examples(self) -> None:
-        found = guides.guide('flooding.toml', (TOP / 'examples/flooding.toml').read_text())
-        self.assertTrue(any(it['kind'] == 'task' and 'broadcast storm' in it['text'] for it in found))
-        self.assertTrue(any(it['kind'] == 'look' for it in found))
+class Searching(unittest.TestCase):
+    def test_faults_are_found_and_shrunk(self) -> None:
+        skips.need_program(self)
+        searches, sentence = Searches(LIMITS), 'mote 1 receives exactly 2'
+        self.addCleanup(searches.stop)
+        going = searches.of(searches.begin(Wanted(NET, [sentence], ['links'], 1)))
+        going.reader.join()
+        self.assertEqual([it['faults'] for it in going.state()['found']['found']], [['link 0 to 1 loses everything']])
+        self.assertEqual(going.shrunk(0, sentence)['text'].count('[[mote]]'), 2)
 
 
 class Command(unittest.TestCase):
@@ -543,10 +402,3 @@ class Command(unittest.TestCase):
                 said, fault = process.communicate(timeout=20)
             self.assertEqual((process.returncode, said), (2, ''), words)
             self.assertRegex(fault, r'\Astudio: .+\n\Z')
-
-    def test_a_missing_editor_is_no_fault(self) -> None:
-        with mock.patch('motesim.studio.server.CODEMIRROR', None), tempfile.TemporaryDirectory() as room:
-            server = Server(Session(Desk(Path(room, 'a.toml')), Runs()), None)
-            self.assertFalse(server.session.has_editor)
-            self.assertNotIn(b'codemirror/', server.page())
-            server.server_close()

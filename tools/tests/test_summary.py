@@ -10,7 +10,8 @@ from unittest import mock
 from here import call, room_of
 from motesim.summary import counts as summary
 from motesim.faults import Fault
-from motesim.summary.flows import FlowFault, flow_rows, read_flow
+from motesim.summary.flows import FlowFault, Message, flow_rows, flow_rows_by, read_flow
+from motesim.summary.series import NAMES as SERIES_NAMES
 from motesim.explain.of_nets import of_moments
 from motesim.report import Report
 from motesim.report.run import Run
@@ -209,6 +210,30 @@ from to copies received lost overflowed collided halted left ratio delay
         talker = Report.parse(REPORT.replace('talker', 'a').replace('mote 0 a', 'mote 0 talker'))
         with self.assertRaisesRegex(Fault, 'has no process talker; talker is a program, with: a, b$'):
             flow_rows(talker, scenario, 'print talker')
+
+    def test_intervals(self) -> None:
+        rows = list(csv.DictReader(io.StringIO(self.say('--by', '5', '--csv'))))
+        self.assertEqual(list(rows[0]), SERIES_NAMES)
+        self.assertEqual([(row['from'], row['to'], row['sent']) for row in rows], [
+            ('0', '4', '5'), ('5', '9', '2')])
+        for by in '0', '-1', '1000001':
+            self.assertEqual(self.run_it('--by', by).returncode, 2)
+
+    def test_the_time_of_flows_by_interval_is_linear(self) -> None:
+        """Each message is looked at a few times, not once for each interval."""
+        seen = 0
+
+        class Counted(Message):
+            def __getattribute__(self, name: str) -> object:
+                nonlocal seen
+                seen += name == 'at'
+                return super().__getattribute__(name)
+
+        found = {value: Counted(0, value) for value in range(1000)}
+        with mock.patch('motesim.summary.flows.messages', return_value=found):
+            its = flow_rows_by(Report.parse('mote 0 p\nmedium\nleft 0\n'), None, 'recv', 1)
+        self.assertEqual([it['sent'] for it in its], [1] * 1000)
+        self.assertLess(seen, 10 * len(found))
 
     def test_what_is_no_report_has_status_2(self) -> None:
         self.path.write_text(REPORT[:-2], encoding='ascii')

@@ -15,7 +15,7 @@ class ProgressTest(unittest.TestCase):
     def shown(self, is_terminal: bool, elsewhere: float = 0) -> str:
         """What is written if a line may be due once."""
         seen = io.StringIO()
-        seen.isatty = lambda: is_terminal  # type: ignore[method-assign]
+        setattr(seen, 'isatty', lambda: is_terminal)
         with mock.patch.multiple('motesim.progress', ON_TERMINAL=0, ELSEWHERE=elsewhere), mock.patch('sys.stderr', seen):
             progress = Progress()
             if progress.is_due():

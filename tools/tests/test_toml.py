@@ -1,14 +1,12 @@
 """TOML that isn't, in each tool that reads it: deep nesting, long numbers, and plain mistakes are one clear line."""
 import itertools
 import os
-import subprocess
-import sys
 import time
 import unittest
 
 from here import call, room_of
 from motesim.toml import NoToml, pieces, read_toml
-from stub import processes_of, run_whole, write_stub
+from stub import write_stub
 
 DEEP = 'x = ' + '[' * 500 + ']' * 500 + '\n'
 DEEPEST = 'x = ' + '[' * 100_000 + ']' * 100_000 + '\n'
@@ -100,31 +98,6 @@ class Tools(unittest.TestCase):
                     self.assertNotIn('Traceback', done.stderr.replace('Traceback (most recent call last):\n  File "%s'
                                                                       % self.stub, ''))
                     self.assertIn(done.returncode, (1, 2))
-
-    def test_nothing_that_a_tool_starts_outlives_its_test(self) -> None:
-        (self.folder / 'wait.py').write_text(
-            'import os, subprocess, sys\n'
-            'from subprocess import DEVNULL\n'
-            'print(os.getsid(0), flush=True)\n'
-            "subprocess.Popen(['sleep', '60'], process_group=0, stdout=DEVNULL, stderr=DEVNULL)\n"
-            "if sys.argv[1:]: subprocess.run(['sleep', '60'])\n")
-        words = [sys.executable, '-B', 'wait.py']
-        session = int(run_whole(words, self.folder).stdout)
-        self.assertEqual(processes_of(session), [])
-        with self.assertRaises(subprocess.TimeoutExpired) as late:
-            run_whole([*words, 'wait'], self.folder, seconds=3)
-        assert late.exception.output
-        self.assertEqual(processes_of(int(late.exception.output)), [])
-
-    def test_the_program_that_stands_in_cannot_grow(self) -> None:
-        mote = 'version = 1\n[programs]\na = "print 1 // %s"\n[[mote]]\nprogram = "a"\n'
-        done = subprocess.run([self.stub], input=(mote % 'long').encode(), capture_output=True, timeout=60)
-        self.assertLess(len(done.stdout), 200_000_000)
-        much = self.folder / 'much'
-        much.write_text(self.stub.read_text().replace("source = ", "kept = b'1' * (2 << 30)\nsource = "))
-        much.chmod(0o755)
-        done = subprocess.run([much], input=b'', capture_output=True, timeout=60)
-        self.assertIn(b'MemoryError', done.stderr)
 
     def test_a_file_of_expectations(self) -> None:
         (self.folder / 'net.toml').write_text('x = 1\n')

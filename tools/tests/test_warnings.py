@@ -8,10 +8,10 @@ from pathlib import Path
 
 from here import TOP
 from motesim.explain.explanation import explain
-from motesim.explain.said import ABOUT_ZERO, NAMES, in_words
+from motesim.explain.say import ABOUT_ZERO, NAMES, in_words
 from motesim.explain.warned import Warned
 from motesim.explain.warnings import of_program, warnings
-from motesim.notation.faults import find_fault
+from motesim.notation.reader import find_fault
 from motesim.report import Report
 from motesim.report.run import answer
 from motesim.scenario import Scenario

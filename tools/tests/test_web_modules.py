@@ -1,5 +1,5 @@
-"""The modules of the page without a server, in node: they find the same columns, sums, differences and edits as the
-tools, for all examples."""
+"""The modules of the page without a server, in node: they find the same columns, fates, sums and differences as the
+tools, for all examples and for random runs."""
 import itertools
 import json
 import re
@@ -10,11 +10,15 @@ from typing import Any
 
 from here import TOOLS, TOP
 import skips
-from motesim.faults import Fault
+from motesim.comparison.columns import MEDIUM
+from motesim.comparison.reports import Difference, compared, differences, lists_of, packet_of
+from motesim.contiki.random_scenario import random_scenario
 from motesim.judge import expectations
+from motesim.report import Report
+from motesim.report.run import Run
 from motesim.runner import Runner
 from motesim.studio import answers
-from motesim.scenario.edits import applied, edit
+from motesim.summary.counts import LINK_NAMES, summary
 from motesim.timeline.columns import data_of
 from motesim.toml import read_toml
 from test_page_modules import node
@@ -47,14 +51,8 @@ from = 1
 to = 2
 every = 3
 """
-WISHES: list[dict[str, Any]] = [
-    *({'what': 'move', 'mote': mote, 'x': 3, 'y': -4} for mote in (0, 1, 2, 999)),
-    {'what': 'move', 'mote': 0, 'x': 30001, 'y': 0}, {'what': 'move', 'mote': 0, 'x': 0.5, 'y': 0},
-    *({'what': 'remove', 'mote': mote} for mote in (0, 1, 2, 7)),
-    *({'what': 'lose', 'from': one, 'to': other, 'every': every}
-      for (one, other), every in itertools.product([(0, 1), (1, 0), (0, 2), (0, 0)], [0, 1, 4])),
-    {'what': 'add', 'x': 1, 'y': 2, 'program': 'nobody'}, {'what': 'add', 'x': 1, 'y': 2, 'program': 'p'},
-]
+# Runs of random scenarios.
+RANDOM = 20
 
 
 def run_of(name: str, text: str) -> answers.Finished | None:
@@ -67,7 +65,7 @@ def run_given(done: answers.Finished) -> dict[str, Any]:
     table, _ = data_of(done.run)
     kept = {name: table[name] for name in ('end', 'left', 'programs', 'places', 'range', 'base', 'per', 'losses')}
     return {'name': done.run.name, 'scenario': done.text, 'report': done.run.report.text(), 'table': kept,
-            'sums': answers.sums(done)}
+            'sums': sums(done.run), 'outcomes': [it.what for it in done.run.report.outcomes()]}
 
 
 def changed(path: Path) -> list[str]:
@@ -81,42 +79,62 @@ def changed(path: Path) -> list[str]:
                 for old, new in part.replace.items():
                     one = one.replace(old, new)
                 found.append(one)
-    return [*found, re.sub(r'(?m)^end = \d+', 'end = 7', text), *([] if text.count('[[mote]]') < 2 else [
-        applied(text, edit(text, {'what': 'remove', 'mote': 0})[0])])]
+    without = text if text.count('[[mote]]') < 2 or '[[loss]]' in text else (
+        text[:text.index('[[mote]]')] + text[text.index('[[mote]]', text.index('[[mote]]') + 1):])
+    return [*found, re.sub(r'(?m)^end = \d+', 'end = 7', text), without]
+
+
+def sums(run: Run) -> dict[str, Any]:
+    """The tables of tools/summary."""
+    motes, net, links = summary(run)
+    return {'motes': [list(net), *(list(row.values()) for row in [*motes, net])],
+            'links': [LINK_NAMES, *(list(row.values()) for row in links)]}
+
+
+def text_at(report: Report, it: Difference) -> str | None:
+    lines = lists_of(report).get(it.mote)
+    return None if lines is None or it.place >= len(lines) else str(lines[it.place])
+
+
+def difference(before: Run, after: Run) -> dict[str, Any]:
+    """What tools/compare finds."""
+    _, first, is_same = compared(before, after, 12)
+    reports = before.report, after.report
+    programs = [[mote.program for mote in report.motes] for report in reports]
+    found: dict[str, Any] = {'same': is_same, 'first': None, 'parts': [], 'motes': [
+        mote for mote, (ours, other) in enumerate(itertools.zip_longest(*programs)) if ours != other]}
+    if first:
+        in_medium = first.mote == MEDIUM
+        found['first'] = {'at': first.at, 'mote': packet_of(reports, first).sender if in_medium else first.mote,
+                          'index': -1 if in_medium else first.place, 'inMedium': in_medium,
+                          'sides': [text_at(report, first) for report in reports]}
+        found['parts'] = [[it.mote, it.at] for it in differences(*reports) if it.mote != MEDIUM]
+    return found
 
 
 def difference_given(name: str, one: answers.Finished, other: answers.Finished) -> dict[str, Any]:
-    return {'name': name, 'one': run_given(one), 'other': run_given(other),
-            'found': answers.difference(one, other, False)}
-
-
-def edited(text: str, wish: dict[str, Any]) -> dict[str, Any]:
-    try:
-        changes, said = edit(text, wish)
-    except Fault:
-        return {'text': text, 'wish': wish, 'edited': None, 'said': ''}
-    return {'text': text, 'wish': wish, 'edited': applied(text, changes), 'said': said}
+    return {'name': name, 'one': run_given(one), 'other': run_given(other), 'found': difference(one.run, other.run)}
 
 
 def given() -> dict[str, Any]:
     """The wanted results for the tests in node."""
     runs, found = [], []
-    for path in [*EXAMPLES, *CASES]:
-        done = run_of(path.stem, path.read_text())
+    texts = {path.stem: (path.read_text(), changed(path) if path in EXAMPLES else []) for path in [*EXAMPLES, *CASES]}
+    for seed in range(RANDOM):
+        text = random_scenario('pages %d' % seed).decode()
+        texts['random %d' % seed] = text, [re.sub(r'(?m)^end = \d+', 'end = 7', text)]
+    for name, (text, others) in texts.items():
+        done = run_of(name, text)
         if done is None:
             continue
         runs.append(done)
-        others = [run_of(path.stem, text) for text in (changed(path) if path in EXAMPLES else [])]
-        found += [difference_given('%s %d' % (path.stem, place), done, other)
-                  for place, other in enumerate(others) if other and len(other.run.report.text()) < 2_000_000]
-        found.append(difference_given(path.stem, done, done))
-    texts = [*(path.read_text() for path in EXAMPLES), SPELLED]
-    programs = [{'what': 'add', 'x': 1, 'y': 2, 'program': program}
-                for program in ('flood', 'trickle', 'collect')]
+        found += [difference_given('%s %d' % (name, place), done, other)
+                  for place, other in enumerate(run_of(name, it) for it in others)
+                  if other and len(other.run.report.text()) < 2_000_000]
+        found.append(difference_given(name, done, done))
     return {'runs': [run_given(it) for it in runs], 'differences': found,
-            'edits': [edited(text, wish) for text in texts for wish in [*WISHES, *programs]],
             'texts': [{'name': 'text %d' % place, 'text': text, 'tables': read_toml(text)}
-                      for place, text in enumerate(texts)]}
+                      for place, text in enumerate([*(path.read_text() for path in EXAMPLES), SPELLED])]}
 
 
 class Alone(unittest.TestCase):

@@ -2,7 +2,6 @@
 http, by mouse and by keyboard, in windows of several sizes."""
 from __future__ import annotations
 
-import contextlib
 import functools
 import hashlib
 import http.server
@@ -10,16 +9,13 @@ import json
 import math
 import re
 import runpy
-import sys
-import tempfile
 import threading
 import time
 import unittest
-from pathlib import Path
 from typing import Any
 
-from here import TOOLS, TOP
-from browser import Browser
+from here import TOOLS, TOP, room_of
+from browser import InBrowser
 from project.page import HTML, LONGEST, MODULE, make_page
 
 FLOODING = (TOP / 'examples/flooding.toml').read_text()
@@ -78,64 +74,21 @@ class Sources(unittest.TestCase):
             self.assertGreaterEqual(contrast(scheme['paper'], scheme['send']), 4.5)
 
 
-class Page(unittest.TestCase):
-    browser: Any
-
-    @classmethod
-    def setUpClass(cls) -> None:
-        cls.browser, why = Browser.start()
-        if cls.browser is None:
-            said = 'the page without a server is not tried: ' + why
-            with contextlib.suppress(OSError):
-                print(said, file=sys.stderr)
-            raise unittest.SkipTest('browser: %s' % said)
-
-    @classmethod
-    def tearDownClass(cls) -> None:
-        if cls.browser is not None:
-            cls.browser.close()
-
+class Page(InBrowser):
     def setUp(self) -> None:
-        room = tempfile.TemporaryDirectory()
-        self.addCleanup(room.cleanup)
-        self.room = Path(room.name)
+        super().setUp()
+        self.room = room_of(self)
         self.page = self.room / 'motesim.html'
         self.page.write_text(make_page(MODULE.read_bytes()), 'utf-8')
-        self.browser.faults.clear()
-        self.browser.dark(False)
 
-    def tearDown(self) -> None:
-        self.assertEqual(self.browser.faults, [])
-
-    def open(self, fragment: str = '', keeps: bool = False, size: tuple[int, int] = (1366, 768)) -> None:
-        """Opens the page as a file, without the draft of an earlier test unless it `keeps` it."""
+    def open(self, fragment: str = '', size: tuple[int, int] = (1366, 768)) -> None:
+        """Opens the page as a file."""
         self.browser.size(*size)
-        if not keeps:
-            self.browser.open(self.page)
-            self.browser.run('localStorage.clear()')
         self.browser.open(self.page, fragment)
         self.browser.settle()
 
-    def value(self, script: str) -> Any:
-        return self.browser.run('(() => { const m = motesim, pane = m.panes[0], run = pane && pane.run, '
-                                'web = m.web, text = web.history.text, by = id => document.getElementById(id); '
-                                'return %s; })()' % script)
-
-    def wait(self, script: str) -> None:
-        self.browser.wait('(() => { const m = motesim, pane = m.panes[0], run = pane && pane.run, web = m.web, '
-                          'text = web.history.text, by = id => document.getElementById(id); return %s; })()' % script)
-
-    def press(self, name: str) -> None:
-        self.value('by(%s).click()' % json.dumps(name))
-
     def said(self) -> Any:
         return self.value('by("said").textContent')
-
-    def put(self, text: str) -> None:
-        """Replaces the whole text, as a paste does."""
-        self.press('part-all')
-        self.value('(it => { it.focus(); it.value = %s; it.dispatchEvent(new Event("input")); })(by("text"))'
-                   % json.dumps(text))
 
     def undo(self, key: str = 'z') -> None:
         for kind in 'rawKeyDown', 'keyUp':
@@ -209,7 +162,7 @@ class Page(unittest.TestCase):
             self.press('examples')
             self.value('document.querySelectorAll("#gallery-cards button")[%d].click()' % place)
             self.wait('web.example.title === document.querySelectorAll("#gallery-cards strong")[%d].textContent && '
-                      'run.name === web.name && !web.fresh' % place)
+                      'run.name === web.document.name && !web.fresh' % place)
             self.press('try')
             self.wait('m.differs.first || web.history.step.run')
             self.assertIn('instead of', self.said())
@@ -247,6 +200,33 @@ class Page(unittest.TestCase):
         self.assertEqual(self.value('text'), FLOODING)
         self.undo('y')
         self.wait('run.losses[0][2] === 1')
+
+    def test_motes_are_added_snapped_and_removed(self) -> None:
+        self.open()
+        places = '(() => { const map = m.maps[0], box = map.canvas.getBoundingClientRect(); return [4, 24].map(' \
+                 'it => [box.x + map.x(it), box.y + map.y(it)]); })()'
+        (x, y), (far_x, far_y) = self.value(places)
+        self.press('add')
+        self.browser.click(x + 60, y)
+        self.wait('run.begins.length === 26')
+        (x, y), (far_x, far_y) = self.value(places)
+        self.browser.drag(far_x, far_y, far_x + 40, far_y + 3)
+        self.wait('run.places[24][0] > 40')
+        self.assertEqual(self.value('run.places[24][1]'), 40)
+        (x, y), _ = self.value(places)
+        self.browser.click(x, y)
+        self.assertEqual(self.value('by("remove").textContent'), 'Remove mote 4')
+        self.press('remove')
+        self.wait('run.begins.length === 25 && !text.includes("x = 40\\ny = 0\\n")')
+
+    def test_a_tip_names_what_is_under_the_pointer_and_a_finger_scrolls(self) -> None:
+        self.open()
+        self.assertEqual(self.value('[pane.canvas, m.maps[0].canvas].map(it => getComputedStyle(it).touchAction)'),
+                         ['pan-y', 'pan-y'])
+        self.press('play')
+        self.browser.move(*self.value('(({canvas, x, y}) => [canvas.getBoundingClientRect().x + m.maps[0].x(7), '
+                                      'canvas.getBoundingClientRect().y + m.maps[0].y(7)])(m.maps[0])'))
+        self.assertEqual(self.value('by("tip").innerText'), 'mote 7 runs flood and hears 4 motes')
 
     def test_it_works_by_keyboard_alone(self) -> None:
         self.open()
@@ -329,11 +309,10 @@ class Page(unittest.TestCase):
                 end = 170 + SIZES.index(size) * 10 + number
                 self.value('(it => { it.value = text.replace(/^end = .*$/m, "end = %d"); '
                            'it.dispatchEvent(new Event("input")); })(by("text"))' % end)
-                self.wait('run.end === %d && !by("sentence").hidden' % end)
-                self.browser.settle()
-                for canvas, box in self.value('[[pane.canvas, by("panes")], [m.maps[0].canvas, by("maps")]].map('
-                                              'it => it.map(one => one.getBoundingClientRect().bottom))'):
-                    self.assertLessEqual(canvas, box + 0.5, (size, number))
+                # (a canvas that is too high stays so, however long one waits)
+                self.wait('run.end === %d && [[pane.canvas, by("panes")], [m.maps[0].canvas, by("maps")]].every(its => '
+                          '(([canvas, box]) => Math.abs(canvas - box) <= 0.5 || canvas < box && pane.height >= 150)('
+                          'its.map(it => it.getBoundingClientRect().bottom)))' % end)
 
     def test_a_link_leads_to_a_line(self) -> None:
         self.open()
@@ -428,7 +407,7 @@ class Page(unittest.TestCase):
         it = self.browser.call('Runtime.evaluate', expression='document.getElementById("file")')['result']['objectId']
         self.browser.call('DOM.setFileInputFiles', files=[str(file)], objectId=it)
         self.wait('run.end === 50')
-        self.assertEqual(self.value('web.name'), 'mine.toml')
+        self.assertEqual(self.value('web.document.name'), 'mine.toml')
 
     def test_a_text_whose_run_never_ended_waits(self) -> None:
         self.open()
@@ -437,9 +416,9 @@ class Page(unittest.TestCase):
         time.sleep(1.2)
         sign = self.value('[...text].reduce((sum, it) => (sum * 31 + it.codePointAt(0)) | 0, text.length)')
         self.browser.run('localStorage.setItem("motesim started", "%d")' % sign)
-        self.open(keeps=True)
+        self.open()
         self.assertEqual(self.value('m.panes.length'), 0)
-        self.press('try')
+        self.value('by("offers").firstChild.click()')
         self.wait('run && run.end === 90')
 
     def test_a_card_shows_why_a_line_is_there(self) -> None:
@@ -452,8 +431,8 @@ class Page(unittest.TestCase):
         self.wait('!by("card").hidden')
         self.press('ask-why')
         self.wait('by("why-chain") && by("why-chain").textContent.includes("a timer had come to its end")')
-        box = self.value('(it => [it.top, it.bottom, innerHeight])(by("card").getBoundingClientRect())')
-        self.assertTrue(0 <= box[0] and box[1] <= box[2], box)
+        # (the card moves up in the frame after it has grown)
+        self.wait('(it => 0 <= it.top && it.bottom <= innerHeight)(by("card").getBoundingClientRect())')
 
     def test_the_log_is_filtered(self) -> None:
         self.open()
@@ -473,7 +452,3 @@ class Page(unittest.TestCase):
                              '!it.getAttribute("aria-label") && !it.getAttribute("aria-hidden") && '
                              '!(it.labels && it.labels.length) && !it.closest(".form")).map(it => it.outerHTML)')
         self.assertEqual(unnamed, [])
-
-
-if __name__ == '__main__':
-    unittest.main()

@@ -19,7 +19,7 @@ from motesim.scenario import Scenario
 from motesim.why.chain import MOST_CALLS, Explainer, as_json, cause_of, chain, on_values, places
 from motesim.why.command import show_chain
 from motesim.why.fate import after_post
-from motesim.replay.file import ScenarioFile
+from motesim.scenario.in_programs import ScenarioFile
 from motesim.why.miss import Miss, _Misses, misses
 from motesim.why.question import Asked, Asker, Missing, Unasked
 from motesim.replay.mote import Parted
@@ -157,15 +157,6 @@ medium
 left 0
 '''
 HEAD = -1
-# For each line of mote 0, the place of its cause in the trace, from 0. The five processes start at boot. The timer's
-# event comes from `start a` (4), at which a set it; a takes it (6), and all that a does follows from that: the post,
-# the start of c, and the calls of c and b, which have no lines. b takes the event (13) that a posted (7). c set its
-# timer when it started (8), so that is the cause of the timer's event (15).
-CAUSES = [HEAD, HEAD, HEAD, HEAD, HEAD, 4, 5, 6, 6, 6, 6, 6, 6, 7, 13, 8, 15, 16]
-# The same of mote 1, but for what came from mote 0, which line 13 of its lines from 1 sent.
-CAUSES_OF_HEARER = [HEAD, HEAD, HEAD, HEAD, None, 4, 5, 6, 6]
-
-
 # A process that only the `if` of another one would call, a process that only it would start, and a thread.
 CALLED = """version = 2
 end = 40
@@ -301,18 +292,6 @@ def lines_of(source: Source, where: At) -> list[str]:
 class Causes(unittest.TestCase):
     """The cause of each line, by what the kernel does."""
 
-    def test_each_kind_of_line(self) -> None:
-        """Each line's cause is the line that led to the call in which it was written."""
-        causes = [cause_of(source(), At(0, place)) for place in range(len(CAUSES))]
-        self.assertEqual([at and at.place for at in causes], CAUSES)
-
-    def test_a_packet_is_caused_by_its_send(self) -> None:
-        found = source()
-        causes = [cause_of(found, At(1, place)) for place in range(len(CAUSES_OF_HEARER))]
-        self.assertEqual([at.place for at in causes if at and at.mote == 1],
-                         [it for it in CAUSES_OF_HEARER if it is not None])
-        self.assertEqual(causes[4], At(0, 12))
-
     def test_calls_without_a_line_are_named(self) -> None:
         found = source()
         self.assertEqual(because(found, At(0, 12)), 'b, line 19: `send 8`; b was polled by a in line 10: `poll b`')
@@ -438,6 +417,7 @@ class Questions(unittest.TestCase):
 
     def test_sentences_that_hold(self) -> None:
         for question, where in (('mote 1 prints h 8', At(1, 7)), ('mote 0 prints at least 2 times', At(0, 10)),
+                                ('mote 1 prints h any of 1 to 65535', At(1, 7)),
                                 ('some mote sends', At(0, 12)), ('every mote prints', At(1, 7)),
                                 ('exactly 1 copy arrives', At(1, 4)), ('at least 1 packet is sent', At(0, 12)),
                                 ('mote 0 finally prints c 2', At(0, 17)), ('mote 0 prints just c 7, 3, 2', At(0, 17)),
@@ -464,15 +444,10 @@ class Questions(unittest.TestCase):
                              'packet in 3 from 0 to 1')
             self.assertEqual(found.where, At(0, 12))
 
-    def test_sentences_that_want_a_line(self) -> None:
-        for question in 'mote 1 prints h 9', 'mote 1 prints h 8 by 6', 'mote 0 sends twice', 'every mote sends':
+    def test_sentences_that_want_a_line_or_are_about_none(self) -> None:
+        for question in ('mote 1 prints h 9', 'mote 1 prints h 8 by 6', 'mote 0 sends twice', 'every mote sends',
+                         'mote 1 prints h any of 9 to 511 or 7'):
             self.assertIsInstance(self.about(question), Missing, question)
-
-    def test_sentences_about_any_of_several_values(self) -> None:
-        self.assertEqual(self.where('mote 1 prints h any of 1 to 65535'), At(1, 7))
-        self.assertIsInstance(self.about('mote 1 prints h any of 9 to 511 or 7'), Missing)
-
-    def test_sentences_about_no_line(self) -> None:
         for question in 'no mote halts', 'mote 1 can hear mote 0', 'the report has 9 lines', 'no copy collides':
             with self.assertRaises(Fault, msg=question):
                 self.about(question)

@@ -1,4 +1,4 @@
-"""The causes in the page of a run: in a headless browser, what the chain and the plots show."""
+"""The causes in the page of a run: in a headless browser, what the chain shows."""
 import unittest
 
 from here import TOP, room_of
@@ -12,8 +12,9 @@ from motesim.report.run import Run, answer, read_run
 from motesim.scenario import Scenario
 from motesim.timeline.html import write_page
 from motesim.timeline.note import Line, Note, note_of
+from motesim.why.chain import cause_of
 from motesim.why.pages import Causes, causes_of
-from motesim.why.source import Source
+from motesim.why.source import At, Source
 
 
 def small_run() -> Run:
@@ -23,9 +24,11 @@ def small_run() -> Run:
 class Data(unittest.TestCase):
     def test_causes_are_those_of_the_chains(self) -> None:
         """Of the lines of both motes, the distance of each cause; 0 at the head. Mote 1's `recv` is line 22."""
-        causes = Causes(Source('small', test_why.REPORT.encode(), Scenario.parse(test_why.SCENARIO)))
-        wanted = [0 if cause < 0 else 2 * (place - cause) for place, cause in enumerate(test_why.CAUSES)]
-        self.assertEqual(list(causes.causes)[:18], wanted)
+        source = Source('small', test_why.REPORT.encode(), Scenario.parse(test_why.SCENARIO))
+        causes = Causes(source)
+        places = [cause_of(source, At(0, place)) for place in range(18)]
+        self.assertEqual(list(causes.causes)[:18], [
+            0 if it is None or it.place < 0 else 2 * (place - it.place) for place, it in enumerate(places)])
         self.assertEqual(causes.causes[22], 2 * (22 - 12))
 
     def test_a_run_without_its_scenario_has_none(self) -> None:
@@ -121,16 +124,6 @@ class Pages(InBrowser):
         self.ask()
         self.script("[...document.querySelectorAll('#why-chain li button')][4].click()")
         self.assertEqual(self.script('[motesim.chosen.mote, motesim.chosen.line]'), [0, 12])
-        self.script("document.querySelector('.chart circle[data-hop=\"6\"]').dispatchEvent(new MouseEvent('click'))")
-        self.assertEqual(self.script('motesim.chosen.line'), 5)
-
-    def test_the_style_of_the_chart_is_its_own(self) -> None:
-        self.open(small_run(), '#line=28')
-        weight = "getComputedStyle(document.getElementById('about')).fontWeight"
-        before = self.script(weight)
-        self.ask()
-        self.assertEqual(self.script("getComputedStyle(document.querySelector('.chart .name')).fontWeight"), '700')
-        self.assertEqual(self.script(weight), before)
 
 
 class Runs(unittest.TestCase):

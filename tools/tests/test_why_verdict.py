@@ -133,14 +133,14 @@ class Verdicts(unittest.TestCase):
                 continue
         self.assertGreater(len(readable), 15_000)
         seen: dict[str, int] = {}
-        for turn in range(12):
+        for turn in range(6):
             data = report_of(chance)
             asker, judge = Asker(Source('test', data.encode(), scenario)), Judge(Report.parse(data.encode()), scenario)
             for text in chance.sample(readable, 600):
                 kind = self.check(asker, judge, text)
                 seen[kind] = seen.get(kind, 0) + 1
         self.assertEqual(set(seen), {'holds', 'broken', 'missing', 'holds, no line', 'broken, no line'})
-        self.assertGreater(min(seen.values()), 50, seen)
+        self.assertGreater(min(seen.values()), 25, seen)
 
     def test_a_mote_without_such_lines_hides_no_other(self) -> None:
         """Mote 0 sends nothing and mote 1 sends 1 twice: line 5 of the report is the one too many."""

@@ -4,7 +4,7 @@ import os
 import unittest
 
 from here import call, room_of
-from motesim.explain.within import answer_within, busiest
+from motesim.explain.within import answer_within, most_done
 from motesim.runner import Limits, ProgramFault
 from skips import need_program
 
@@ -42,6 +42,12 @@ code echo {
   }
 }
 """
+STORM = '''process p;
+autostart p;
+receiver p;
+code p { etimer t; body { send 1; while 1 { yield; send 1; } } }
+'''
+MOTES = ''.join('[[mote]]\nx = %d\ny = 0\nprogram = "p"\n' % x for x in range(1, 10))
 NET = """version = 2
 end = 1000000
 [medium]
@@ -81,53 +87,46 @@ class Endless(unittest.TestCase):
                     r'many times in each moment\. Let it wait for a timer instead, such as `set t 10; yield_until '
                     r'fired\(t\);`\. A larger --memory raises the limit\n$' % tool))
 
-    def test_the_message_names_the_loops_by_the_lines_of_the_program(self) -> None:
-        self.assertIn(' (line 9 of program p), in each turn of `while (i < 500)` (line 8) within `while 1` (line 6)',
-                      busiest((NET % PROGRAM % 'print').encode(), False))
-        text = (PROGRAM % 'print').replace('pause;', 'post loud msg 1; yield_until is(msg);')
-        self.assertTrue(busiest((NET % text).encode()).endswith(': does a loop repeat without end?'))
-
     def test_the_message_names_the_mote_that_sends(self) -> None:
         self.assertRegex(self.said('explain', 'send', '--seconds', '0.3'),
                          r'Up to moment \d+, mote 0 sends [\d,]+ packets: .* A larger --seconds raises the limit\n$')
 
-    def test_the_message_names_the_mote_of_a_storm(self) -> None:
-        storm = 'process p;\nautostart p;\nreceiver p;\ncode p { body { send 1; while 1 { yield; send 1; } } }\n'
-        motes = ''.join('[[mote]]\nx = %d\ny = 0\nprogram = "p"\n' % x for x in range(1, 10))
-        data = (NET % storm + motes).replace('per = 100', 'per = 40').replace('1000000', '60')
-        self.assertRegex(busiest(data.encode()), (
-            r'^ Up to moment \d+, the motes send [\d,]+ packets, [\d,]+ of them mote \d: does each packet that'))
-        self.assertEqual(busiest(data.replace('while 1', 'if 1').encode()), '')
+    def test_what_is_done_most(self) -> None:
+        late = STORM.replace('send 1; while 1 { yield;', 'set t 1030; while 1 { yield; print 1; print 2;')
+        printing, loops = PROGRAM % 'print', (('while 1', 6), ('while (i < 500)', 8))
+        for text, kind, process, lines, found_loops, only_pauses in (
+                (printing, 'print', 'loud', (9,), loops, True),
+                (printing.replace('pause;', 'post loud msg 1; yield_until is(msg);'), 'print', 'loud', (9,), loops, False),
+                (PROGRAM % 'send', 'send', '', (), (), False), (POSTS, 'post', 'echo', (), (), False),
+                (PAUSES, 'pause', 'idle', (6,), (('while 1', 6), ('while !expired(t)', 6)), True),
+                # (a process may also post the event of a `pause` to itself)
+                (POSTS.replace('msg 1; yield;', 'continue 0; yield_until is(continue);'), 'pause', 'echo', (5,),
+                 (('while 1', 5),), False),
+                (STORM, 'storm', '', (), (), False), (late, 'storm', '', (), (), False),
+                (STORM.replace('while 1', 'if 1'), None, '', (), (), False),
+                (late.replace('while 1', 'if 1'), None, '', (), (), False),
+                (POSTS.replace('while 1', 'if 1'), None, '', (), (), False)):
+            data = NET % text
+            if 'receiver' in text:
+                data = (data + MOTES).replace('per = 100', 'per = 40')
+            data = data.replace('1000000', '60' if text == STORM else '5000')
+            with self.subTest(text):
+                found = most_done(data.encode(), False)
+                self.assertEqual(found and (found.kind, found.process, found.lines, found.loops, found.only_pauses),
+                                 kind and (kind, process, lines, found_loops, only_pauses))
+                if found:
+                    self.assertGreater(found.times, found.end)
+                    self.assertTrue(found.end > 1000 or text != late)
+                if text == PAUSES:
+                    in_file = most_done(data.encode())
+                    self.assertEqual(in_file and in_file.lines, (15,))
 
-    def test_a_storm_may_begin_late_and_a_mote_may_print_more_often_than_it_sends(self) -> None:
-        storm = ('process p;\nautostart p;\nreceiver p;\ncode p { etimer t; body { set t 1030; '
-                 'while 1 { yield; print 1; print 2; send 1; } } }\n')
-        motes = ''.join('[[mote]]\nx = %d\ny = 0\nprogram = "p"\n' % x for x in range(1, 10))
-        data = (NET % storm + motes).replace('per = 100', 'per = 40').replace('1000000', '100000')
-        self.assertRegex(busiest(data.encode()), (
-            r'^ Up to moment 1\d{3}, the motes send [\d,]+ packets, [\d,]+ of them mote \d: does each packet that'))
-        self.assertEqual(busiest(data.replace('while 1', 'if 1').encode()), '')
-
-    def test_the_message_names_the_process_that_pauses(self) -> None:
-        text = (NET % PAUSES).replace('1000000', '20000')
+    def test_the_report_has_a_limit(self) -> None:
         with self.assertRaises(ProgramFault) as caught:
-            answer_within('net.toml', text.encode(), Limits(60, 1 << 30, 1 << 20))
+            answer_within('net.toml', (NET % PAUSES).replace('1000000', '20000').encode(), Limits(60, 1 << 30, 1 << 20))
         self.assertRegex(str(caught.exception), (
             r'^net\.toml: the run was ended: the report is longer than 1,048,576 bytes\. Up to moment \d+, process '
-            r'idle of mote 0 pauses [\d,]+ times \(line 15\), in each turn of `while !expired\(t\)` '
-            r'\(line 15\) within `while 1` \(line 15\): a loop that only pauses repeats many times in each '
-            r'moment, so let the process wait by `yield_until`\. A larger --report raises the limit$'))
-
-    def test_a_process_may_post_the_event_of_a_pause_to_itself(self) -> None:
-        text = (NET % POSTS.replace('msg 1; yield;', 'continue 0; yield_until is(continue);')).replace('000000', '0000')
-        self.assertRegex(busiest(text.encode()), (
-            r'^ Up to moment \d+, process echo of mote 0 pauses [\d,]+ times \(line 14\), in each turn of `while 1` '))
-
-    def test_the_message_names_the_process_to_which_events_are_posted(self) -> None:
-        data = (NET % POSTS).encode()
-        self.assertRegex(busiest(data), r'^ Up to moment \d+, mote 0 posts [\d,]+ events to process echo: does a loop')
-        self.assertRegex(busiest((NET % PAUSES).encode(), False), r'\(line 6 of program p\)')
-        self.assertEqual(busiest((NET % POSTS.replace('while 1', 'if 1')).replace('1000000', '100').encode()), '')
+            r'idle of mote 0 pauses .* A larger --report raises the limit$'))
 
     def test_limits_are_greater_than_0(self) -> None:
         self.assertEqual(self.said('explain', 'print', '--memory', '0'), 'explain: limits are greater than 0\n')

@@ -14,7 +14,7 @@ from here import TOP, room_of
 from motesim.faults import Fault
 from project import kit, wrong_bodies
 from project.mutants import checks, log, public
-from project.mutants.checks import ANSWER, CONTRACT, INVARIANT, LIMIT, SAFETY, TWIN, Verdict, function_of, refused_in
+from project.mutants.checks import ANSWER, CONTRACT, INVARIANT, LIMIT, SAFETY, TWIN, Verdict, is_in, refused_in
 from project.mutants.edits import Edit, edits_of, function_around, groups, together
 
 CODE = """pub(crate) fn one<T>(
@@ -57,24 +57,29 @@ fn four() -> u8 {
 
 
 class Functions(unittest.TestCase):
-    def around(self, old: str, new: str) -> str | None:
+    def around(self, old: str, new: str, file: str = 'src/lib.rt') -> str | None:
         self.assertEqual(CODE.count(old), 1)
-        return function_around(CODE, CODE.replace(old, new))
+        return function_around(CODE, CODE.replace(old, new), Path(file))
 
     def test_a_change_of_a_body_belongs_to_its_function(self) -> None:
         for old, new, name in [
             ('n == 3', 'n == 4', 'one'), ('        4\n', '        9\n', 'one'), ('        4\n', '', 'one'),
-            ('        5\n', '        9\n', 'two'), ('        7\n', '        7 + 0\n', 'three'),
+            ('        5\n', '        9\n', 'Queue::two'), ('        7\n', '        7 + 0\n', 'Queue::three'),
             ('    8\n', '    9\n', 'four'),
         ]:
             self.assertEqual(self.around(old, new), name, old)
+
+    def test_its_path_has_the_module_unless_that_is_the_root(self) -> None:
+        self.assertEqual(self.around('    8\n', '    9\n', 'src/a/queue.rt'), 'queue::four')
+        self.assertEqual(self.around('        5\n', '        9\n', 'src/a/queue.rt'), 'Queue::two')
 
     def test_a_change_of_anything_else_belongs_to_none(self) -> None:
         for old in 'n: u8,', 'result = n', 'result = 1', 'result = 6', 'T: Copy,\n', 'fn start', "impl<'a":
             self.assertIsNone(self.around(old, 'x'), old)
 
     def test_a_change_of_two_bodies_belongs_to_none(self) -> None:
-        self.assertIsNone(function_around(CODE, CODE.replace('        7', '        9').replace('    8', '    9')))
+        changed = CODE.replace('        7', '        9').replace('    8', '    9')
+        self.assertIsNone(function_around(CODE, changed, Path('src/lib.rt')))
 
 
 class Edits(unittest.TestCase):
@@ -104,7 +109,7 @@ class Edits(unittest.TestCase):
 
     def test_an_edit_of_a_body_shares_a_check(self) -> None:
         [edit] = self.read('        5 -> 9')
-        self.assertEqual((edit.name, edit.function, edit.may_share, edit.trouble), ('low/0', 'two', True, None))
+        self.assertEqual((edit.name, edit.function, edit.may_share, edit.trouble), ('low/0', 'Queue::two', True, None))
         self.assertIsNone(edit.twin)
 
     def test_a_twin_has_other_new_texts(self) -> None:
@@ -117,9 +122,9 @@ class Edits(unittest.TestCase):
         self.assertEqual((edit.function, edit.may_share), ('four', False))
 
     def test_one_of_a_function_with_the_name_of_another_module_does_not(self) -> None:
-        (self.room / 'src/two.rt').write_text('fn five() -> u8 {\n    5\n}\n')
-        [edit] = self.read('        5 -> 9')
-        self.assertEqual((edit.function, edit.may_share), ('two', False))
+        (self.room / 'src/one.rt').write_text('fn five() -> u8 {\n    5\n}\n')
+        [edit] = self.read('        4 -> 9')
+        self.assertEqual((edit.function, edit.may_share), ('one', False))
 
     def test_one_that_changes_more_may_name_its_function(self) -> None:
         more, named = self.read('n: u8 -> n: u16', 'n: u8 -> n: u16\nrefused: low::one')
@@ -168,7 +173,10 @@ class WhatACheckSays(unittest.TestCase):
     def test_name_of_a_function(self) -> None:
         for name in 'q::queue::EventQueue::post', 'q::queue::post', 'q::queue::fn::EventQueue::post::map_err', \
                 'q::queue::fn::post::map':
-            self.assertEqual(function_of(name), 'post')
+            self.assertTrue(is_in(name, 'post'))
+        self.assertTrue(is_in('q::queue::fn::EventQueue::post::map_err', 'EventQueue::post'))
+        for other in 'ost', 'queue::take', 'Event::post', None:
+            self.assertFalse(is_in('q::queue::EventQueue::post', other))
 
     OPEN = 'fn c::q::post: no proof: expected answers in ./proofs/q/post/Answers.antt; `search` did not prove %s'
 
@@ -308,6 +316,9 @@ class Trials(unittest.TestCase):
         self.trial(None).forget(1)
 
 
+KEPT_CODE = '"""Says more."""\nfrom project.kit import used\n\n\nclass A:\n    """Says more."""\n    # More.\n    b: int\n'
+
+
 class Log(unittest.TestCase):
     def setUp(self) -> None:
         self.room, self.kit = room_of(self), 'one'
@@ -330,35 +341,47 @@ class Log(unittest.TestCase):
             log.note(found, edits)
 
     def test_a_digest_has_all_that_a_verdict_depends_on(self) -> None:
-        below = crate_at(self.room / 'low', {'src/lib.rt': 'fn a() {}\n', 'specs/A.antt': '', 'proofs/P.antt': ''})
-        high = crate_at(self.room / 'high', {'src/lib.rt': '/// Says more.\nfn b() {}\n',
-                                             'a.edit': 'file: src/lib.rt\n'})
+        below = crate_at(self.room / 'low', {
+            'src/lib.rt': 'fn a() -> u8\n    ensures { result = 1 }\n{\n    1\n}\n\nstruct C {}\n', 'specs/A.antt': '',
+            'proofs/P.antt': '', 'proofs/a/Answers.antt': ''})
+        high = crate_at(self.room / 'high', {'src/lib.rt': '/// Says more.\nfn b() {}\n', 'a.edit': 'file: src/lib.rt\n',
+                                             'proofs/b/Answers.antt': ''})
+        crate_at(self.room / 'tools/project', {
+            'mutants/checks.py': KEPT_CODE, 'mutants/edits.py': '',
+            'kit.py': 'def used() -> int:\n    """Says more."""\n    return 1\n'})
         high.below, changed = (lambda: [below]), []
         (self.room / 'crates.txt').write_text('low:\n')
-        (self.room / 'tools/project/mutants').mkdir(parents=True)
 
         def same(path: str, text: str) -> None:
             before = self.digest(high)
             (self.room / path).write_text(text)
             if self.digest(high) != before:
                 changed.append(path)
-        files = ['high/a.edit', 'high/src/lib.rt', 'low/src/lib.rt', 'low/specs/A.antt', 'low/proofs/P.antt',
-                 'tools/project/mutants/checks.py']
+        files = ['high/a.edit', 'high/src/lib.rt', 'high/proofs/b/Answers.antt', 'low/src/lib.rt', 'low/specs/A.antt',
+                 'low/proofs/P.antt', 'tools/project/mutants/checks.py', 'tools/project/kit.py']
+        same('high/a.edit', '# A remark.\nfile: src/lib.rt\n')
         same('high/src/lib.rt', '    // A comment only.\nfn b() {}\n')
+        same('low/src/lib.rt', 'fn a() -> u8\n    ensures { result = 1 }\n{\n    2 - 1\n}\n\nstruct C {}\n')
+        same('low/proofs/a/Answers.antt', 'returns c = c.new\n')
         same('crates.txt', 'low:\n# Tests\nother_tests: low\n')
         same('tools/project/mutants/log.py', 'x = 1\n')
+        same('tools/project/mutants/checks.py', KEPT_CODE.replace('Says more', 'Says less'))
+        same('tools/project/kit.py', 'def used() -> int:\n    return 1\n\n\ndef unused() -> int:\n    return 2\n')
         self.assertEqual(changed, [])
         for path in files:
-            same(path, 'x = 1\n')
+            same(path, 'fn x() -> u8\n{\n}\n' if path.endswith('rt') else 'def used() -> int:\n    return 3\n')
         same('crates.txt', 'low may_wait=1:\n')
         files.append('crates.txt')
         self.assertEqual(changed, files)
-        before, self.kit = self.digest(high), 'another'
+        before, self.kit = self.digest(high), 'kit-1 another'
         self.assertNotEqual(self.digest(high), before)
+        before, self.kit = self.digest(high), 'kit-2 another'
+        self.assertEqual(self.digest(high), before)
 
     def digest(self, crate: Any) -> str:
         log.sum_of.cache_clear()
         log.digest.cache_clear()
+        log.judging_code.cache_clear()
         return log.digest(Edit(crate, self.room / 'high/a.edit', None, False, None), self.room)
 
     def test_what_is_noted_over_the_same_is_not_tried_again(self) -> None:
@@ -382,11 +405,28 @@ class PublicFunctions(unittest.TestCase):
     def test_promises_of_exported_functions(self) -> None:
         lib = CODE_OF_A_CRATE.split('\n---\n')
         top = crate_at(room_of(self), {'crates/one/src/lib.rt': lib[0], 'crates/one/src/two.rt': lib[1],
-                                       'crates/one/src/laws.rt': lib[1], 'crates/one_tests/src/lib.rt': lib[1]})
-        self.assertEqual(public.public_functions(Path(top.folder)), {'one::two::free', 'one::two::Kept::long'})
+                                       'crates/one/src/three.rt': lib[2], 'crates/one/src/laws.rt': lib[1],
+                                       'crates/one_tests/src/lib.rt': lib[1]})
+        self.assertEqual(public.public_functions(Path(top.folder)), {'one::two::free', 'one::three::Kept::long'})
 
     def test_each_has_a_mutant_that_shows_that_its_promise_binds_or_is_listed(self) -> None:
         self.assertEqual(sorted(public.public_functions() - public.with_evidence()), sorted(public.listed()))
+
+    def test_each_line_has_its_reason(self) -> None:
+        found = public.listed()
+        self.assertEqual({name: why for name, why in found.items() if why != public.reason(name, why)}, {})
+        # (lower this when more functions have one)
+        self.assertLessEqual([*found.values()].count(public.OPEN), MOST_OPEN)
+
+    def test_a_goal_of_a_contract_that_is_proved_by_hand(self) -> None:
+        answers = {'crates/one/proofs/two/%s/Answers.antt' % name: 'pub x : goal.%s\n' % goal
+                   for name, goal in [('Kept/long', 'returns-then'), ('free', 'loop-init')]}
+        top = Path(crate_at(room_of(self), answers).folder)
+        found = [public.is_by_hand('one::two::' + it, top) for it in ('Kept::long', 'free', 'other')]
+        self.assertEqual(found, [True, False, False])
+
+
+MOST_OPEN = 79
 
 
 CODE_OF_A_CRATE = """pub use two::{Kept, free};
@@ -437,6 +477,10 @@ impl Trait for Kept {
         1
     }
 }
+---
+pub struct Kept<T> {
+    of: T,
+}
 """
 
 
@@ -444,15 +488,27 @@ class Choice(unittest.TestCase):
     CRATES: Any = [SimpleNamespace(name=name) for name in ('low', 'high', 'other')]
     EVERY = [Edit(crate, Path('%d.edit' % at), 'f%d' % (at % 20), True, None) for crate in CRATES for at in range(40)]
 
-    def test_a_tenth_is_chosen_by_a_seed(self) -> None:
-        found = wrong_bodies.tenth(self.EVERY, 'one')
-        self.assertEqual([len(found), len(wrong_bodies.tenth(self.EVERY[:21], 'one'))], [12, 3])
-        self.assertEqual(found, wrong_bodies.tenth(self.EVERY, 'one'))
-        self.assertNotEqual(found, wrong_bodies.tenth(self.EVERY, 'two'))
+    def of_gate(self, seed: str, *changed: Edit) -> list[Edit]:
+        with mock.patch.multiple(log, noted=lambda: {}, changed=lambda edits: [it for it in edits if it in changed]), \
+                mock.patch.object(wrong_bodies, 'commit', lambda: seed), mock.patch('builtins.print'):
+            return wrong_bodies.of_gate(self.EVERY)
+
+    def test_a_tenth_is_chosen_by_the_commit(self) -> None:
+        found = self.of_gate('one')
+        self.assertEqual(len(found), 12)
+        self.assertEqual(found, self.of_gate('one'))
+        self.assertNotEqual(found, self.of_gate('two'))
 
     def test_a_tenth_has_few_crates(self) -> None:
         for seed in 'one', 'two', 'three':
-            self.assertEqual(len({it.crate.name for it in wrong_bodies.tenth(self.EVERY, seed)}), 1)
+            self.assertEqual(len({it.crate.name for it in self.of_gate(seed)}), 1)
+
+    def test_a_tenth_begins_with_changed_mutants_of_the_gate(self) -> None:
+        gate = [replace(it, file=Path('gate-bodies', it.file)) for it in self.EVERY]
+        with mock.patch.object(self, 'EVERY', gate):
+            few, many = self.of_gate('one', *gate[::30]), self.of_gate('one', *gate[::3])
+        self.assertEqual((len(few), set(gate[::30]) - {*few}), (12, set()))
+        self.assertEqual((len(many), {*many} - {*gate[::3]}), (12, set()))
 
     def test_known_open_mutants_are_left_out(self) -> None:
         verdicts = [ANSWER, LIMIT, CONTRACT, ANSWER]
@@ -462,7 +518,7 @@ class Choice(unittest.TestCase):
             self.assertEqual(wrong_bodies.without_open(self.EVERY[:5]), self.EVERY[2:5])
 
     def test_each_is_tried_in_the_end(self) -> None:
-        found = {edit.name for seed in range(200) for edit in wrong_bodies.tenth(self.EVERY, str(seed))}
+        found = {edit.name for seed in range(200) for edit in self.of_gate(str(seed))}
         self.assertEqual(len(found), 120)
 
     def test_names_are_those_of_mutants_and_crates(self) -> None:

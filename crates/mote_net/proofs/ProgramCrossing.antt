@@ -14,6 +14,7 @@ use Rattle.std.specs.contracts.alloc.Global as Heap
 use Rattle.std.specs.contracts.impls.GlobalAllocator.TheImpl.{ghosts}
 use Rattle.std.specs.contracts.option.Option as Option
 use Rattle.program_tree.specs.contracts.flat_block.FlatBlock as FlatBlock
+use Rattle.program_tree.specs.contracts.formula.Formula as Formula
 use Rattle.program_tree.specs.contracts.instruction.Instruction as Instruction
 use Rattle.program_tree.specs.contracts.process_text.ProcessText as ProcessText
 use Rattle.program_tree.specs.contracts.program.Program as Program
@@ -27,6 +28,7 @@ use Rattle.program_tree.specs.contracts.tree.Stmt.TheKnot as stmt-knot
 use Rattle.program_tree.proofs.event_name.TestedEvent.TheSendSync as event
 use Rattle.program_tree.proofs.event_name.BroadcastEvent.TheSendSync as cast
 use Rattle.program_tree.proofs.event_name.PostedEvent.TheSendSync as sent
+use Rattle.program_tree.proofs.formula.Term.TheSendSync as term
 use Rattle.program_tree.proofs.names.Names.TheSendSync as names
 use Rattle.program_tree.proofs.timer.Timer.TheSendSync as timer
 use Rattle.program_tree.proofs.tree.Operator.TheSendSync as operator
@@ -78,9 +80,14 @@ pub stmt_sync : IsSync Stmt.the_row
 stmt_sync = let e = expr_sync in let b = block_sync in
     variants_sync Stmt.enum ((action_sync, tt), ((e, (b, (option.the_sync Block.the_row b, tt))), ((e, (b, tt)), tt)))
 
+formula_sync : IsSync Formula.the_row
+formula_sync = let t = term.the_sync in
+    variants_sync Formula.enum ((t, tt), ((operator.the_sync, (t, (t, tt))), ((expr_sync, tt), tt)))
+
 instruction_sync : IsSync Instruction.the_row
-instruction_sync = variants_sync Instruction.enum
-    ((action_sync, (u16, tt)), ((expr_sync, (u16, (u16, tt))), ((expr_sync, (u16, (u16, tt))), tt)))
+instruction_sync = let f = formula_sync in
+    variants_sync Instruction.enum
+    ((action_sync, (u16, tt)), ((u8, (f, (u16, tt))), ((f, (u16, (u16, tt))), ((f, (u16, (u16, tt))), tt))))
 
 pub flat_sync : IsSync FlatBlock.the_row
 flat_sync = declared_sync FlatBlock.the_type (block_sync, (Vec-sync Instruction.the_row instruction_sync, tt))

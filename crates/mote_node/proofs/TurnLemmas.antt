@@ -6,9 +6,12 @@ use Rattle.radio_packet.specs.declared.arrival.Arrival.{Arrival}
 use Rattle.trace_lines.specs.declared.out.Out.{Out}
 use Rattle.process_kernel.specs.KernelModel.{KernelModel}
 use Rattle.process_kernel.specs.Public.{kernel_in}
+use Rattle.process_kernel.specs.Views.{kernel_model_of}
 use Rattle.mote_node.specs.Underway.{Underway}
 use Rattle.mote_node.specs.Arrivals.{hear_all}
 use Rattle.mote_node.specs.Steps.{underway_in, GoesOn}
+use Rattle.mote_node.specs.Wake.{wake_at}
+use Rattle.mote_node.specs.Public.{node_over, wake_in}
 use Rattle.mote_node.specs.Turn.{boot_due, poll_due, most_runs, runs_of, work_of, mote_turn}
 use Rattle.mote_node.proofs.StepLemmas.{underway, if_true, if_false, mote_step}
 
@@ -57,6 +60,27 @@ some_after step (Some m) new out out' goes h = some_underway new out' (step (und
 some_if : {A : Type 0} (failed : Bool) (x y : A) → IsSome (if failed then None else Some x) → IsSome (if failed then None else Some y)
 some_if true x y h = h
 some_if false x y h = refl
+
+-- the wake that a mote keeps is the next wake of its node
+pub kept_wake : (failed : Bool) (m : Option KernelModel) (last wake : Option ℕ) (collides : Bool) → (failed ≡ true → wake ≡ None)
+    → (failed ≡ false → IsSome m) → (failed ≡ false → IfSome m (λ k. wake ≡ wake_at last k))
+    → wake ≡ wake_in (if failed then None else option_map (node_over last collides) m)
+kept_wake true m last wake collides sleeps running wakes = sleeps refl
+kept_wake false None last wake collides sleeps running wakes = let none = running refl in cc
+kept_wake false (Some m) last wake collides sleeps running wakes = wakes refl
+
+wakes_if : (failed : Bool) (m n : KernelModel) (P : KernelModel → Type 0) → (P m → P n) → IfSome (if failed then None else Some m) P
+    → IfSome (if failed then None else Some n) P
+wakes_if true m n P f h = tt
+wakes_if false m n P f h = f h
+
+-- the first wake of a kernel's mote is the same with any program
+pub wakes_anyhow : (t t' : Tree) (k : Kernel) (wake : Option ℕ)
+    → IfSome (kernel_in t k) (λ m. wake ≡ wake_at None m) → IfSome (kernel_in t' k) (λ m. wake ≡ wake_at None m)
+unfolding kernel_in
+wakes_anyhow t t' k wake h =
+    wakes_if k.failed (kernel_model_of t k.machine k.booted k.halted) (kernel_model_of t' k.machine k.booted k.halted)
+    (λ m. wake ≡ wake_at None m) (λ e. e) h
 
 -- if a kernel has not failed with one program, it has not failed with any other
 pub some_anyhow : (t t' : Tree) (k : Kernel) → IsSome (kernel_in t k) → IsSome (kernel_in t' k)

@@ -16,6 +16,10 @@ abbrev pub wake_since : (last : Option ℕ) → KernelModel → Option ℕ
 wake_since None m = Some 0
 wake_since (Some last) m = wake_after last m
 
--- the next wake of a node; a mote that has halted has none
+-- the next wake of a mote whose last turn was at this moment; a mote that has halted has none
+abbrev pub wake_at : (last : Option ℕ) → KernelModel → Option ℕ
+wake_at last m = if m.halted then None else wake_since last m
+
+-- the next wake of a node
 abbrev pub wake_of : Node → Option ℕ
-wake_of n = if n.mote.halted then None else wake_since n.last n.mote
+wake_of n = wake_at n.last n.mote

@@ -6,7 +6,7 @@ ghost use Rattle.program_tree.specs.Code.{Tree};
 ghost use Rattle.program_tree.specs.Program.{tree_of};
 ghost use Rattle.process_kernel.specs.Public.{kernel_in};
 ghost use Rattle.mote_node.specs.Node.{is_past};
-ghost use Rattle.mote_node.specs.Wake.{wake_after};
+ghost use Rattle.mote_node.specs.Wake.{wake_at};
 ghost use Rattle.std.proofs.Props.{props};
 
 use crate::turn::turn_in_net;
@@ -63,15 +63,19 @@ pub struct TurnOut {
 }
 
 /// A mote of a net. Its turns are at rising moments; callers pass the same program to each of them. The kernel is
-/// behind a pointer, so it costs little to move a mote.
+/// behind a pointer, so it costs little to move a mote. The next wake is computed once, at the end of a turn.
 pub struct Mote {
     alloc: Global,
     kernel: Box<Kernel>,
     last: Option<u64>,
+    wake: Option<u64>,
     collide: bool,
     failed: bool,
     ghost early: { IfSome last (λ moment. moment ≤ 2 ^ 40) } by { Prim.hlevel props },
     ghost running: { (t : Tree) → failed ≡ false → IsSome (kernel_in t kernel.value) } by { Prim.hlevel props },
+    ghost wakes: { (t : Tree) → failed ≡ false
+        → IfSome (kernel_in t kernel.value) (λ m. wake ≡ wake_at last m) } by { Prim.hlevel props },
+    ghost sleeps: { failed ≡ true → wake ≡ None } by { Prim.hlevel props },
 }
 
 /// Implemented by hand: for the checker, each function that owns a mote then drops it with a single call.
@@ -81,18 +85,22 @@ impl Drop for Mote {
             alloc: _,
             kernel: _,
             last: _,
+            wake: _,
             collide: _,
             failed: _,
         } = self;
     }
 }
 
-/// The next wake of a mote that has not halted, after its turn at this moment.
+/// The next wake of a mote after its turn at this moment; none if the mote has halted.
 #[tactic(auto, unfolding(crate::specs::Wake::wake_after))]
 fn wake_after(kernel: &Kernel, moment: u64) -> Option<u64>
     requires moment_bounded { moment ≤ 2 ^ 40 }
-    ensures value { (t : Tree) → IfSome (kernel_in t kernel.now) (λ m. result ≡ wake_after moment m) }
+    ensures value { (t : Tree) → IfSome (kernel_in t kernel.now) (λ m. result ≡ wake_at (Some moment) m) }
 {
+    if kernel.is_halted() {
+        return None;
+    }
     if kernel.pending() {
         return Some(moment + 1);
     }
@@ -142,6 +150,7 @@ impl Mote {
             alloc,
             kernel,
             last: None,
+            wake: Some(0),
             collide: false,
             failed: false,
         })
@@ -168,13 +177,7 @@ impl Mote {
     pub fn wake(&self) -> Option<u64>
         ensures value { (t : Tree) → result ≡ wake_in (node_in t self.now) }
     {
-        if self.failed || self.kernel.is_halted() {
-            return None;
-        }
-        match self.last {
-            Some(last) => wake_after(&*self.kernel, last),
-            None => Some(0),
-        }
+        self.wake
     }
 
     /// Takes a turn at this moment with the packets that arrive, in the order of `arrivals`. The first turn boots the
@@ -257,10 +260,12 @@ impl Mote {
         match turned {
             Ok(()) => {
                 self.last = Some(moment);
-                Ok(self.wake())
+                self.wake = wake_after(&*self.kernel, moment);
+                Ok(self.wake)
             }
             Err(_) => {
                 self.failed = true;
+                self.wake = None;
                 Err(MoteError::Memory)
             }
         }

@@ -1,6 +1,6 @@
 pub mod Boots
 pub mod ByMote
-pub mod Falls
+pub mod Sorted
 pub mod Gathered
 pub mod Items
 pub mod Keys

@@ -18,10 +18,10 @@ use Rattle.window_laws.proofs.Lists.{any_every}
 use Rattle.net_agenda.specs.declared.bucket.Bucket.{Bucket}
 use Rattle.net_agenda.specs.declared.bucket.PendingEvent.{PendingEvent}
 use Rattle.net_agenda.specs.Buckets.{goes_to, packet_in, arrival_of, arrivals_in_order, arrivals_at, nothing_due}
-use Rattle.net_agenda.specs.Buckets.{gathered, due_of, is_here, is_pending_for, of_mote, is_wake_for, arrivals_of, FallsIfSaid}
+use Rattle.net_agenda.specs.Buckets.{gathered, due_of, is_here, is_pending_for, of_mote, is_wake_for, arrivals_of, DescendIfSorted}
 use Rattle.net_agenda.specs.Buckets.{is_nothing, first_bucket_mote, IsTaken, IsReadyBucket, Buckets, HoldsItems, item_of, item_at}
 use Rattle.net_agenda.specs.Buckets.{items_in, bucket_items_at, without_wake}
-use Rattle.net_agenda.proofs.Falls.{first_low}
+use Rattle.net_agenda.proofs.Sorted.{first_low}
 use Rattle.net_agenda.proofs.Gathered.{unwrapped, due_both, due_elsewhere, due_taken, due_unwoken, due_asleep}
 use Rattle.net_agenda.proofs.Gathered.{any_same, from_due, held, then_out}
 use Rattle.net_agenda.proofs.Keys.{not_greater}
@@ -92,14 +92,14 @@ not_none [] c = refl
 not_none (x ∷ cs) c = refl
 
 pub put_more : (old new : Buckets) (t : ℕ) (c : PendingEvent) (b : Bucket) (cs : List PendingEvent) (items : List Item) → HoldsItems old items → bucket_items_at old t ≡ map (item_at t) cs
-    → b.coming.items ≡ cs ++ c ∷ [] → FallsIfSaid b → ((q : ℕ) → get nat_cmp new q ≡ cond (is_eq (nat_cmp t q)) (Some b) (get nat_cmp old q)) → HoldsItems new (items ++ item_at t c ∷ [])
-put_more old new t c b cs items holds at more falls updates =
+    → b.coming.items ≡ cs ++ c ∷ [] → DescendIfSorted b → ((q : ℕ) → get nat_cmp new q ≡ cond (is_eq (nat_cmp t q)) (Some b) (get nat_cmp old q)) → HoldsItems new (items ++ item_at t c ∷ [])
+put_more old new t c b cs items holds at more is_sorted updates =
     held old new t (Some b) items (items ++ item_at t c ∷ []) holds updates ready
     (λ m. ap (due_of t m) (ap (map (item_at t)) more ∙ (map-append (item_at t) cs (c ∷ []) ∙ ap (λ l. l ++ item_at t c ∷ []) (sym at))) ∙ due_both t m (bucket_items_at old t) items (item_at t c) (holds.due t m))
     (λ u m e. due_elsewhere u m t items (item_at t c) (moment_at t c) e)
   where
     ready : (d : Bucket) → Some b ≡ Some d → IsReadyBucket d
-    ready d e = let f : b ≡ d = cc in subst IsReadyBucket f (record { filled = ap is_nothing more ∙ not_none cs c; falls = falls })
+    ready d e = let f : b ≡ d = cc in subst IsReadyBucket f (record { filled = ap is_nothing more ∙ not_none cs c; is_sorted = is_sorted })
 
 -- a bucket from which events were taken out; it is removed if no event is left in it
 
@@ -117,19 +117,19 @@ left_items t b =
       | inr e ↦ rw e refl
     ]
 
-left_ready : (b : Bucket) → FallsIfSaid b → (d : Bucket) → left_of b ≡ Some d → IsReadyBucket d
-left_ready b falls d e =
+left_ready : (b : Bucket) → DescendIfSorted b → (d : Bucket) → left_of b ≡ Some d → IsReadyBucket d
+left_ready b is_sorted d e =
     elim (cases_Bool (is_nothing b.coming.items)) [
       | inl f ↦ (let g = rw f at e in absurd (cc))
-      | inr f ↦ (let g = rw f at e in let h : b ≡ d = cc in subst IsReadyBucket h (record { filled = f; falls = falls }))
+      | inr f ↦ (let g = rw f at e in let h : b ≡ d = cc in subst IsReadyBucket h (record { filled = f; is_sorted = is_sorted }))
     ]
 
 held_left : (old new : Buckets) (t : ℕ) (b : Bucket) (items more : List Item) → HoldsItems old items
-    → ((q : ℕ) → get nat_cmp new q ≡ cond (is_eq (nat_cmp t q)) (left_of b) (get nat_cmp old q)) → FallsIfSaid b
+    → ((q : ℕ) → get nat_cmp new q ≡ cond (is_eq (nat_cmp t q)) (left_of b) (get nat_cmp old q)) → DescendIfSorted b
     → ((m : ℕ) → due_of t m (map (item_at t) b.coming.items) ≡ due_of t m more)
     → ((u m : ℕ) → eqb t u ≡ false → due_of u m more ≡ due_of u m items) → HoldsItems new more
-held_left old new t b items more holds updates falls there elsewhere =
-    held old new t (left_of b) items more holds updates (left_ready b falls) (λ m. ap (due_of t m) (left_items t b) ∙ there m) elsewhere
+held_left old new t b items more holds updates is_sorted there elsewhere =
+    held old new t (left_of b) items more holds updates (left_ready b is_sorted) (λ m. ap (due_of t m) (left_items t b) ∙ there m) elsewhere
 
 due_found : (old : Buckets) (t m : ℕ) (b : Bucket) (items : List Item) → HoldsItems old items → get nat_cmp old t ≡ Some b → due_of t m (map (item_at t) b.coming.items) ≡ due_of t m items
 due_found old t m b items holds found = ap (λ o. due_of t m (items_in t o)) (sym found) ∙ holds.due t m
@@ -153,7 +153,7 @@ changed_gone old mid new t d e put out q =
 pub taken : (old new : Buckets) (t k : ℕ) (b d : Bucket) (items : List Item) → HoldsItems old items → get nat_cmp old t ≡ Some b → IsTaken k b d
     → ((q : ℕ) → get nat_cmp new q ≡ cond (is_eq (nat_cmp t q)) (left_of d) (get nat_cmp old q)) → HoldsItems new (filter (λ item. not (comes_at t k item)) items)
 taken old new t k b d items holds found is updates =
-    held_left old new t d items (filter (λ item. not (comes_at t k item)) items) holds updates is.falls there
+    held_left old new t d items (filter (λ item. not (comes_at t k item)) items) holds updates is.is_sorted there
     (λ u m e. (let out = rw e at (due_taken items t k u m) in out))
   where
     there : (m : ℕ) → due_of t m (map (item_at t) d.coming.items) ≡ due_of t m (filter (λ item. not (comes_at t k item)) items)
@@ -197,10 +197,10 @@ none_found old t k items holds none =
 -- a wake is taken out
 
 pub unwoken : (old new : Buckets) (t k : ℕ) (b d : Bucket) (items : List Item) → HoldsItems old items → get nat_cmp old t ≡ Some b
-    → d.coming.items ≡ filter (λ c. not (is_wake_for k c)) b.coming.items → FallsIfSaid d → filter (is_wake_of k) items ≡ Wake t k ∷ []
+    → d.coming.items ≡ filter (λ c. not (is_wake_for k c)) b.coming.items → DescendIfSorted d → filter (is_wake_of k) items ≡ Wake t k ∷ []
     → ((q : ℕ) → get nat_cmp new q ≡ cond (is_eq (nat_cmp t q)) (left_of d) (get nat_cmp old q)) → HoldsItems new (filter (λ item. not (is_wake_of k item)) items)
-unwoken old new t k b d items holds found less falls one updates =
-    held_left old new t d items (filter (λ item. not (is_wake_of k item)) items) holds updates falls there
+unwoken old new t k b d items holds found less is_sorted one updates =
+    held_left old new t d items (filter (λ item. not (is_wake_of k item)) items) holds updates is_sorted there
     (λ u m e. (let out = rw e at (due_unwoken items t k one u m) in out))
   where
     there : (m : ℕ) → due_of t m (map (item_at t) d.coming.items) ≡ due_of t m (filter (λ item. not (is_wake_of k item)) items)

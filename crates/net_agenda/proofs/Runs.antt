@@ -15,7 +15,7 @@ use Rattle.radio_medium.specs.Medium.{copy_of}
 use Rattle.window_laws.specs.Agenda.{Item, Packet, moment_of}
 use Rattle.net_agenda.specs.declared.bucket.Bucket.{Bucket}
 use Rattle.net_agenda.specs.declared.bucket.PendingEvent.{PendingEvent}
-use Rattle.net_agenda.specs.Buckets.{due_of, is_nothing, Buckets, FallsIfSaid, HoldsItems, IsReadyBucket, item_at, bucket_items_at}
+use Rattle.net_agenda.specs.Buckets.{due_of, is_nothing, Buckets, DescendIfSorted, HoldsItems, IsReadyBucket, item_at, bucket_items_at}
 use Rattle.net_agenda.proofs.Gathered.{due_both, due_elsewhere, held, more_copies, more_fates}
 use Rattle.net_agenda.proofs.Moments.{moment_at}
 
@@ -73,14 +73,14 @@ many_elsewhere u m t items (z ∷ zs) h e =
     ap (due_of u m) (sym (append_assoc items (z ∷ []) zs)) ∙ (many_elsewhere u m t (items ++ z ∷ []) zs h.1 e ∙ due_elsewhere u m t items z h.0 e)
 
 pub put_many : (old new : Buckets) (t : ℕ) (b : Bucket) (items zs : List Item) → HoldsItems old items → map (item_at t) b.coming.items ≡ bucket_items_at old t ++ zs
-    → is_nothing b.coming.items ≡ false → FallsIfSaid b → ((q : ℕ) → get nat_cmp new q ≡ cond (is_eq (nat_cmp t q)) (Some b) (get nat_cmp old q)) → HoldsItems new (items ++ zs)
-put_many old new t b items zs holds more filled falls updates =
+    → is_nothing b.coming.items ≡ false → DescendIfSorted b → ((q : ℕ) → get nat_cmp new q ≡ cond (is_eq (nat_cmp t q)) (Some b) (get nat_cmp old q)) → HoldsItems new (items ++ zs)
+put_many old new t b items zs holds more filled is_sorted updates =
     held old new t (Some b) items (items ++ zs) holds updates ready
     (λ m. ap (due_of t m) more ∙ due_many t m (bucket_items_at old t) items zs (holds.due t m))
     (λ u m e. many_elsewhere u m t items zs (all_after t (bucket_items_at old t) zs (subst (AllByRecursion (λ item. moment_of item ≡ t)) more (all_then t b.coming.items))) e)
   where
     ready : (d : Bucket) → Some b ≡ Some d → IsReadyBucket d
-    ready d e = let f : b ≡ d = cc in subst IsReadyBucket f (record { filled = filled; falls = falls })
+    ready d e = let f : b ≡ d = cc in subst IsReadyBucket f (record { filled = filled; is_sorted = is_sorted })
 
 pub this_fate : (f : Fate) (t : ℕ) → f.at ≡ Some t → record { to = f.to; at = Some t } ≡ f
 this_fate f t e = ap (λ (o : Option ℕ). record { to = f.to; at = o }) (sym e)

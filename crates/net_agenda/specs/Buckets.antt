@@ -68,13 +68,13 @@ abbrev pub arrivals_of : List PendingEvent → List Arrival
 arrivals_of all = filter_map packet_in all
 
 -- the mote numbers are in descending order: none is above an earlier one
-abbrev pub Falls : List PendingEvent → Type 0
-Falls [] = Unit {0}
-Falls (first ∷ rest) = AllByRecursion (λ one. goes_to one ≤ goes_to first) rest × Falls rest
+abbrev pub AreDescending : List PendingEvent → Type 0
+AreDescending [] = Unit {0}
+AreDescending (first ∷ rest) = AllByRecursion (λ one. goes_to one ≤ goes_to first) rest × AreDescending rest
 
--- if the flag `falls` is true, the motes of the bucket are in descending order
-abbrev pub FallsIfSaid : Bucket → Type 0
-FallsIfSaid bucket = bucket.falls ≡ true → Falls bucket.coming.items
+-- if the flag `is_sorted` is true, the motes of the bucket are in descending order
+abbrev pub DescendIfSorted : Bucket → Type 0
+DescendIfSorted bucket = bucket.is_sorted ≡ true → AreDescending bucket.coming.items
 
 abbrev pub is_nothing : List PendingEvent → Bool
 is_nothing [] = true
@@ -91,22 +91,22 @@ least_from least (first ∷ rest) = least_from (lower_mote least (goes_to first)
 abbrev pub least_mote : List PendingEvent → Option ℕ
 least_mote all = least_from None all
 
--- if `falls` is true, the bucket is in descending order, and this is the mote of its last event; otherwise, this is the
--- least mote number in the bucket
+-- if `is_sorted` is true, the bucket is in descending order, and this is the mote of its last event; otherwise, this is
+-- the least mote number in the bucket
 abbrev pub first_bucket_mote : Bucket → Option ℕ
 first_bucket_mote bucket =
     let all = bucket.coming.items in
-    if bucket.falls then option_map goes_to (slice_get all (length all - 1)) else least_mote all
+    if bucket.is_sorted then option_map goes_to (slice_get all (length all - 1)) else least_mote all
 
 -- all events of this mote were taken out; the events of the other motes are unchanged
 pub record IsTaken (mote : ℕ) (old new : Bucket) : Type 0 where
   pub others : (other : ℕ) → of_mote other new.coming.items
       ≡ (if mote == other then [] else of_mote other old.coming.items)
-  pub falls : FallsIfSaid new
+  pub is_sorted : DescendIfSorted new
 
 pub record IsReadyBucket (bucket : Bucket) : Type 0 where
   pub filled : is_nothing bucket.coming.items ≡ false
-  pub falls : FallsIfSaid bucket
+  pub is_sorted : DescendIfSorted bucket
 
 -- the buckets of all moments
 
@@ -137,8 +137,8 @@ abbrev pub is_here : (moment mote t k : ℕ) → Bool
 is_here moment mote t k = (moment == t) && (mote == k)
 
 -- the buckets hold the items of this agenda: each bucket has exactly the events that are due at its moment (the copies
--- for each mote in the order of the agenda), no bucket is empty, and if `falls` is true in a bucket, its motes are in
--- descending order
+-- for each mote in the order of the agenda), no bucket is empty, and if `is_sorted` is true in a bucket, its motes are
+-- in descending order
 pub record HoldsItems (buckets : Buckets) (items : List Item) : Type 0 where
   pub due : (moment mote : ℕ) → due_in buckets moment mote ≡ due_of moment mote items
   pub ready : (moment : ℕ) (bucket : Bucket) → get nat_cmp buckets moment ≡ Some bucket → IsReadyBucket bucket

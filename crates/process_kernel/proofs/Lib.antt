@@ -9,6 +9,5 @@ pub mod Numbered
 pub mod Places
 pub mod Remainders
 pub mod Repeated
-pub mod Starts
 pub mod Steps
 pub mod Walks

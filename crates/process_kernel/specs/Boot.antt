@@ -1,4 +1,4 @@
--- The boot of a mote.
+-- The boot of a mote: what the `main` of a platform of Contiki does once.
 use Rattle.std.specs.Prelude.{ℕ, List, [], ◌∷◌, map}
 use Rattle.program_tree.specs.declared.event.Proc.{Proc}
 use Rattle.program_tree.specs.declared.event.Proc.TheVariants.{Own, Etimer, Ctimer, Radio}
@@ -7,7 +7,7 @@ use Rattle.process_kernel.specs.Calls.{Calls}
 use Rattle.process_kernel.specs.Start.{start_of}
 use Rattle.process_kernel.specs.Run.{left_of}
 
--- each of these processes is started, in order
+-- `autostart_start`: each of these processes is started, in order
 abbrev pub starts_of : Calls → List Proc → KernelState → Went
 starts_of calls [] s = Goes tt s
 starts_of calls (p ∷ ps) s = start_of calls s p >>= λ _ s1. starts_of calls ps s1

@@ -1,4 +1,4 @@
--- The call of a process. It is the only recursion in the kernel's rules.
+-- The call of a process (`call_process` of `process.c`). It is the only recursion in the kernel's rules.
 use Rattle.std.specs.Prelude.{ℕ, zero, suc, Bool, true, false, ◌||◌, if◌then◌else◌}
 use Rattle.program_tree.specs.declared.event.Proc.{Proc}
 use Rattle.program_tree.specs.declared.event.Event.{Event}
@@ -21,11 +21,12 @@ has_ended Yielded = false
 has_ended Exited = true
 has_ended Ended = true
 
--- A process has run and returned: if it has ended, it is exited on its own behalf. Otherwise it is running again.
+-- The end of `call_process`: a process that has ended is exited on its own behalf; any other is running again.
 unfoldable pub answered : Calls → KernelState → Proc → (ended : Bool) → Went
 answered calls s p ended = if ended then exit_of calls s p p else Goes tt (with_state s p Running)
 
--- A running process is called, which costs a unit of work. If the process isn't running, nothing happens.
+-- `call_process`: a running process is called; if the process isn't running, nothing happens. Differs: a call costs a
+-- unit of work.
 unfoldable pub call_of : Calls → KernelState → Proc → Event → Went
 call_of calls s p e =
     if is_running s p then (spend_of s >>= λ _ s1. react_of calls (with_state s1 p Called) p e >>= λ answer s2.

@@ -31,8 +31,9 @@ pub record Calls : Type 0 where
   pub call : KernelState → Proc → Event → Went
   pub run : KernelState → Code → Remainder → (process : ℕ) → Event → Outcome Answer
 
--- calls these incarnations, one after another, except those of one process; an incarnation that isn't on the process
--- list when its turn comes is skipped
+-- The loop of `exit_process`: these incarnations are called, one after another, except those of one process. Differs:
+-- C follows the links of the list while the calls change it; here the walk is along the list as it was, and skips an
+-- incarnation that isn't on the process list when its turn comes.
 abbrev pub walk_of : Calls → Event → (skipped : Proc) → List Member → KernelState → Went
 walk_of calls e skipped [] s = Goes tt s
 walk_of calls e skipped (m ∷ ms) s =

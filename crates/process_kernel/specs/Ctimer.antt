@@ -1,4 +1,4 @@
--- The ctimer process.
+-- The ctimer process (`ctimer_process` of `ctimer.c`).
 use Rattle.std.specs.Prelude.{ℕ, Bool, ◌&&◌, slice_get, Some, None, if◌then◌else◌}
 use Rattle.program_tree.specs.declared.event.Event.{Event}
 use Rattle.program_tree.specs.declared.event.SystemEvent.TheVariants.{Timer}
@@ -9,7 +9,8 @@ use Rattle.process_kernel.specs.State.{KernelState, Went, Goes, ◌>>=◌}
 use Rattle.process_kernel.specs.TimerOperations.{has_timer}
 use Rattle.process_kernel.specs.Calls.{Calls, is_system_event}
 
--- the callback of this timer runs on behalf of the timer's process
+-- `c->f(c->ptr)` between PROCESS_CONTEXT_BEGIN and PROCESS_CONTEXT_END: the callback of this timer runs on behalf of
+-- the timer's process
 unfoldable pub callback_of : Calls → KernelState → Event → Went
 callback_of calls s e =
     elim (slice_get s.program.timers e.word) [
@@ -24,7 +25,7 @@ callback_of calls s e =
 abbrev pub waits_for : KernelState → (timer : ℕ) → Bool
 waits_for s timer = has_timer s timer && is_member timer s.callbacks
 
--- a callback that waits for its timer is removed from the callback list and runs
+-- `ctimer_process` at TIMER: a callback that waits for its timer is removed from the callback list and runs
 unfoldable pub ctimer_of : Calls → KernelState → Event → Went
 ctimer_of calls s e =
     if is_system_event Timer e && waits_for s e.word

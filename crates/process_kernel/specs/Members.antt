@@ -1,4 +1,4 @@
--- The properties of every process list.
+-- The process list (`process_list` of `process.c`), and the properties of each.
 use Rattle.std.specs.Prelude.{ℕ, ◌<◌, ◌==◌, Bool, true, not, ◌&&◌, IsTrue, List, [], ◌∷◌, All}
 use Rattle.std.specs.List.{list_any}
 use Rattle.program_tree.specs.declared.event.Proc.{Proc}

@@ -20,20 +20,23 @@ use Rattle.process_kernel.specs.Calls.{Calls, Answer}
 use Rattle.process_kernel.specs.Start.{start_of}
 use Rattle.process_kernel.specs.Kill.{kill_of}
 
--- the count of a semaphore less one, or 0; and the count plus one, modulo 65,536
+-- `--(s)->count` in PT_SEM_WAIT and `++(s)->count` in PT_SEM_SIGNAL: the count of a semaphore less one, or 0; and the
+-- count plus one, modulo 65,536
 unfoldable pub take_of : KernelState → ℕ → KernelState
 take_of s k = record s { semaphores = slice_set s.semaphores k (slice_index s.semaphores k - 1) }
 
 unfoldable pub signal_of : KernelState → ℕ → KernelState
 signal_of s k = record s { semaphores = slice_set s.semaphores k ((slice_index s.semaphores k + 1) % 2 ^ 16) }
 
--- an event that a program posts has no sender
+-- an event that a program posts has no sender; the sender is that of a packet
 abbrev pub posted : ℕ → ℕ → Event
 posted number word = record { number = number; word = word; sender = 0 }
 
--- An operation without a result, for the current process: the process whose body, handler or callback is being
--- executed. Only a post has a result, and `perform_of` performs it. The line for a post in this definition is never
--- used; it only makes the definition total.
+-- An operation without a result, for the current process (`process_current`): the process whose body, handler or
+-- callback is being executed. The rows are calls of `process_post_synch`, `process_poll`, `process_start`,
+-- `process_exit`, `etimer_set` (or `ctimer_set`, and so on), the radio, `printf` and PT_SEM. Only a post has a result,
+-- and `perform_of` performs it. The line for a post in this definition is never used; it only makes the definition
+-- total.
 unfoldable pub act_of : Calls → KernelState → (current : ℕ) → Op → Went
 act_of calls s current (op.Post t e w) = Goes tt s
 act_of calls s current (op.Synch p e w) = calls.call s p (posted e w)
@@ -71,6 +74,6 @@ after_step calls code p e (step.Op o) r s = perform_of calls s r p o >>= λ r1 s
 after_step calls code p e (step.Done answer) r s = Goes (answer, r) s
 after_step calls code p e step.Runaway r s = Ends (halted_of s)
 
--- a thread runs up to its answer: it waits, yields, exits or ends
+-- `p->thread(&p->pt, ev, data)`: a thread runs up to its answer: it waits, yields, exits or ends
 unfoldable pub run_of : Calls → KernelState → Code → Remainder → (process : ℕ) → Event → Outcome Answer
 run_of calls s code r p e = let m = stepped_of s code r p e in after_step calls code p e m.step m.remainder m.state

@@ -1,4 +1,4 @@
--- Posting events, asking for polls, and sending packets.
+-- Posting events (`process_post` of `process.c`), asking for polls (`process_poll`), and sending packets.
 use Rattle.std.specs.Prelude.{ℕ, ◌+◌, ◌^◌, nat_le, Bool, true, false, [], ◌∷◌, ◌++◌, length, if◌then◌else◌}
 use Rattle.program_tree.specs.declared.event.Proc.{Proc}
 use Rattle.program_tree.specs.declared.event.Target.{Target}
@@ -9,8 +9,8 @@ use Rattle.process_kernel.specs.State.{KernelState, Outcome, Went, Ends, Goes, �
 use Rattle.process_kernel.specs.Processes.{process_state, is_alive, with_needs_poll}
 use Rattle.process_kernel.specs.Writes.{write_of, halted_of}
 
--- An event is posted. The result is whether the queue was full. A mote that has accepted 2 to the power of 62 events
--- halts.
+-- `process_post`: an event is posted. The result is whether the queue was full (PROCESS_ERR_FULL). Differs: a mote that
+-- has accepted 2 to the power of 62 events halts.
 unfoldable pub post_of : KernelState → Target → Event → Outcome Bool
 post_of s t e =
     if nat_le (2 ^ 62) s.queue.accepted then Ends (halted_of s)
@@ -19,11 +19,11 @@ post_of s t e =
     else (write_of (record s { queue = with_posted s.queue t e }) (what.Post s.queue.accepted t e.number e.word)
     >>= λ _ s1. Goes false s1))
 
--- a process that is running or called is to be polled
+-- `process_poll`: a process that is running or called is to be polled
 unfoldable pub poll_of : KernelState → Proc → KernelState
 poll_of s p = if is_alive (process_state s p) then record (with_needs_poll s p true) { poll_requested = true } else s
 
--- a packet is sent; a mote that has sent 2 to the power of 62 packets halts
+-- A packet is sent, as by the `send` of a radio driver. A mote that has sent 2 to the power of 62 packets halts.
 unfoldable pub send_of : KernelState → ℕ → Went
 send_of s value =
     if nat_le (2 ^ 62) s.sent then Ends (halted_of s)

@@ -17,7 +17,7 @@ use Rattle.process_kernel.specs.Writes.{write_of}
 unfoldable pub put_remainder : KernelState → (process : ℕ) → Remainder → KernelState
 put_remainder s p r = record s { remainders = slice_set s.remainders p r }
 
--- the process with this number is at the beginning of its body again
+-- PT_INIT: the process with this number is at the beginning of its body again
 abbrev pub fresh_at : List Code → List Remainder → (process : ℕ) → List Remainder
 fresh_at [] rs p = rs
 fresh_at (c ∷ cs) [] p = []
@@ -34,7 +34,7 @@ with_fresh_process s Etimer = s
 with_fresh_process s Ctimer = s
 with_fresh_process s Radio = s
 
--- a new incarnation is put at the front of the list; it is running, and its body is fresh
+-- in `process_start`: a new incarnation is put at the front of the list; it is running, and its body is fresh
 unfoldable pub enlist_of : KernelState → Proc → Went
 enlist_of s p =
     write_of (with_fresh_process (with_state (record s {
@@ -42,7 +42,7 @@ enlist_of s p =
       started = s.started + 1;
     }) p Running) p) (what.Start p)
 
--- the exit of the process has begun
+-- the beginning of `exit_process`: the process is off (PROCESS_STATE_NONE), and its exit has begun
 unfoldable pub exiting_of : KernelState → Proc → KernelState
 exiting_of s p = with_exiting (with_state s p Off) p true
 
@@ -50,7 +50,7 @@ exiting_of s p = with_exiting (with_state s p Off) p true
 unfoldable pub unlisted_of : KernelState → Proc → KernelState
 unlisted_of s p = record s { members = filter (λ m. not (is_same m.process p)) s.members }
 
--- the process leaves the list, and its exit has ended
+-- the end of `exit_process`: the process leaves the list, and its exit has ended
 unfoldable pub leave_of : KernelState → Proc → Went
 leave_of s p = write_of (unlisted_of (with_exiting s p false) p) (what.Leave p)
 

@@ -15,17 +15,19 @@ state_at states p = unwrap_or (slice_get states (place_of p)) Off
 abbrev pub at_process : List Bool → Proc → Bool
 at_process xs p = unwrap_or (slice_get xs (place_of p)) false
 
+-- PROCESS_STATE_RUNNING
 abbrev pub is_running_state : ProcessState → Bool
 is_running_state Off = false
 is_running_state Running = true
 is_running_state Called = false
 
+-- PROCESS_STATE_CALLED
 abbrev pub is_called_state : ProcessState → Bool
 is_called_state Off = false
 is_called_state Running = false
 is_called_state Called = true
 
--- the process is running or called
+-- `process_is_running`: the process is running or called
 abbrev pub is_alive : ProcessState → Bool
 is_alive Off = false
 is_alive Running = true

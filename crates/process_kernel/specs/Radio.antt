@@ -1,4 +1,4 @@
--- The radio process.
+-- The radio process. It stands for the process of a radio driver, as `cc2420_process`, which an interrupt polls.
 use Rattle.std.specs.Prelude.{ℕ, List, [], ◌∷◌, Option, Some, None, if◌then◌else◌}
 use Rattle.program_tree.specs.declared.event.Proc.TheVariants.{Own}
 use Rattle.program_tree.specs.declared.event.Target.TheVariants.{One}

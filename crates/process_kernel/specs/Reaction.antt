@@ -1,4 +1,4 @@
--- The reaction of a process to an event.
+-- The reaction of a process to an event: what `p->thread(&p->pt, ev, data)` does.
 use Rattle.std.specs.Prelude.{ℕ, slice_get, unwrap_or, Some, None, if◌then◌else◌}
 use Rattle.program_tree.specs.declared.event.Proc.{Proc}
 use Rattle.program_tree.specs.declared.event.Proc.TheVariants.{Own, Etimer, Ctimer, Radio}
@@ -16,7 +16,7 @@ use Rattle.process_kernel.specs.Etimer.{etimer_of}
 use Rattle.process_kernel.specs.Ctimer.{ctimer_of}
 use Rattle.process_kernel.specs.Radio.{radio_of}
 
--- the handler of the event, if there is one, runs from its beginning
+-- PROCESS_POLLHANDLER and PROCESS_EXITHANDLER: the handler of the event, if there is one, runs from its beginning
 unfoldable pub handler_of : Calls → KernelState → Code → (process : ℕ) → Event → Went
 handler_of calls s code p e =
     if is_system_event Poll e then (calls.run s code (fresh_of code OnPoll) p e >>= λ _ s1. Goes tt s1)

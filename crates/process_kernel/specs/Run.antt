@@ -1,4 +1,4 @@
--- A kernel run.
+-- A kernel run (`process_run` of `process.c`).
 use Rattle.std.specs.Prelude.{ℕ, ◌+◌, List, [], ◌∷◌, length, if◌then◌else◌}
 use Rattle.event_queue.specs.declared.queue.Posted.{Posted}
 use Rattle.event_queue.specs.Queue.{without_front}
@@ -22,16 +22,16 @@ begun_of s moment = record s {
   started = length s.members;
 }
 
--- the work that is left: the number of queued events, and one more if a poll is requested
+-- `process_nevents`, the work that is left: the number of queued events, and one more if a poll is requested
 abbrev pub left_of : KernelState → ℕ
 left_of s = length s.queue.events + (if s.poll_requested then 1 else 0)
 
--- the oldest event is removed from the queue, and then delivered
+-- in `do_event`: the oldest event is removed from the queue, and then delivered
 abbrev pub deliver_front : Calls → List Posted → KernelState → Went
 deliver_front calls [] s = Goes tt s
 deliver_front calls (x ∷ xs) s = deliver_of calls (record s { queue = without_front s.queue }) x
 
--- a kernel run: the polls if a poll is requested, and then one event if there is one; the result is the work that is
+-- `process_run`: the polls if a poll is requested, and then one event if there is one; the result is the work that is
 -- left
 unfoldable pub kernel_of : Calls → KernelState → Outcome ℕ
 kernel_of calls s =

@@ -1,4 +1,4 @@
--- The start of a process.
+-- The start of a process (`process_start` of `process.c`).
 use Rattle.std.specs.Prelude.{not, ◌&&◌, if◌then◌else◌}
 use Rattle.program_tree.specs.declared.event.Proc.{Proc}
 use Rattle.program_tree.specs.declared.event.SystemEvent.TheVariants.{Init}
@@ -9,8 +9,8 @@ use Rattle.process_kernel.specs.Writes.{write_of}
 use Rattle.process_kernel.specs.ProcessList.{enlist_of}
 use Rattle.process_kernel.specs.Calls.{Calls, own_event}
 
--- a process that the mote has and that is not on the list is put at the front of the list, and is called with INIT;
--- for a busy process, only a line is written
+-- `process_start`: a process that the mote has and that is not on the list is put at the front of the list, and is
+-- called with INIT. Differs: for a busy process, a line is written.
 unfoldable pub start_of : Calls → KernelState → Proc → Went
 start_of calls s p =
     if is_busy s p then write_of s (what.Busy p)

@@ -13,9 +13,9 @@ use Rattle.radio_packet.specs.declared.sent.Sent.{Sent}
 -- The program and the number of the mote. For each process, the system processes first: its state, whether it is being
 -- exited, and whether it needs a poll. For each process of the program: the remainder of its body, and its variables.
 -- The process list, the newest process first, and the number of incarnations that were numbered. Whether a poll is
--- requested; the event queue; the counts of the semaphores; the timers with the timer list; the callback list; the
--- packets in the receive ring; the number of packets that were sent; the moment. For the current run: the number of
--- units of work that are left, and the lines and packets so far.
+-- requested (`poll_requested`); the event queue; the counts of the semaphores; the timers with the timer list; the
+-- callback list; the packets in the receive ring; the number of packets that were sent; the moment. For the current
+-- run: the number of units of work that are left, and the lines and packets so far.
 pub record KernelState : Type 0 where
   pub program : Tree
   pub mote : ℕ

@@ -29,6 +29,6 @@ abbrev pub stepped_with : Option (List ℕ) → KernelState → Code → Remaind
 stepped_with (Some variables) s code r p e = stepped s p (advanced_of code e (looks_of s) r variables s.units)
 stepped_with None s code r p e = record { step = step.Done Ended; remainder = r; state = s }
 
--- a thread of a process continues to its next operation or to its answer
+-- a thread of a process continues, as `p->thread` does after PT_BEGIN, to its next operation or to its answer
 unfoldable pub stepped_of : KernelState → Code → Remainder → (process : ℕ) → Event → Stepped
 stepped_of s code r p e = stepped_with (slice_get s.variables p) s code r p e

@@ -1,4 +1,4 @@
--- The operations of a program on its timers.
+-- The operations of a program on its timers (`etimer.c`, and `ctimer.c` for callback timers).
 use Rattle.std.specs.Prelude.{ℕ, nat_lt, Bool, false, if◌then◌else◌, length, slice_get, Some, None}
 use Rattle.program_tree.specs.declared.event.Proc.{Proc}
 use Rattle.program_tree.specs.declared.event.Proc.TheVariants.{Own, Etimer, Ctimer}
@@ -21,15 +21,16 @@ has_timer s timer = nat_lt timer (length s.timers.timers)
 abbrev pub owner_of : Tree → (timer : ℕ) → (current : ℕ) → Proc
 owner_of program timer current = if is_callback program timer then Ctimer else Own current
 
--- after a timer was set, its callback, if there is one, waits for the timer, and the etimer process is to be polled
+-- In `add_timer`: after a timer was set, its callback, if there is one, waits for the timer, and the etimer process is
+-- to be polled (`etimer_request_poll`).
 unfoldable pub timer_is_set : KernelState → (timer : ℕ) → KernelState
 timer_is_set s timer =
     poll_of
     (record s { callbacks = if is_callback s.program timer then with_member timer s.callbacks else s.callbacks })
     Etimer
 
--- a timer is set, set again from its expiration, set again from now, or stopped; a timer that the mote doesn't have is
--- ignored
+-- `etimer_set`, `etimer_reset`, `etimer_restart` and `etimer_stop`: a timer is set, set again from its expiration, set
+-- again from now, or stopped. A timer that the mote doesn't have is ignored.
 unfoldable pub set_of : KernelState → (timer interval current : ℕ) → KernelState
 set_of s timer interval current =
     if has_timer s timer then timer_is_set (record s

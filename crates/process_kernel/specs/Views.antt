@@ -1,5 +1,5 @@
 -- The meaning of the types of `src/machine.rt` and `src/look.rt`, for a mote with a given program.
-use Rattle.std.specs.Prelude.{ℕ, ◌≡◌, ◌+◌, ◌<◌, ◌≤◌, ◌++◌, ◌^◌, Bool, IsTrue, List, [], ◌∷◌, Result, Ok, Err}
+use Rattle.std.specs.Prelude.{ℕ, ◌≡◌, ◌≤◌, ◌++◌, Bool, List, [], ◌∷◌, Result, Ok, Err}
 use Rattle.std.specs.Prelude.{Option, Some, None, if◌then◌else◌}
 use Rattle.std.specs.Global.{Box}
 use Rattle.program_tree.specs.Code.{Code, Tree}
@@ -18,10 +18,8 @@ use Rattle.process_kernel.specs.declared.machine.Stop.{Stop}
 use Rattle.process_kernel.specs.declared.machine.Stop.TheVariants.{Halted, Memory}
 use Rattle.process_kernel.specs.declared.look.KernelView.{KernelView}
 use Rattle.program_tree.specs.declared.event.Event.{Event}
-use Rattle.program_tree.specs.declared.event.Proc.{Proc}
 use Rattle.protothread.specs.declared.part.Part.{Part}
 use Rattle.process_kernel.specs.Looks.{looks_at}
-use Rattle.process_kernel.specs.Processes.{is_running_state, state_at}
 use Rattle.process_kernel.specs.State.{KernelState, Outcome, Went, Ends, Goes, ◌>>=◌}
 use Rattle.process_kernel.specs.KernelModel.{KernelModel, at_rest}
 use Rattle.process_kernel.specs.Calls.{Calls, Answer}
@@ -45,8 +43,8 @@ first_list_of m = if m.is_numbered then m.members.items else m.first_list.items
 abbrev pub kernel_state_of : Tree → Machine → KernelState
 kernel_state_of program m = record {
   program = program;
-  mote = m.shown.mote;
-  states = m.shown.states.items;
+  mote = m.view.mote;
+  states = m.view.states.items;
   exiting = m.exiting.items;
   needs_poll = m.needs_poll.items;
   remainders = remainders_of program.codes m.threads.items;
@@ -55,12 +53,12 @@ kernel_state_of program m = record {
   started = m.started;
   poll_requested = m.poll_requested;
   queue = m.queue;
-  semaphores = m.shown.semaphores.items;
-  timers = m.shown.timers;
+  semaphores = m.view.semaphores.items;
+  timers = m.view.timers;
   callbacks = m.callbacks.members;
   ring = m.ring.items;
   sent = m.sent;
-  moment = m.shown.moment;
+  moment = m.view.moment;
   units = m.fuel;
   lines = m.out.lines.items;
   sends = m.out.sends.items;
@@ -93,28 +91,13 @@ OutBegins lines sends out =
 abbrev pub Grows : Out → Out → Type 0
 Grows old new = (lines : List Line) (sends : List Sent) → OutBegins lines sends old → OutBegins lines sends new
 
--- each start, except for this many, is paid for by a unit of work; the process list at the beginning stays known
-abbrev pub Spends : ℕ → Machine → Machine → Type 0
-Spends n old new = (new.fuel ≤ old.fuel) × (new.started + new.fuel ≤ old.started + old.fuel + n)
-    × (first_list_of new ≡ first_list_of old)
-
--- the call of a running process costs a unit of work
-abbrev pub Pays : Proc → Machine → Machine → Type 0
-Pays p old new =
-    IsTrue (is_running_state (state_at old.shown.states.items p)) → new.started + new.fuel + 1 ≤ old.started + old.fuel
-
--- Incarnations are numbered below 2^32. There is a number for each process that can still be started (one per unit of
--- work), and for this many more.
-abbrev pub HasRoom : ℕ → Machine → Type 0
-HasRoom n m = m.started + m.fuel + n < 2 ^ 32
-
--- no unit of work is spent, no process is started, and the process list at the beginning stays known
-abbrev pub KeepsCounts : Machine → Machine → Type 0
-KeepsCounts old new = (new.fuel ≡ old.fuel) × (new.started ≡ old.started) × (first_list_of new ≡ first_list_of old)
+-- a run goes on: no unit of work is gained, and the process list at the beginning stays known
+abbrev pub Continues : Machine → Machine → Type 0
+Continues old new = (new.fuel ≤ old.fuel) × (first_list_of new ≡ first_list_of old)
 
 -- neither the ring nor the timers change
 abbrev pub KeepsLists : Machine → Machine → Type 0
-KeepsLists old new = (new.ring ≡ old.ring) × (new.shown.timers ≡ old.shown.timers)
+KeepsLists old new = (new.ring ≡ old.ring) × (new.view.timers ≡ old.view.timers)
 
 -- lines and packets may be added, and neither the ring nor the timers change
 abbrev pub OnlyAdds : Machine → Machine → Type 0

@@ -1,4 +1,5 @@
--- Lines of the trace, units of work, and the halt of a mote.
+-- Lines of the trace, units of work, and the halt of a mote. Contiki has none of them: there, a process that never
+-- returns stops its mote.
 use Rattle.std.specs.Prelude.{◌==◌, ◌-◌, [], ◌∷◌, ◌++◌, if◌then◌else◌}
 use Rattle.trace_lines.specs.declared.line.What.{What}
 use Rattle.trace_lines.specs.declared.line.What.TheVariants.{Halt}

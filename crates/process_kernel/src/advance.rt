@@ -8,7 +8,7 @@ ghost use Rattle.protothread.specs.Step.{PaysFor};
 ghost use Rattle.process_kernel.specs.Thread.{stepped_of};
 ghost use Rattle.process_kernel.specs.Operation.{answer_of};
 ghost use Rattle.process_kernel.specs.State.{Goes};
-ghost use Rattle.process_kernel.specs.Views.{first_list_of, kernel_state_of, Grows, KeepsCounts};
+ghost use Rattle.process_kernel.specs.Views.{first_list_of, kernel_state_of, Grows, Continues};
 
 use crate::machine::Machine;
 use program_tree::{Event, ProcessText};
@@ -33,7 +33,6 @@ impl Machine {
               state = kernel_state_of t self.new;
             } }
         ensures pays { PaysFor result self.old.fuel self.new.fuel }
-        ensures started { self.new.started ≡ self.old.started }
         ensures first_list { first_list_of self.new ≡ first_list_of self.old }
         ensures grows { Grows self.old.out self.new.out }
     {
@@ -45,7 +44,7 @@ impl Machine {
             text,
             event,
             &mut self.variables[place],
-            &self.shown,
+            &self.view,
             &mut self.fuel,
         )
     }
@@ -56,7 +55,7 @@ impl Machine {
         ensures exact { (t : Tree) (code : Code)
             → answer_of (kernel_state_of t self.old) (remainder_of code thread.old) process is_full
             ≡ Goes (remainder_of code thread.new) (kernel_state_of t self.new) }
-        ensures kept { KeepsCounts self.old self.new }
+        ensures continues { Continues self.old self.new }
         ensures grows { Grows self.old.out self.new.out }
     {
         let place = usize::from(process);

@@ -3,14 +3,12 @@
 ghost use Rattle.std.specs.Prelude.{map};
 ghost use Rattle.process_kernel.specs.Boot.{starts_of, boot_of};
 ghost use Rattle.process_kernel.specs.Follows.{Follows};
-ghost use Rattle.process_kernel.specs.Views.{HasRoom};
 
 use crate::machine::{Machine, Stop};
 use program_tree::{Proc, Program};
 
 impl Machine {
     fn start_each(&mut self, program: &Program, processes: &[u8]) -> Result<(), Stop>
-        requires room { HasRoom 1 self.old }
         ensures follows { Follows program.now self.old result self.new
             (λ calls. starts_of calls (map Proc.Own processes.now)) }
     {
@@ -26,7 +24,6 @@ impl Machine {
     /// `Halted` if the mote halts meanwhile; `Memory` if an allocation fails.
     #[tactic(auto, unfolding(crate::specs::Boot::boot_of))]
     pub fn boot(&mut self, program: &Program) -> Result<u16, Stop>
-        requires room { HasRoom 1 self.old }
         ensures follows { Follows program.now self.old result self.new boot_of }
     {
         self.start(program, Proc::Etimer)?;

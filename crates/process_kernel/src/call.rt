@@ -1,13 +1,13 @@
 //! The call of a process, and its reaction to the event.
 
-ghost use Rattle.std.specs.Prelude.{◌≡◌, Some, OnOk, slice_get};
+ghost use Rattle.std.specs.Prelude.{◌≡◌, Some, slice_get};
 ghost use Rattle.program_tree.specs.Program.{tree_of, code_of};
 ghost use Rattle.protothread.specs.Places.{remainder_of};
 ghost use Rattle.process_kernel.specs.Call.{has_ended as is_an_end};
 ghost use Rattle.process_kernel.specs.Ctimer.{callback_of, ctimer_of};
 ghost use Rattle.process_kernel.specs.Follows.{Follows};
 ghost use Rattle.process_kernel.specs.Reaction.{handler_of, resume_of, own_of, react_of};
-ghost use Rattle.process_kernel.specs.Views.{HasRoom, Pays, answer_model, part_of};
+ghost use Rattle.process_kernel.specs.Views.{answer_model, part_of};
 
 use crate::event::is_event;
 use crate::machine::{Machine, Stop};
@@ -34,10 +34,8 @@ impl Machine {
     #[cycle(kernel)]
     #[tactic(auto, unfolding(crate::specs::Call::call_of, crate::specs::Call::answered))]
     pub fn call(&mut self, program: &Program, process: Proc, event: &Event) -> Result<(), Stop>
-        requires room { HasRoom 0 self.old }
         ensures follows { Follows program.now self.old result self.new
             (λ calls state. calls.call state process event.now) }
-        ensures pays { OnOk result (Pays process self.old self.new) }
     {
         if !self.is_running(process) {
             return Ok(());
@@ -66,7 +64,6 @@ impl Machine {
         process: Proc,
         event: &Event,
     ) -> Result<PtState, Stop>
-        requires room { HasRoom 0 self.old }
         ensures follows { Follows program.now self.old result self.new
             (λ calls state. react_of calls state process event.now) }
     {
@@ -97,7 +94,6 @@ impl Machine {
         number: u8,
         event: &Event,
     ) -> Result<PtState, Stop>
-        requires room { HasRoom 0 self.old }
         ensures follows { Follows program.now self.old result self.new
             (λ calls state. own_of calls state number event.now) }
     {
@@ -120,7 +116,6 @@ impl Machine {
         number: u8,
         event: &Event,
     ) -> Result<(), Stop>
-        requires room { HasRoom 0 self.old }
         ensures follows { Follows program.now self.old result self.new
             (λ calls state. handler_of calls state (code_of text.now) number event.now) }
     {
@@ -144,7 +139,6 @@ impl Machine {
         number: u8,
         event: &Event,
     ) -> Result<PtState, Stop>
-        requires room { HasRoom 0 self.old }
         requires text { slice_get (tree_of program.now).codes number ≡ Some (code_of text.now) }
         ensures follows { Follows program.now self.old result self.new
             (λ calls state. resume_of calls state (code_of text.now) number event.now) }
@@ -160,7 +154,6 @@ impl Machine {
     #[cycle(kernel)]
     #[tactic(auto, unfolding(crate::specs::Ctimer::ctimer_of))]
     fn react_as_ctimer(&mut self, program: &Program, event: &Event) -> Result<(), Stop>
-        requires room { HasRoom 0 self.old }
         ensures follows { Follows program.now self.old result self.new
             (λ calls state. ctimer_of calls state event.now) }
     {
@@ -177,7 +170,6 @@ impl Machine {
     #[cycle(kernel)]
     #[tactic(auto, unfolding(crate::specs::Ctimer::callback_of))]
     fn call_back(&mut self, program: &Program, event: &Event) -> Result<(), Stop>
-        requires room { HasRoom 0 self.old }
         ensures follows { Follows program.now self.old result self.new
             (λ calls state. callback_of calls state event.now) }
     {
@@ -201,7 +193,6 @@ impl Machine {
         process: u8,
         event: &Event,
     ) -> Result<(), Stop>
-        requires room { HasRoom 0 self.old }
         ensures follows { Follows program.now self.old result self.new
             (λ calls state. part_of calls state (code_of text.now) part process event.now) }
     {
@@ -222,7 +213,6 @@ impl Machine {
         process: u8,
         event: &Event,
     ) -> Result<(), Stop>
-        requires room { HasRoom 0 self.old }
         ensures follows { Follows program.now self.old result self.new
             (λ calls state. part_of calls state (code_of text.now) part process event.now) }
     {
@@ -242,7 +232,6 @@ impl Machine {
         process: u8,
         event: &Event,
     ) -> Result<PtState, Stop>
-        requires room { HasRoom 0 self.old }
         ensures follows { Follows program.now self.old (answer_model (code_of text.now) thread.new result) self.new
             (λ calls state. calls.run state (code_of text.now)
             (remainder_of (code_of text.now) thread.old) process event.now) }

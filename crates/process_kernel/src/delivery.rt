@@ -4,7 +4,6 @@ ghost use Rattle.std.specs.Prelude.{◌≡◌, true};
 ghost use Rattle.process_kernel.specs.Delivery.{give_of, visit_of, walk_broadcast, deliver_of};
 ghost use Rattle.process_kernel.specs.Follows.{Follows};
 ghost use Rattle.process_kernel.specs.Run.{deliver_front};
-ghost use Rattle.process_kernel.specs.Views.{HasRoom};
 
 use crate::machine::{Machine, Stop};
 use crate::process::Member;
@@ -18,7 +17,6 @@ impl Machine {
     /// # Errors
     /// `Halted` if the mote halts meanwhile; `Memory` if an allocation fails.
     pub fn deliver_front(&mut self, program: &Program) -> Result<(), Stop>
-        requires room { HasRoom 0 self.old }
         ensures follows { Follows program.now self.old result self.new
             (λ calls. deliver_front calls self.old.queue.events) }
     {
@@ -31,7 +29,6 @@ impl Machine {
     /// Delivers an event to the process or processes to which it was posted.
     #[tactic(auto, unfolding(crate::specs::Delivery::deliver_of))]
     fn deliver(&mut self, program: &Program, posted: &Posted) -> Result<(), Stop>
-        requires room { HasRoom 0 self.old }
         ensures follows { Follows program.now self.old result self.new
             (λ calls state. deliver_of calls state posted.now) }
     {
@@ -46,7 +43,6 @@ impl Machine {
 
     /// Delivers an event to each member of the current process list.
     fn broadcast(&mut self, program: &Program, posted: &Posted) -> Result<(), Stop>
-        requires room { HasRoom 0 self.old }
         ensures follows { Follows program.now self.old result self.new
             (λ calls. walk_broadcast calls posted.now self.old.members.items) }
     {
@@ -59,7 +55,6 @@ impl Machine {
 
     /// Delivers an event to each member of a list that hasn't changed since the boot or run began.
     fn broadcast_to_first_list(&mut self, program: &Program, posted: &Posted) -> Result<(), Stop>
-        requires units { HasRoom 0 self.old }
         requires numbered { self.old.is_numbered ≡ true }
         ensures follows { Follows program.now self.old result self.new
             (λ calls. walk_broadcast calls posted.now self.old.members.items) }
@@ -75,7 +70,6 @@ impl Machine {
     /// contains a copy of the list.
     #[inline(never)]
     fn broadcast_to_snapshot(&mut self, program: &Program, posted: &Posted) -> Result<(), Stop>
-        requires room { HasRoom 0 self.old }
         ensures follows { Follows program.now self.old result self.new
             (λ calls. walk_broadcast calls posted.now self.old.members.items) }
     {
@@ -90,7 +84,6 @@ impl Machine {
         posted: &Posted,
         members: &[Member],
     ) -> Result<(), Stop>
-        requires room { HasRoom 0 self.old }
         ensures follows { Follows program.now self.old result self.new
             (λ calls. walk_broadcast calls posted.now members.now) }
     {
@@ -111,7 +104,6 @@ impl Machine {
         posted: &Posted,
         member: Member,
     ) -> Result<(), Stop>
-        requires room { HasRoom 0 self.old }
         ensures follows { Follows program.now self.old result self.new
             (λ calls state. visit_of calls state posted.now member) }
     {
@@ -130,7 +122,6 @@ impl Machine {
         process: Proc,
         is_there: bool,
     ) -> Result<(), Stop>
-        requires room { HasRoom 0 self.old }
         ensures follows { Follows program.now self.old result self.new
             (λ calls state. give_of calls state posted.now process is_there) }
     {

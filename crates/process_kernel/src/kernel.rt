@@ -240,7 +240,7 @@ impl Kernel {
     pub fn next_expiration(&self) -> Option<u64>
         ensures model { (t : Tree) → IfSome (kernel_in t self.now) (λ m. result ≡ next_expiration_of m.state.timers) }
     {
-        self.machine.shown.timers.next_expiration()
+        self.machine.view.timers.next_expiration()
     }
 
     /// Appends a packet to the receive ring. Returns `true` if the ring had room; a full ring is unchanged.
@@ -258,7 +258,7 @@ impl Kernel {
     pub fn number(&self) -> u16
         ensures model { (t : Tree) → IfSome (kernel_in t self.now) (λ m. result ≡ m.state.mote) }
     {
-        self.machine.shown.mote
+        self.machine.view.mote
     }
 
     /// Returns `true` if the mote was booted.

@@ -1,6 +1,6 @@
 //! The process list, its changes, and the threads of its processes.
 
-ghost use Rattle.std.specs.Prelude.{◌≡◌, ◌<◌, ◌+◌, ◌^◌, ◌∷◌, false, not, OnOk, IfOk, Some, filter, length, slice_get};
+ghost use Rattle.std.specs.Prelude.{◌≡◌, ◌<◌, ◌+◌, ◌∷◌, false, not, OnOk, IfOk, Some, filter, length, slice_get};
 ghost use Rattle.program_tree.specs.Code.{Tree, Code};
 ghost use Rattle.protothread.specs.Places.{remainder_of};
 ghost use Rattle.process_kernel.specs.Members.{is_same as are_same, place_of, is_found_in};
@@ -8,7 +8,7 @@ ghost use Rattle.process_kernel.specs.ProcessList.{put_remainder, enlist_of, exi
 ghost use Rattle.process_kernel.specs.ProcessList.{numbered_from, with_fresh_body, with_fresh_process};
 ghost use Rattle.process_kernel.specs.Reaction.{remainder_at};
 ghost use Rattle.process_kernel.specs.Views.{remainder_of_body, first_list_of, kernel_state_of};
-ghost use Rattle.process_kernel.specs.Views.{StepMatches, Grows, KeepsCounts};
+ghost use Rattle.process_kernel.specs.Views.{StepMatches, Grows, Continues};
 
 use crate::machine::{MOST_PROCESSES, Machine, Stop};
 use crate::process::{Member, ProcessState};
@@ -49,8 +49,8 @@ impl Machine {
         ensures unnumbered { OnOk result (self.new.is_numbered ≡ false) }
         ensures first { OnOk result (self.new.first_list.items ≡ first_list_of self.old) }
         ensures members { self.new.members ≡ self.old.members }
-        ensures shown { self.new.shown ≡ self.old.shown }
-        ensures counts { (self.new.fuel ≡ self.old.fuel) × (self.new.started ≡ self.old.started) }
+        ensures view { self.new.view ≡ self.old.view }
+        ensures units { self.new.fuel ≡ self.old.fuel }
         ensures out { self.new.out ≡ self.old.out }
     {
         if self.is_numbered {
@@ -68,7 +68,7 @@ impl Machine {
         ensures exact { (t : Tree) (code : Code) → slice_get t.codes process ≡ Some code
             → kernel_state_of t self.new ≡ put_remainder (kernel_state_of t self.old) process
             (remainder_of code thread.value) }
-        ensures kept { KeepsCounts self.old self.new }
+        ensures continues { Continues self.old self.new }
         ensures grows { Grows self.old.out self.new.out }
     {
         let place = usize::from(process);
@@ -84,7 +84,7 @@ impl Machine {
         ensures exact { (t : Tree) (code : Code) → slice_get t.codes process ≡ Some code
             → remainder_of_body code result ≡ remainder_at (kernel_state_of t self.old) code process }
         ensures after { (t : Tree) → kernel_state_of t self.new ≡ with_fresh_body (kernel_state_of t self.old) process }
-        ensures kept { KeepsCounts self.old self.new }
+        ensures continues { Continues self.old self.new }
         ensures grows { Grows self.old.out self.new.out }
     {
         let place = usize::from(process);
@@ -107,7 +107,7 @@ impl Machine {
             → IfOk result (λ thread. remainder_of code thread.value
             ≡ remainder_at (kernel_state_of t self.old) code process) }
         ensures after { (t : Tree) → kernel_state_of t self.new ≡ with_fresh_body (kernel_state_of t self.old) process }
-        ensures kept { KeepsCounts self.old self.new }
+        ensures continues { Continues self.old self.new }
         ensures grows { Grows self.old.out self.new.out }
     {
         match self.lift_thread(process) {
@@ -120,7 +120,7 @@ impl Machine {
     #[tactic(auto, using(crate::proofs::Remainders::remainders_fresh, crate::proofs::Remainders::fresh_past))]
     fn refresh_body(&mut self, process: u8)
         ensures exact { (t : Tree) → kernel_state_of t self.new ≡ with_fresh_body (kernel_state_of t self.old) process }
-        ensures kept { KeepsCounts self.old self.new }
+        ensures continues { Continues self.old self.new }
         ensures grows { Grows self.old.out self.new.out }
     {
         let place = usize::from(process);
@@ -133,7 +133,7 @@ impl Machine {
     fn refresh(&mut self, process: Proc)
         ensures exact { (t : Tree)
             → kernel_state_of t self.new ≡ with_fresh_process (kernel_state_of t self.old) process }
-        ensures kept { KeepsCounts self.old self.new }
+        ensures continues { Continues self.old self.new }
         ensures grows { Grows self.old.out self.new.out }
     {
         match process {
@@ -142,22 +142,23 @@ impl Machine {
         }
     }
 
-    /// Puts a new incarnation at the front of the list.
+    /// Puts a new incarnation at the front of the list. Incarnations without a number left count as out of memory.
     fn list_first(&mut self, process: Proc) -> Result<(), AllocError>
-        requires process_exists { place_of process < length self.old.shown.states.items }
+        requires process_exists { place_of process < length self.old.view.states.items }
         requires away { is_found_in self.old.members.items process ≡ false }
-        requires room { self.old.started + 1 < 2 ^ 32 }
         ensures exact { (t : Tree) → OnOk result
             (kernel_state_of t self.new ≡ record (kernel_state_of t self.old) {
               members = record { process = process; incarnation = self.old.started } ∷ self.old.members.items;
               started = self.old.started + 1;
             }) }
-        ensures counts { OnOk result ((self.new.fuel ≡ self.old.fuel) × (self.new.started ≡ self.old.started + 1)
-            × (first_list_of self.new ≡ first_list_of self.old)) }
+        ensures continues { OnOk result (Continues self.old self.new) }
         ensures grows { Grows self.old.out self.new.out }
     {
-        self.keep_first_list()?;
         let incarnation = self.started;
+        let Some(started) = incarnation.checked_add(1) else {
+            return Err(AllocError);
+        };
+        self.keep_first_list()?;
         self.members.insert(
             0,
             Member {
@@ -165,7 +166,7 @@ impl Machine {
                 incarnation,
             },
         )?;
-        self.started = incarnation + 1;
+        self.started = started;
         Ok(())
     }
 
@@ -175,13 +176,11 @@ impl Machine {
     /// `Memory` if an allocation for the list or for the line fails. The error is never `Halted`.
     #[tactic(auto, unfolding(crate::specs::ProcessList::enlist_of))]
     pub fn enlist(&mut self, process: Proc) -> Result<(), Stop>
-        requires process_exists { place_of process < length self.old.shown.states.items }
+        requires process_exists { place_of process < length self.old.view.states.items }
         requires away { is_found_in self.old.members.items process ≡ false }
-        requires room { self.old.started + 1 < 2 ^ 32 }
         ensures exact { (t : Tree) → StepMatches result (kernel_state_of t self.new)
             (enlist_of (kernel_state_of t self.old) process) }
-        ensures counts { OnOk result ((self.new.fuel ≡ self.old.fuel) × (self.new.started ≡ self.old.started + 1)
-            × (first_list_of self.new ≡ first_list_of self.old)) }
+        ensures continues { OnOk result (Continues self.old self.new) }
         ensures grows { Grows self.old.out self.new.out }
     {
         self.list_first(process)?;
@@ -194,7 +193,7 @@ impl Machine {
     #[tactic(auto, unfolding(crate::specs::ProcessList::exiting_of))]
     pub fn begin_exit(&mut self, process: Proc)
         ensures exact { (t : Tree) → kernel_state_of t self.new ≡ exiting_of (kernel_state_of t self.old) process }
-        ensures kept { KeepsCounts self.old self.new }
+        ensures continues { Continues self.old self.new }
         ensures grows { Grows self.old.out self.new.out }
     {
         self.set_state(process, ProcessState::Off);
@@ -206,7 +205,7 @@ impl Machine {
     fn unlist(&mut self, process: Proc) -> Result<(), AllocError>
         ensures exact { (t : Tree)
             → OnOk result (kernel_state_of t self.new ≡ unlisted_of (kernel_state_of t self.old) process) }
-        ensures kept { OnOk result (KeepsCounts self.old self.new) }
+        ensures continues { OnOk result (Continues self.old self.new) }
         ensures grows { Grows self.old.out self.new.out }
     {
         self.keep_first_list()?;
@@ -223,7 +222,7 @@ impl Machine {
     pub fn leave(&mut self, process: Proc) -> Result<(), Stop>
         ensures exact { (t : Tree)
             → StepMatches result (kernel_state_of t self.new) (leave_of (kernel_state_of t self.old) process) }
-        ensures kept { OnOk result (KeepsCounts self.old self.new) }
+        ensures continues { OnOk result (Continues self.old self.new) }
         ensures grows { Grows self.old.out self.new.out }
     {
         self.set_exiting(process, false);

@@ -55,7 +55,7 @@ impl<T: Drop> From<AllocFailed<T>> for Stop {
 /// cache lines.
 #[derive(Drop)]
 pub struct Machine {
-    pub(crate) shown: KernelView,
+    pub(crate) view: KernelView,
     pub(crate) members: Vec<Member>,
     pub(crate) started: u32,
     pub(crate) is_numbered: bool,
@@ -72,11 +72,11 @@ pub struct Machine {
     pub(crate) exiting: Vec<bool>,
     pub(crate) first_list: Vec<Member>,
     ghost numbered: { is_numbered ≡ true → members.items ≡ numbered_from 0 members.items } by { Prim.hlevel props },
-    ghost few_processes: { length shown.states.items ≤ 67 },
+    ghost few_processes: { length view.states.items ≤ 67 },
     ghost few_members: { length members.items ≤ 67 },
-    ghost are_members: { AreMembers members.items (length shown.states.items) },
+    ghost are_members: { AreMembers members.items (length view.states.items) },
     ghost short_queue: { queue.capacity ≤ 128 },
-    ghost room_for_callbacks: { callbacks.limit ≡ shown.timer_count },
+    ghost room_for_callbacks: { callbacks.limit ≡ view.timer_count },
     ghost ring_room: { ring.capacity ≡ 8 },
-    ghost early: { shown.moment ≤ 2 ^ 40 },
+    ghost early: { view.moment ≤ 2 ^ 40 },
 }

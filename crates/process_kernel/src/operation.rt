@@ -9,7 +9,7 @@ ghost use Rattle.process_kernel.specs.Follows.{Follows};
 ghost use Rattle.process_kernel.specs.Start.{start_of};
 ghost use Rattle.process_kernel.specs.Kill.{kill_of};
 ghost use Rattle.process_kernel.specs.Operation.{posted, act_of, perform_of};
-ghost use Rattle.process_kernel.specs.Views.{HasRoom, remainder_model};
+ghost use Rattle.process_kernel.specs.Views.{remainder_model};
 
 use crate::event::system_event;
 use crate::machine::{Machine, Stop};
@@ -57,7 +57,6 @@ impl Machine {
         current: u8,
         op: &Op,
     ) -> Result<(), Stop>
-        requires room { HasRoom 1 self.old }
         ensures follows { Follows program.now self.old (remainder_model (code_of text.now) thread.new result) self.new
             (λ calls state. perform_of calls state (remainder_of (code_of text.now) thread.old) current op.now) }
     {
@@ -75,7 +74,6 @@ impl Machine {
     #[cycle(kernel)]
     #[tactic(auto, unfolding(crate::specs::Operation::act_of))]
     fn act(&mut self, program: &Program, current: u8, op: &Op) -> Result<(), Stop>
-        requires room { HasRoom 1 self.old }
         ensures follows { Follows program.now self.old result self.new
             (λ calls state. act_of calls state current op.now) }
     {
@@ -107,7 +105,6 @@ impl Machine {
     #[cycle(kernel)]
     #[tactic(auto, unfolding(crate::specs::Start::start_of))]
     pub fn start(&mut self, program: &Program, process: Proc) -> Result<(), Stop>
-        requires room { HasRoom 1 self.old }
         ensures follows { Follows program.now self.old result self.new (λ calls state. start_of calls state process) }
     {
         if self.is_busy(process) {
@@ -126,7 +123,6 @@ impl Machine {
     #[cycle(kernel)]
     #[tactic(auto, unfolding(crate::specs::Kill::kill_of))]
     fn kill(&mut self, program: &Program, process: Proc, current: u8) -> Result<(), Stop>
-        requires room { HasRoom 0 self.old }
         ensures follows { Follows program.now self.old result self.new
             (λ calls state. kill_of calls state process current) }
     {
@@ -145,7 +141,6 @@ impl Machine {
     #[cycle(kernel)]
     #[tactic(auto, unfolding(crate::specs::Exit::exit_of))]
     pub fn exit(&mut self, program: &Program, process: Proc, behalf: Proc) -> Result<(), Stop>
-        requires room { HasRoom 0 self.old }
         ensures follows { Follows program.now self.old result self.new
             (λ calls state. exit_of calls state process behalf) }
     {
@@ -166,7 +161,6 @@ impl Machine {
     #[cycle(kernel)]
     #[tactic(auto, unfolding(crate::specs::Exit::last_run_of))]
     fn run_last(&mut self, program: &Program, process: Proc) -> Result<(), Stop>
-        requires room { HasRoom 0 self.old }
         ensures follows { Follows program.now self.old result self.new
             (λ calls state. last_run_of calls state process) }
     {
@@ -185,7 +179,6 @@ impl Machine {
         skipped: Proc,
         members: &[Member],
     ) -> Result<(), Stop>
-        requires room { HasRoom 0 self.old }
         ensures follows { Follows program.now self.old result self.new
             (λ calls. walk_of calls event.now skipped members.now) }
     {

@@ -4,7 +4,6 @@ ghost use Rattle.std.specs.Prelude.{◌≡◌, true};
 ghost use Rattle.process_kernel.specs.Follows.{Follows};
 ghost use Rattle.process_kernel.specs.Members.{holds_member};
 ghost use Rattle.process_kernel.specs.Polls.{poll_turn_of, walk_polls, polls_of, polls_due_of};
-ghost use Rattle.process_kernel.specs.Views.{HasRoom};
 
 use crate::event::system_event;
 use crate::machine::{Machine, Stop};
@@ -19,7 +18,6 @@ impl Machine {
     #[inline(always)]
     #[tactic(auto, unfolding(crate::specs::Polls::polls_of, crate::specs::Polls::polls_due_of))]
     pub fn poll_due(&mut self, program: &Program) -> Result<(), Stop>
-        requires room { HasRoom 0 self.old }
         ensures follows { Follows program.now self.old result self.new polls_due_of }
     {
         if !self.poll_requested {
@@ -32,7 +30,6 @@ impl Machine {
     /// Polls the members of the current process list, one after another.
     #[inline(never)]
     fn poll_all(&mut self, program: &Program) -> Result<(), Stop>
-        requires room { HasRoom 0 self.old }
         ensures follows { Follows program.now self.old result self.new
             (λ calls. walk_polls calls self.old.members.items) }
     {
@@ -46,7 +43,6 @@ impl Machine {
     /// Polls the members of a list that hasn't changed since the boot or run began.
     #[inline(always)]
     fn poll_first_list(&mut self, program: &Program) -> Result<(), Stop>
-        requires units { HasRoom 0 self.old }
         requires numbered { self.old.is_numbered ≡ true }
         ensures follows { Follows program.now self.old result self.new
             (λ calls. walk_polls calls self.old.members.items) }
@@ -63,7 +59,6 @@ impl Machine {
     /// the list.
     #[inline(never)]
     fn poll_snapshot(&mut self, program: &Program) -> Result<(), Stop>
-        requires room { HasRoom 0 self.old }
         ensures follows { Follows program.now self.old result self.new
             (λ calls. walk_polls calls self.old.members.items) }
     {
@@ -73,7 +68,6 @@ impl Machine {
 
     /// Calls each of these incarnations that needs a poll when its turn comes.
     fn walk_polls(&mut self, program: &Program, members: &[Member]) -> Result<(), Stop>
-        requires room { HasRoom 0 self.old }
         ensures follows { Follows program.now self.old result self.new (λ calls. walk_polls calls members.now) }
     {
         for member in members {
@@ -92,7 +86,6 @@ impl Machine {
         member: Member,
         is_there: bool,
     ) -> Result<(), Stop>
-        requires room { HasRoom 0 self.old }
         requires membership { is_there ≡ holds_member self.old.members.items member }
         ensures follows { Follows program.now self.old result self.new
             (λ calls state. poll_turn_of calls state member) }

@@ -7,7 +7,7 @@ ghost use Rattle.process_kernel.specs.Writes.{write_of, spend_of, halted_of};
 ghost use Rattle.process_kernel.specs.Posts.{post_of, poll_of, send_of};
 ghost use Rattle.process_kernel.specs.Operation.{take_of, signal_of};
 ghost use Rattle.process_kernel.specs.Views.{first_list_of, kernel_state_of};
-ghost use Rattle.process_kernel.specs.Views.{StepMatches, Grows, KeepsCounts, KeepsLists};
+ghost use Rattle.process_kernel.specs.Views.{StepMatches, Grows, Continues, KeepsLists};
 ghost use Rattle.process_kernel.specs.Views.{OnlyAdds};
 
 use crate::machine::{Machine, Stop};
@@ -29,10 +29,10 @@ impl Machine {
     pub fn write(&mut self, what: What) -> Result<(), Stop>
         ensures exact { (t : Tree)
             → StepMatches result (kernel_state_of t self.new) (write_of (kernel_state_of t self.old) what) }
-        ensures kept { KeepsCounts self.old self.new }
+        ensures continues { Continues self.old self.new }
         ensures adds { OnlyAdds self.old self.new }
     {
-        let at = self.shown.moment;
+        let at = self.view.moment;
         self.out.lines.push(Line { at, what })?;
         Ok(())
     }
@@ -60,7 +60,7 @@ impl Machine {
     pub fn spend(&mut self) -> Result<(), Stop>
         ensures exact { (t : Tree)
             → StepMatches result (kernel_state_of t self.new) (spend_of (kernel_state_of t self.old)) }
-        ensures units { OnOk result ((self.new.fuel + 1 ≡ self.old.fuel) × (self.new.started ≡ self.old.started)
+        ensures units { OnOk result ((self.new.fuel + 1 ≡ self.old.fuel)
             × (first_list_of self.new ≡ first_list_of self.old)) }
         ensures grows { Grows self.old.out self.new.out }
     {
@@ -80,7 +80,7 @@ impl Machine {
     pub fn post(&mut self, target: Target, event: Event) -> Result<bool, Stop>
         ensures exact { (t : Tree) → StepMatches result (kernel_state_of t self.new)
             (post_of (kernel_state_of t self.old) target event) }
-        ensures kept { OnOk result (KeepsCounts self.old self.new) }
+        ensures continues { OnOk result (Continues self.old self.new) }
         ensures lists { OnOk result (KeepsLists self.old self.new) }
         ensures grows { Grows self.old.out self.new.out }
     {
@@ -103,7 +103,7 @@ impl Machine {
     #[tactic(auto, unfolding(crate::specs::Processes::with_needs_poll, crate::specs::Posts::poll_of))]
     pub fn poll(&mut self, process: Proc)
         ensures exact { (t : Tree) → kernel_state_of t self.new ≡ poll_of (kernel_state_of t self.old) process }
-        ensures kept { KeepsCounts self.old self.new }
+        ensures continues { Continues self.old self.new }
         ensures adds { OnlyAdds self.old self.new }
     {
         if is_alive(self.process_state(process)) {
@@ -117,7 +117,7 @@ impl Machine {
     fn put_sent(&mut self, packet: Sent) -> Result<(), Stop>
         ensures exact { (t : Tree) → StepMatches result (kernel_state_of t self.new)
             (Goes tt (record (kernel_state_of t self.old) { sends = self.old.out.sends.items ++ packet ∷ [] })) }
-        ensures kept { KeepsCounts self.old self.new }
+        ensures continues { Continues self.old self.new }
         ensures grows { Grows self.old.out self.new.out }
     {
         self.out.sends.push(packet)?;
@@ -133,7 +133,7 @@ impl Machine {
     pub fn send(&mut self, value: u16) -> Result<(), Stop>
         ensures exact { (t : Tree)
             → StepMatches result (kernel_state_of t self.new) (send_of (kernel_state_of t self.old) value) }
-        ensures kept { OnOk result (KeepsCounts self.old self.new) }
+        ensures continues { OnOk result (Continues self.old self.new) }
         ensures grows { Grows self.old.out self.new.out }
     {
         if self.sent >= LIMIT {
@@ -141,8 +141,8 @@ impl Machine {
         }
         let number = self.sent;
         self.put_sent(Sent {
-            at: self.shown.moment,
-            sender: self.shown.mote,
+            at: self.view.moment,
+            sender: self.view.mote,
             number,
             value,
         })?;
@@ -154,12 +154,12 @@ impl Machine {
     #[tactic(auto, unfolding(crate::specs::Operation::take_of))]
     pub fn take_semaphore(&mut self, semaphore: u8)
         ensures exact { (t : Tree) → kernel_state_of t self.new ≡ take_of (kernel_state_of t self.old) semaphore }
-        ensures kept { KeepsCounts self.old self.new }
+        ensures continues { Continues self.old self.new }
         ensures grows { Grows self.old.out self.new.out }
     {
         let place = usize::from(semaphore);
-        if place < self.shown.semaphores.len() {
-            self.shown.semaphores[place].take();
+        if place < self.view.semaphores.len() {
+            self.view.semaphores[place].take();
         }
     }
 
@@ -167,12 +167,12 @@ impl Machine {
     #[tactic(auto, unfolding(crate::specs::Operation::signal_of))]
     pub fn signal_semaphore(&mut self, semaphore: u8)
         ensures exact { (t : Tree) → kernel_state_of t self.new ≡ signal_of (kernel_state_of t self.old) semaphore }
-        ensures kept { KeepsCounts self.old self.new }
+        ensures continues { Continues self.old self.new }
         ensures grows { Grows self.old.out self.new.out }
     {
         let place = usize::from(semaphore);
-        if place < self.shown.semaphores.len() {
-            self.shown.semaphores[place].signal();
+        if place < self.view.semaphores.len() {
+            self.view.semaphores[place].signal();
         }
     }
 }

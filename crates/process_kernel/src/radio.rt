@@ -4,7 +4,7 @@ ghost use Rattle.std.specs.Prelude.{◌≡◌, ◌++◌, [], ◌∷◌, if◌the
 ghost use Rattle.program_tree.specs.Code.{Tree};
 ghost use Rattle.program_tree.specs.Program.{tree_of};
 ghost use Rattle.process_kernel.specs.Radio.{packet_of, hand_to, empty_ring, radio_of};
-ghost use Rattle.process_kernel.specs.Views.{kernel_state_of, StepMatches, Grows, KeepsCounts};
+ghost use Rattle.process_kernel.specs.Views.{kernel_state_of, StepMatches, Grows, Continues};
 
 use crate::event::is_event;
 use crate::machine::{Machine, Stop};
@@ -44,7 +44,7 @@ impl Machine {
         ensures after { (t : Tree) → kernel_state_of t self.new
             ≡ record (kernel_state_of t self.old) { ring = drop 1 self.old.ring.items } }
         ensures ring { self.new.ring.items ≡ drop 1 self.old.ring.items }
-        ensures kept { KeepsCounts self.old self.new }
+        ensures continues { Continues self.old self.new }
         ensures grows { Grows self.old.out self.new.out }
     {
         self.ring.take()
@@ -55,7 +55,7 @@ impl Machine {
     fn hand_to(&mut self, receiver: Option<u8>, packet: &Arrival) -> Result<(), Stop>
         ensures exact { (t : Tree) → StepMatches result (kernel_state_of t self.new)
             (hand_to receiver (kernel_state_of t self.old) packet.now) }
-        ensures kept { OnOk result (KeepsCounts self.old self.new) }
+        ensures continues { OnOk result (Continues self.old self.new) }
         ensures ring { OnOk result (self.new.ring ≡ self.old.ring) }
         ensures grows { Grows self.old.out self.new.out }
     {
@@ -72,7 +72,7 @@ impl Machine {
     fn empty_ring(&mut self, receiver: Option<u8>) -> Result<(), Stop>
         ensures exact { (t : Tree) → StepMatches result (kernel_state_of t self.new)
             (empty_ring receiver self.old.ring.items (kernel_state_of t self.old)) }
-        ensures kept { OnOk result (KeepsCounts self.old self.new) }
+        ensures continues { OnOk result (Continues self.old self.new) }
         ensures grows { Grows self.old.out self.new.out }
     {
         while let Some(packet) = self.take_packet() {
@@ -89,7 +89,7 @@ impl Machine {
     pub fn react_as_radio(&mut self, program: &Program, event: &Event) -> Result<(), Stop>
         ensures exact { StepMatches result (kernel_state_of (tree_of program.now) self.new)
             (radio_of (kernel_state_of (tree_of program.now) self.old) event.now) }
-        ensures kept { OnOk result (KeepsCounts self.old self.new) }
+        ensures continues { OnOk result (Continues self.old self.new) }
         ensures grows { Grows self.old.out self.new.out }
     {
         if is_event(SystemEvent::Poll, event) {

@@ -52,13 +52,13 @@ fn first_semaphores(alloc: Global, program: &Program) -> Result<Vec<Semaphore>, 
 }
 
 /// The view that a protothread of a mote with this number has before the boot.
-fn first_shown(alloc: Global, program: &Program, mote: u16) -> Result<KernelView, AllocError>
-    ensures mote { IfOk result (λ shown. (shown.mote ≡ mote) × (shown.moment ≡ 0)) }
+fn first_view(alloc: Global, program: &Program, mote: u16) -> Result<KernelView, AllocError>
+    ensures mote { IfOk result (λ view. (view.mote ≡ mote) × (view.moment ≡ 0)) }
     ensures timers { let n = length (tree_of program.now).timers in
-        IfOk result (λ shown. (shown.timer_count ≡ n) × (shown.timers ≡ new_timers n)) }
-    ensures states { IfOk result (λ shown. shown.states.items
+        IfOk result (λ view. (view.timer_count ≡ n) × (view.timers ≡ new_timers n)) }
+    ensures states { IfOk result (λ view. view.states.items
         ≡ replicate (length (tree_of program.now).processes + 3) ProcessState.Off) }
-    ensures semaphores { IfOk result (λ shown. shown.semaphores.items ≡ (tree_of program.now).counts) }
+    ensures semaphores { IfOk result (λ view. view.semaphores.items ≡ (tree_of program.now).counts) }
 {
     let timers = program.timers();
     let places = usize::from(program.processes()) + 3;
@@ -96,7 +96,7 @@ impl Machine {
             queue: EventQueue::new(alloc, queue)?,
             ring: Ring::new(alloc)?,
             callbacks: Callbacks::new(alloc, program.timers())?,
-            shown: first_shown(alloc, program, mote)?,
+            view: first_view(alloc, program, mote)?,
             exiting: Vec::new(alloc),
             first_list: Vec::new(alloc),
             needs_poll: Vec::new(alloc),

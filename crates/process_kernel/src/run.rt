@@ -5,7 +5,7 @@ ghost use Rattle.program_tree.specs.Code.{Tree};
 ghost use Rattle.process_kernel.specs.Follows.{Follows};
 ghost use Rattle.process_kernel.specs.ProcessList.{numbered_from};
 ghost use Rattle.process_kernel.specs.Run.{begun_of, kernel_of};
-ghost use Rattle.process_kernel.specs.Views.{kernel_state_of, Grows, HasRoom};
+ghost use Rattle.process_kernel.specs.Views.{kernel_state_of, Grows};
 
 use crate::machine::{Machine, Stop};
 use crate::process::Member;
@@ -22,7 +22,6 @@ impl Machine {
     /// `Halted` if the mote halts meanwhile; `Memory` if an allocation fails.
     #[tactic(auto, unfolding(crate::specs::Run::kernel_of))]
     pub fn run_kernel(&mut self, program: &Program) -> Result<u16, Stop>
-        requires room { HasRoom 0 self.old }
         ensures follows { Follows program.now self.old result self.new kernel_of }
     {
         self.poll_due(program)?;
@@ -35,10 +34,9 @@ impl Machine {
     pub fn begin(&mut self, moment: u64)
         requires moment_bounded { moment ≤ 2 ^ 40 }
         ensures exact { (t : Tree) → kernel_state_of t self.new ≡ begun_of (kernel_state_of t self.old) moment }
-        ensures room { HasRoom 1 self.new }
         ensures grows { Grows self.old.out self.new.out }
     {
-        self.shown.moment = moment;
+        self.view.moment = moment;
         self.fuel = Fuel::new(UNITS);
         self.started = self.members.len() as u32;
         self.number_members();
@@ -48,7 +46,6 @@ impl Machine {
     fn number_members(&mut self)
         ensures exact { (t : Tree) → kernel_state_of t self.new
             ≡ record (kernel_state_of t self.old) { members = numbered_from 0 self.old.members.items } }
-        ensures counts { (self.new.fuel ≡ self.old.fuel) × (self.new.started ≡ self.old.started) }
         ensures grows { Grows self.old.out self.new.out }
     {
         if !self.is_numbered {

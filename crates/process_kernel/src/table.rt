@@ -6,7 +6,7 @@ ghost use Rattle.process_kernel.specs.Members.{place_of, is_same as are_same, ho
 ghost use Rattle.process_kernel.specs.Processes.{state_at as state_of_process, at_process, is_running_state};
 ghost use Rattle.process_kernel.specs.Processes.{is_called_state, with_state, with_exiting, with_needs_poll};
 ghost use Rattle.process_kernel.specs.Processes.{is_alive as lives};
-ghost use Rattle.process_kernel.specs.Views.{first_list_of, kernel_state_of, Grows, KeepsCounts, OnlyAdds};
+ghost use Rattle.process_kernel.specs.Views.{first_list_of, kernel_state_of, Grows, Continues, OnlyAdds};
 
 use crate::machine::Machine;
 use crate::process::{Member, ProcessState};
@@ -54,14 +54,14 @@ pub fn is_alive(state: ProcessState) -> bool
 impl Machine {
     /// The state of a process; `Off` if the mote has no such process.
     pub fn process_state(&self, process: Proc) -> ProcessState
-        ensures value { result ≡ state_of_process self.now.shown.states.items process }
+        ensures value { result ≡ state_of_process self.now.view.states.items process }
     {
-        state_at(&self.shown.states, place_of(process))
+        state_at(&self.view.states, place_of(process))
     }
 
     /// Returns `true` if a process is running: it has started, and isn't being called.
     pub fn is_running(&self, process: Proc) -> bool
-        ensures value { result ≡ is_running_state (state_of_process self.now.shown.states.items process) }
+        ensures value { result ≡ is_running_state (state_of_process self.now.view.states.items process) }
     {
         match self.process_state(process) {
             ProcessState::Off => false,
@@ -84,7 +84,7 @@ impl Machine {
     /// exited.
     pub fn is_busy(&self, process: Proc) -> bool
         ensures value { result ≡ (is_called_state
-            (state_of_process self.now.shown.states.items process) || at_process self.now.exiting.items process) }
+            (state_of_process self.now.view.states.items process) || at_process self.now.exiting.items process) }
     {
         match self.process_state(process) {
             ProcessState::Off => self.is_exiting(process),
@@ -105,9 +105,9 @@ impl Machine {
 
     /// Returns `true` if the mote has such a process.
     pub fn has_process(&self, process: Proc) -> bool
-        ensures value { result ≡ nat_lt (place_of process) (length self.now.shown.states.items) }
+        ensures value { result ≡ nat_lt (place_of process) (length self.now.view.states.items) }
     {
-        place_of(process) < self.shown.states.len()
+        place_of(process) < self.view.states.len()
     }
 
     /// Returns `true` if this incarnation is on the process list. If the incarnations are numbered, it is at the place
@@ -161,12 +161,12 @@ impl Machine {
     pub fn set_state(&mut self, process: Proc, state: ProcessState)
         ensures exact { (t : Tree)
             → kernel_state_of t self.new ≡ with_state (kernel_state_of t self.old) process state }
-        ensures kept { KeepsCounts self.old self.new }
+        ensures continues { Continues self.old self.new }
         ensures grows { Grows self.old.out self.new.out }
     {
         let place = place_of(process);
-        if place < self.shown.states.len() {
-            self.shown.set_state(place, state);
+        if place < self.view.states.len() {
+            self.view.set_state(place, state);
         }
     }
 
@@ -175,7 +175,7 @@ impl Machine {
     pub fn set_exiting(&mut self, process: Proc, exiting: bool)
         ensures exact { (t : Tree)
             → kernel_state_of t self.new ≡ with_exiting (kernel_state_of t self.old) process exiting }
-        ensures kept { KeepsCounts self.old self.new }
+        ensures continues { Continues self.old self.new }
         ensures grows { Grows self.old.out self.new.out }
     {
         let place = place_of(process);
@@ -189,7 +189,7 @@ impl Machine {
     pub fn set_needs_poll(&mut self, process: Proc, needs_poll: bool)
         ensures exact { (t : Tree)
             → kernel_state_of t self.new ≡ with_needs_poll (kernel_state_of t self.old) process needs_poll }
-        ensures kept { KeepsCounts self.old self.new }
+        ensures continues { Continues self.old self.new }
         ensures adds { OnlyAdds self.old self.new }
     {
         let place = place_of(process);

@@ -8,7 +8,7 @@ ghost use Rattle.process_kernel.specs.Ctimer.{waits_for};
 ghost use Rattle.process_kernel.specs.TimerOperations.{is_callback as is_of_callback, owner_of, timer_is_set, set_of};
 ghost use Rattle.process_kernel.specs.TimerOperations.{reset_of, restart_of, stop_of};
 ghost use Rattle.process_kernel.specs.Etimer.{fired_of, pass_of, purge_of, etimer_of};
-ghost use Rattle.process_kernel.specs.Views.{kernel_state_of, StepMatches, Grows, KeepsCounts};
+ghost use Rattle.process_kernel.specs.Views.{kernel_state_of, StepMatches, Grows, Continues};
 
 use crate::event::{is_event, system_event};
 use crate::machine::{Machine, Stop};
@@ -35,14 +35,14 @@ fn owner(program: &Program, timer: u16, current: u8) -> Proc
 impl Machine {
     /// Adds the callback of a timer to the callback list, if the timer has one.
     fn put_callback(&mut self, program: &Program, timer: u16)
-        requires is_timer { timer < self.old.shown.timer_count }
+        requires is_timer { timer < self.old.view.timer_count }
         ensures exact { kernel_state_of (tree_of program.now) self.new
             ≡ record (kernel_state_of (tree_of program.now) self.old) {
               callbacks = if is_of_callback
                   (tree_of program.now) timer then with_member timer self.old.callbacks.members else
                   self.old.callbacks.members;
             } }
-        ensures kept { KeepsCounts self.old self.new }
+        ensures continues { Continues self.old self.new }
         ensures grows { Grows self.old.out self.new.out }
     {
         if is_callback(program, timer) {
@@ -54,10 +54,10 @@ impl Machine {
     /// process is to be polled.
     #[tactic(auto, unfolding(crate::specs::TimerOperations::timer_is_set))]
     fn timer_is_set(&mut self, program: &Program, timer: u16)
-        requires is_timer { timer < self.old.shown.timer_count }
+        requires is_timer { timer < self.old.view.timer_count }
         ensures exact { kernel_state_of (tree_of program.now) self.new
             ≡ timer_is_set (kernel_state_of (tree_of program.now) self.old) timer }
-        ensures kept { KeepsCounts self.old self.new }
+        ensures continues { Continues self.old self.new }
         ensures grows { Grows self.old.out self.new.out }
     {
         self.put_callback(program, timer);
@@ -71,14 +71,14 @@ impl Machine {
     pub fn set_timer(&mut self, program: &Program, timer: u16, interval: u16, current: u8)
         ensures exact { kernel_state_of (tree_of program.now) self.new
             ≡ set_of (kernel_state_of (tree_of program.now) self.old) timer interval current }
-        ensures kept { KeepsCounts self.old self.new }
+        ensures continues { Continues self.old self.new }
         ensures grows { Grows self.old.out self.new.out }
     {
-        if timer < self.shown.timer_count {
+        if timer < self.view.timer_count {
             let owner = owner(program, timer, current);
-            self.shown
+            self.view
                 .timers
-                .set(timer, owner, interval, self.shown.moment);
+                .set(timer, owner, interval, self.view.moment);
             self.timer_is_set(program, timer);
         }
     }
@@ -90,11 +90,11 @@ impl Machine {
     pub fn reset_timer(&mut self, program: &Program, timer: u16, current: u8)
         ensures exact { kernel_state_of (tree_of program.now) self.new
             ≡ reset_of (kernel_state_of (tree_of program.now) self.old) timer current }
-        ensures kept { KeepsCounts self.old self.new }
+        ensures continues { Continues self.old self.new }
         ensures grows { Grows self.old.out self.new.out }
     {
-        if timer < self.shown.timer_count {
-            self.shown
+        if timer < self.view.timer_count {
+            self.view
                 .timers
                 .reset(timer, owner(program, timer, current));
             self.timer_is_set(program, timer);
@@ -108,12 +108,12 @@ impl Machine {
     pub fn restart_timer(&mut self, program: &Program, timer: u16, current: u8)
         ensures exact { kernel_state_of (tree_of program.now) self.new
             ≡ restart_of (kernel_state_of (tree_of program.now) self.old) timer current }
-        ensures kept { KeepsCounts self.old self.new }
+        ensures continues { Continues self.old self.new }
         ensures grows { Grows self.old.out self.new.out }
     {
-        if timer < self.shown.timer_count {
+        if timer < self.view.timer_count {
             let owner = owner(program, timer, current);
-            self.shown.timers.restart(timer, owner, self.shown.moment);
+            self.view.timers.restart(timer, owner, self.view.moment);
             self.timer_is_set(program, timer);
         }
     }
@@ -123,11 +123,11 @@ impl Machine {
     #[tactic(auto, unfolding(crate::specs::TimerOperations::stop_of))]
     pub fn stop_timer(&mut self, timer: u16)
         ensures exact { (t : Tree) → kernel_state_of t self.new ≡ stop_of (kernel_state_of t self.old) timer }
-        ensures kept { KeepsCounts self.old self.new }
+        ensures continues { Continues self.old self.new }
         ensures grows { Grows self.old.out self.new.out }
     {
-        if timer < self.shown.timer_count {
-            self.shown.timers.stop(timer);
+        if timer < self.view.timer_count {
+            self.view.timers.stop(timer);
             self.callbacks.remove(timer);
         }
     }
@@ -138,10 +138,10 @@ impl Machine {
         ensures after { (t : Tree) → kernel_state_of t self.new
             ≡ (if result then record (kernel_state_of t self.old)
             { callbacks = without_member timer self.old.callbacks.members } else kernel_state_of t self.old) }
-        ensures kept { KeepsCounts self.old self.new }
+        ensures continues { Continues self.old self.new }
         ensures grows { Grows self.old.out self.new.out }
     {
-        if timer < self.shown.timer_count && self.callbacks.holds(timer) {
+        if timer < self.view.timer_count && self.callbacks.holds(timer) {
             self.callbacks.remove(timer)
         } else {
             false
@@ -154,17 +154,17 @@ impl Machine {
     fn post_due_timers(&mut self) -> Result<(), Stop>
         ensures exact { (t : Tree)
             → StepMatches result (kernel_state_of t self.new) (pass_of (kernel_state_of t self.old)) }
-        ensures kept { OnOk result (KeepsCounts self.old self.new) }
+        ensures continues { OnOk result (Continues self.old self.new) }
         ensures grows { Grows self.old.out self.new.out }
     {
         let mut after = None;
-        while let Some((timer, owner)) = self.shown.timers.next_due(self.shown.moment, after) {
+        while let Some((timer, owner)) = self.view.timers.next_due(self.view.moment, after) {
             let is_full = self.post(Target::One(owner), system_event(SystemEvent::Timer, timer))?;
             if is_full {
                 self.poll(Proc::Etimer);
                 after = Some(timer);
             } else {
-                self.shown.timers.fire(timer);
+                self.view.timers.fire(timer);
                 after = None;
             }
         }
@@ -175,11 +175,11 @@ impl Machine {
     #[tactic(auto, unfolding(crate::specs::Etimer::purge_of))]
     fn purge(&mut self, process: u16)
         ensures exact { (t : Tree) → kernel_state_of t self.new ≡ purge_of (kernel_state_of t self.old) process }
-        ensures kept { KeepsCounts self.old self.new }
+        ensures continues { Continues self.old self.new }
         ensures grows { Grows self.old.out self.new.out }
     {
         if process < 256 {
-            self.shown.timers.purge(Proc::Own(process as u8));
+            self.view.timers.purge(Proc::Own(process as u8));
         }
     }
 
@@ -191,7 +191,7 @@ impl Machine {
     pub fn react_as_etimer(&mut self, event: &Event) -> Result<(), Stop>
         ensures exact { (t : Tree) → StepMatches result (kernel_state_of t self.new)
             (etimer_of (kernel_state_of t self.old) event.now) }
-        ensures kept { OnOk result (KeepsCounts self.old self.new) }
+        ensures continues { OnOk result (Continues self.old self.new) }
         ensures grows { Grows self.old.out self.new.out }
     {
         if is_event(SystemEvent::Poll, event) {

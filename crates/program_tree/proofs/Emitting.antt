@@ -2,16 +2,16 @@
 use Rattle.std.proofs.Common.{◌≡◌, ℕ, zero, suc, ◌+◌, ◌<◌, ◌≤◌, Some, zero-add, get_or, drop, map, List, [], ◌∷◌, ◌++◌, length, refl, ap, sym, ◌∙◌, subst, arith, append_assoc, length-append}
 use Rattle.std.specs.Prelude.{slice_get, Result, Ok, Err, OnOk}
 use Rattle.std.proofs.lemmas.List.{append-nil, get_or_past, get_or_at, drop_all, length-map}
-use Rattle.program_tree.specs.declared.tree.Action.{Action as ActionRead}
-use Rattle.program_tree.specs.declared.tree.Expr.{Expr}
+use Rattle.program_tree.specs.declared.formula.Formula.{Formula}
 use Rattle.program_tree.specs.declared.tree.Stmt.{Stmt}
 use Rattle.program_tree.specs.declared.instruction.Instruction.{Instruction}
-use Rattle.program_tree.specs.declared.instruction.Instruction.TheVariants.{Act, Branch, Loop}
-use Rattle.program_tree.specs.Tree.{Expression, Statement, Body, Otherwise, does, branch, while, end, next, nothing}
+use Rattle.program_tree.specs.declared.instruction.Instruction.TheVariants.{Branch, Loop}
+use Rattle.program_tree.specs.Tree.{Expression, Action, Statement, Body, Otherwise, does, branch, while, end, next, nothing}
 use Rattle.program_tree.specs.Tree.{otherwise, listed, other_block, size, statement_size, other_size}
-use Rattle.program_tree.specs.Meaning.{expression_of, action_of, body_of, statement_of}
+use Rattle.program_tree.specs.Meaning.{body_of, statement_of}
+use Rattle.program_tree.specs.Formula.{formula_of}
 use Rattle.program_tree.specs.Flat.{rests, statement_rests, other_rests, rest_in, rest_at, Leads, Branches, Loops, IsFlat}
-use Rattle.program_tree.specs.Emits.{entry_of, other_entry_of, LeadFrom, Emits, EmitsStatement, EmitsOther, EmitsFirst}
+use Rattle.program_tree.specs.Emits.{entry_of, other_entry_of, LeadsOver, LeadFrom, Emits, EmitsStatement, EmitsOther, EmitsFirst}
 
 -- there are as many rests as there are statements
 mutual
@@ -58,24 +58,24 @@ other_enters nothing all left right rest n after is e follows = follows
 other_enters (otherwise b) all left right rest n after is e follows = enters b all left right rest n after is e follows
 
 -- a statement without blocks
-pub emits_action : (a copy : ActionRead) (after : ℕ) (old new : List Instruction)
-    → action_of copy ≡ action_of a → new ≡ old ++ Act copy after ∷ [] → EmitsStatement (does (action_of a)) after old new
-emits_action a copy after old new same pushed =
+pub emits_action : (a : Action ℕ) (i : Instruction) (after : ℕ) (old new : List Instruction)
+    → LeadsOver i a after → new ≡ old ++ i ∷ [] → EmitsStatement (does a) after old new
+emits_action a i after old new over pushed =
     record {
-      more = Act copy after ∷ [];
+      more = i ∷ [];
       extends = pushed;
       counts = refl;
       leads =
           λ all left right rest is there follows. (
-            statement_enters (does (action_of a)) all left right rest (length old) (is ∙ append_assoc left ((does (action_of a) ∷ rest) ∷ []) right) there
-                ∙ ap (λ r. does (action_of a) ∷ r) (sym follows) ∙ ap (λ x. does x ∷ rest_in all after) (sym same),
+            over.leads (rest_in all) (rest_in all (length old))
+                (statement_enters (does a) all left right rest (length old) (is ∙ append_assoc left ((does a ∷ rest) ∷ []) right) there ∙ ap (λ r. does a ∷ r) (sym follows)),
             tt,
           );
     }
 
 -- an `if`
-pub emits_branch : (c : Expression ℕ) (e : Expr) (a : Body ℕ) (o : Otherwise ℕ) (after then other : ℕ) (old mid last new : List Instruction)
-    → expression_of e ≡ c → then ≡ entry_of a (length old + 1) after → other ≡ other_entry_of o (length old + 1 + size a) after
+pub emits_branch : (c : Expression ℕ) (e : Formula) (a : Body ℕ) (o : Otherwise ℕ) (after then other : ℕ) (old mid last new : List Instruction)
+    → formula_of e ≡ c → then ≡ entry_of a (length old + 1) after → other ≡ other_entry_of o (length old + 1 + size a) after
     → mid ≡ old ++ Branch e then other ∷ [] → Emits a after mid last → EmitsOther o after last new
     → EmitsStatement (branch c a o) after old new
 emits_branch c e a o after then other old mid last new same then_is other_is pushed p q =
@@ -102,7 +102,7 @@ emits_branch c e a o after then other old mid last new same then_is other_is pus
           let in_there = there_inner left rest there in
           let other_there = there_other left rest there in
           let in_state : rest_in all (length old) ≡ s ∷ rest = statement_enters s all left right rest (length old) (is ∙ append_assoc left (statement_rests s rest) right) there in
-          let P : List (Statement ℕ) → Type 0 = λ here. Branches (rest_in all) (expression_of e) then other here in
+          let P : List (Statement ℕ) → Type 0 = λ here. Branches (rest_in all) (formula_of e) then other here in
           let first : P (rest_in all (length old)) =
           subst P (sym in_state) (
             sym same,
@@ -125,8 +125,8 @@ emits_branch c e a o after then other old mid last new same then_is other_is pus
     joined p x y i = simp append_assoc
 
 -- a `while`
-pub emits_while : (c : Expression ℕ) (e : Expr) (a : Body ℕ) (after place body : ℕ) (old mid new : List Instruction)
-    → expression_of e ≡ c → place ≡ length old → body ≡ entry_of a (length old + 1) place → mid ≡ old ++ Loop e body after ∷ [] → Emits a place mid new
+pub emits_while : (c : Expression ℕ) (e : Formula) (a : Body ℕ) (after place body : ℕ) (old mid new : List Instruction)
+    → formula_of e ≡ c → place ≡ length old → body ≡ entry_of a (length old + 1) place → mid ≡ old ++ Loop e body after ∷ [] → Emits a place mid new
     → EmitsStatement (while c a) after old new
 emits_while c e a after place body old mid new same here body_is pushed q =
     let s : Statement ℕ = while c a in
@@ -146,7 +146,7 @@ emits_while c e a after place body old mid new same here body_is pushed q =
           let in_there = there_inner left rest there in
           let in_state : rest_in all (length old) ≡ s ∷ rest = statement_enters s all left right rest (length old) (is ∙ append_assoc left (statement_rests s rest) right) there in
           let again : rest_in all place ≡ s ∷ rest = ap (λ n. rest_in all n) here ∙ in_state in
-          let P : List (Statement ℕ) → Type 0 = λ here. Loops (rest_in all) (expression_of e) body after here in
+          let P : List (Statement ℕ) → Type 0 = λ here. Loops (rest_in all) (formula_of e) body after here in
           let loops : P (rest_in all (length old)) =
           subst P (sym in_state)
           (sym same, follows, ap (λ n. rest_in all n) body_is ∙ enters a all _ _ (s ∷ rest) (length old + 1) place is_inner in_there again) in

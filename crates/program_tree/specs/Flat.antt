@@ -1,10 +1,11 @@
 -- The statements that follow each place of a block's flat code.
 use Rattle.std.specs.Prelude.{◌≡◌, ℕ, ◌≤◌, List, [], ◌∷◌, ◌++◌, length, Some, slice_get, slice_index_or}
 use Rattle.program_tree.specs.declared.instruction.Instruction.{Instruction}
-use Rattle.program_tree.specs.declared.instruction.Instruction.TheVariants.{Act, Branch, Loop}
-use Rattle.program_tree.specs.Tree.{Expression, Statement, Body, Otherwise, does, branch, while, end, next, nothing}
-use Rattle.program_tree.specs.Tree.{otherwise, listed, other_block}
-use Rattle.program_tree.specs.Meaning.{expression_of, action_of}
+use Rattle.program_tree.specs.declared.instruction.Instruction.TheVariants.{Act, Assign, Branch, Loop}
+use Rattle.program_tree.specs.Tree.{Expression, Statement, Body, Otherwise, assign, does, branch, while, end, next}
+use Rattle.program_tree.specs.Tree.{nothing, otherwise, listed, other_block}
+use Rattle.program_tree.specs.Meaning.{action_of}
+use Rattle.program_tree.specs.Formula.{formula_of}
 
 -- Each statement has a place, in the order of the text: the statements of an inner block are after the statement that
 -- has the block. The rest at a place is all that remains there: the statement, the statements after it in its block,
@@ -49,8 +50,9 @@ Loops at c body after here = ⊥
 -- the rests that remain after this statement.
 abbrev pub Leads : (at : ℕ → List (Statement ℕ)) → Instruction → (here : List (Statement ℕ)) → Type 0
 Leads at (Act a after) here = here ≡ does (action_of a) ∷ at after
-Leads at (Branch c then other) here = Branches at (expression_of c) then other here
-Leads at (Loop c body after) here = Loops at (expression_of c) body after here
+Leads at (Assign i f after) here = here ≡ does (assign i (formula_of f)) ∷ at after
+Leads at (Branch c then other) here = Branches at (formula_of c) then other here
+Leads at (Loop c body after) here = Loops at (formula_of c) body after here
 
 -- Flat code of a block: each instruction has the local property, and there is one instruction for each rest.
 pub record IsFlat (b : Body ℕ) (code : List Instruction) : Type 0 where

@@ -8,6 +8,7 @@ pub mod Faults
 pub mod Flat
 pub mod FlatBlock
 pub mod Forms
+pub mod Formula
 pub mod Grammar
 pub mod InScope
 pub mod Kinds

@@ -4,7 +4,7 @@ use Rattle.std.proofs.Props.{props}
 use Rattle.program_tree.specs.EventNames.{BroadcastEvent, PostedEvent, TestedEvent}
 use Rattle.program_tree.specs.declared.tree.Operator.{Operator}
 use Rattle.program_tree.specs.declared.instruction.Instruction.{Instruction}
-use Rattle.program_tree.specs.declared.instruction.Instruction.TheVariants.{Act, Branch, Loop}
+use Rattle.program_tree.specs.declared.instruction.Instruction.TheVariants.{Act, Assign, Branch, Loop}
 use Rattle.program_tree.specs.Tree.{Expression, Action, Statement, Body, does, branch, while, Expression-set}
 use Rattle.program_tree.specs.Tree.{Statement-set}
 use Rattle.program_tree.specs.Flat.{Branches, Loops, Leads, IsFlat}
@@ -46,6 +46,7 @@ Loops-prop at c body after (while d a ∷ rest) = hlevel (props, expression_set,
 
 Leads-prop : (at : ℕ → List (Statement ℕ)) (i : Instruction) (here : List (Statement ℕ)) → IsProp (Leads at i here)
 Leads-prop at (Act a after) here = hlevel (props, statement_set)
+Leads-prop at (Assign i f after) here = hlevel (props, statement_set)
 Leads-prop at (Branch c then other) here = Branches-prop at _ then other here
 Leads-prop at (Loop c body after) here = Loops-prop at _ body after here
 

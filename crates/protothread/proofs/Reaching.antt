@@ -4,9 +4,10 @@ use Rattle.std.proofs.Common.{◌∙◌, subst}
 use Rattle.std.proofs.lemmas.Bool.{ltb-true}
 use Rattle.program_tree.specs.declared.event.Event.{Event}
 use Rattle.program_tree.specs.declared.instruction.Instruction.{Instruction}
-use Rattle.program_tree.specs.declared.instruction.Instruction.TheVariants.{Act, Branch, Loop}
-use Rattle.program_tree.specs.Tree.{Expression, Statement, Body, does, branch, while, spawn, listed, other_block}
+use Rattle.program_tree.specs.declared.instruction.Instruction.TheVariants.{Act, Assign, Branch, Loop}
+use Rattle.program_tree.specs.Tree.{Expression, Statement, Body, assign, does, branch, while, spawn, listed, other_block}
 use Rattle.program_tree.specs.Meaning.{action_of}
+use Rattle.program_tree.specs.Formula.{formula_of}
 use Rattle.program_tree.specs.Code.{Code}
 use Rattle.program_tree.specs.Flat.{rest_at, Branches, Loops, Leads}
 use Rattle.program_tree.specs.Scope.{earlier_threads}
@@ -120,6 +121,7 @@ takes_loop left_at c body after code whole y vars event looks (while d a) rest h
 -- at each instruction, at least one statement is left
 pub leads_to_rest : (left_at : ℕ → List (Statement ℕ)) (i : Instruction) (here : List (Statement ℕ)) → Leads left_at i here → (s : Statement ℕ) × (rest : List (Statement ℕ)) × (here ≡ s ∷ rest)
 leads_to_rest left_at (Act a after) here h = (does (action_of a), left_at after, h)
+leads_to_rest left_at (Assign i f after) here h = (does (assign i (formula_of f)), left_at after, h)
 leads_to_rest left_at (Branch c held failed) here h = by_cases _ here h
   where
     by_cases : (e : Expression ℕ) (l : List (Statement ℕ)) → Branches left_at e held failed l → (s : Statement ℕ) × (rest : List (Statement ℕ)) × (l ≡ s ∷ rest)

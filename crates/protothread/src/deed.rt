@@ -5,7 +5,7 @@ ghost use Rattle.protothread.specs.Step.{deed_of, passes_where as by_test};
 
 use crate::look::Look;
 use crate::step::Op;
-use crate::value::{evaluate, evaluate_by_call};
+use crate::value::evaluate_by_call;
 use crate::vars::Vars;
 use program_tree::{Action, Event, Proc, SystemEvent, Target};
 
@@ -52,7 +52,7 @@ pub(crate) fn done_by<L: Look>(
 {
     match action {
         Action::Assign(variable, value) => {
-            StatementEffect::Assigns(*variable, evaluate(value, vars, event, look))
+            StatementEffect::Assigns(*variable, evaluate_by_call(value, vars, event, look))
         }
         Action::Print(value) => {
             StatementEffect::Operates(Op::Print(evaluate_by_call(value, vars, event, look)), None)

@@ -1,9 +1,9 @@
 //! Protothreads.
 ghost use Rattle.std.specs.Prelude.{◌≡◌, ℕ, ◌+◌, ◌≤◌, [], ◌∷◌, false, List, length};
 ghost use Rattle.program_tree.specs.Tree.{Statement};
-ghost use Rattle.program_tree.specs.Meaning.{expression_of};
 ghost use Rattle.program_tree.specs.Code.{Code};
 ghost use Rattle.program_tree.specs.Flat.{Leads, rest_at};
+ghost use Rattle.program_tree.specs.Formula.{formula_of};
 ghost use Rattle.program_tree.specs.Program.{code_of};
 ghost use Rattle.protothread.specs.Remainder.{fresh_of};
 ghost use Rattle.protothread.specs.Step.{advanced_of, answered_of, PaysFor};
@@ -17,9 +17,9 @@ use crate::fuel::Fuel;
 use crate::look::Look;
 use crate::part::{Part, thread_code};
 use crate::step::{Op, Step};
-use crate::value::evaluate;
+use crate::value::formula_value;
 use crate::vars::Vars;
-use program_tree::{Event, Expr, Instruction, ProcessText};
+use program_tree::{Event, Formula, Instruction, ProcessText};
 
 /// The last action of a thread.
 #[derive(Clone, Copy)]
@@ -56,10 +56,17 @@ enum Reach<'a> {
 
 /// The place at which a thread continues after a test.
 #[inline(always)]
-fn chosen<L: Look>(test: &Expr, vars: &Vars, event: &Event, look: &L, holds: u16, fails: u16) -> u16
-    ensures value { result ≡ place_by vars.now event.now (L.looks look.now) (expression_of test.now) holds fails }
+fn chosen<L: Look>(
+    test: &Formula,
+    vars: &Vars,
+    event: &Event,
+    look: &L,
+    holds: u16,
+    fails: u16,
+) -> u16
+    ensures value { result ≡ place_by vars.now event.now (L.looks look.now) (formula_of test.now) holds fails }
 {
-    if evaluate(test, vars, event, look) != 0 {
+    if formula_value(test, vars, event, look) != 0 {
         holds
     } else {
         fails
@@ -224,6 +231,12 @@ impl Thread {
             Instruction::Act(action, next) => {
                 let deed = done_by(action, text.number(), self.is_yielded, vars, event, look);
                 self.perform(text, flat, deed, *next, vars)
+            }
+            Instruction::Assign(variable, value, next) => {
+                let value = formula_value(value, vars, event, look);
+                vars.set(*variable, value);
+                self.go_on(*next);
+                Reach::GoesOn(flat)
             }
             Instruction::Branch(test, holds, fails) => {
                 self.go_on(chosen(test, vars, event, look, *holds, *fails));

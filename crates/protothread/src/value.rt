@@ -3,13 +3,15 @@ ghost use Rattle.std.specs.Prelude.{◌≡◌, ◌==◌, IfSome};
 ghost use Rattle.std.specs.List.{list_any};
 ghost use Rattle.program_tree.specs.Events.{system_number};
 ghost use Rattle.program_tree.specs.Meaning.{expression_of};
+ghost use Rattle.program_tree.specs.Formula.{term_of, formula_of};
+ghost use Rattle.program_tree.specs.Tree.{binary};
 ghost use Rattle.program_tree.specs.declared.event.Event.{Event};
 ghost use Rattle.protothread.specs.Looks.{Looks};
 ghost use Rattle.protothread.specs.Value.{applied, is_event as has_number_and_word, value};
 
 use crate::look::Look;
 use crate::vars::Vars;
-use program_tree::{Event, Expr, Operator, SystemEvent};
+use program_tree::{Event, Expr, Formula, Operator, SystemEvent, Term};
 
 /// The value of an operator applied to two values.
 #[inline(always)]
@@ -144,18 +146,49 @@ fn evaluate_tree<L: Look>(expression: &Expr, vars: &Vars, event: &Event, look: &
     }
 }
 
-/// The value of an expression, for frequent statements: a short expression needs no call.
+/// The value of a term.
 #[inline(always)]
-pub(crate) fn evaluate<L: Look>(expression: &Expr, vars: &Vars, event: &Event, look: &L) -> u16
-    ensures value { result ≡ value vars.now event.now (L.looks look.now) (expression_of expression.now) }
+fn term_value(term: &Term, vars: &Vars, event: &Event) -> u16
+    ensures value { (looks : Looks) → result ≡ value vars.now event.now looks (term_of term.now) }
 {
-    match short_value(expression, vars, event) {
-        Some(value) => value,
-        None => evaluate_tree(expression, vars, event, look),
+    match term {
+        Term::Number(number) => *number,
+        Term::Variable(variable) => vars.value(*variable),
+        Term::Word => event.word,
+        Term::Is(named) => u16::from(event.number == named.number()),
+        Term::Fired(timer) => u16::from(is_event(event, SystemEvent::Timer, *timer)),
+        Term::WithNumber(operator, left, number) => apply(*operator, vars.value(*left), *number),
+        Term::WithVariable(operator, left, right) => {
+            apply(*operator, vars.value(*left), vars.value(*right))
+        }
+        Term::WithWord(operator, left) => apply(*operator, vars.value(*left), event.word),
     }
 }
 
-/// The value of an expression, for less frequent statements: a short expression needs a call too.
+/// The value of an operator with two terms.
+#[inline(never)]
+fn pair_value(operator: Operator, left: &Term, right: &Term, vars: &Vars, event: &Event) -> u16
+    ensures value { (looks : Looks)
+        → result ≡ value vars.now event.now looks (binary operator (term_of left.now) (term_of right.now)) }
+{
+    let left = term_value(left, vars, event);
+    let right = term_value(right, vars, event);
+    apply(operator, left, right)
+}
+
+/// The value of an expression in flat code. The function is inlined, so that the value of a term needs no call.
+#[inline(always)]
+pub(crate) fn formula_value<L: Look>(formula: &Formula, vars: &Vars, event: &Event, look: &L) -> u16
+    ensures value { result ≡ value vars.now event.now (L.looks look.now) (formula_of formula.now) }
+{
+    match formula {
+        Formula::Term(term) => term_value(term, vars, event),
+        Formula::Pair(operator, left, right) => pair_value(*operator, left, right, vars, event),
+        Formula::Tree(expression) => evaluate_tree(expression, vars, event, look),
+    }
+}
+
+/// The value of an expression that flat code keeps as a tree, in an operation or a wait.
 #[inline(always)]
 pub(crate) fn evaluate_by_call<L: Look>(
     expression: &Expr,

@@ -6,7 +6,7 @@ from collections.abc import Sequence
 from motesim.analysis.paired import Compared
 from motesim.analysis.plots import Plot
 from motesim.analysis.points import Point, Shown, Values, order
-from motesim.cells import Cell, text_of
+from motesim.cells import Cell, aligned, text_of
 from motesim.experiments.results import Row
 
 WAYS = {'t': 'Student\'s t', 'Wilson': 'Wilson\'s score'}
@@ -72,9 +72,7 @@ def rows_of_differences(found: Compared, plot: Plot) -> list[Row]:
 def lines(rows: Sequence[Row]) -> list[str]:
     """The rows in columns. All real numbers of a column have the same number of decimals."""
     columns = {name: _texts([row[name] for row in rows]) for name in rows[0]}
-    widths = {name: max(map(len, [name, *texts])) for name, texts in columns.items()}
-    texts = [list(columns), *zip(*columns.values())]
-    return [' '.join(text.rjust(width) for text, width in zip(row, widths.values())).rstrip() for row in texts]
+    return list(aligned([list(columns), *zip(*columns.values())]))
 
 
 def _texts(values: Sequence[Cell]) -> list[str]:

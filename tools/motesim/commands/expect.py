@@ -9,6 +9,9 @@ The scenario is run. For each expectation a line says whether it holds. If it do
 and the first line of the report that breaks it. docs/use/TESTING.md has all forms of expectations. The last
 line is `N passed, M failed`.
 
+With --claims the tool runs nothing: it writes the claims that each expectation means for this scenario. The proved
+program `motecheck` decides them: `motecheck SCENARIO CLAIMS`.
+
 The tool ends with status 0 if all expectations hold, 1 if one is broken, and 2 if there is no result: if an expectation
 or a file can't be read, if the run reaches a limit, or if `motesim` isn't built. To use another `motesim`, name its file in
 the environment variable MOTESIM.
@@ -28,6 +31,7 @@ def main() -> int:
     words.add_argument('scenario', metavar='SCENARIO', help='a scenario, NAME.toml')
     words.add_argument('expectations', nargs='?', metavar='EXPECTATIONS',
                        help='the expectations (NAME.expect.toml next to the scenario)')
+    words.add_argument('--claims', action='store_true', help='write the claims that the expectations mean for this scenario, and run nothing')
     add_limits(words)
     asked = words.parse_intermixed_args()
     from motesim.explain.within import runs_within
@@ -37,6 +41,10 @@ def main() -> int:
     if not asked.expectations and scenario.exists() and not expectations.exists():
         raise Fault('there is no file %s next to %s: name another one, tools/expect SCENARIO EXPECTATIONS' % (
             expectations, scenario))
+    if asked.claims:
+        from motesim.judge.claims import claims_shown
+        print('\n'.join(claims_shown(scenario, expectations)))
+        return 0
     passed, failed = expect(scenario, expectations, run=runs_within(asked.scenario, asked))
     print('%d passed, %d failed' % (passed, failed))
     return 1 if failed else 0

@@ -18,7 +18,7 @@ variable MOTESIM.
 """
 from __future__ import annotations
 
-from motesim.explain.said import NAMES
+from motesim.explain.say import NAMES
 from motesim.command import command
 from motesim.words import Once, add_limits, words_of
 

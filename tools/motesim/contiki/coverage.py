@@ -5,7 +5,7 @@ import re
 from collections import Counter
 from collections.abc import Iterator
 
-from motesim.contiki.grammar import name_of, productions
+from motesim.contiki.random_program import forms
 
 OF_PROGRAM = ('autostart', 'receiver', 'var', 'etimer', 'ctimer', 'thread', 'onpoll', 'onexit', 'else', 'into',
               'odd number')
@@ -42,7 +42,7 @@ class Coverage:
 
     def wanted(self) -> dict[str, list[str]]:
         """All features that can be reached, by their sort."""
-        alternatives = {symbol: ['%s %s' % (symbol, name_of(it)) for it in productions()[symbol]]
+        alternatives = {symbol: ['%s %s' % (symbol, it.name) for it in forms(symbol)]
                         for symbol in ('statement', 'expression', 'operator', 'cast', 'sent', 'any')}
         return {'statements': alternatives['statement'], 'expressions': alternatives['expression'],
                 'operators': alternatives['operator'],

@@ -2,7 +2,6 @@
 from __future__ import annotations
 
 from motesim.contiki.layout import comment_lines
-from motesim.contiki.tree import Program
 from motesim.contiki.use import Use
 
 # The differences, each with the words of the notation to which it applies.
@@ -32,7 +31,7 @@ DIFFERENCES: tuple[tuple[frozenset[str], str], ...] = (
 )
 
 
-def header(name: str, program: Program, used: Use) -> list[str]:
+def header(name: str, used: Use) -> list[str]:
     """The comment at the beginning of a program's file."""
     lines = ['The mote program %s, written by tools/export for Contiki 2.x. Compiling it against a real Contiki tree '
              'has not been tested.' % name, '',

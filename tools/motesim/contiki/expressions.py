@@ -7,11 +7,12 @@ to a uint16_t needs no cast, but a sum that is compared needs one.
 from __future__ import annotations
 
 from collections.abc import Callable
-from dataclasses import dataclass, replace
+from dataclasses import dataclass
 from typing import NamedTuple
 
 from motesim.contiki.names import Names
-from motesim.contiki.tree import Expression, Is, Not, Number, Operation, Test, Variable, Word
+from motesim.notation.printer import written
+from motesim.notation.tree import Expression, Not, Operation, Test, word
 
 MOST, MOST_INT16, MOST_INT32 = 0xffff, 0x7fff, 0x7fff_ffff
 # The precedence of operators: a greater one binds more tightly.
@@ -129,13 +130,22 @@ def decided(operator: str, left: Made, right: Made) -> bool | None:
     return True if below else False if above else None
 
 
+def is_equal(one: Expression, other: Expression) -> bool:
+    """Returns whether two expressions are the same, in different places."""
+    return written(one) == written(other)
+
+
+def known_by(test: Test) -> Known | None:
+    """The event of a process that is called while a test is true, if the test is about events."""
+    known = {'is': Known(test.of), 'fired': Known('timer', test.of), 'gone': Known('exited', test.of)}
+    return known.get(test.token.text)
+
+
 def implied(expression: Expression | None) -> Known | None:
     """The event with which a process must have been called if an expression is true."""
-    if isinstance(expression, Is):
-        return Known(expression.event)
-    if isinstance(expression, Test) and expression.kind in ('fired', 'gone'):
-        return Known('timer' if expression.kind == 'fired' else 'exited', expression.name)
-    if isinstance(expression, Operation) and expression.operator == '&&':
+    if isinstance(expression, Test):
+        return known_by(expression)
+    if isinstance(expression, Operation) and expression.token.text == '&&':
         one, other = implied(expression.left), implied(expression.right)
         return one if one and (one.name or not other) else other
     return None
@@ -183,23 +193,23 @@ class Expressions:
 
     def constant(self, expression: Expression) -> int | None:
         """The value of an expression, if it is the same at each call."""
-        if isinstance(expression, Number):
-            return expression.value
         if isinstance(expression, Not):
-            value = self.constant(expression.operand)
+            value = self.constant(expression.inner)
             return None if value is None else int(not value)
         if isinstance(expression, Operation):
             left, right = self.constant(expression.left), self.constant(expression.right)
-            return None if left is None or right is None else calculated(expression.operator, left, right)
-        if isinstance(expression, Is) and not self.has_event:
-            return int(self.known is not None and self.known.event == expression.event)
-        if isinstance(expression, Test) and not self.has_event and expression.kind in ('fired', 'gone'):
-            return int(self.known == Known('timer' if expression.kind == 'fired' else 'exited', expression.name))
-        if isinstance(expression, Word) and expression.name == 'from':
+            return None if left is None or right is None else calculated(expression.token.text, left, right)
+        if isinstance(expression, Test):
+            event = None if self.has_event else known_by(expression)
+            if event is None:
+                return None
+            return int(self.known is not None and event == (self.known if event.name else Known(self.known.event)))
+        text = expression.token.text
+        if text == 'from':
             return 0 if not self.has_event or self.known and self.known.event != 'packet' else None
-        if isinstance(expression, Word) and expression.name == 'data' and self.known:
+        if text == 'data' and self.known:
             return self.known_word(self.known)
-        return None
+        return int(text) if expression.is_number else None
 
     def known_word(self, known: Known) -> int | None:
         """The word of an event that is known, if it is the same at each call."""
@@ -210,14 +220,12 @@ class Expressions:
         return self.processes.index(known.name) if known.name else None
 
     def leaf(self, expression: Expression) -> Made:
-        if isinstance(expression, Variable):
-            return Made(self.names.inside(self.process, expression.name), ATOM, 0, MOST)
-        if isinstance(expression, Word):
-            return self.named_word(expression.name)
-        if isinstance(expression, Is):
-            return truth('ev == %s' % self.event(expression.event), EQUAL)
-        assert isinstance(expression, Test)
-        return self.test(expression.kind, expression.name)
+        if isinstance(expression, Test):
+            return self.test(expression.token.text, expression.of)
+        text = expression.token.text
+        if expression.token.kind == 'name':
+            return Made(self.names.inside(self.process, text), ATOM, 0, MOST)
+        return self.named_word(text)
 
     def event(self, name: str) -> str:
         """The number of an event."""
@@ -237,6 +245,8 @@ class Expressions:
         return Made('(uint16_t)(uintptr_t)data', UNARY, 0, MOST)
 
     def test(self, kind: str, name: str) -> Made:
+        if kind == 'is':
+            return truth('ev == %s' % self.event(name), EQUAL)
         if kind == 'fired':
             return truth('ev == PROCESS_EVENT_TIMER && data == &%s' % self.etimer(name), AND)
         if kind == 'gone':
@@ -257,34 +267,34 @@ class Expressions:
         return cname + '.etimer' if prefix == 'ctimer' else cname
 
     def negation(self, expression: Not) -> Made:
-        inner = expression.operand
-        if isinstance(inner, Operation) and inner.operator in OPPOSITE:
-            return self.loose(replace(inner, operator=OPPOSITE[inner.operator]))
+        inner = expression.inner
+        if isinstance(inner, Operation) and inner.token.text in OPPOSITE:
+            return self.loose(inner._replace(token=word(OPPOSITE[inner.token.text])))
         made = self.condition(inner)
         if made.low == made.high:
             return number(int(not made.low))
-        if isinstance(inner, Is):
+        if isinstance(inner, Test) and inner.token.text == 'is':
             return truth(made.text.replace('==', '!='), EQUAL)
         return truth('!' + made.inside(UNARY), UNARY)
 
     def operation(self, expression: Operation) -> Made:
-        operator = expression.operator
+        operator, is_same = expression.token.text, is_equal(expression.left, expression.right)
         if operator in ('&&', '||'):
             return self.logic(expression)
         left, right = self.loose(expression.left), self.loose(expression.right)
-        if operator == '-' and expression.left == expression.right:
+        if operator == '-' and is_same:
             return number(0)
         if operator in ('+', '-', '*'):
             return self.arithmetic(operator, left, right)
         if operator in ('/', '%'):
             return self.division(operator, left, right)
-        if expression.left == expression.right:
+        if is_same:
             return number(int(operator in ('==', '<=', '>=')))
         return self.comparison(operator, cut(left), cut(right))
 
     def logic(self, expression: Operation) -> Made:
         """If `&&` is true, both sides are, so each side may assume the event for which the other one tests."""
-        is_and = expression.operator == '&&'
+        is_and = expression.token.text == '&&'
         before = self.known
         if is_and and self.has_event:
             self.known = implied(expression.right) or before
@@ -296,11 +306,11 @@ class Expressions:
         for one, other in (left, right), (right, left):
             if is_constant(one):
                 return number(int(not is_and)) if bool(one.low) != is_and else truth_of(other)
-        if expression.left == expression.right:
+        if is_equal(expression.left, expression.right):
             return truth_of(left)
-        level = LEVELS[expression.operator]
+        level = LEVELS[expression.token.text]
         sides = [it.inside(level if it.level == level else AND + 1) for it in (left, right)]
-        return truth((' %s ' % expression.operator).join(sides), level)
+        return truth((' %s ' % expression.token.text).join(sides), level)
 
     def arithmetic(self, operator: str, left: Made, right: Made) -> Made:
         low, high = range_of(operator, left, right)

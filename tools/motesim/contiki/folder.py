@@ -7,9 +7,9 @@ from pathlib import Path
 from motesim.contiki.host import QUEUE, net_tables, program_tables
 from motesim.contiki.names import file_names
 from motesim.contiki.program_file import ProgramFile
-from motesim.contiki.reader import read_program
 from motesim.faults import Fault
 from motesim.files import refuse_inputs
+from motesim.notation.reader import read_program
 from motesim.scenario import Scenario
 from motesim.scenario.faults import find_fault
 

@@ -6,7 +6,7 @@ from collections.abc import Iterable
 from functools import cache
 from pathlib import Path
 
-from motesim.contiki.tree import Program
+from motesim.notation.tree import Program
 
 PREFIXES = ('autostart_', 'broadcast_', 'clock_', 'ctimer_', 'energest_', 'etimer_', 'host_', 'leds_', 'linkaddr_',
             'list_', 'memb_', 'motesim_', 'packetbuf_', 'process_', 'pt_', 'rime_', 'rimeaddr_', 'rtimer_', 'serial_',
@@ -55,16 +55,14 @@ class Names:
         self._globals: dict[str, str] = {}
         self._locals: dict[tuple[str, str], str] = {}
         self._derived: dict[tuple[str, str], str] = {}
-        for process in program.processes:
-            self._globals[process] = self._claim(process.removesuffix('_process') + '_process')
-        for declared in program.events:
-            self._globals[declared.name] = self._claim(declared.name, declared.name + '_event')
-        for declared in program.semaphores:
-            self._globals[declared.name] = self._claim(declared.name, declared.name + '_semaphore')
-        kinds = [(code.process, name, kind) for code in program.codes for kind, names in (
-            ('variable', [it.name for it in code.variables]), ('timer', [it.name for it in code.etimers]),
-            ('timer', [it.name for it in code.ctimers]), ('thread', [it.name for it in code.threads]))
-                 for name in names]
+        for it in program.processes:
+            self._globals[it.text] = self._claim(it.text.removesuffix('_process') + '_process')
+        for declared in program.declared:
+            own = declared.name.text
+            self._globals[own] = self._claim(own, '%s_%s' % (own, declared.kind))
+        kinds = [(code.process.text, name, kind) for code in program.codes for kind, names in (
+            ('variable', code.variables), ('timer', [it.text for it in code.timers]),
+            ('timer', code.named('ctimer')), ('thread', code.named('thread'))) for name in names]
         uses = Counter(name for _, name, _ in kinds)
         for process, name, kind in kinds:
             wished = [name, '%s_%s' % (name, kind)] if uses[name] == 1 else []

@@ -8,11 +8,10 @@ from motesim.contiki.differences import header
 from motesim.contiki.expressions import Expressions, Known, implied
 from motesim.contiki.layout import RULE, code_lines, comment_lines, cleaned
 from motesim.contiki.names import Names
-from motesim.contiki.tree import (
-    Block, Code, Comments, Declaration, Expression, Part, Program, Statement, statements_of)
+from motesim.contiki.comments import Braces, Comments, CommentsOf
 from motesim.contiki.use import use_of
+from motesim.notation.tree import Code, Expression, Part, Program, Statement, statements_of
 
-WAITS = frozenset({'wait_until', 'wait_while', 'yield', 'yield_until', 'spawn', 'restart', 'acquire', 'pause', 'exit'})
 # The C code of a statement that waits: in a body, and in a thread.
 WAITING = {'yield': ('PROCESS_YIELD()', 'PT_YIELD(pt)'),
            'yield_until': ('PROCESS_YIELD_UNTIL(%s)', 'PT_YIELD_UNTIL(pt, %s)'),
@@ -24,6 +23,11 @@ WAITING = {'yield': ('PROCESS_YIELD()', 'PT_YIELD(pt)'),
 TIMER_CALLS = {'reset': 'reset', 'restart_timer': 'restart', 'stop': 'stop'}
 PROCESS_CALLS = {'poll': 'process_poll(&%s)', 'start': 'process_start(&%s, NULL)', 'kill': 'process_exit(&%s)'}
 WORK = 'WORK();'
+
+
+def timers_of(code: Code) -> list[tuple[str, str]]:
+    """The kind and the name of each timer of a code, in the order of their numbers."""
+    return [('etimer', it.text) for it in code.timers] + [('ctimer', it) for it in code.named('ctimer')]
 
 
 @dataclass
@@ -62,7 +66,11 @@ class ProgramFile:
         # restarted, by the code that runs once)
         self.called = self.use.set_timers | (self.use.again if program.autostart else set())
         self.names = Names(program)
-        self.numbers = {timer: number for number, timer in enumerate(program.timers())}
+        self.comments = CommentsOf(program)
+        self.processes = [it.text for it in program.processes]
+        self.semaphores = program.semaphores
+        timers = [(code, timer) for code in program.codes for _, timer in timers_of(code)]
+        self.numbers = {(code.process.text, name): number for number, (code, name) in enumerate(timers)}
         self.init = self.names.helper('init_program')
         self.init_done = self.names.helper('init_done')
         self.word = self.names.helper('word_of')
@@ -73,30 +81,29 @@ class ProgramFile:
 
     def _find_image(self) -> None:
         image, program = self.image, self.program
-        image.processes = [self.names.of(it) for it in program.processes]
+        image.processes = [self.names.of(it) for it in self.processes]
         image.memory += image.processes
         for event in program.events:
-            image.events.append((event.name, self.names.of(event.name) if event.name in self.use.names else ''))
+            image.events.append((event.text, self.names.of(event.text) if event.text in self.use.names else ''))
         image.memory += [name for _, name in image.events if name]
-        image.memory += [self.names.of(it.name) for it in program.semaphores if it.name in self.use.names]
+        image.memory += [self.names.of(it) for it in self.semaphores if it in self.use.names]
         for code in program.codes:
             for variable in code.variables:
-                image.memory += self._used(code, variable.name)
-            for prefix, names in (('etimer', [it.name for it in code.etimers]),
-                                  ('ctimer', [it.name for it in code.ctimers])):
-                for name in names:
-                    found = self._used(code, name)
-                    image.memory += found
-                    image.timers.append((prefix, found[0] if found else ''))
-            image.memory += [self.names.derived(it, 'pt') for thread in code.threads
-                             for it in self._used(code, thread.name)]
+                image.memory += self._used(code, variable)
+            for prefix, name in timers_of(code):
+                found = self._used(code, name)
+                image.memory += found
+                image.timers.append((prefix, found[0] if found else ''))
+            image.memory += [self.names.derived(it, 'pt') for thread in code.named('thread')
+                             for it in self._used(code, thread)]
         if self._has_init():
             image.memory.append(self.init_done)
-        image.receiver = self.names.of(program.receiver) if program.receiver else ''
+        image.receiver = self.names.of(program.receiver.text) if program.receiver else ''
 
     def _used(self, code: Code, name: str) -> list[str]:
         """A list with the C name of a declaration of a code; an empty list if nothing uses the declaration."""
-        return [self.names.inside(code.process, name)] if (code.process, name) in self.use.inside else []
+        process = code.process.text
+        return [self.names.inside(process, name)] if (process, name) in self.use.inside else []
 
     def _callback(self, timer: str) -> str:
         """The name of the function that a callback timer calls."""
@@ -108,21 +115,21 @@ class ProgramFile:
     def _init_lines(self) -> list[str]:
         """The lines that must run once, before all other lines."""
         lines = ['%s = process_alloc_event();' % name for _, name in self.image.events if name]
-        lines += ['PT_SEM_INIT(&%s, %d);' % (self.names.of(it.name), it.value) for it in self.program.semaphores
-                  if it.name in self.use.names]
+        lines += ['PT_SEM_INIT(&%s, %d);' % (self.names.of(name), count) for name, count in self.semaphores.items()
+                  if name in self.use.names]
         for process, name in sorted(self.use.again):
             cname = self.names.inside(process, name)
             lines += ['%s.p = &%s;' % (cname, self.names.of(process)), '%s.f = %s;' % (cname, self._callback(cname))]
         if self.program.receiver or 'send' in self.use.words or 'packet' in self.use.names:
-            receiver = '&' + self.names.of(self.program.receiver) if self.program.receiver else 'NULL'
+            receiver = '&' + self.names.of(self.program.receiver.text) if self.program.receiver else 'NULL'
             lines.append('motesim_radio_open(%s);' % receiver)
         return lines
 
     def lines(self) -> list[str]:
         """The whole file."""
         functions = [self._code(code) for code in self.program.codes]
-        lines = comment_lines(self.program.comments.above, '')
-        lines += header(self.name, self.program, self.use)
+        lines = comment_lines(self.comments.of_file(), '')
+        lines += header(self.name, self.use)
         lines += ['', '#include "contiki.h"', '#include "motesim_radio.h"', '']
         lines += self._declarations()
         for declared in map(self._code_declarations, self.program.codes):
@@ -135,24 +142,23 @@ class ProgramFile:
         for function in functions:
             lines += function
         lines += [RULE]
-        if self.program.end:
-            lines += comment_lines(self.program.end, '')
-        return lines
+        return lines + comment_lines(self.comments.above[-1], '')
 
     def _declarations(self) -> list[str]:
         """Events, semaphores and processes."""
         lines: list[str] = []
-        for kind, declared in ('process_event_t', self.program.events), ('struct pt_sem', self.program.semaphores):
-            for it in declared:
-                if it.name in self.use.names:
-                    name = self.names.of(it.name)
-                    lines += self._declared(it.comments, 'static %s %s;' % (kind, name), it.name, name)
+        for kind, word in ('process_event_t', 'event'), ('struct pt_sem', 'semaphore'):
+            for it in self.program.declared:
+                if it.kind == word and it.name.text in self.use.names:
+                    name = self.names.of(it.name.text)
+                    lines += self._declared(self.comments.of_declaration(it), 'static %s %s;' % (kind, name),
+                                            it.name.text, name)
             if lines and lines[-1]:
                 lines.append('')
-        lines += comment_lines(self.program.comments.beside, '')
-        for process in self.program.processes:
+        lines += comment_lines(self.comments.of_processes(), '')
+        for process in self.processes:
             lines.append('PROCESS(%s, "%s");' % (self.names.of(process), process))
-        started = ', '.join('&' + self.names.of(it) for it in self.program.autostart) or 'NULL'
+        started = ', '.join('&' + self.names.of(it) for it in self.program.starts) or 'NULL'
         return [*lines, *code_lines('AUTOSTART_PROCESSES(%s);' % started, '')]
 
     def _declared(self, comments: Comments, code: str, name: str, cname: str, indent: str = '') -> list[str]:
@@ -178,33 +184,31 @@ class ProgramFile:
         """The declarations of a process: its variables, its timers, and the places at which its threads wait."""
         lines: list[str] = []
 
-        def declare(kind: str, it: Declaration | Part, value: str = '', comments: Comments | None = None) -> None:
-            for name in self._used(code, it.name):
-                lines.extend(self._declared(it.comments if comments is None else comments,
-                                            'static %s %s%s;' % (kind, name, value), it.name, name))
+        def declare(kind: str, its: str, value: str = '', comments: Comments = Comments([], [])) -> None:
+            for name in self._used(code, its):
+                lines.extend(self._declared(comments, 'static %s %s%s;' % (kind, name, value), its, name))
 
-        for variable in code.variables:
-            declare('uint16_t', variable, ' = %d%s' % (variable.value, 'U' if variable.value > 0x7fff else ''))
-        for timer in code.etimers:
-            declare('struct etimer', timer)
-        for part in code.ctimers:
-            declare('struct ctimer', part, comments=Comments())
-        for part in code.threads:
-            for name in self._used(code, part.name):
+        for it in code.declared:
+            number = ' = %d%s' % (it.number, 'U' if it.number > 0x7fff else '')
+            is_timer = it.kind == 'etimer'
+            declare('struct etimer' if is_timer else 'uint16_t', it.name.text, '' if is_timer else number,
+                    self.comments.of_declaration(it))
+        for timer in code.named('ctimer'):
+            declare('struct ctimer', timer)
+        for thread in code.named('thread'):
+            for name in self._used(code, thread):
                 lines.append('static struct pt %s;' % self.names.derived(name, 'pt'))
         unused = self._unused(code)
-        return ['', '/* Process %s */' % code.process, *lines, *unused] if lines or unused else []
+        return ['', '/* Process %s */' % code.process.text, *lines, *unused] if lines or unused else []
 
     def _unused(self, code: Code) -> list[str]:
         """A comment that names the declarations that a code doesn't use, with their own comments."""
         lines = []
-        kinds: tuple[tuple[str, list[Declaration] | list[Part]], ...] = (
-            ('var', code.variables), ('etimer', code.etimers), ('ctimer', code.ctimers), ('thread', code.threads))
-        for kind, declared in kinds:
-            for it in declared:
-                if not self._used(code, it.name):
-                    lines.append('Not used: %s %s' % (kind, it.name))
-                    lines += it.comments.above + it.comments.beside
+        its = [(it.kind, it.name.text, self.comments.of_declaration(it)) for it in code.declared]
+        its += [(it.kind, it.name, self.comments.of_part(it)) for it in code.parts if it.name]
+        for kind, name, comments in its:
+            if not self._used(code, name):
+                lines += ['Not used: %s %s' % (kind, name), *comments.all]
         return comment_lines(lines, '')
 
     def _pointers_to_callbacks(self) -> list[str]:
@@ -236,24 +240,25 @@ class ProgramFile:
 
     def _code(self, code: Code) -> list[str]:
         """The functions of a process."""
-        lines = [RULE, *comment_lines(code.comments.above + code.comments.beside, '')] \
-            if code.comments.above or code.comments.beside else []
-        for part in code.threads:
-            if self._used(code, part.name):
+        own = self.comments.of_code(code)
+        lines = [RULE, *comment_lines(own, '')] if own else []
+        for part in code.parts:
+            if part.kind == 'thread' and self._used(code, part.name):
                 lines += self._thread(code, part)
-        for part in code.ctimers:
-            if (code.process, part.name) in self.called:
-                name = self.names.inside(code.process, part.name)
+        for part in code.parts:
+            if (code.process.text, part.name) in self.called:
+                name = self.names.inside(code.process.text, part.name)
                 block = self._simple(code, part, Known('timer', part.name))
                 lines += [RULE, *self._said(part, name), 'static void', '%s(void *ptr)' % self._callback(name), '{',
                           '  (void)ptr;', *block.lines, '}']
         handlers = []
-        for handler, event in (code.onpoll, 'poll'), (code.onexit, 'exit'):
-            if handler:
-                name = self.names.derived(self.names.of(code.process).removesuffix('_process'), event)
-                block = self._simple(code, handler, Known(event))
+        for part in code.parts:
+            if part.kind in ('onpoll', 'onexit'):
+                event = part.kind.removeprefix('on')
+                name = self.names.derived(self.names.of(code.process.text).removesuffix('_process'), event)
+                block = self._simple(code, part, Known(event))
                 parameters = 'process_data_t data' if 'data' in block.uses else 'void'
-                lines += [RULE, *comment_lines(handler.comments.above + handler.comments.beside, ''), 'static void',
+                lines += [RULE, *comment_lines(self.comments.of_part(part).all, ''), 'static void',
                           '%s(%s)' % (name, parameters), '{', *block.lines, '}']
                 handlers.append('PROCESS_%sHANDLER(%s(%s));' % (
                     event.upper(), name, 'data' if 'data' in block.uses else ''))
@@ -262,14 +267,14 @@ class ProgramFile:
     def _said(self, part: Part, name: str) -> list[str]:
         """The comments of a part, and its name in the notation if the C name is another."""
         other = [] if name == part.name else ['"%s" in the notation' % part.name]
-        return comment_lines(part.comments.above + part.comments.beside + other, '')
+        return comment_lines(self.comments.of_part(part).all + other, '')
 
     def _thread(self, code: Code, part: Part) -> list[str]:
-        name = self.names.inside(code.process, part.name)
+        name = self.names.inside(code.process.text, part.name)
         block = _Function()
-        _Block(self, code, block, is_thread=True).write(part.block, '  ')
+        _Block(self, code, block, is_thread=True).write(self.comments.in_part(code, part), '  ')
         needs = [it for it in ('ev', 'data') if it in block.uses]
-        self.needs[code.process, part.name] = needs
+        self.needs[code.process.text, part.name] = needs
         kinds = {'ev': 'process_event_t ev', 'data': 'process_data_t data'}
         parameters = ', '.join(['struct pt *pt', *(kinds[it] for it in needs)])
         return [RULE, *self._said(part, name), 'static', 'PT_THREAD(%s(%s))' % (name, parameters), '{',
@@ -281,16 +286,16 @@ class ProgramFile:
         block = _Block(self, code, function, is_thread=False, is_simple=True)
         block.expressions.known = known
         block.expressions.has_event = False
-        block.write(part.block, '  ')
+        block.write(self.comments.in_part(code, part), '  ')
         return function
 
     def _body(self, code: Code, handlers: list[str]) -> list[str]:
-        function = _Function()
-        _Block(self, code, function, is_thread=False).write(code.body.block, '  ')
-        lines = [RULE, *comment_lines(code.body.comments.above + code.body.comments.beside, ''),
-                 'PROCESS_THREAD(%s, ev, data)' % self.names.of(code.process), '{', *('  ' + it for it in handlers),
-                 '  PROCESS_BEGIN();', '']
-        if self._has_init() and self.program.autostart[0] == code.process:
+        function, body = _Function(), code.parts[-1]
+        _Block(self, code, function, is_thread=False).write(self.comments.in_part(code, body), '  ')
+        lines = [RULE, *comment_lines(self.comments.of_part(body).all, ''),
+                 'PROCESS_THREAD(%s, ev, data)' % self.names.of(code.process.text), '{',
+                 *('  ' + it for it in handlers), '  PROCESS_BEGIN();', '']
+        if self._has_init() and self.program.starts[0] == code.process.text:
             lines += ['  %s();' % self.init, '']
         return [*lines, *function.lines, *([''] if function.lines else []), '  PROCESS_END();', '}']
 
@@ -304,31 +309,36 @@ class _Block:
         self.function = function
         self.is_thread = is_thread
         self.is_simple = is_simple
-        self.expressions = Expressions(file.names, code.process, file.numbers, {it.name for it in code.ctimers},
-                                       file.program.processes)
+        self.expressions = Expressions(file.names, code.process.text, file.numbers, set(code.named('ctimer')),
+                                       file.processes)
         self.expressions.word = file.word
 
-    def write(self, block: Block, indent: str) -> None:
-        for statement in block.statements:
-            self.statement(statement, indent)
-        self.function.lines += comment_lines(block.comments, indent)
+    def write(self, its: Braces, indent: str) -> None:
+        first = its.first
+        for statement in its.block:
+            self.statement(statement, indent, first)
+            first = []
+        self.function.lines += comment_lines(its.last, indent)
 
-    def statement(self, statement: Statement, indent: str) -> None:
-        if statement.kind in ('if', 'while'):
-            self.function.lines += comment_lines(statement.comments.above, indent)
+    def statement(self, statement: Statement, indent: str, first: list[str]) -> None:
+        """A statement; the first comments are above its own."""
+        comments = self.file.comments.of_statement(statement)
+        comments = Comments(first + comments.above, comments.beside)
+        if statement.has_blocks:
+            self.function.lines += comment_lines(comments.above, indent)
             self.work(indent)
             self.branch(statement, indent)
             return
         own = _Function()
         for code in self.codes(statement):
             own.add(code + ';', indent)
-        written = self.file._with_comments(statement.comments, own.lines, indent)
+        written = self.file._with_comments(comments, own.lines, indent)
         at = len(written) - len(own.lines)
         # (the line that counts a unit of work is below the comments)
         work = [indent + WORK] if self.file.counts_work else []
         self.function.lines += written[:at] + work + written[at:]
         self.function.uses |= own.uses
-        if statement.kind in WAITS:
+        if statement.waits:
             self.expressions.known = self.known_after(statement)
 
     def work(self, indent: str) -> None:
@@ -344,9 +354,8 @@ class _Block:
 
     def branch(self, statement: Statement, indent: str) -> None:
         """An `if` or a `while`."""
-        assert statement.block
         known = self.expressions.known
-        waits = any(it.kind in WAITS for it in statements_of(Block([statement])))
+        waits = any(it.waits for it in statements_of((statement,)))
         if statement.kind == 'while' and waits and not self.is_simple:
             self.expressions.known = None
         before = self.expressions.known
@@ -354,13 +363,13 @@ class _Block:
         self.function.add('%s(%s) {' % (statement.kind, test), indent)
         if not self.is_simple:
             self.expressions.known = implied(statement.value) or before
-        self.write(statement.block, indent + '  ')
+        for number, its in enumerate(self.file.comments.in_statement(statement)):
+            if number:
+                self.expressions.known = before
+                self.function.lines.append(indent + '} else {')
+            self.write(its, indent + '  ')
         if statement.kind == 'while':
             self.work(indent + '  ')
-        if statement.otherwise is not None:
-            self.expressions.known = before
-            self.function.lines.append(indent + '} else {')
-            self.write(statement.otherwise, indent + '  ')
         self.function.lines.append(indent + '}')
         self.expressions.known = None if waits and not self.is_simple else known
 
@@ -368,7 +377,7 @@ class _Block:
         """A statement without blocks in C: one line, or two."""
         kind, value = statement.kind, statement.value
         if kind == '=':
-            name, text = self.local(statement.target), self.expressions.loose(value).text
+            name, text = self.local(statement.name), self.expressions.loose(value).text
             # (compilers warn about an assignment of a variable to itself)
             return ['%s = %s%s' % (name, '(uint16_t)' if text == name else '', text)]
         if kind == 'print':
@@ -378,20 +387,20 @@ class _Block:
         if kind in ('post', 'broadcast', 'synch'):
             return [self.posted(statement)]
         if kind in PROCESS_CALLS:
-            return [PROCESS_CALLS[kind] % self.file.names.of(statement.target)]
+            return [PROCESS_CALLS[kind] % self.file.names.of(statement.name)]
         if kind == 'signal':
             pt = 'NULL' if self.is_simple else 'pt' if self.is_thread else 'process_pt'
-            return ['PT_SEM_SIGNAL(%s, &%s)' % (pt, self.file.names.of(statement.target))]
+            return ['PT_SEM_SIGNAL(%s, &%s)' % (pt, self.file.names.of(statement.name))]
         if kind == 'set' or kind in TIMER_CALLS:
             return [self.timed(statement)]
         return self.waited(statement)
 
     def local(self, name: str) -> str:
-        return self.file.names.inside(self.code.process, name)
+        return self.file.names.inside(self.code.process.text, name)
 
     def posted(self, statement: Statement) -> str:
         """A post of an event: later, or at once."""
-        target = '&' + self.file.names.of(statement.target) if statement.target else 'PROCESS_BROADCAST'
+        target = 'PROCESS_BROADCAST' if statement.kind == 'broadcast' else '&' + self.file.names.of(statement.name)
         call = 'process_post_synch' if statement.kind == 'synch' else 'process_post'
         text = '%s(%s, %s, %s)' % (call, target, self.expressions.event(statement.event), self.word(statement.value))
         return '%s = %s' % (self.local(statement.into), text) if statement.into else text
@@ -404,7 +413,7 @@ class _Block:
         return '(process_data_t)(uintptr_t)%s' % made.inside(14)
 
     def timed(self, statement: Statement) -> str:
-        prefix, name = self.expressions.timer(statement.target)
+        prefix, name = self.expressions.timer(statement.name)
         if statement.kind != 'set':
             return '%s_%s(&%s)' % (prefix, TIMER_CALLS[statement.kind], name)
         interval = self.expressions.value(statement.value).text
@@ -416,9 +425,9 @@ class _Block:
         """A statement that waits."""
         pt = 'pt' if self.is_thread else 'process_pt'
         if statement.kind == 'spawn':
-            thread = self.local(statement.target)
+            thread = self.local(statement.name)
             place = self.file.names.derived(thread, 'pt')
-            given = ', '.join(['&' + place, *self.file.needs[self.code.process, statement.target]])
+            given = ', '.join(['&' + place, *self.file.needs[self.code.process.text, statement.name]])
             return ['PT_SPAWN(%s, &%s, %s(%s))' % (pt, place, thread, given)]
         if statement.kind == 'pause':
             if not self.is_thread:
@@ -429,7 +438,7 @@ class _Block:
         if '%s' not in form:
             return [form]
         if statement.kind == 'acquire':
-            return [form % self.file.names.of(statement.target)]
+            return [form % self.file.names.of(statement.name)]
         before = self.expressions.known
         # (a later call has another event)
         self.expressions.known = None

@@ -9,22 +9,38 @@ from __future__ import annotations
 import random
 from collections import Counter
 from collections.abc import Sequence
+from functools import cache
+from typing import NamedTuple
 
-from motesim.contiki.grammar import Alternative, Form, Maybe, Symbol, Text, form_of, forms
+from motesim.notation.grammar import (
+    MOST, MOST_LEVELS, MOST_STATEMENTS, RULES, STATEMENTS, TESTS, VALUES, alternatives,
+)
 
-WAITS = frozenset({'yield', 'yield_until', 'wait_until', 'wait_while', 'spawn', 'restart', 'exit', 'acquire', 'pause'})
 # The weights of statements: a statement without one has weight 4.
 WEIGHTS = {'exit': 1, 'restart': 1, 'while': 2, 'if': 5, 'kill': 2, 'print': 6, 'VARIABLE': 5, 'set': 6, 'post': 7,
            'send': 5, 'yield': 3, 'yield_until': 6, 'wait_until': 3, 'acquire': 2, 'wait_while': 2, 'broadcast': 3}
 EXPRESSION_WEIGHTS = {'(': 9, 'NUMBER': 6, 'VARIABLE': 8, '!': 1}
-LEAVES = frozenset({'NUMBER', 'VARIABLE', 'data', 'from', 'now', 'self', 'is', 'fired', 'expired', 'gone', 'running',
-                    'count'})
+LEAVES = frozenset(('NUMBER', 'VARIABLE', *VALUES, 'is', *TESTS))
 SYMBOLS = ('VARIABLE', 'PROCESS', 'EVENT', 'TIMER', 'SEMAPHORE', 'THREAD')
 ODD_NUMBERS = (255, 256, 257, 4095, 9999, 10000, 32767, 32768, 40000, 65534, 65535)
-MOST_LEVELS, MOST_STATEMENTS, MOST_TIMERS = 32, 4096, 64
+MOST_TIMERS = MOST['timer']
 # (names that C or Contiki has occur too, to test the names that replace them)
 NAMES = tuple('int char log done list timer_set pt ptr main word ev motesim_self index double abcdefghijklmnop '
               'process_poll a_process t_pt case x1 y0 z9z'.split())
+
+
+class Form(NamedTuple):
+    """An alternative of a rule: its first word or symbol, and its parts, which are quoted words and symbols; the parts
+    in brackets may be left out."""
+    name: str
+    parts: tuple[str, ...]
+
+
+@cache
+def forms(rule: str) -> list[Form]:
+    """The alternatives of a rule of the grammar."""
+    its = [it.split() for it in alternatives().get(rule, RULES.get(rule, '').split(' | '))]
+    return [Form(it['[' in it[0]].strip('"'), tuple(it)) for it in its]
 
 
 class RandomProgram:
@@ -164,7 +180,7 @@ class RandomProgram:
         if chance.random() < 0.75 and self.statements < MOST_STATEMENTS - 40:
             self.statement_lines(['while 1 {'], '    ')
             wait = chance.choice(['yield', 'yield_until', 'yield_until', 'wait_until', 'pause', 'acquire'])
-            if self.can_come(self.statement_form(wait)):
+            if self.can_come(self.statement_form(wait).parts):
                 self.statement_lines([self.statement_of(wait)], '      ')
             else:
                 self.statement_lines(['yield;'], '      ')
@@ -195,16 +211,13 @@ class RandomProgram:
     def statement_form(self, name: str) -> Form:
         return next(it for it in forms('statement') if it.name == name)
 
-    def can_come(self, form: Form) -> bool:
+    def can_come(self, parts: Sequence[str]) -> bool:
         """Returns whether all names that an alternative needs exist."""
-        for symbol in form.needs:
-            if symbol in self.names and not self.names[symbol]:
-                return False
-        return True
+        return '[' in parts or all(self.names.get(part, True) for part in parts)
 
     def random_statement(self, indent: str, depth: int) -> None:
-        kinds = [it.name for it in forms('statement') if self.can_come(it)
-                 and not (self.is_simple and it.name in WAITS) and not (depth > 3 and it.name in ('if', 'while'))]
+        out = ('if', 'while') * (depth > 3) + tuple(name for name, it in STATEMENTS.items() if self.is_simple and it.waits)
+        kinds = [it.name for it in forms('statement') if self.can_come(it.parts) and it.name not in out]
         kind = self.chance.choices(kinds, [WEIGHTS.get(it, 4) for it in kinds])[0]
         if kind == 'while' and self.names['VARIABLE'] and self.chance.random() < 0.7:
             self.counted_loop(indent, depth)
@@ -249,7 +262,7 @@ class RandomProgram:
 
     def test(self) -> str:
         """A test of the event, which is the usual condition for which programs wait."""
-        kinds = [it for it in forms('expression') if it.name in ('is', 'fired', 'gone') and self.can_come(it)]
+        kinds = [it for it in forms('expression') if it.name in ('is', 'fired', 'gone') and self.can_come(it.parts)]
         chosen = self.chance.choice(kinds)
         self.reached['expression %s' % chosen.name] += 1
         return self.joined(self.expand(chosen.parts, 0))
@@ -260,19 +273,15 @@ class RandomProgram:
 
     # The grammar
 
-    def expand(self, parts: Alternative, depth: int) -> list[str]:
+    def expand(self, parts: Sequence[str], depth: int) -> list[str]:
         """The tokens of an alternative, with declared names, and with expressions nested at most this deep."""
-        tokens: list[str] = []
-        for part in parts:
-            if isinstance(part, Text):
-                tokens.append(part.text)
-            elif isinstance(part, Maybe):
-                if self.can_come(form_of(part.parts)) and self.chance.random() < 0.4:
-                    tokens += self.expand(part.parts, depth)
-                    self.reached['into'] += 1
-            elif isinstance(part, Symbol):
-                tokens += self.symbol(part.name, depth)
-        return tokens
+        if parts[0] == '[':
+            inner = parts[1:-1]
+            if not self.can_come(inner) or self.chance.random() >= 0.4:
+                return []
+            self.reached['into'] += 1
+            return self.expand(inner, depth)
+        return [token for it in parts for token in ([it[1:-1]] if it[0] == '"' else self.symbol(it, depth))]
 
     def symbol(self, name: str, depth: int) -> list[str]:
         if name == 'NUMBER':
@@ -281,9 +290,9 @@ class RandomProgram:
             return [self.chance.choice(self.names[name])]
         if name == 'expression':
             return [self.expression(depth)]
-        alternatives = [it for it in forms(name) if self.can_come(it)]
-        weights = [8 if it.name in ('cast', 'sent') else 2 if it.name == 'EVENT' else 1 for it in alternatives]
-        chosen = self.chance.choices(alternatives, weights)[0]
+        its = [it for it in forms(name) if self.can_come(it.parts)]
+        weights = [8 if it.name in ('cast', 'sent') else 2 if it.name == 'EVENT' else 1 for it in its]
+        chosen = self.chance.choices(its, weights)[0]
         if len(forms(name)) > 1:
             self.reached['%s %s' % (name, chosen.name)] += 1
         return self.expand(chosen.parts, depth)
@@ -296,7 +305,7 @@ class RandomProgram:
         return str(chance.choice(ODD_NUMBERS) if chance.random() < 0.7 else chance.randrange(65536))
 
     def expression(self, depth: int) -> str:
-        kinds = [it for it in forms('expression') if self.can_come(it) and (depth > 0 or it.name in LEAVES)]
+        kinds = [it for it in forms('expression') if self.can_come(it.parts) and (depth > 0 or it.name in LEAVES)]
         chosen = self.chance.choices(kinds, [EXPRESSION_WEIGHTS.get(it.name, 2) for it in kinds])[0]
         self.reached['expression %s' % chosen.name] += 1
         return self.joined(self.expand(chosen.parts, depth - 1))

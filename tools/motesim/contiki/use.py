@@ -3,8 +3,7 @@ from __future__ import annotations
 
 from dataclasses import dataclass, field
 
-from motesim.contiki.tree import (Block, Code, Is, Operation, Part, Program, Test, Variable, Word, parts_of,
-                                  statements_of)
+from motesim.notation.tree import Block, Code, Operation, Part, Program, Test, Value, parts_of, statements_of
 
 SETS = frozenset({'set', 'reset', 'restart_timer'})
 
@@ -33,18 +32,18 @@ class _CodeUse:
     def __init__(self, code: Code, use: Use):
         self.code = code
         self.use = use
-        self.parts: dict[str, Part] = {it.name: it for it in [*code.threads, *code.ctimers]}
-        self.ctimers = {it.name for it in code.ctimers}
+        self.parts: dict[str, Part] = {it.name: it for it in code.parts}
+        self.ctimers = code.named('ctimer')
         self.seen: set[str] = set()
 
     def find(self) -> None:
         """Visits the blocks that can be run."""
-        for part in self.code.onpoll, self.code.onexit, self.code.body:
-            if part:
+        for part in self.code.parts:
+            if not part.name:
                 self.block(part.block)
 
     def local(self, name: str) -> None:
-        self.use.inside.add((self.code.process, name))
+        self.use.inside.add((self.code.process.text, name))
 
     def part(self, name: str) -> None:
         """Visits the block of a thread or a callback that can be run."""
@@ -54,12 +53,12 @@ class _CodeUse:
 
     def block(self, block: Block) -> None:
         for statement in statements_of(block):
-            kind, target = statement.kind, statement.target
+            kind, target = statement.kind, '' if statement.kind == 'broadcast' else statement.name
             self.use.words.add(kind)
             if kind in SETS or kind == 'stop':
                 self.local(target)
                 if kind in SETS and target in self.ctimers:
-                    (self.use.set_timers if kind == 'set' else self.use.again).add((self.code.process, target))
+                    (self.use.set_timers if kind == 'set' else self.use.again).add((self.code.process.text, target))
                     self.part(target)
             elif kind == 'spawn':
                 self.local(target)
@@ -73,18 +72,10 @@ class _CodeUse:
             if statement.into:
                 self.local(statement.into)
             for part in parts_of(statement.value):
-                if isinstance(part, Variable):
-                    self.local(part.name)
-                elif isinstance(part, Operation):
-                    self.use.words.add(part.operator)
-                elif isinstance(part, Word):
-                    self.use.words.add(part.name)
-                elif isinstance(part, Is):
-                    self.use.names.add(part.event)
-                    self.use.words.add('is')
+                word = part.token.text
+                if isinstance(part, Value) and part.token.kind == 'name' or word in ('fired', 'expired'):
+                    self.local(part.of if isinstance(part, Test) else word)
                 elif isinstance(part, Test):
-                    self.use.words.add(part.kind)
-                    if part.kind in ('fired', 'expired'):
-                        self.local(part.name)
-                    else:
-                        self.use.names.add(part.name)
+                    self.use.names.add(part.of)
+                if isinstance(part, (Operation, Test)) or part.token.kind == 'keyword':
+                    self.use.words.add(word)

@@ -28,10 +28,10 @@ from motesim.judge import judge as judges
 from motesim.summary import counts
 from motesim.faults import Fault
 from motesim.summary.flows import NAMES as FLOW_NAMES
-from motesim.summary.flows import FlowFault, flow_rows, read_flow, same_value, same_value_in_flow
+from motesim.summary.flows import FlowFault, flow_rows, read_flow, same_sources, same_value
 from motesim.summary.shares import share
 from motesim.judge.judge import Event, Judge
-from motesim.notation.parameters import PARAMETER
+from motesim.notation.grammar import PARAMETER
 from motesim.plan.tables import Value
 from motesim.report import OUTCOMES, Line
 from motesim.report.run import Run
@@ -127,7 +127,6 @@ def loss(bench: Bench) -> float | None:
 
 
 def _of_flow(name: str, words: str) -> Callable[[Bench], Cell]:
-    read_flow(words)
     return lambda bench: flow_rows(bench.run.report, bench.run.scenario, words)[-1][name]
 
 
@@ -442,9 +441,9 @@ def read_measure(words: str, names: Names = Names(), sources: Mapping[str, str] 
         if flow and flow[1] not in FLOWS:
             raise MeasureFault('%r is not a measure: a flow has no %s; %s' % (text, flow[1], known(flow[1], FLOWS)))
         if flow:
-            words_of_flow = flow[2]
-            return Measure(name, text, _of_flow(flow[1], flow[2]), lambda bench: SAME_VALUE if same_value_in_flow(
-                bench.run.report, words_of_flow) else '', True)
+            begin = read_flow(flow[2])[0]
+            return Measure(name, text, _of_flow(flow[1], flow[2]), lambda bench: SAME_VALUE if same_sources(
+                bench.run.report, begin) else '', True)
         if sentence and sentence[1] == 'delivery':
             return Measure(name, text, _of_sentence(sentence[1], sentence[2], names),
                            _warning_of_delivery(sentence[2], names), True)

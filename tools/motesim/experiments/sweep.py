@@ -22,10 +22,9 @@ from motesim.files import refuse_inputs
 from motesim.output import beside
 from motesim.plan.plan import UNUSED, Plan
 from motesim.plan.tables import Value, text_of_value, value_of_text
-from motesim.progress import Progress
-from motesim.runner.optimized import optimized_path
+from motesim.progress import Progress, clock
+from motesim.runner.programs import program_path
 from motesim.runner.versions import kit_version, program_digest, program_version
-from motesim.runner.waiting import clock
 
 
 class Sweeper:
@@ -38,7 +37,7 @@ class Sweeper:
     def __init__(self, sweep: Sweep, path: Path) -> None:
         self.sweep, self.plan, self.path = sweep, sweep.plan, path
         self.sources = sources_of(self.plan, sweep.measures)
-        self.program = optimized_path()
+        self.program = program_path().resolve()
         self.head = Head(
             self.plan.name, list(self.plan.parameters), measures_of(sweep, known_names(sweep), self.sources),
             {name: digest(text.encode()) for name, text in sorted(self.sources.items())},

@@ -6,12 +6,13 @@ from __future__ import annotations
 
 from collections.abc import Iterator
 
-from motesim.explain.edits import Correction, Edit, replaced
+from motesim.explain.edits import Correction, Edit, hint, replaced
 from motesim.explain.habits import of_line
-from motesim.notation.faults import STATEMENTS, ProgramError, Token, find_fault, tokens_of
-from motesim.notation.grammar import OPERATORS
-from motesim.notation.grammar import STATEMENTS as FORMS
-from motesim.notation.parentheses import span, written
+from motesim.notation.faults import ProgramError
+from motesim.notation.grammar import OPERATORS, STATEMENTS
+from motesim.notation.reader import find_fault, read_program
+from motesim.notation.tokens import Token, tokens_of
+from motesim.notation.parentheses import rewritten
 from motesim.text import nearest
 
 # The kinds of faults that more than the rule and the allowed words are said about.
@@ -29,6 +30,8 @@ ABOVE = {'an event': 'event %s;', 'a semaphore': 'semaphore %s = 0;'}
 # Values under the names that they have elsewhere.
 MEANT = {'sender': 'from', 'source': 'from', 'payload': 'data', 'time': 'now', 'id': 'self'}
 SIGNS = (';', '(', ')', '{', '}', '=')
+# What declares one name at a time.
+OF_ONE_NAME = ('event', 'semaphore', 'var', 'etimer')
 
 
 def advice(source: str, fault: ProgramError) -> Correction | None:
@@ -61,7 +64,7 @@ def _attempts(source: str, fault: ProgramError) -> Iterator[Correction]:
     if fault.kind in (UNEXPECTED, UNKNOWN, BAD_TARGET):
         yield from _nearest(source, fault)
     if fault.kind == UNKNOWN:
-        yield from _declarations(source, tokens, at, fault)
+        yield from _declarations(source, fault)
 
 
 def _index(tokens: list[Token], token: Token) -> int:
@@ -80,36 +83,33 @@ def _small_letters(source: str, token: Token) -> Iterator[Correction]:
     word = row[begin:end]
     if word != word.lower():
         small = word.lower()
-        yield Correction('Names have small letters: `%s`.' % small, (replaced(source, token.line, begin, end, small),))
+        yield hint('small-letters', replaced(source, token.line, begin, end, small), name=small)
 
 
 def _signs(source: str, tokens: list[Token], at: int, fault: ProgramError) -> Iterator[Correction]:
-    """Another sign instead of the wrong one, a sign before it, or the text without it; and parentheses."""
+    """Another sign instead of the wrong one, a sign before it, or the text without it; parentheses; and declarations
+    of several names."""
     here, last = tokens[at], tokens[max(at - 1, 0)]
-    whole = written(tokens, at) if here.text in OPERATORS and not fault.allows(here.text) else None
-    if whole:
-        first, last_of = (tokens[it] for it in span(tokens, at))
-        edits = (replaced(source, here.line, first.column, last_of.column + len(last_of.text), whole),)
-        yield Correction('Two values with `%s` between them are in parentheses: `%s`.' % (here.text, whole),
-                         edits if first.line == last_of.line else ())
-    opened = tokens[max(at - 2, 0)]
-    if here.text == ')' and opened.text == '(' and opened.line == here.line:
-        row = source.split('\n')[here.line - 1]
-        blank = ' ' * row[:opened.column].endswith(tuple(STATEMENTS))
-        yield Correction('Only an operation on two values has parentheses, `(a + b)`.', (
-            replaced(source, here.line, opened.column, here.column + 1, blank + last.text),))
+    found = rewritten(tokens, at) if here.text in (*OPERATORS, '(', ')') and not fault.allows(here.text) else None
+    if found:
+        first, last_of, whole = found
+        blank = ' ' * source.split('\n')[first.line - 1][:first.column].endswith(tuple(STATEMENTS))
+        edit = replaced(source, first.line, first.column, last_of.column + len(last_of.text), blank + whole)
+        yield hint('two-values' if here.text in OPERATORS else 'one-value',
+                   *(edit,) if first.line == last_of.line else (), sign=here.text, whole=whole)
+    word = next((it.text for it in reversed(tokens[:at]) if it.text in (*DECLARED, *SIGNS) and it.text != '='), '')
+    if here.text == ',' and word in OF_ONE_NAME:
+        yield hint('one-name', replaced(source, here.line, here.column, here.column + 1, '; ' + word), word=word)
     end = last.column + len(last.text)
     for sign in SIGNS:
         if fault.allows(sign) and at:
-            yield Correction('`%s` is missing behind `%s`.' % (sign, last.text), (
-                replaced(source, last.line, end, end, ' {' if sign == '{' else sign),))
+            yield hint('missing', replaced(source, last.line, end, end, ' {' if sign == '{' else sign), sign=sign,
+                       word=last.text)
     for sign in ('=', '=='):
         if fault.allows(sign) and here.text in ('=', '=='):
-            yield Correction('`=` assigns, and `==` compares.', (
-                replaced(source, here.line, here.column, here.column + len(here.text), sign),))
+            yield hint('equals', replaced(source, here.line, here.column, here.column + len(here.text), sign))
     if here.text in (*SIGNS, ','):
-        yield Correction('`%s` is one too many.' % here.text, (
-            replaced(source, here.line, here.column, here.column + 1, ''),))
+        yield hint('too-many', replaced(source, here.line, here.column, here.column + 1, ''), sign=here.text)
 
 
 def _nearest(source: str, fault: ProgramError) -> Iterator[Correction]:
@@ -119,46 +119,42 @@ def _nearest(source: str, fault: ProgramError) -> Iterator[Correction]:
     names = [it for it in known if it.isidentifier()]
     like = (MEANT[word] if MEANT.get(word) in names else nearest(word, names)) if word else None
     if like:
-        yield Correction('Did you mean `%s`?' % like, (
-            replaced(source, token.line, token.column, token.column + len(word), like),))
+        yield hint('similar', replaced(source, token.line, token.column, token.column + len(word), like), name=like)
 
 
-def _declarations(source: str, tokens: list[Token], at: int, fault: ProgramError) -> Iterator[Correction]:
+def _declarations(source: str, fault: ProgramError) -> Iterator[Correction]:
     """The declaration of an unknown name: at the head of its code, or above the processes."""
-    name, kinds = fault.token.text, [it.kind for it in fault.may]
-    code = max((place for place in range(at) if tokens[place].text == 'code'), default=-1)
-    first = next((it.line for it in tokens if it.text == 'process'), 1)
+    read, name, kinds = read_program(source), fault.token.text, [it.kind for it in fault.may]
+    first = read.tokens[read.processes[0].number - 1].line
     for kind, form in ABOVE.items():
         if kind in kinds:
-            yield Correction('No %s has this name. Declare it above the processes.' % kind.split()[1], (
-                Edit(first, first - 1, (form % name,)),))
+            yield hint('declare-above', Edit(first, first - 1, (form % name,)), kind=kind.split()[1])
     # (a word at the beginning of a statement is a variable if an assignment follows)
-    is_used = not fault.allows('print') or tokens[at + 1].text == '='
-    for kind, form in AT_HEAD.items() if code >= 0 and is_used else ():
+    is_used = not fault.allows('print') or read.tokens[fault.token.number + 1].text == '='
+    for kind, form in AT_HEAD.items() if read.codes and is_used else ():
         if kind in kinds:
-            below = code + 2
-            while kind == 'a timer' and tokens[below + 1].text == 'var':
-                below += 5
-            line = tokens[below].line + 1
-            yield Correction('No %s has this name. Declare it at the head of `code %s`.' % (
-                kind.split()[1], tokens[code + 1].text), (Edit(line, line - 1, ('  ' + form % name,)),))
+            code = read.codes[-1]
+            above = [it.last for it in code.declared if it.kind == 'var' and kind == 'a timer']
+            line = (above[-1] if above else read.tokens[code.process.number + 1]).line + 1
+            yield hint('declare-in-code', Edit(line, line - 1, ('  ' + form % name,)), kind=kind.split()[1],
+                       process=code.process.text)
 
 
 def _example(source: str, fault: ProgramError) -> Correction | None:
     """An example of the statement or the declaration that has a fault."""
     tokens = tokens_of(source)
     at = _index(tokens, fault.token)
-    while at and tokens[at].text not in FORMS and tokens[at].text not in DECLARED:
+    while at and tokens[at].text not in STATEMENTS and tokens[at].text not in DECLARED:
         if tokens[at - 1].text in ('{', '}', ';'):
             return None
         at -= 1
     form = form_of(tokens[at].text)
-    return Correction('`%s` is written so: `%s`' % (tokens[at].text, form)) if form else None
+    return hint('example', word=tokens[at].text, form=form) if form else None
 
 
 def form_of(word: str) -> str | None:
     """An example of the statement or the declaration that begins with a word."""
-    if word not in FORMS:
+    if word not in STATEMENTS:
         return DECLARED.get(word)
-    form = FORMS[word].form
+    form = STATEMENTS[word].form
     return ' '.join(PARTS.get(it, it) for it in form.rstrip(';').split()) + form[len(form.rstrip(';')):]

@@ -7,6 +7,7 @@ from collections.abc import Callable, Collection, Iterator
 from pathlib import Path
 
 from motesim.explain.edits import Correction
+from motesim.explain.say import hint_in_words
 from motesim.explain.explanation import OF_C, correction_of, shown_explanation
 from motesim.faults import Fault
 from motesim.files import refuse_inputs, write_whole
@@ -76,7 +77,7 @@ def apply(name: str, output: str, run: Callable[[bytes], Answer], silent: Collec
         print(IN_NET % (one_line(name), one_line(output)))
     number = 0
     for number, (found, new) in enumerate(changes(text), 1):
-        print('\n'.join(shown(number, found.hint, text, new)))
+        print('\n'.join(shown(number, hint_in_words(found), text, new)))
         text = new
     write_and_keep(output, text.encode())
     no_change = 'first error has no corrected line' if find_fault(text.encode()) else 'text has no error'

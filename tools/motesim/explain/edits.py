@@ -1,7 +1,8 @@
-"""Corrections: lines of a text that become others."""
+"""Corrections as data: a code with facts, and lines of a text that become others. `motesim.explain.say` has their
+texts."""
 from __future__ import annotations
 
-from collections.abc import Sequence
+from collections.abc import Mapping, Sequence
 from typing import NamedTuple
 
 
@@ -16,20 +17,13 @@ class Edit(NamedTuple):
         """The same edit of a text that has this one below some other lines."""
         return self._replace(first=self.first + offset, last=self.last + offset)
 
-    def shown(self, of: str) -> list[str]:
-        """The lines of a message; `of` says of what text the lines are."""
-        if self.last < self.first:
-            head = 'Insert above line %d%s:' % (self.first, of)
-        else:
-            which = 'line %d' % self.first if self.first == self.last else 'lines %d to %d' % self[:2]
-            head = ('Write, as %s%s:' if self.lines else 'Leave out %s%s.') % (which, of)
-        return [head, *('  ' + line for line in self.lines)]
-
 
 class Correction(NamedTuple):
-    """The reason for a correction, and its edits, the first lines first; without edits it is only advice."""
-    hint: str
+    """A correction: the code of its hint, the facts of the hint, and the edits, the first lines first; without edits it
+    is only advice."""
+    code: str
     edits: tuple[Edit, ...] = ()
+    facts: Mapping[str, object] = {}
 
     def below(self, offset: int) -> Correction:
         return self._replace(edits=tuple(it.below(offset) for it in self.edits))
@@ -37,9 +31,9 @@ class Correction(NamedTuple):
     def applied(self, text: str) -> str:
         return applied(text, self.edits)
 
-    def shown(self, of: str = '') -> list[str]:
-        """The lines of the edits. The last ones come first, because their numbers are still those of the text."""
-        return [line for it in reversed(self.edits) for line in it.shown(of)]
+
+def hint(code: str, *edits: Edit, **facts: object) -> Correction:
+    return Correction(code, edits, facts)
 
 
 def applied(text: str, edits: Sequence[Edit]) -> str:

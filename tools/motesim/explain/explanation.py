@@ -5,16 +5,18 @@ import re
 from collections.abc import Callable, Collection
 from typing import Any
 
-from motesim.explain import missing, synonyms
+from motesim.explain import synonyms
 from motesim.explain.advice import advice
-from motesim.explain.edits import Correction
+from motesim.explain.edits import Correction, hint
 from motesim.explain.repair import repair
-from motesim.explain.said import with_name
+from motesim.explain.say import edits_in_words, hint_in_words, with_name
 from motesim.explain.warned import Warned
 from motesim.explain.warnings import warnings
 from motesim.faults import tried
 from motesim.notation import faults as program_faults
-from motesim.notation.parameters import PARAMETER
+from motesim.notation import reader
+from motesim.notation.grammar import PARAMETER
+from motesim.notation.tokens import Token
 from motesim.report import Report
 from motesim.report.run import Answer, answer, is_report, read_file
 from motesim.scenario import Scenario, encodings
@@ -28,12 +30,9 @@ from motesim.toml import MARK, NoToml, read_toml
 
 # The name of a text that is in no file, but in the studio.
 TEXT = 'the text'
-OF_REPORT = 'This is a report, not a scenario: tools/summary, tools/compare and tools/timeline read it.'
 OF_PLAN = '%s is a plan, not a scenario: tools/scenario %s -o NAME.toml makes a scenario of it.'
 OF_C = ('motesim runs programs in its own notation, and %s is in C: docs/use/CONTIKI.md shows how to write in the '
         'notation what Contiki has in C.')
-OF_PROGRAM = ('In a scenario this text is under `[programs]`, between three quotes: `p = """ .. """`. Or a plan names '
-              'the file of the program, and tools/scenario makes a scenario from the plan.')
 PROGRAM = re.compile(r'program (\S+) fault (\d+) line (\d+)')
 
 
@@ -91,7 +90,7 @@ def failed(words: str) -> list[str]:
 
 def hinted(found: Correction | None) -> list[str]:
     """A hint, and the corrected lines if they are known."""
-    return wrapped('Hint: %s' % found.hint) + found.shown() if found else []
+    return wrapped('Hint: %s' % hint_in_words(found)) + edits_in_words(found.edits) if found else []
 
 
 def allowed(may: str) -> list[str]:
@@ -115,7 +114,7 @@ def rule_of_program(its: program_faults.ProgramError) -> list[str]:
     return wrapped('%s: %s' % (title, rule))
 
 
-def shown_program(name: str, text: str, program: str, token: program_faults.Token) -> list[str]:
+def shown_program(name: str, text: str, program: str, token: Token) -> list[str]:
     """The place of a token in a program's text, with its line in the scenario if that is found."""
     found, line = place_of_token(text, program, token), source_of(text, program).split('\n')[token.line - 1]
     row = 'line %d, which is ' % found.line if found else ''
@@ -161,15 +160,15 @@ def whole_explanation(name: str, data: bytes, line: str) -> list[str]:
         return wrapped(OF_PLAN % (one_line(name), one_line(name)))
     return [*where_told(name, text, fault), *wrapped(rule_of(what)),
             *tried(lambda: hinted(hint_of_scenario(data, text)), failed),
-            *allowed(missing.may_stand(fault.lacks) if fault.lacks else fault.may)]
+            *allowed(fault.may)]
 
 
 def hint_of_scenario(data: bytes, text: str) -> Correction | None:
     """The hint on a fault outside the programs."""
     if is_report(data):
-        return Correction(OF_REPORT)
+        return hint('report')
     of_byte = encodings.hint(data)
-    return Correction(of_byte) if of_byte else correction_of(text)
+    return hint('byte', why=of_byte) if of_byte else correction_of(text)
 
 
 def where_told(name: str, text: str, fault: ScenarioError) -> list[str]:
@@ -177,15 +176,15 @@ def where_told(name: str, text: str, fault: ScenarioError) -> list[str]:
     place = place_of_scenario(text, fault)
     if place or not fault.lacks:
         return shown_place(name, text, place or Place(1, 0, 1))
-    return missing.shown(name, fault.lacks, tables_or_none(text) or {}, scenario_faults.first_table(text))
+    return ['%s has no `%s`.' % (one_line(name), fault.lacks)]
 
 
 def program_instead(name: str, data: bytes) -> list[str]:
     """The lines about a file with a program instead of a scenario: how to write it into a scenario, and its error."""
     source = data.decode('utf-8', 'replace').removeprefix(MARK)
     # (a number for each parameter of a plan, as long as its name, so that places in the program stay)
-    its = program_faults.find_fault(PARAMETER.sub(lambda it: '1'.ljust(len(it[0])), source))
-    lines = ['%s is the text of a program, not a scenario.' % one_line(name), *hinted(Correction(OF_PROGRAM))]
+    its = reader.find_fault(PARAMETER.sub(lambda it: '1'.ljust(len(it[0])), source))
+    lines = ['%s is the text of a program, not a scenario.' % one_line(name), *hinted(hint('program'))]
     if its is None:
         return ['%s has no error.' % one_line(name), *lines]
     return [*lines, *wrapped('The program has an error, too:'), *of_program_file(name, source, its)]

@@ -9,7 +9,7 @@ from functools import cache
 from pathlib import Path
 from typing import NamedTuple
 
-from motesim.explain.edits import Correction, replaced
+from motesim.explain.edits import Correction, hint, replaced
 from motesim.notation.faults import ProgramError
 from motesim.notation.grammar import RESERVED
 
@@ -64,4 +64,4 @@ def of_line(source: str, fault: ProgramError) -> Iterator[Correction]:
             if not found.start() <= column < found.end():
                 continue
             new = re.sub(r'<(\w+)>', lambda name: found[name[1]].strip(), it.becomes) if it.becomes is not None else None
-            yield Correction(it.why, () if new is None else (replaced(source, line, *found.span(), new),))
+            yield hint('habit', *() if new is None else (replaced(source, line, *found.span(), new),), why=it.why)

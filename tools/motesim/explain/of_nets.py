@@ -7,7 +7,8 @@ from motesim.report.moments import bursts
 from motesim.explain.of_structure import asked_in, posted_in
 from motesim.explain.used_up import loop_of
 from motesim.explain.warned import Fact, Warned, of_token
-from motesim.notation.tree import Program, written
+from motesim.notation.printer import written
+from motesim.notation.tree import Program
 from motesim.report import Report
 from motesim.scenario import Scenario
 
@@ -48,7 +49,7 @@ def of_broadcast(name: str, program: Program, nobody_sends: bool) -> Iterator[Wa
         for it in code.statements():
             if it.kind == 'broadcast' and it.value:
                 others = [one for one in program.codes if one != code]
-                is_awaited = any(asked_in(one, it.names[0].text) or any(
+                is_awaited = any(asked_in(one, it.name) or any(
                     wait.kind == 'yield' for wait in one.statements()) for one in others)
                 if nobody_sends or not is_awaited:
                     yield of_token('broadcast-stays', name, it.token, value=written(it.value))

@@ -7,7 +7,6 @@ from motesim.explain.warned import Warned, of_token
 from motesim.notation.tree import Code, Part, Program, Statement, expressions_of, statements_of, tests_in, values_in
 from motesim.notation.tree import Test as Asked
 
-POSTS = ('post', 'synch', 'broadcast')
 SETS = ('set', 'reset', 'restart_timer')
 
 
@@ -19,7 +18,7 @@ def asked_in(code: Code, event: str) -> list[Asked]:
 
 def posted_in(program: Program) -> set[str]:
     """The events that a program posts."""
-    return {it.names[-1].text for it in program.statements() if it.kind in POSTS}
+    return {it.event for it in program.statements() if it.event}
 
 
 def of_structure(name: str, program: Program) -> Iterator[Warned]:
@@ -38,7 +37,7 @@ def of_start(name: str, program: Program) -> Iterator[Warned]:
     if not program.autostart:
         yield of_token('no-autostart', name, program.processes[0])
         return
-    started = {*program.autostart, *(it.names[0].text for it in program.statements() if it.kind == 'start')}
+    started = {*program.starts, *(it.name for it in program.statements() if it.kind == 'start')}
     for process in program.processes:
         if process.text not in started:
             yield of_token('never-started', name, process, process=process.text)
@@ -99,19 +98,19 @@ def of_signal(name: str, program: Program, semaphore: str, waiter: Code) -> Iter
 
 def awaits(it: Statement, semaphore: str) -> bool:
     if it.kind == 'acquire':
-        return it.names[0].text == semaphore
+        return it.name == semaphore
     return it.waits and any(test.of == semaphore for test in tests_in(it.value, 'count'))
 
 
 def is_called(program: Program, code: Code) -> bool:
     """Returns whether a process doesn't start at boot, or something but the exit of another process may call it."""
     process = code.process.text
-    if process not in program.autostart or program.receiver and program.receiver.text == process:
+    if process not in program.starts or program.receiver and program.receiver.text == process:
         return True
     timers = {it.text for it in code.timers}
-    own = any(it.kind == 'pause' or it.kind in SETS and it.names[0].text in timers for it in code.statements())
+    own = any(it.kind == 'pause' or it.kind in SETS and it.name in timers for it in code.statements())
     return own or any(it.kind == 'broadcast' or it.kind in ('poll', 'post', 'synch', 'start', 'kill') and
-                      it.names[0].text == process for it in program.statements())
+                      it.name == process for it in program.statements())
 
 
 def is_later(part: Part, signal: Statement) -> bool:

@@ -5,7 +5,8 @@ from collections.abc import Callable, Iterator
 
 from motesim.explain.warned import Warned, of_token
 from motesim.notation.tree import Code, Expression, Operation, Program, Statement, Value
-from motesim.notation.tree import expressions_of, is_number, written
+from motesim.notation.printer import written
+from motesim.notation.tree import expressions_of, is_number
 
 VALUES = 65_536
 ORDER = ('<', '<=', '>', '>=')
@@ -36,7 +37,7 @@ def of_numbers(name: str, program: Program) -> Iterator[Warned]:
 
 def fixed_in(code: Code) -> dict[str, int]:
     """The variables of a code to which no statement assigns, with their values."""
-    assigned = {it.names[0].text for it in code.statements() if it.kind == '='} | {
+    assigned = {it.name for it in code.statements() if it.kind == '='} | {
         it.into for it in code.statements()}
     return {name: value for name, value in code.variables.items() if name not in assigned}
 

@@ -4,8 +4,9 @@ from __future__ import annotations
 from collections.abc import Iterator
 
 from motesim.explain.warned import Warned, of_token
+from motesim.notation.printer import head_of, written
 from motesim.notation.tree import Block, Code, Expression, Not, Operation, Program, Statement
-from motesim.notation.tree import expressions_of, is_number, parts_of, statements_of, tests_in, values_in, written
+from motesim.notation.tree import expressions_of, is_number, parts_of, statements_of, tests_in, values_in
 from motesim.notation.tree import Test as Asked
 
 SETS = ('set', 'reset', 'restart_timer')
@@ -44,7 +45,7 @@ def of_loop(name: str, loop: Statement) -> Iterator[Warned]:
 
 def is_still(loop: Statement, inner: list[Statement]) -> bool:
     """Returns whether nothing in a loop may change its test."""
-    changed = {it.names[0].text for it in inner if it.kind == '='} | {it.into for it in inner}
+    changed = {it.name for it in inner if it.kind == '='} | {it.into for it in inner}
     return not (loop.value and is_number(loop.value)) and not changed & values_in(loop.value) and not any(
         it.kind in CHANGES for it in inner)
 
@@ -64,16 +65,16 @@ def is_of_event(test: Expression) -> bool:
 
 def of_timers(name: str, code: Code) -> Iterator[Warned]:
     sets = [(part, it) for part in code.parts for it in statements_of(part.block) if it.kind in SETS]
-    callbacks = {part.name for part in code.parts if part.kind == 'ctimer'}
+    callbacks = code.named('ctimer')
     for timer in (*(it.text for it in code.timers), *callbacks):
-        its = [it for _, it in sets if it.names[0].text == timer]
+        its = [it for _, it in sets if it.name == timer]
         used = [it for part in code.parts for it in expressions_of(part.block) if isinstance(it, Asked) and (
             it.of == timer and it.token.text in ('fired', 'expired'))]
         if not any(it.kind == 'set' for it in its):
             places = [*(it.token for it in its), *(it.token for it in used), *(
                 it for it in code.timers if it.text == timer), code.process]
             yield of_token('timer-never-set', name, places[0], timer=timer)
-        elif all(part.kind == 'body' for part, it in sets if it.names[0].text == timer):
+        elif all(part.kind == 'body' for part, it in sets if it.name == timer):
             yield from of_late(name, code, timer, its)
             yield from of_once(name, code, timer, its)
     for part in code.parts:
@@ -120,13 +121,13 @@ def place(it: Statement) -> tuple[int, int]:
 def of_other_events(name: str, block: Block) -> Iterator[Warned]:
     """The first test behind each wait, up to the next wait, that is about another event than the one of the wait."""
     for at, it in enumerate(block):
-        for inner in it.block, it.otherwise:
+        for inner in it.block, it.otherwise or ():
             yield from of_other_events(name, inner)
         event = awaited(it, block)
         for part in behind(block[at + 1:]) if event else ():
             is_other = isinstance(part, Asked) and part.token.text in OF_EVENT and event_of(part) != event
             if is_other or event in ('timer', 'continue') and written(part) in ('data', 'from'):
-                yield of_token('other-event', name, part.token, part=written(part), wait=head(it))
+                yield of_token('other-event', name, part.token, part=written(part), wait=head_of(it))
                 break
 
 
@@ -142,16 +143,12 @@ def awaited(it: Statement, block: Block) -> str:
         return ''
     if test.token.text == 'expired':
         # (a timer that was due long ago is still expired when a packet arrives)
-        return 'timer' if any(one.kind in SETS and one.names[0].text == test.of for one in block) else ''
+        return 'timer' if any(one.kind in SETS and one.name == test.of for one in block) else ''
     return event_of(test)
 
 
 def event_of(test: Asked) -> str:
     return {'fired': 'timer', 'gone': 'exited', 'is': test.of}.get(test.token.text, '')
-
-
-def head(it: Statement) -> str:
-    return it.kind if it.value is None else '%s %s' % (it.kind, written(it.value))
 
 
 def behind(block: Block) -> Iterator[Expression]:
@@ -161,7 +158,7 @@ def behind(block: Block) -> Iterator[Expression]:
         if it.waits or it.kind == 'while' and any(one.waits for one in inner):
             return
         yield from parts_of(it.value)
-        for branch in it.block, it.otherwise:
+        for branch in it.block, it.otherwise or ():
             yield from behind(branch)
         if any(one.waits for one in inner):
             return

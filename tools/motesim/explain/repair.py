@@ -9,31 +9,34 @@ from collections.abc import Iterator
 from typing import Any
 
 from motesim.explain import synonyms
-from motesim.explain.edits import Correction, Edit, replaced
+from motesim.explain.edits import Correction, Edit, hint, replaced
 from motesim.scenario.faults import LOSS, MEDIUM, MOTE, TOP, Place, Rule, ScenarioError, find_fault, place_of, value_of
 from motesim.text import nearest
 from motesim.toml import NoToml, read_toml
 
 NO_TOML = 'scenario fault 1'
 TABLES = {'medium': {**MEDIUM, 'collide': Rule(bool)}, 'loss': LOSS, 'mote': MOTE}
-# Examples of the values of keys that a table needs.
-VALUES: dict[str, object] = {'range': 10, 'base': 1, 'per': 100, 'collide': 'false', 'x': 0, 'y': 0, 'from': 0, 'to': 1,
-                             'every': 2}
-# What lines that aren't TOML have, what they become, and why.
+# Examples of the values of keys that a table needs, and of the tables that a scenario needs.
+VALUES: dict[str, object] = {'version': 2, 'end': 100, 'range': 10, 'base': 1, 'per': 100, 'collide': 'false', 'x': 0,
+                             'y': 0, 'from': 0, 'to': 1, 'every': 2}
+AT_TOP = {
+    'medium': ('[medium]', 'range = 10', 'base = 1', 'per = 100'),
+    'programs': ('[programs]', "p = '''", 'process a;', 'autostart a;', 'code a { body { print 1; } }', "'''"),
+    'mote': ('[[mote]]', 'x = 0', 'y = 0', 'program = "%s"'),
+}
+# What lines that aren't TOML have, what they become, and the code of the reason.
 LINES = [
-    (r'(\s*[\w.]+)\s*:\s*(.+)', r'\1 = \2', 'A key has `=` before its value.'),
-    (r'(\s*[\w.]+)\s+([\d"\'].*)', r'\1 = \2', 'A key has `=` before its value.'),
-    (r'(\s*[\w.]+\s*=\s*-?[\d_.]+)\s*[a-zA-Z%]+\s*', r'\1', 'A number has no unit: times are in moments.'),
-    (r'(\s*[\w.]+\s*=\s*.*[^;,])[;,]\s*', r'\1', 'A line of a key ends behind its value.'),
-    (r'(\s*[\w.]+\s*=\s*)(?:[Tt]rue|[Yy]es)\s*', r'\1true', 'The truth values are `true` and `false`.'),
-    (r'(\s*[\w.]+\s*=\s*)(?:[Ff]alse|[Nn]o)\s*', r'\1false', 'The truth values are `true` and `false`.'),
-    (r'(\s*[\w.]+\s*=\s*)([A-Za-z_][\w.-]*)\s*', r'\1"\2"', 'A text is in quotes.'),
-    (r'(\s*[\w.]+\s*=\s*")([^"]*)', r'\1\2"', 'A text ends with the quotes with which it begins.'),
-    (r'(\s*)//(.*)', r'\1#\2', 'A comment of TOML begins with `#`.'),
-    (r'(\s*\[\[?\s*\w+)\s*', r'\1]', 'The name of a table is in brackets.'),
+    (r'(\s*[\w.]+)\s*:\s*(.+)', r'\1 = \2', 'no-equals'),
+    (r'(\s*[\w.]+)\s+([\d"\'].*)', r'\1 = \2', 'no-equals'),
+    (r'(\s*[\w.]+\s*=\s*-?[\d_.]+)\s*[a-zA-Z%]+\s*', r'\1', 'unit'),
+    (r'(\s*[\w.]+\s*=\s*.*[^;,])[;,]\s*', r'\1', 'end-of-line'),
+    (r'(\s*[\w.]+\s*=\s*)(?:[Tt]rue|[Yy]es)\s*', r'\1true', 'truth-values'),
+    (r'(\s*[\w.]+\s*=\s*)(?:[Ff]alse|[Nn]o)\s*', r'\1false', 'truth-values'),
+    (r'(\s*[\w.]+\s*=\s*)([A-Za-z_][\w.-]*)\s*', r'\1"\2"', 'no-quotes'),
+    (r'(\s*[\w.]+\s*=\s*")([^"]*)', r'\1\2"', 'open-quotes'),
+    (r'(\s*)//(.*)', r'\1#\2', 'comment'),
+    (r'(\s*\[\[?\s*\w+)\s*', r'\1]', 'open-bracket'),
 ]
-NO_CHANCE = ('Nothing happens by chance here: a loss `[[loss]]` from one mote to another loses every k-th packet '
-             '(`every = k`). docs/use/STATISTICS.md has a tested pattern for losses by chance.')
 
 
 def repair(text: str, fault: ScenarioError) -> Correction | None:
@@ -51,7 +54,7 @@ def is_better(text: str, fault: ScenarioError, it: Correction) -> bool:
         return other is None or other.message != NO_TOML
     if other.message == NO_TOML and other.line and fault.line:
         return other.line[0] > fault.line[0]
-    return other.path != fault.path
+    return (other.path, other.missing) != (fault.path, fault.missing)
 
 
 def _attempts(text: str, fault: ScenarioError) -> Iterator[Correction]:
@@ -75,9 +78,9 @@ def _of_toml(text: str, number: int) -> Iterator[Correction]:
     rows = text.split('\n')
     for line in (number, number - 1):
         row = rows[line - 1].partition(' #')[0] if line else ''
-        for form, new, hint in LINES:
+        for form, new, code in LINES:
             if found := re.fullmatch(form, row):
-                yield Correction(hint, (Edit(line, line, (found.expand(new),)),))
+                yield hint(code, Edit(line, line, (found.expand(new),)))
     yield from _of_header(text, None)
 
 
@@ -87,8 +90,7 @@ def _of_header(text: str, fault: ScenarioError | None) -> Iterator[Correction]:
         wrong, right = ('[%s]', '[[%s]]') if name != 'medium' else ('[[%s]]', '[%s]')
         rows = [number for number, row in enumerate(text.split('\n'), 1) if row.strip() == wrong % name]
         if rows and (fault is None or fault.path[0] == name):
-            yield Correction('Each mote and each loss is a table `[[mote]]` or `[[loss]]`; `[medium]` is one table.',
-                             tuple(Edit(number, number, (right % name,)) for number in rows))
+            yield hint('brackets', *(Edit(number, number, (right % name,)) for number in rows))
 
 
 def _of_missing(text: str, tables: dict[str, Any], fault: ScenarioError) -> Iterator[Correction]:
@@ -96,22 +98,36 @@ def _of_missing(text: str, tables: dict[str, Any], fault: ScenarioError) -> Iter
     table."""
     wanted, like = fault.missing, synonyms.like_of_missing(tables, fault)
     if like and synonyms.is_about_chance(like):
-        yield Correction(NO_CHANCE)
+        yield hint('no-chance')
     elif like and isinstance(synonyms.at(tables, (*fault.path, like)), list) <= (wanted in ('mote', 'loss')):
         place = place_of(text, (*fault.path, like))
         begin = _row(text, place).find(like, place.column, place.column + place.length)
         if begin >= 0:
-            yield Correction('The table has `%s`: write `%s`.' % (like, wanted), (
-                replaced(text, place.line, begin, begin + len(like), wanted),))
-    if not fault.path:
-        return
+            yield hint('other-key', replaced(text, place.line, begin, begin + len(like), wanted), name=like,
+                       wanted=wanted)
     programs = tables.get('programs')
-    value = VALUES.get(wanted, '"%s"' % next(iter(programs), 'p') if isinstance(programs, dict) else '"p"')
+    program = next(iter(programs), 'p') if isinstance(programs, dict) else 'p'
+    if not fault.path:
+        yield hint('scenario-needs', _at_top(text, tables, wanted, program), wanted=wanted)
+        return
+    value = VALUES.get(wanted, '"%s"' % program)
     place = place_of(text, fault.path)
     if _row(text, place).strip().startswith('['):
-        yield Correction('The table needs `%s`, such as `%s = %s`.' % (wanted, wanted, value), (
-            Edit(place.line + 1, place.line, ('%s = %s' % (wanted, value),)),))
-    yield Correction('The table needs `%s`, such as `%s = %s`.' % (wanted, wanted, value))
+        yield hint('needs', Edit(place.line + 1, place.line, ('%s = %s' % (wanted, value),)), wanted=wanted,
+                   value=value)
+    yield hint('needs', wanted=wanted, value=value)
+
+
+def _at_top(text: str, tables: dict[str, Any], wanted: str, program: str) -> Edit:
+    """The lines of a key that a scenario needs, at its beginning, or of a table, at its end."""
+    if wanted not in AT_TOP:
+        medium = tables.get('medium')
+        is_older = isinstance(medium, dict) and 'collide' not in medium and 'queue' not in tables
+        return Edit(1, 0, ('%s = %s' % (wanted, 1 if wanted == 'version' and is_older else VALUES[wanted]),))
+    lines = tuple(line % program if '%s' in line else line for line in AT_TOP[wanted])
+    more = ('collide = false',) * (wanted == 'medium' and tables.get('version') == 2)
+    end = len(text.removesuffix('\n').split('\n'))
+    return Edit(end + 1, end, lines + more)
 
 
 def _of_key(text: str, tables: dict[str, Any], fault: ScenarioError) -> Iterator[Correction]:
@@ -122,18 +138,17 @@ def _of_key(text: str, tables: dict[str, Any], fault: ScenarioError) -> Iterator
     known = TABLES.get(str(fault.path[0]), {}) if len(fault.path) > 1 else {**TOP, 'queue': TOP['end']}
     if name in ('collide', 'queue') and tables.get('version') == 1:
         at = value_of(text, place_of(text, ('version',)))
-        yield Correction('`%s` belongs to version 2.' % name, (
-            replaced(text, at.line, at.column, at.column + at.length, '2'),))
+        yield hint('version-2', replaced(text, at.line, at.column, at.column + at.length, '2'), name=name)
     like = None if synonyms.is_about_chance(name) else synonyms.meant(name, known)
     if like and name in _row(text, place)[place.column:place.column + place.length]:
         begin = _row(text, place).index(name, place.column)
-        yield Correction('Did you mean `%s`?' % like, (replaced(text, place.line, begin, begin + len(name), like),))
+        yield hint('similar', replaced(text, place.line, begin, begin + len(name), like), name=like)
     if synonyms.is_about_chance(name):
-        yield Correction(NO_CHANCE)
-    hint = synonyms.LEFT_OUT.get(name, 'There is no key `%s` in this table.' % name)
+        yield hint('no-chance')
+    code = synonyms.LEFT_OUT.get(name, 'no-key')
     if re.match(r'\s*%s\s*=' % re.escape(name), _row(text, place)):
-        yield Correction(hint, (Edit(place.line, place.line, ()),))
-    yield Correction(hint)
+        yield hint(code, Edit(place.line, place.line, ()), name=name)
+    yield hint(code, name=name)
 
 
 def _of_program(text: str, tables: dict[str, Any], fault: ScenarioError) -> Iterator[Correction]:
@@ -144,8 +159,7 @@ def _of_program(text: str, tables: dict[str, Any], fault: ScenarioError) -> Iter
     if like:
         place = fault.place(text)
         new = '"%s"' % like if isinstance(value, str) else like
-        yield Correction('Did you mean `%s`?' % like, (
-            replaced(text, place.line, place.column, place.column + place.length, new),))
+        yield hint('similar', replaced(text, place.line, place.column, place.column + place.length, new), name=like)
 
 
 def _of_value(text: str, tables: dict[str, Any], fault: ScenarioError) -> Iterator[Correction]:
@@ -155,16 +169,15 @@ def _of_value(text: str, tables: dict[str, Any], fault: ScenarioError) -> Iterat
     # (a share of lost packets is no period)
     is_share = name == 'every' and not (type(value) is float and value.is_integer() or str(value).isdecimal())
     new = _as_kind(value, rule) if rule and not is_share else None
-    hint = 'Write `%s = %s`.' % (name, new)
+    code, bound = 'value', 0
     if new is None and type(value) is int and rule and rule.kind is int:
         least = 1 if name in ('base', 'per') else rule.least
         # (the nearest period of a loss, 1, would lose every packet)
         new = None if name == 'every' else str(min(max(value, least), rule.most))
-        hint = '`{}` is {} {:,}.'.format(name, 'at least' if value < least else 'at most', least if value < least else
-                                          rule.most)
+        code, bound = ('at-least', least) if value < least else ('at-most', rule.most)
     if new is not None:
-        yield Correction(hint, (
-            replaced(text, place.line, place.column, place.column + place.length, new),))
+        yield hint(code, replaced(text, place.line, place.column, place.column + place.length, new), name=name,
+                   value=new, bound=bound)
 
 
 def _as_kind(value: object, rule: Rule) -> str | None:

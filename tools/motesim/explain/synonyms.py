@@ -23,9 +23,8 @@ SYNONYMS = {
 # Keys that ask for random losses or delays, which the medium doesn't have; and words in such keys.
 CHANCE = ('p', 'rate', 'per_link')
 PARTS_OF_CHANCE = {'probability', 'prob', 'random', 'seed', 'noise', 'chance', 'loss', 'lossy', 'drop', 'prr', 'pdr'}
-_NUMBERED = 'Motes have no `%s`: they are numbered from 0, in the order of the file.'
-LEFT_OUT = {name: _NUMBERED % name for name in ('id', 'name', 'number', 'node_id', 'address')}
-LEFT_OUT['z'] = 'Motes are in a plane: a place has only `x` and `y`.'
+# For each key that motes don't have, the code of the hint.
+LEFT_OUT = {**dict.fromkeys(('id', 'name', 'number', 'node_id', 'address'), 'numbered'), 'z': 'plane'}
 
 
 def is_about_chance(key: str) -> bool:

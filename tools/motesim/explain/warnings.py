@@ -12,9 +12,9 @@ from motesim.explain.of_nets import of_halts, of_moments, of_net
 from motesim.explain.of_structure import of_structure
 from motesim.explain.of_values import of_numbers, of_values
 from motesim.explain.of_waits import of_waits
-from motesim.explain.said import ABOUT_ZERO
+from motesim.explain.say import ABOUT_ZERO
 from motesim.explain.warned import Warned, together
-from motesim.notation.tree import read_program
+from motesim.notation.reader import read_program
 from motesim.report import Report
 from motesim.scenario import Scenario
 

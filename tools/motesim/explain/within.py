@@ -6,17 +6,19 @@ import argparse
 import re
 from collections import Counter
 from collections.abc import Callable
-from typing import NamedTuple
 
+from motesim.explain.say import doing_in_words
+from motesim.explain.warned import Doing
 from motesim.faults import Fault
-from motesim.notation.faults import Token
-from motesim.notation.tree import read_program, statements_of, written
+from motesim.notation.tokens import Token
+from motesim.notation.printer import head_of
+from motesim.notation.reader import read_program
+from motesim.notation.tree import statements_of
 from motesim.report import Report
 from motesim.runner import LimitMet, Limits, ProgramFault, Runner
 from motesim.report.run import Answer
 from motesim.scenario import Scenario
 from motesim.scenario.in_programs import place_of_token
-from motesim.terminal import one_line
 
 MEGABYTE = 1 << 20
 # A run also ends if its time on the clock reaches this many times its limit of processor time.
@@ -28,22 +30,6 @@ ENDS = (0, *(4 ** it for it in range(10)))
 END = re.compile(rb'^([ \t]*end[ \t]*=[ \t]*)([0-9_]+)', re.M)
 # The number of lines of a process in each moment from which a loop without end is likely.
 MANY = 20
-DOES = {'print': 'process {0.process} of mote {0.mote} prints {1:,} times', 'send': 'mote {0.mote} sends {1:,} packets',
-        'pause': 'process {0.process} of mote {0.mote} pauses {1:,} times',
-        'post': 'mote {0.mote} posts {1:,} events to process {0.process}'}
-IS_STORM = (' Up to moment {}, the motes send {:,} packets, {:,} of them mote {}: does each packet that arrives lead '
-            'to another one?')
-IS_ENDLESS = ': does a loop repeat without end?'
-ONLY_PAUSES = ('. A `pause` lets no time pass, so this loop repeats many times in each moment. Let it wait for a timer '
-               'instead, such as `set t 10; yield_until fired(t);`.')
-PAUSES = ': a loop that only pauses repeats many times in each moment, so let the process wait by `yield_until`.'
-
-
-class Does(NamedTuple):
-    """The deed of a process or a mote that is counted."""
-    kind: str
-    process: str
-    mote: int
 
 
 def runs_within(name: str, asked: argparse.Namespace) -> Callable[[bytes], Answer]:
@@ -64,30 +50,35 @@ def answer_within(name: str, data: bytes, limits: Limits) -> Answer:
 
 
 def busiest(data: bytes, file_lines: bool = True, goes_on: Callable[[], bool] = lambda: True) -> str:
-    """A sentence about the process that prints or pauses most, or the mote that sends or posts most, in a run that ends
-    earlier; an empty text if none does so often.
+    """A sentence about what a run does most, or an empty text."""
+    found = most_done(data, file_lines, goes_on)
+    return doing_in_words(found) if found else ''
 
-    file_lines  whether the sentence has lines of the scenario; otherwise it has lines of the program's text
-    goes_on     whether to try a further run; if not, the sentence is empty
+
+def most_done(data: bytes, file_lines: bool = True, goes_on: Callable[[], bool] = lambda: True) -> Doing | None:
+    """What a run does most that ends earlier; None if it does nothing so often.
+
+    file_lines  whether to find the lines in the scenario; otherwise they are lines of the program's text
+    goes_on     whether to try a further run; if not, nothing is found
     """
     written = END.search(data)
     if written is None:
-        return ''
+        return None
     low, high, found = 0, 0, None
     for high in ENDS:
         if not goes_on():
-            return ''
+            return None
         got = report_until(data, high) if high < int(written[2]) else None
         if got is None:
             break
         low, found = high, got
-    does = done_in(data, found, low, low + 1, file_lines) if found else ''
+    does = done_in(data, found, low, low + 1, file_lines) if found else None
     if does or found is None or high >= int(written[2]):
         return does
     # (it does nothing so often up to there: maybe it begins later)
     while high - low > 1:
         if not goes_on():
-            return ''
+            return None
         got = report_until(data, (low + high) // 2)
         low, high, found = (low, (low + high) // 2, found) if got is None else ((low + high) // 2, high, got)
     moments = {it.at for it in found.lines('print', 'send', 'post')}
@@ -103,56 +94,53 @@ def report_until(data: bytes, end: int) -> Report | None:
     return None if got.status else Report.parse(got.report)
 
 
-def done_in(data: bytes, report: Report, end: int, moments: int, file_lines: bool) -> str:
-    """A sentence about what a run does most up to its end; an empty text if it doesn't do so often in each of some
-    moments."""
-    its, count = most_of(report)
-    if count < MANY * moments:
+def done_in(data: bytes, report: Report, end: int, moments: int, file_lines: bool) -> Doing | None:
+    """What a run does most up to its end; None if it doesn't do so often in each of some moments."""
+    found = most_of(report)._replace(end=end)
+    if found.times < MANY * moments:
         packets = Counter(it.mote for it in report.lines('send'))
-        is_storm = packets.total() >= MANY * moments
-        return IS_STORM.format(end, packets.total(), *packets.most_common(1)[0][::-1]) if is_storm else ''
-    if its.kind not in ('print', 'pause'):
-        return ' Up to moment %d, %s%s' % (end, DOES[its.kind].format(its, count), IS_ENDLESS)
-    where, only_pauses = lines_of(data, its, file_lines)
-    return ' Up to moment %d, %s%s%s' % (end, DOES[its.kind].format(its, count), where, (
-        PAUSES if its.kind == 'pause' else ONLY_PAUSES if only_pauses else IS_ENDLESS))
+        if packets.total() < MANY * moments:
+            return None
+        mote, count = packets.most_common(1)[0]
+        return Doing('storm', mote, '', count, end, packets.total())
+    return with_lines(data, found, file_lines) if found.kind in ('print', 'pause') else found
 
 
-def most_of(report: Report) -> tuple[Does, int]:
-    """The most frequent deed of a process or a mote, and its number: prints and packets have precedence, because a loop
-    that pauses after each print posts as many events as it prints."""
-    counts = Counter(Does(it.kind, it.process or '', it.mote) for it in report.lines('print', 'send'))
-    posts = Counter(Does('pause' if it.event == 'continue' else 'post', it.process or '', it.mote)
+def most_of(report: Report) -> Doing:
+    """The most frequent deed of a process or a mote: prints and packets have precedence, because a loop that pauses
+    after each print posts as many events as it prints."""
+    counts = Counter((it.kind, it.mote, it.process or '') for it in report.lines('print', 'send'))
+    posts = Counter(('pause' if it.event == 'continue' else 'post', it.mote, it.process or '')
                     for it in report.lines('post'))
-    first, second = (it.most_common(1) or [(Does('print', '', 0), 0)] for it in (counts, posts))
-    return first[0] if 2 * first[0][1] >= second[0][1] else second[0]
+    first, second = ((it.most_common(1) or [(('print', 0, ''), 0)])[0] for it in (counts, posts))
+    deed, count = first if 2 * first[1] >= second[1] else second
+    return Doing(*deed, count)
 
 
-def lines_of(data: bytes, its: Does, file_lines: bool) -> tuple[str, bool]:
-    """The lines in which a process of a mote prints or pauses, and the loops around them: lines of a scenario, or of
-    the text of its program. Also returns whether the outermost of these loops is endless and waits only by `pause`."""
+def with_lines(data: bytes, its: Doing, file_lines: bool) -> Doing:
+    """The same with the lines in which a process prints or pauses, and the loops around them, if they are found; and
+    whether the outermost of these loops is endless and waits only by `pause`."""
     scenario = Scenario.parse(data)
     name = scenario.places[its.mote].program
     code = next(it for it in read_program(scenario.programs[name]).codes if it.process.text == its.process)
     all_of = list(code.statements())
     # (a process may also post the event of a `pause` to itself)
     found = [it for it in all_of if it.kind == its.kind] or [
-        it for it in all_of if it.kind == 'post' and it.names[1].text == 'continue']
+        it for it in all_of if it.kind == 'post' and it.event == 'continue']
     loops = [it for it in all_of if it.kind == 'while' and all(one in statements_of(it.block) for one in found)]
-    lines = [line_of(data, it.token, name, file_lines) for it in (*found, *loops)]
-    if not found or not all(lines):
-        return '', False
-    heads = ['while %s' % written(it.value) for it in loops if it.value]
+    lines = [line for it in (*found, *loops) if (line := line_of(data, it.token, name, file_lines))]
+    if not found or len(lines) < len(found) + len(loops):
+        return its
     only_pauses = bool(loops) and loops[0].is_endless and {
         it.kind for it in statements_of(loops[0].block) if it.waits} == {'pause'}
-    where = ', '.join(lines[:len(found)]) + ('' if file_lines else ' of program %s' % one_line(name))
-    turns = ['`%s` (%s)' % it for it in zip(heads, lines[len(found):])][::-1]
-    return ' (%s)%s' % (where, ', in each turn of ' * bool(turns) + ' within '.join(turns)), only_pauses
+    heads = [head_of(it) for it in loops]
+    return its._replace(lines=tuple(lines[:len(found)]), loops=tuple(zip(heads, lines[len(found):])),
+                        only_pauses=only_pauses, program='' if file_lines else name)
 
 
-def line_of(data: bytes, token: Token, program: str, is_of_file: bool) -> str:
-    """The line of a token: of the file, or of the text of its program; nothing if the file doesn't show it."""
+def line_of(data: bytes, token: Token, program: str, is_of_file: bool) -> int | None:
+    """The line of a token: of the file, or of the text of its program; None if the file doesn't show it."""
     if not is_of_file:
-        return 'line %d' % token.line
+        return token.line
     place = place_of_token(data.decode('utf-8'), program, token)
-    return 'line %d' % place.line if place else ''
+    return place.line if place else None

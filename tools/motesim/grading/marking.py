@@ -18,7 +18,7 @@ from motesim.judge.expectations import REFUSED, Part, UnknownSentence, known_of,
 from motesim.judge.judge import Broken, Judge
 from motesim.judge.remarks import remark_of
 from motesim.judge.sentences import Sentence, lacking
-from motesim.notation.faults import find_fault as find_program_fault
+from motesim.notation.reader import find_fault as find_program_fault
 from motesim.report import Report
 from motesim.runner import LimitMet, Limits, Runner
 from motesim.report.run import Answer, Run

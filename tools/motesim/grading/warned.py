@@ -3,7 +3,7 @@ from __future__ import annotations
 
 from collections.abc import Callable, Iterable, Mapping
 
-from motesim.explain.said import with_name
+from motesim.explain.say import with_name
 from motesim.explain.warned import Warned, together
 from motesim.explain.warnings import of_program, of_run, silenced
 from motesim.faults import tried

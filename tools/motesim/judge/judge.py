@@ -5,12 +5,12 @@
 from __future__ import annotations
 
 from bisect import bisect_left, bisect_right
-from collections.abc import Iterator, Sequence, Set
+from collections.abc import Iterable, Iterator, Sequence, Set
 from dataclasses import replace
 from functools import cached_property
 from itertools import compress, repeat
 from itertools import count as counting
-from operator import and_
+from operator import and_, contains
 from typing import NamedTuple
 
 from motesim.judge import relations
@@ -22,8 +22,8 @@ from motesim.judge.numbers import TOGETHER, either, has, has_lines, motes_do, th
 from motesim.judge.sentences import (
     Copies, Count, Deed, Does, Hears, Lines, MediumLine, Motes, Packets, Pattern, Refused, Sentence, Value, Window,
 )
-from motesim.judge.wide import remark_on
-from motesim.report import LOST, Line, Report, Rows
+from motesim.report import LOST, MOST_WORD, Line, Report, Rows
+from motesim.report.lazy import LazyReport
 from motesim.scenario import Scenario
 from motesim.scenario.fields import in_words as in_fields
 
@@ -134,6 +134,8 @@ class Judge:
         # (a value may be unknown for this mote, whether or not it has such lines)
         wanted = [self.links.values(it, mote) if isinstance(it, Value) else it for it in pattern[1:]]
         count: int = place.stop - place.start
+        if not (wanted and count):
+            return b'\1' * count
         found = bytes([len(wanted) <= len(fields)]) * count
         for its, (field, column) in zip(wanted, fields.items()):
             if its is not None and any(found):
@@ -155,22 +157,47 @@ class Judge:
             return found
         return sorted(found, key=relations.in_time)
 
-    def tally(self, pattern: Pattern, mote: int, span: Span) -> int:
-        """The number of lines of a mote with this pattern, in these moments."""
+    def inside(self, pattern: Pattern, mote: int, span: Span) -> tuple[slice, bytes]:
+        """The place of a mote's lines of the pattern's kind in these moments, and for each 1 if it matches the pattern,
+        otherwise 0."""
         trace, kind = self.report.trace, str(pattern[0])
-        found = self.fits(pattern, mote)
-        if span == (0, None):
-            return sum(found)
-        moments = list(map(trace.at.__getitem__, trace.rows(mote, kind)))
-        end = len(moments) if span[1] is None else bisect_right(moments, span[1])
-        return sum(found[bisect_left(moments, span[0]):end])
+        place, found = trace.place(mote, kind), self.fits(pattern, mote)
+        if span != (0, None):
+            moments = trace.moments(mote, kind)
+            begin = bisect_left(moments, span[0])
+            end = len(moments) if span[1] is None else bisect_right(moments, span[1])
+            place, found = slice(place.start + begin, place.start + end), found[begin:end]
+        return place, found
 
-    def is_plainly_kept(self, it: Does, motes: tuple[int, ...]) -> bool:
-        """True if a sentence only counts lines of one pattern, and the counts show that it holds."""
-        if it.than or it.relation or it.deed.way != 'any' or len(it.deed.patterns) != 1:
+    def is_kept(self, it: Does, motes: tuple[int, ...]) -> bool | None:
+        """Whether one mote, or several together, do what a sentence says, from the number or the values of its lines;
+        None if that needs the lines themselves."""
+        if it.than or it.relation or len(it.deed.patterns) != 1 or it.deed.way != 'any' and len(motes) != 1:
+            return None
+        pattern, spans = it.deed.patterns[0], self.spans(it.window, motes)
+        if it.deed.way == 'any':
+            return all(it.count.admits(sum(sum(self.inside(pattern, mote, span)[1]) for mote in motes))
+                       for span in spans)
+        return all(self.has_values(it.deed, motes[0], span) for span in spans)
+
+    def is_done_by(self, it: Does, mote: int) -> bool:
+        """Whether a mote does what a sentence says."""
+        try:
+            kept = self.is_kept(it, (mote,))
+        except Apart:
             return False
-        return all(it.count.admits(sum(self.tally(it.deed.patterns[0], mote, span) for mote in motes))
-                   for span in self.spans(it.window, motes))
+        return self.of_unit(it, (mote,)) is None if kept is None else kept
+
+    def has_values(self, deed: Deed, mote: int, span: Span) -> bool:
+        """True if the values of a mote's lines in a span are those of the action."""
+        place, found = self.inside(deed.patterns[0], mote, span)
+        values = list(compress(self.report.trace.of[str(deed.patterns[0][0])]['value'][place], found))
+        if deed.way == 'set':
+            return sorted(values) == sorted(deed.values)
+        wanted = self.listed(deed, mote)
+        if deed.way == 'finally':
+            return bool(values) and values[-1] in wanted[0]
+        return len(values) == len(wanted) and all(map(contains, wanted, values))
 
     def spans(self, window: Window, motes: tuple[int, ...]) -> list[Span]:
         """The moments of a window, for these motes."""
@@ -274,7 +301,7 @@ class Judge:
     def of_unit(self, it: Does, motes: tuple[int, ...]) -> Broken | None:
         """Checks a sentence for one mote, or for several together."""
         try:
-            if self.is_plainly_kept(it, motes):
+            if self.is_kept(it, motes):
                 return None
             events = self.done(it.deed, motes)
             broken = self.of_events(it, events, motes)
@@ -284,7 +311,7 @@ class Judge:
             is_shown = broken.row is not None or events or it.than or is_event
             more = '' if is_shown else self.other_value(it, motes)
             more = '; ' + more if more else ''
-            return broken._replace(why=broken.why + more + remark_on(it.deed, motes, self.links.values))
+            return broken._replace(why=broken.why + more + self.too_wide(it.deed, motes))
         except Apart as apart:
             return Broken(str(apart), kind='apart')
 
@@ -330,8 +357,15 @@ class Judge:
         value = str(line.value) + in_fields(self.scenario.fields, line.value or 0)
         return '%s %s %s%s at moment %d%s' % (who, what, value, sender, line.at, more)
 
+    def too_wide(self, deed: Deed, motes: tuple[int, ...]) -> str:
+        """A remark if a wanted set of motes has one above 15: a program's numbers have 16 bits. Otherwise empty."""
+        sets = [it for it in (deed.value, *(pattern[-1] for pattern in deed.patterns))
+                if isinstance(it, Value) and it.kind in ('heard', 'linked')]
+        wanted = [value for mote in motes for it in sets for value in self.links.values(it, mote) if value > MOST_WORD]
+        return '; no mote can print or send %d, which has more than 16 bits' % wanted[0] if wanted else ''
+
     def chosen(self, motes: Motes) -> tuple[int, ...]:
-        numbers = range(len(self.report.motes)) if motes.numbers is None else sorted(motes.numbers)
+        numbers = range(self.scenario.motes) if motes.numbers is None else sorted(motes.numbers)
         return tuple(mote for mote in numbers if mote not in motes.but)
 
     def shown_by(self, it: Does, motes: tuple[int, ...]) -> Event | None:
@@ -367,37 +401,35 @@ class Judge:
         chosen = self.chosen(it.motes)
         if it.motes.kind == 'together':
             return self.of_unit(it, chosen)
-        broken = {mote: self.of_unit(it, (mote,)) for mote in chosen}
-        doing = [mote for mote in chosen if broken[mote] is None]
         if it.motes.kind == 'each':
-            return next((it for it in broken.values() if it), None)
+            return next(filter(None, (self.of_unit(it, (mote,)) for mote in chosen)), None)
+        doing = [mote for mote in chosen if self.is_done_by(it, mote)]
         if it.motes.kind == 'no':
             first = self.beyond(it, doing, 0) if doing else None
             return Broken('mote %d does' % first[0], first[1], kind='motes') if first else None
+        others = [mote for mote in chosen if mote not in doing]
         if it.motes.kind == 'some':
-            lacks = next((it.lacks for it in broken.values() if it), None)
-            return None if doing else Broken('no mote does', lacks=lacks, kind='motes')
+            broken = self.of_unit(it, (others[0],)) if others and not doing else None
+            return None if doing else Broken('no mote does', lacks=broken and broken.lacks, kind='motes')
         assert it.motes.count
         if it.motes.count.admits(len(doing), len(chosen) if it.motes.count.is_part else 1):
             return None
-        return self.number_of_motes(it, doing, broken)
+        return self.number_of_motes(it, doing, others)
 
-    def number_of_motes(self, it: Does, doing: list[int], broken: dict[int, Broken | None]) -> Broken:
+    def number_of_motes(self, it: Does, doing: list[int], others: list[int]) -> Broken:
         """The reason why too many or too few motes do what a sentence says. For too many, it has the line of the first
         mote in time beyond the allowed number; for too few, the motes that do and don't, and the first that doesn't."""
         assert it.motes.count
-        count, whole = it.motes.count, len(broken) if it.motes.count.is_part else 1
+        count, number = it.motes.count, len(doing) + len(others)
         do = '1 mote does' if len(doing) == 1 else '%d motes do' % len(doing)
-        why = '%s; wanted: %s' % ('%d of %d motes do' % (len(doing), len(broken)) if count.is_part else do, count)
-        admitted = [number for number in range(len(doing) + 1) if count.admits(number, whole)]
+        why = '%s; wanted: %s' % ('%d of %d motes do' % (len(doing), number) if count.is_part else do, count)
+        admitted = [it for it in range(len(doing) + 1) if count.admits(it, number if count.is_part else 1)]
         if doing and (admitted or count.compare in ('at most', 'fewer than')):
             return Broken(why, self.beyond(it, doing, admitted[-1] if admitted else 0)[1], kind='motes')
-        others = [(mote, one) for mote, one in broken.items() if one]
-        if not others:
+        first = self.of_unit(it, (others[0],)) if others else None
+        if not first:
             return Broken(why, kind='motes')
-        which = [motes_do(motes, verb) for motes, verb in (
-            (doing, 'does'), ([mote for mote, _ in others], "doesn't")) if motes]
-        first = others[0][1]
+        which = [motes_do(motes, verb) for motes, verb in ((doing, 'does'), (others, "doesn't")) if motes]
         return Broken('%s\n%s; the first that doesn\'t is\n%s' % (why, '; '.join(which), first.why), first.row,
                       first.lacks, 'motes', first.shows)
 
@@ -411,13 +443,13 @@ class Judge:
 
     def due(self, it: Copies) -> int:
         """The number of copies to the motes of a sentence that the medium lost, or that arrived by the end."""
-        motes = set(range(len(self.report.motes)) if it.motes is None else it.motes)
+        motes = set(range(self.scenario.motes) if it.motes is None else it.motes)
         log, end = self.report.log, self.scenario.end
         return sum(at == LOST or at <= end for to, at in zip(log.to, log.arrival) if to in motes)
 
     def count_copies(self, it: Copies) -> int:
         """The number of copies with this outcome, at any moment."""
-        motes = set(range(len(self.report.motes)) if it.motes is None else it.motes)
+        motes = set(range(self.scenario.motes) if it.motes is None else it.motes)
         if it.outcome == 'lost':
             return sum(map(motes.__contains__,
                            compress(self.report.log.to, map(LOST.__eq__, self.report.log.arrival))))
@@ -426,7 +458,7 @@ class Judge:
 
     def of_copies(self, it: Copies) -> list[Row]:
         """The rows that show this outcome, one for each copy, in the order of their moments."""
-        motes = set(range(len(self.report.motes)) if it.motes is None else it.motes)
+        motes = set(range(self.scenario.motes) if it.motes is None else it.motes)
         if it.outcome == 'lost':
             log, rows = self.report.log, self.of_packets()
             lost = compress(zip(log.of_copies(range(len(log))), log.to), map(LOST.__eq__, log.arrival))
@@ -456,14 +488,14 @@ class Judge:
         return None
 
     def lines(self, count: Count) -> Broken | None:
-        if count.admits(len(self.rows)):
+        if count.admits(self.report.length):
             return None
-        return Broken('%s; wanted: %s' % (there_are(len(self.rows), 'lines'), count))
+        return Broken('%s; wanted: %s' % (there_are(self.report.length, 'lines'), count))
 
     def left(self, count: Count) -> Broken | None:
         if count.admits(self.report.left):
             return None
-        return Broken('%s; wanted: %s' % (there_are(self.report.left, 'such copies'), count), len(self.rows))
+        return Broken('%s; wanted: %s' % (there_are(self.report.left, 'such copies'), count), self.report.length)
 
     def broken(self, it: Sentence) -> Broken | None:
         """The reason why a sentence doesn't hold, or None."""
@@ -478,6 +510,8 @@ class Judge:
                 return None
             return self.rows_in('such copies', self.of_copies(it), it.count, it.window)
         if isinstance(it, Packets):
+            if it.window == Window() and it.count.admits(self.report.length - self.report.medium_row - 1):
+                return None
             return self.rows_in('packets', self.of_packets(), it.count, it.window)
         if isinstance(it, Lines):
             return self.lines(it.count)
@@ -491,3 +525,9 @@ class Judge:
             return None if wrong is None else Broken(hearing(self.scenario, wrong, it.other), kind='hears')
         assert isinstance(it, Refused)
         return Broken('the program writes a report')
+
+
+def broken_of(sentences: Sequence[Sentence], report: bytes, scenario: Scenario, wanted: Iterable[int]) -> list[int]:
+    """The numbers of those wanted sentences that a report of motesim breaks."""
+    judge = Judge(LazyReport(report), scenario)
+    return [number for number in wanted if judge.broken(sentences[number])]

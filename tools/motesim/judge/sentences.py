@@ -12,14 +12,13 @@ from collections.abc import Callable, Sequence
 from dataclasses import dataclass
 
 from motesim.faults import Fault
-from motesim.notation.keywords import SYSTEM
+from motesim.notation.grammar import SYSTEM
+from motesim.notation.reader import read_program
 from motesim.report import FIELDS, MOST_MOMENT, MOST_WORD
 from motesim.scenario import Scenario
 from motesim.scenario.fields import Field
 from motesim.text import nearest, wrapped
 
-# The beginning of the list of processes among the allowed words.
-OF_PROCESSES = 'a process ('
 LONGEST_NUMBER, MOST, MOST_MOTES = 9, 999_999_999, 1_000
 NAME = re.compile('[a-z][a-z0-9_]*')
 # The words behind a deed, which are no names if the names aren't known.
@@ -45,10 +44,9 @@ EXAMPLES = (
 )
 
 
-def meant(rest: str, wanted: Sequence[str]) -> str | None:
+def meant(rest: str, names: Sequence[str]) -> str | None:
     """The allowed word that is nearest to the first word of `rest`."""
     word = re.match(r'[A-Za-z_]\w{2,}', rest)
-    names = [name for it in wanted for name in re.findall(r'\w+', it.partition('(')[2] or it.split()[0])]
     return nearest(word[0], names) if word else None
 
 
@@ -64,12 +62,13 @@ def gerund(many: str) -> str:
 
 
 class SentenceFault(Fault):
-    """A sentence that can't be read: the place of the first word that isn't allowed, and the allowed ones."""
+    """A sentence that can't be read: the place of the first word that isn't allowed, the allowed ones, and the names
+    that are allowed there."""
 
-    def __init__(self, sentence: str, place: int, wanted: list[str]):
+    def __init__(self, sentence: str, place: int, wanted: list[str], names: Sequence[str] = ()):
         self.sentence, self.place, self.wanted = sentence, place, wanted
         shown = ['"%s"' % it if it.startswith(',') else it.replace(' ,', ',') for it in wanted]
-        self.like = meant(sentence[place:], wanted) or ''
+        self.like = meant(sentence[place:], [*names, *(it.split()[0] for it in wanted)]) or ''
         lines = [sentence, ' ' * place + '^', *wrapped('Allowed here: ' + ', '.join(shown))]
         lines += ['Did you mean: ' + self.like] if self.like else []
         # (the sentence with a mark under the word, and the allowed words)
@@ -89,9 +88,7 @@ class Names:
 
 def processes_of(program: object) -> list[str]:
     """The processes that a program's text declares."""
-    plain = re.sub(r'//[^\n]*', '', program) if isinstance(program, str) else ''
-    head = re.search(r'\bprocess\s([^;]*);', plain)
-    return re.findall(r'\w+', head[1]) if head else []
+    return [it.text for it in read_program(program).processes] if isinstance(program, str) else []
 
 
 def names_of(scenario: Scenario) -> Names:
@@ -281,19 +278,22 @@ class _Reader:
         # (the places at which the sentence has the numbers of motes)
         self.named: list[tuple[int, int]] = []
         self.wanted: list[str] = []
+        self.allowed: list[str] = []
         self.is_one = True
         # (in `within 10 of receiving 1` the verb may also have this form)
         self.is_event = False
 
-    def want(self, at: int, what: str) -> None:
-        """Notes what is allowed at a word."""
+    def want(self, at: int, what: str, names: Sequence[str] = ()) -> None:
+        """Notes what is allowed at a word, and the names that it may be."""
         if at > self.furthest:
-            self.furthest, self.wanted = at, []
+            self.furthest, self.wanted, self.allowed = at, [], []
         if at == self.furthest and what not in self.wanted:
             self.wanted.append(what)
+            self.allowed += names
 
     def fault(self) -> SentenceFault:
-        return SentenceFault(self.sentence, self.places[min(self.furthest, len(self.places) - 1)], self.wanted)
+        return SentenceFault(self.sentence, self.places[min(self.furthest, len(self.places) - 1)], self.wanted,
+                             self.allowed)
 
     def word(self, ahead: int = 0) -> str:
         """The next word; after the last word, an empty one."""
@@ -456,7 +456,8 @@ class _Reader:
         while True:
             field = next((it for it in self.names.fields if it.name == self.word()), None)
             if field is None:
-                self.want(self.at, 'a field (%s)' % ', '.join(it.name for it in self.names.fields))
+                names = [it.name for it in self.names.fields]
+                self.want(self.at, 'a field (%s)' % ', '.join(names), names)
                 raise self.fault()
             self.at += 1
             allowed &= field.values(self.number('a number', MOST_WORD))
@@ -469,7 +470,7 @@ class _Reader:
         if word in known if known is not None else NAME.fullmatch(word) and word not in BEHIND_DEED:
             self.at += 1
             return word
-        self.want(self.at, 'a process' if known is None else OF_PROCESSES + ', '.join(known) + ')')
+        self.want(self.at, 'a process' if known is None else 'a process (%s)' % ', '.join(known), known or ())
         return None
 
     def needed_process(self) -> str:

@@ -1,47 +1,57 @@
 """The grammar of the notation as data: docs/use/LANGUAGE.md describes the language.
 
-The reader that explains errors, the colours of the studio's page, the syntax files for editors and the grammar in
+The reader of programs, the colours of the studio's page, the syntax files for editors and the grammar in
 LANGUAGE.md are all made from this data. `STATEMENTS` has each statement with its form, and whether it may wait;
 `RULES` has the other rules; `COLOURS` has each word's class on the studio's page, and `SCOPES` each word's class in
-the syntax files. `motesim.notation.written` writes the grammar into the page, and the words into the syntax files.
+the syntax files. tools/dev/pages writes the grammar into the page, and the words into the syntax files.
 """
 from __future__ import annotations
 
+import re
+from collections.abc import Iterable
 from typing import NamedTuple
 
+# A parameter in a plan, and in the programs next to it.
+PARAMETER = re.compile(r'\$\{([^}\n]*)\}')
 
-class Statement(NamedTuple):
-    """A statement: its form, and whether it may wait. In the form E is an expression, B a block, SENT and CAST an
+
+class Form(NamedTuple):
+    """The form of a statement, and whether it may wait. In the form E is an expression, B a block, SENT and CAST an
     event, INTO an optional variable for the result, and another word in capitals a name of that kind."""
     form: str
     waits: bool = False
 
+    @property
+    def parts(self) -> tuple[str, ...]:
+        """The parts behind the first word."""
+        return tuple(self.form.rstrip(';').split()[1:])
+
 
 STATEMENTS = {
-    'print': Statement('print E;'),
-    'send': Statement('send E;'),
-    'if': Statement('if E B else B'),
-    'while': Statement('while E B'),
-    'yield': Statement('yield;', True),
-    'yield_until': Statement('yield_until E;', True),
-    'wait_until': Statement('wait_until E;', True),
-    'wait_while': Statement('wait_while E;', True),
-    'spawn': Statement('spawn THREAD;', True),
-    'restart': Statement('restart;', True),
-    'exit': Statement('exit;', True),
-    'pause': Statement('pause;', True),
-    'acquire': Statement('acquire SEMAPHORE;', True),
-    'signal': Statement('signal SEMAPHORE;'),
-    'post': Statement('post PROCESS SENT E INTO;'),
-    'broadcast': Statement('broadcast CAST E INTO;'),
-    'synch': Statement('synch PROCESS SENT E;'),
-    'poll': Statement('poll PROCESS;'),
-    'start': Statement('start PROCESS;'),
-    'kill': Statement('kill PROCESS;'),
-    'set': Statement('set TIMER E;'),
-    'reset': Statement('reset TIMER;'),
-    'restart_timer': Statement('restart_timer TIMER;'),
-    'stop': Statement('stop TIMER;'),
+    'print': Form('print E;'),
+    'send': Form('send E;'),
+    'if': Form('if E B else B'),
+    'while': Form('while E B'),
+    'yield': Form('yield;', True),
+    'yield_until': Form('yield_until E;', True),
+    'wait_until': Form('wait_until E;', True),
+    'wait_while': Form('wait_while E;', True),
+    'spawn': Form('spawn THREAD;', True),
+    'restart': Form('restart;', True),
+    'exit': Form('exit;', True),
+    'pause': Form('pause;', True),
+    'acquire': Form('acquire SEMAPHORE;', True),
+    'signal': Form('signal SEMAPHORE;'),
+    'post': Form('post PROCESS SENT E INTO;'),
+    'broadcast': Form('broadcast CAST E INTO;'),
+    'synch': Form('synch PROCESS SENT E;'),
+    'poll': Form('poll PROCESS;'),
+    'start': Form('start PROCESS;'),
+    'kill': Form('kill PROCESS;'),
+    'set': Form('set TIMER E;'),
+    'reset': Form('reset TIMER;'),
+    'restart_timer': Form('restart_timer TIMER;'),
+    'stop': Form('stop TIMER;'),
 }
 # The tests that an expression applies to a name, with the kind of that name.
 TESTS = {'fired': 'timer', 'expired': 'timer', 'gone': 'process', 'running': 'process', 'count': 'semaphore'}
@@ -69,6 +79,14 @@ DECLARING = ('event', 'semaphore', 'process', 'autostart', 'receiver', 'code', '
 NAMING = ('event', 'semaphore', 'process', 'code', 'var', 'etimer', 'ctimer', 'thread')
 OTHERS = ('else', 'into', 'continue', 'msg', 'com', 'packet', 'init', 'exited', 'timer', 'data', 'from', 'now', 'self',
           'is')
+# The longest name, the greatest number, and how many of each kind a program, or a code, may declare.
+LONGEST_NAME, MOST_NUMBER, MOST_LEVELS, MOST_STATEMENTS = 16, 65_535, 32, 4_096
+MOST = {'event': 117, 'semaphore': 64, 'process': 64, 'timer': 64, 'variable': 64, 'thread': 7}
+COUNTED = {
+    'event': 'declared events of a program', 'semaphore': 'semaphores of a program', 'thread': 'threads of a process',
+    'process': 'processes of a program', 'timer': 'timers of a program, of both kinds',
+    'variable': 'variables of a process',
+}
 # Words that only reports have.
 OF_REPORTS = ('radio', 'all')
 RESERVED = frozenset((*DECLARING, *STATEMENTS, *TESTS, *OTHERS, *OF_REPORTS))
@@ -88,3 +106,30 @@ SCOPES: dict[str, frozenset[str]] = {
     'support.function.mote': frozenset(_ACTING),
     'support.constant.mote': RESERVED.difference(DECLARING, _CONTROL, _ACTING),
 }
+# The names of the parts of a form in the grammar.
+_PARTS = {'E': 'expression', 'B': 'block', 'SENT': 'sent', 'CAST': 'cast', 'INTO': 'into'}
+
+
+def _quoted(words: Iterable[str]) -> list[str]:
+    return ['"%s"' % word for word in words]
+
+
+def _statement(form: str) -> str:
+    """A form of a statement as an alternative of the grammar."""
+    parts = [_PARTS.get(it) or (it if it.isupper() else '"%s"' % it) for it in form.rstrip(';').split()]
+    found = ' '.join(parts + _quoted([';'] if form.endswith(';') else []))
+    return found.replace('"else" block', '[ "else" block ]')
+
+
+def alternatives() -> dict[str, list[str]]:
+    """The rules that are lists of alternatives."""
+    tests = ['"is" "(" any ")"', *('"%s" "(" %s ")"' % (word, kind.upper()) for word, kind in TESTS.items())]
+    return {
+        'statement': ['VARIABLE "=" expression ";"', *(_statement(it.form) for it in STATEMENTS.values())],
+        'cast': ['EVENT', *_quoted(CAST)],
+        'sent': ['cast', *_quoted(it for it in SENT if it not in CAST)],
+        'any': ['sent', *_quoted(it for it in ANY if it not in SENT)],
+        'expression': ['NUMBER', 'VARIABLE', *_quoted(VALUES), *tests, '"!" expression',
+                       '"(" expression operator expression ")"'],
+        'operator': _quoted(OPERATORS),
+    }

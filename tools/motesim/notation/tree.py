@@ -1,29 +1,39 @@
-"""The tree of a program, each part with its token, and so with its place in the text.
+"""The tree of a program, and the walks through it.
 
-`read_program(text)` reads a text that is known to be a program (`motesim.notation.faults` finds the fault of another).
+`motesim.notation.reader` makes the tree of a text: its nodes have tokens, and so places in the text. Nodes never
+change; a smaller or another tree may have tokens without a place, made by `word`. `motesim.notation.printer` writes both kinds of trees.
 """
 from __future__ import annotations
 
 from collections.abc import Iterator
-from dataclasses import dataclass
 from typing import NamedTuple, TypeAlias
 
-from motesim.notation.faults import Token, tokens_of
-from motesim.notation.grammar import STATEMENTS, TESTS
+from motesim.notation.faults import ProgramError
+from motesim.notation.grammar import STATEMENTS
+from motesim.notation.tokens import Token
 
-# The number of names between the first word of a statement and its value.
-NAMES = {'set': 1, 'post': 2, 'synch': 2, 'broadcast': 1}
+NOWHERE = Token('')
+
+
+def word(text: object) -> Token:
+    """A token that is in no text."""
+    return Token(str(text))
 
 
 class Value(NamedTuple):
     """A number, a variable, or one of `data`, `from`, `now` and `self`."""
     token: Token
 
+    @property
+    def is_number(self) -> bool:
+        return self.token.kind == 'number'
+
 
 class Test(NamedTuple):
     """A test of something by its name, such as `fired(t)`."""
     token: Token
     of: str
+    last: Token = NOWHERE
 
 
 class Not(NamedTuple):
@@ -33,27 +43,43 @@ class Not(NamedTuple):
 
 
 class Operation(NamedTuple):
-    """Two expressions with a sign between them."""
+    """Two expressions with a sign between them; `first` and `last` are the parentheses."""
     token: Token
     left: Expression
     right: Expression
+    first: Token = NOWHERE
+    last: Token = NOWHERE
 
 
 Expression: TypeAlias = 'Value | Test | Not | Operation'
 
 
-@dataclass(frozen=True)
-class Statement:
-    """A statement. `kind` is its first word, or `=` for an assignment; `names` are the names behind this word, and the
-    variable that is assigned; `into` is the variable for the result of a `post` or a `broadcast`."""
+class Statement(NamedTuple):
+    """A statement, from `token` to `last`. `kind` is its first word, or `=` for an assignment; `names` are the names
+    behind this word, and the variable that is assigned; `into` is the variable for the result of a `post` or a
+    `broadcast`."""
     kind: str
     token: Token
     names: tuple[Token, ...] = ()
     value: Expression | None = None
     block: Block = ()
-    otherwise: Block = ()
+    otherwise: Block | None = None
     into: str = ''
-    has_else: bool = False
+    last: Token = NOWHERE
+
+    @property
+    def name(self) -> str:
+        """The first name."""
+        return self.names[0].text if self.names else ''
+
+    @property
+    def event(self) -> str:
+        """The event that is posted."""
+        return self.names[-1].text if self.kind in ('post', 'synch', 'broadcast') else ''
+
+    @property
+    def has_blocks(self) -> bool:
+        return self.kind in ('if', 'while')
 
     @property
     def waits(self) -> bool:
@@ -62,32 +88,63 @@ class Statement:
     @property
     def is_endless(self) -> bool:
         """Returns whether this is a `while` whose test is a number other than 0."""
-        return self.kind == 'while' and isinstance(self.value, Value) and is_number(self.value) and (
+        return self.kind == 'while' and isinstance(self.value, Value) and self.value.is_number and (
             self.value.token.text != '0')
 
     def has(self, kind: str, name: str) -> bool:
         """Returns whether the statement is of this kind, with this first name."""
-        return self.kind == kind and self.names[:1] != () and self.names[0].text == name
+        return self.kind == kind and self.name == name
 
 
 Block: TypeAlias = 'tuple[Statement, ...]'
 
 
+class Declaration(NamedTuple):
+    """A declaration of one name: its kind (`event`, `semaphore`, `var` or `etimer`), the name, and the first value of a
+    variable or a semaphore."""
+    token: Token
+    name: Token
+    number: int = 0
+    last: Token = NOWHERE
+
+    @property
+    def kind(self) -> str:
+        return self.token.text
+
+
 class Part(NamedTuple):
     """A block of a code: its kind (`ctimer`, `thread`, `onpoll`, `onexit` or `body`), and the name of a timer or
     thread."""
-    kind: str
+    token: Token
     name: str
     block: Block
+    last: Token = NOWHERE
+
+    @property
+    def kind(self) -> str:
+        return self.token.text
 
 
 class Code(NamedTuple):
-    """The code of a process: its variables with their first values, its event timers, and its parts. The last part is
-    the body."""
+    """The code of a process: its variables and event timers, and its parts. The last part is the body."""
     process: Token
-    variables: dict[str, int]
-    timers: tuple[Token, ...]
+    declared: tuple[Declaration, ...]
     parts: tuple[Part, ...]
+    token: Token = NOWHERE
+    last: Token = NOWHERE
+
+    @property
+    def variables(self) -> dict[str, int]:
+        return {it.name.text: it.number for it in self.declared if it.kind == 'var'}
+
+    @property
+    def timers(self) -> tuple[Token, ...]:
+        """The event timers."""
+        return tuple(it.name for it in self.declared if it.kind == 'etimer')
+
+    def named(self, kind: str) -> list[str]:
+        """The names of the parts of a kind."""
+        return [it.name for it in self.parts if it.kind == kind]
 
     def statements(self) -> Iterator[Statement]:
         for part in self.parts:
@@ -95,118 +152,33 @@ class Code(NamedTuple):
 
 
 class Program(NamedTuple):
-    """A program: its declared events and processes, the processes that start at boot, the receiver, and the codes."""
-    events: tuple[Token, ...]
-    semaphores: dict[str, int]
+    """A program: its declared events and semaphores, its processes, those that start at boot, the receiver, and the
+    codes. `tokens` are those of the whole text; if it has an error, `fault` is the first one, and the tree ends
+    there."""
+    declared: tuple[Declaration, ...]
     processes: tuple[Token, ...]
-    autostart: tuple[str, ...]
+    autostart: tuple[Token, ...]
     receiver: Token | None
     codes: tuple[Code, ...]
+    tokens: tuple[Token, ...] = ()
+    fault: ProgramError | None = None
+
+    @property
+    def events(self) -> tuple[Token, ...]:
+        return tuple(it.name for it in self.declared if it.kind == 'event')
+
+    @property
+    def semaphores(self) -> dict[str, int]:
+        return {it.name.text: it.number for it in self.declared if it.kind == 'semaphore'}
+
+    @property
+    def starts(self) -> list[str]:
+        """The names of the processes that start at boot."""
+        return [it.text for it in self.autostart]
 
     def statements(self) -> Iterator[Statement]:
         for code in self.codes:
             yield from code.statements()
-
-
-class _Reader:
-    def __init__(self, text: str):
-        self.tokens, self.at = tokens_of(text), 0
-
-    def sees(self, *words: str) -> bool:
-        return self.tokens[self.at].text in words
-
-    def take(self) -> Token:
-        self.at += 1
-        return self.tokens[self.at - 1]
-
-    def takes(self, word: str) -> bool:
-        """Consumes the next token if it is this word; returns whether it was."""
-        is_here = self.sees(word)
-        self.at += is_here
-        return is_here
-
-    def names(self) -> tuple[Token, ...]:
-        """Names with commas between them, and the semicolon."""
-        found = [self.take()]
-        while self.take().text == ',':
-            found.append(self.take())
-        return tuple(found)
-
-    def numbers(self, word: str) -> dict[str, int]:
-        """The names that this word declares, with their numbers."""
-        found = {}
-        while self.takes(word):
-            name, _, number, _ = (self.take() for _ in range(4))
-            found[name.text] = int(number.text)
-        return found
-
-    def program(self) -> Program:
-        events: tuple[Token, ...] = ()
-        while self.takes('event'):
-            events += self.names()
-        semaphores = self.numbers('semaphore')
-        self.take()
-        processes = self.names()
-        autostart = self.names() if self.takes('autostart') else ()
-        receiver = self.names()[0] if self.takes('receiver') else None
-        codes = tuple(self.code() for _ in processes)
-        return Program(events, semaphores, processes, tuple(it.text for it in autostart), receiver, codes)
-
-    def code(self) -> Code:
-        self.take()
-        process = self.take()
-        self.take()
-        variables, timers, parts = self.numbers('var'), tuple[Token, ...](), list[Part]()
-        while self.takes('etimer'):
-            timers += self.names()
-        while not self.takes('}'):
-            kind = self.take().text
-            parts.append(Part(kind, self.take().text if kind in ('ctimer', 'thread') else '', self.block()))
-        return Code(process, variables, timers, tuple(parts))
-
-    def block(self) -> Block:
-        self.take()
-        found = []
-        while not self.takes('}'):
-            found.append(self.statement())
-        return tuple(found)
-
-    def statement(self) -> Statement:
-        first = self.take()
-        kind = first.text
-        if kind in ('if', 'while'):
-            test, block, has_else = self.expression(), self.block(), self.takes('else')
-            return Statement(kind, first, (), test, block, self.block() if has_else else (), has_else=has_else)
-        if self.takes('='):
-            found = Statement('=', first, (first,), self.expression())
-        elif 'E' in STATEMENTS[kind].form.rstrip(';').split():
-            names = tuple(self.take() for _ in range(NAMES.get(kind, 0)))
-            value = self.expression()
-            found = Statement(kind, first, names, value, into=self.take().text if self.takes('into') else '')
-        else:
-            found = Statement(kind, first, () if self.sees(';') else (self.take(),))
-        self.take()
-        return found
-
-    def expression(self) -> Expression:
-        token = self.take()
-        if token.text == '!':
-            return Not(token, self.expression())
-        if token.text == '(':
-            left, sign, right = self.expression(), self.take(), self.expression()
-            self.take()
-            return Operation(sign, left, right)
-        if token.text == 'is' or token.text in TESTS:
-            self.take()
-            name = self.take()
-            self.take()
-            return Test(token, name.text)
-        return Value(token)
-
-
-def read_program(text: str) -> Program:
-    """The tree of a text that is a program."""
-    return _Reader(text).program()
 
 
 def statements_of(block: Block) -> Iterator[Statement]:
@@ -214,7 +186,7 @@ def statements_of(block: Block) -> Iterator[Statement]:
     for it in block:
         yield it
         yield from statements_of(it.block)
-        yield from statements_of(it.otherwise)
+        yield from statements_of(it.otherwise or ())
 
 
 def parts_of(it: Expression | None) -> Iterator[Expression]:
@@ -242,19 +214,15 @@ def tests_in(it: Expression | None, *words: str) -> list[Test]:
 
 def values_in(it: Expression | None) -> set[str]:
     """The variables and values of an expression, without its numbers."""
-    return {part.token.text for part in parts_of(it) if isinstance(part, Value) and not is_number(part)}
+    return {part.token.text for part in parts_of(it) if isinstance(part, Value) and not part.is_number}
 
 
 def is_number(it: Expression) -> bool:
-    return isinstance(it, Value) and it.token.kind == 'number'
+    return isinstance(it, Value) and it.is_number
 
 
-def written(it: Expression) -> str:
-    """The text of an expression."""
-    if isinstance(it, Test):
-        return '%s(%s)' % (it.token.text, it.of)
-    if isinstance(it, Not):
-        return '!' + written(it.inner)
-    if isinstance(it, Operation):
-        return '(%s %s %s)' % (written(it.left), it.token.text, written(it.right))
-    return it.token.text
+def last_of(it: Expression) -> Token:
+    """The last token of an expression."""
+    while isinstance(it, Not):
+        it = it.inner
+    return it.token if isinstance(it, Value) else it.last

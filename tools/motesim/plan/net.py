@@ -4,11 +4,11 @@ from __future__ import annotations
 import re
 from collections import Counter
 from collections.abc import Iterator, Mapping, Sequence
-from functools import lru_cache
 from pathlib import PurePath
 from typing import Any
 
-from motesim.notation import faults as program_faults
+from motesim.notation.faults import RULES
+from motesim.notation.reader import find_fault
 from motesim.plan import places
 from motesim.plan.chance import Chance
 from motesim.faults import Fault
@@ -25,8 +25,6 @@ from motesim.scenario.encodings import decoded
 from motesim.scenario.faults import Path, Place
 from motesim.toml import MARK
 
-# The error of a program's text: the runs of a sweep have few different texts.
-find_fault = lru_cache(64)(program_faults.find_fault)
 # What no rule for losses does.
 BY_CHANCE = ' (for losses by chance see docs/use/STATISTICS.md)'
 
@@ -147,7 +145,7 @@ class Builder:
         fault_there = find_fault(text)
         if fault_there:
             name = file if text == source else '%s, with its parameters' % file
-            token, rule = fault_there.token, '%s: %s' % program_faults.RULES[fault_there.kind]
+            token, rule = fault_there.token, '%s: %s' % RULES[fault_there.kind]
             raise PlanFault(shown(name, text, Place(token.line, token.column, len(token.text)),
                                   '%s tools/explain %s says more.' % (rule, file), ', '.join(fault_there.may)))
         return text

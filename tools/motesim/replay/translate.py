@@ -11,10 +11,27 @@ from dataclasses import dataclass, field
 from typing import Any, NamedTuple
 
 from motesim.faults import Fault
-from motesim.notation.faults import OPERATORS, Token, tokens_of
+from motesim.notation import tree
+from motesim.notation.grammar import OPERATORS
+from motesim.notation.reader import read_program
+from motesim.scenario.in_programs import ProgramPlace
 from motesim.terminal import one_line
 
 COMPARED = ('==', '!=', '<', '<=', '>', '>=')
+# The statements that are one call, and the tests, in Python; `name` is the number of what they name.
+CALLS = {
+    'print': 'k.write_print({own}, {value}, {here})', 'send': 'k.send({value}, {here})', 'exit': 'return e, d, f',
+    'signal': 'k.counts[{name}] = k.counts[{name}] + 1 & 65535', 'poll': 'k.poll({name}, {here})',
+    'synch': "k.call({name}, {event!r}, {value}, 0, 'synch', {here})", 'start': 'k.start({name}, {here})',
+    'kill': 'k.kill({name}, {here})', 'set': "k.set({name}, 'set', {value}, {here})",
+    'reset': "k.set({name}, 'reset', 0, {here})", 'restart_timer': "k.set({name}, 'restart_timer', 0, {here})",
+    'stop': 'k.stop({name})',
+}
+TESTS = {
+    'is': '(1 if e == {event!r} else 0)', 'fired': "(1 if e == 'timer' and d == {name} else 0)",
+    'expired': '(1 if k.timers[{name}].owner is None else 0)', 'gone': "(1 if e == 'exited' and d == {name} else 0)",
+    'running': '(1 if k.state[{name}] else 0)', 'count': 'k.counts[{name}]',
+}
 
 
 class Restart(Exception):
@@ -70,12 +87,6 @@ class Statement(NamedTuple):
     inside: str = ''
 
 
-class ProgramPlace(NamedTuple):
-    """The place of a program's text in a file: the file's name, and the number of its lines above the text."""
-    file: str
-    above: int
-
-
 @dataclass
 class Program:
     """A program: its declarations and its code; and the place of its text, if that is known.
@@ -114,114 +125,75 @@ def remainder(a: int, b: int) -> int:
 
 
 class _Translator:
-    """Reads a program that motesim accepts, and writes Python."""
+    """Writes a program that motesim accepts in Python."""
 
     def __init__(self, text: str, is_detailed: bool):
+        self.tree = read_program(text)
         self.is_detailed = is_detailed
         self.around: list[Around] = []
         self.inside = ''
-        self.tokens: list[Token] = tokens_of(text)
-        self.at = 0
         self.program = Program(text)
         self.text_rows = text.split('\n')
         self.rows: list[str] = []
         self.depth = 0
         self.process = Process('', -1)
-        self.timers: dict[str, int] = {}
+        # The numbers of processes and semaphores, and of the timers of the present code.
         self.numbers: dict[str, int] = {}
         # (for each function: the object that keeps it, and its name there)
         self.functions: list[tuple[str, object, str]] = []
 
-    # Tokens
-
-    def word(self) -> str:
-        self.at += 1
-        return self.tokens[self.at - 1].text
-
-    def accept(self, word: str) -> bool:
-        if self.tokens[self.at].text == word:
-            self.at += 1
-            return True
-        return False
-
-    def list_of_names(self) -> list[str]:
-        names = [self.word()]
-        while self.word() == ',':
-            names.append(self.word())
-        return names
-
-    # Declarations
-
     def translate(self) -> Program:
-        program = self.program
-        while self.accept('event'):
-            self.at += 2
-        while self.accept('semaphore'):
-            name, _, count, _ = (self.word() for _ in range(4))
-            program.semaphores[name] = len(program.first_counts)
-            program.first_counts.append(int(count))
-        self.at += 1
-        for name in self.list_of_names():
-            self.numbers[name] = len(program.processes)
-            program.processes.append(Process(name, len(program.processes)))
-        if self.accept('autostart'):
-            program.autostart = [self.numbers[name] for name in self.list_of_names()]
-        if self.accept('receiver'):
-            program.receiver = self.numbers[self.list_of_names()[0]]
-        for self.process in program.processes:
-            self.code()
+        program, read = self.program, self.tree
+        program.semaphores = {name: number for number, name in enumerate(read.semaphores)}
+        program.first_counts = [*read.semaphores.values()]
+        program.processes = [Process(it.text, number) for number, it in enumerate(read.processes)]
+        self.numbers = {it.name: it.number for it in program.processes} | program.semaphores
+        program.autostart = [self.numbers[name] for name in read.starts]
+        program.receiver = self.numbers[read.receiver.text] if read.receiver else None
+        for self.process, code in zip(program.processes, read.codes):
+            self.code(code)
         self.compile()
         return program
 
-    def code(self) -> None:
-        process, program = self.process, self.program
-        self.at += 3
-        self.timers = {}
-        while self.accept('var'):
-            name, _, value, _ = (self.word() for _ in range(4))
-            process.variables[name] = len(process.first)
-            process.first.append(int(value))
-        while self.accept('etimer'):
-            self.declare_timer(self.word())
-            self.at += 1
-        while self.accept('ctimer'):
-            name = self.word()
-            timer = Timer(name, process.number)
-            # (its name is known in its block and after it)
-            self.timers[name] = len(program.timers)
-            program.timers.append(timer)
-            self.function('callback_%d' % self.timers[name], timer, 'callback')
-        while self.accept('thread'):
-            self.protothread('thread_%d_%s' % (process.number, self.word()), True)
-        if self.accept('onpoll'):
-            self.function('onpoll_%d' % process.number, process, 'onpoll')
-        if self.accept('onexit'):
-            self.function('onexit_%d' % process.number, process, 'onexit')
-        self.at += 1
-        name = 'body_%d' % process.number
-        self.functions.append((name, process, 'body'))
-        self.protothread(name, False)
-        self.at += 1
+    def code(self, code: tree.Code) -> None:
+        process, number = self.process, self.process.number
+        process.variables = {name: place for place, name in enumerate(code.variables)}
+        process.first = [*code.variables.values()]
+        for name in code.timers:
+            self.declare_timer(name.text)
+        for part in code.parts:
+            if part.kind == 'ctimer':
+                # (its name is known in its block and after it)
+                timer = self.declare_timer(part.name)
+                self.function('callback_%d' % self.numbers[part.name], part.block, timer, 'callback')
+            elif part.kind == 'thread':
+                self.protothread('thread_%d_%s' % (number, part.name), part.block, True)
+            elif part.kind == 'body':
+                self.functions.append(('body_%d' % number, process, 'body'))
+                self.protothread('body_%d' % number, part.block, False)
+            else:
+                self.function('%s_%d' % (part.kind, number), part.block, process, part.kind)
 
-    def declare_timer(self, name: str) -> None:
-        self.timers[name] = len(self.program.timers)
+    def declare_timer(self, name: str) -> Timer:
+        self.numbers[name] = len(self.program.timers)
         self.program.timers.append(Timer(name, self.process.number))
+        return self.program.timers[-1]
 
     # Python
 
     def emit(self, row: str) -> None:
         self.rows.append(' ' * self.depth + row)
 
-    def function(self, name: str, keeper: object, attribute: str) -> None:
+    def function(self, name: str, block: tree.Block, keeper: object, attribute: str) -> None:
         """A block that runs to its end at once."""
         self.emit('def %s(k, e, d, f):' % name)
         self.depth, self.inside = 1, name
         self.emit('V = k.variables[%d]' % self.process.number)
-        self.block()
+        self.block(block)
         self.depth = 0
         self.functions.append((name, keeper, attribute))
 
-    def protothread(self, name: str, is_thread: bool) -> None:
+    def protothread(self, name: str, block: tree.Block, is_thread: bool) -> None:
         """A body or a thread."""
         self.emit('def %s(k%s):' % (name, ', e, d, f' if is_thread else ''))
         self.depth, self.inside = 1, name
@@ -231,7 +203,7 @@ class _Translator:
         self.emit('while True:')
         self.emit(' try:')
         self.depth = 3
-        self.block()
+        self.block(block)
         self.emit('return e, d, f')
         self.depth = 1
         self.emit(' except Restart: pass')
@@ -249,12 +221,10 @@ class _Translator:
         for name, keeper, attribute in self.functions:
             setattr(keeper, attribute, names[name])
 
-    def block(self) -> None:
-        """The statements between two braces."""
-        self.at += 1
+    def block(self, block: tree.Block) -> None:
         self.emit('pass')
-        while not self.accept('}'):
-            self.statement()
+        for it in block:
+            self.statement(it)
 
     def unit(self) -> None:
         """Spends a unit of work, or halts the mote."""
@@ -276,188 +246,123 @@ class _Translator:
         self.emit('e, d, f = yield')
         self.emit('k.resume(%d)' % number)
 
-    def statement(self) -> None:
-        first, word = self.at, self.word()
-        self.program.statements.append(Statement(self.tokens[first].line, '', word, self.process.number))
-        number = len(self.program.statements)
-        around = tuple(self.around)
+    def statement(self, it: tree.Statement) -> None:
+        number = len(self.program.statements) + 1
+        self.program.statements.append(Statement(it.token.line, self.text_of(it), it.kind, self.process.number,
+                                                 tuple(self.around), self.inside))
         self.unit()
         if self.is_detailed:
             self.emit('k.reach(%d)' % number)
-        if word in self.process.variables:
-            self.at += 1
-            self.assign(word, self.expression(), number)
-            self.at += 1
-        elif word in ('if', 'while'):
-            self.branch(word, number)
+        if it.has_blocks:
+            self.branch(it, number)
         else:
-            getattr(self, 'do_' + word)(number)
-            self.at += 1
-        self.keep_text(number, first, around)
+            getattr(self, 'do_assign' if it.kind == '=' else 'do_' + it.kind, self.call)(it, number)
 
-    def keep_text(self, number: int, first: int, around: tuple[Around, ...]) -> None:
-        """Notes the text of a statement up to its block or its semicolon."""
-        kind = '=' if self.tokens[first].text in self.process.variables else self.tokens[first].text
-        line, column = self.tokens[first].line, self.tokens[first].column
-        at = first
-        while self.tokens[at].text not in (';', '{', ''):
-            at += 1
-        end = self.tokens[at]
-        row = self.text_rows[line - 1]
-        text = row[column:end.column] if end.line == line else row[column:].partition('//')[0] + ' ..'
-        self.program.statements[number - 1] = Statement(line, text.strip(), kind, self.process.number, around,
-                                                        self.inside)
+    def text_of(self, it: tree.Statement) -> str:
+        """The text of a statement up to its block or its semicolon."""
+        end = self.tree.tokens[tree.last_of(it.value).number + 1] if it.has_blocks and it.value else it.last
+        row, column = self.text_rows[it.token.line - 1], it.token.column
+        text = row[column:end.column] if end.line == it.token.line else row[column:].partition('//')[0] + ' ..'
+        return text.strip()
+
+    def call(self, it: tree.Statement, here: int) -> None:
+        """A statement that is one call."""
+        value = self.expression(it.value) if it.value else ''
+        self.emit(CALLS[it.kind].format(own=self.process.number, name=self.numbers.get(it.name), event=it.event,
+                                        value=value, here=here))
+
+    def do_assign(self, it: tree.Statement, here: int) -> None:
+        self.assign(it.name, self.expression(it.value), here)
 
     def assign(self, variable: str, value: str, here: int) -> None:
         process, place = self.process.number, self.process.variables[variable]
         self.emit('V[%d] = x = %s' % (place, value))
         self.emit('k.note(%d, %d, x, %d)' % (process, place, here))
 
-    def branch(self, word: str, number: int) -> None:
-        self.emit('%s %s:' % (word, self.tested(number, self.expression())))
+    def branch(self, it: tree.Statement, number: int) -> None:
+        self.emit('%s %s:' % (it.kind, self.tested(number, self.expression(it.value))))
         self.depth += 1
         self.around.append(Around(number, False))
-        self.block()
-        if word == 'while':
+        self.block(it.block)
+        if it.kind == 'while':
             self.unit()
         self.depth -= 1
-        if word == 'if' and self.accept('else'):
+        if it.otherwise is not None:
             self.emit('else:')
             self.depth += 1
             self.around[-1] = Around(number, True)
-            self.block()
+            self.block(it.otherwise)
             self.depth -= 1
         self.around.pop()
 
     def tested(self, number: int, condition: str) -> str:
         return 'k.test(%d, %s)' % (number, condition) if self.is_detailed else condition
 
-    # Statements, each after its first word
+    # Statements
 
-    def do_print(self, here: int) -> None:
-        self.emit('k.write_print(%d, %s, %d)' % (self.process.number, self.expression(), here))
-
-    def do_send(self, here: int) -> None:
-        self.emit('k.send(%s, %d)' % (self.expression(), here))
-
-    def do_yield(self, here: int) -> None:
+    def do_yield(self, it: tree.Statement, here: int) -> None:
         self.yield_here(here)
 
-    def do_yield_until(self, here: int) -> None:
+    def do_yield_until(self, it: tree.Statement, here: int) -> None:
         self.yield_here(here)
-        self.wait(here, self.expression())
+        self.wait(here, self.expression(it.value))
 
-    def do_wait_until(self, here: int) -> None:
-        self.wait(here, self.expression())
+    def do_wait_until(self, it: tree.Statement, here: int) -> None:
+        self.wait(here, self.expression(it.value))
 
-    def do_wait_while(self, here: int) -> None:
-        self.wait(here, '(0 if %s else 1)' % self.expression())
+    def do_wait_while(self, it: tree.Statement, here: int) -> None:
+        self.wait(here, '(0 if %s else 1)' % self.expression(it.value))
 
-    def do_spawn(self, here: int) -> None:
-        number, name = self.process.number, self.word()
+    def do_spawn(self, it: tree.Statement, here: int) -> None:
+        number, name = self.process.number, it.name
         self.emit('k.spawned[%d].append((%r, %d))' % (number, name, here))
         self.emit('e, d, f = yield from thread_%d_%s(k, e, d, f)' % (number, name))
         self.emit('k.spawned[%d].pop()' % number)
 
-    def do_restart(self, here: int) -> None:
+    def do_restart(self, it: tree.Statement, here: int) -> None:
         number = self.process.number
         self.emit('k.waits[%d] = %d' % (number, here))
         self.emit('e, d, f = yield')
         self.emit('k.begin_again(%d)' % number)
         self.emit('raise Restart')
 
-    def do_exit(self, here: int) -> None:
-        self.emit('return e, d, f')
-
-    def do_pause(self, here: int) -> None:
+    def do_pause(self, it: tree.Statement, here: int) -> None:
         number = self.process.number
         self.emit("k.post(%d, 'continue', 0, %d)" % (number, here))
         self.yield_here(here)
         self.wait(here, "(e == 'continue')")
 
-    def do_acquire(self, here: int) -> None:
-        semaphore = self.program.semaphores[self.word()]
+    def do_acquire(self, it: tree.Statement, here: int) -> None:
+        semaphore = self.numbers[it.name]
         self.wait(here, 'k.counts[%d]' % semaphore)
         self.emit('k.counts[%d] -= 1' % semaphore)
 
-    def do_signal(self, here: int) -> None:
-        semaphore = self.program.semaphores[self.word()]
-        self.emit('k.counts[%d] = k.counts[%d] + 1 & 65535' % (semaphore, semaphore))
+    def do_post(self, it: tree.Statement, here: int) -> None:
+        self.post(it, self.numbers[it.name], here)
 
-    def do_post(self, here: int) -> None:
-        self.post(self.numbers[self.word()], here)
+    def do_broadcast(self, it: tree.Statement, here: int) -> None:
+        self.post(it, None, here)
 
-    def do_broadcast(self, here: int) -> None:
-        self.post(None, here)
-
-    def post(self, target: int | None, here: int) -> None:
-        event, value = self.word(), self.expression()
-        call = 'k.post(%r, %r, %s, %d)' % (target, event, value, here)
-        if self.accept('into'):
-            self.assign(self.word(), call, here)
+    def post(self, it: tree.Statement, target: int | None, here: int) -> None:
+        call = 'k.post(%r, %r, %s, %d)' % (target, it.event, self.expression(it.value), here)
+        if it.into:
+            self.assign(it.into, call, here)
         else:
             self.emit(call)
 
-    def do_synch(self, here: int) -> None:
-        target, event, value = self.numbers[self.word()], self.word(), self.expression()
-        self.emit("k.call(%d, %r, %s, 0, 'synch', %d)" % (target, event, value, here))
-
-    def do_poll(self, here: int) -> None:
-        self.emit('k.poll(%d, %d)' % (self.numbers[self.word()], here))
-
-    def do_start(self, here: int) -> None:
-        self.emit('k.start(%d, %d)' % (self.numbers[self.word()], here))
-
-    def do_kill(self, here: int) -> None:
-        self.emit('k.kill(%d, %d)' % (self.numbers[self.word()], here))
-
-    def do_set(self, here: int) -> None:
-        timer = self.timers[self.word()]
-        self.emit("k.set(%d, 'set', %s, %d)" % (timer, self.expression(), here))
-
-    def do_reset(self, here: int) -> None:
-        self.emit("k.set(%d, 'reset', 0, %d)" % (self.timers[self.word()], here))
-
-    def do_restart_timer(self, here: int) -> None:
-        self.emit("k.set(%d, 'restart_timer', 0, %d)" % (self.timers[self.word()], here))
-
-    def do_stop(self, here: int) -> None:
-        self.emit('k.stop(%d)' % self.timers[self.word()])
-
     # Expressions
 
-    def expression(self) -> str:
-        word = self.word()
-        if word == '(':
-            left, operator, right = self.expression(), self.word(), self.expression()
-            self.at += 1
-            return self.operation(left, operator, right)
-        if word == '!':
-            return '(0 if %s else 1)' % self.expression()
+    def expression(self, it: tree.Expression | None) -> str:
+        if isinstance(it, tree.Operation):
+            return self.operation(self.expression(it.left), it.token.text, self.expression(it.right))
+        if isinstance(it, tree.Not):
+            return '(0 if %s else 1)' % self.expression(it.inner)
+        if isinstance(it, tree.Test):
+            return TESTS[it.token.text].format(event=it.of, name=self.numbers.get(it.of))
+        word = it.token.text if it else ''
         if word in self.process.variables:
             return 'V[%d]' % self.process.variables[word]
-        if word in ('data', 'from', 'now', 'self'):
-            return {'data': 'd', 'from': 'f', 'now': 'k.clock', 'self': 'k.mote'}[word]
-        if word in ('is', 'fired', 'expired', 'gone', 'running', 'count'):
-            self.at += 1
-            test = self.test(word, self.word())
-            self.at += 1
-            return test
-        return word
-
-    def test(self, word: str, name: str) -> str:
-        """The name before round brackets and the text between them, as in `fired(t)`."""
-        if word == 'is':
-            return '(1 if e == %r else 0)' % name
-        if word == 'fired':
-            return "(1 if e == 'timer' and d == %d else 0)" % self.timers[name]
-        if word == 'expired':
-            return '(1 if k.timers[%d].owner is None else 0)' % self.timers[name]
-        if word == 'gone':
-            return "(1 if e == 'exited' and d == %d else 0)" % self.numbers[name]
-        if word == 'running':
-            return '(1 if k.state[%d] else 0)' % self.numbers[name]
-        return 'k.counts[%d]' % self.program.semaphores[name]
+        return {'data': 'd', 'from': 'f', 'now': 'k.clock', 'self': 'k.mote'}.get(word, word)
 
     def operation(self, left: str, operator: str, right: str) -> str:
         assert operator in OPERATORS

@@ -60,21 +60,6 @@ class Trace:
             for field, column in fields.items():
                 self.of[name][field].extend(column)
 
-    def add(self, lines: Iterable[Line]) -> None:
-        """Adds the trace of the next mote, line by line."""
-        places = {name: place for place, name in enumerate(self.names)}
-        for line in lines:
-            self.at.append(line.at)
-            self.kind.append(CODES[line.kind])
-            for (field, column), value in zip(self.of[line.kind].items(), line[2:-1]):
-                if field in ('process', 'event'):
-                    if value not in places:
-                        places[value] = len(self.names)
-                        self.names.append(value)
-                    value = places[value]
-                column.append(value)
-        self.starts.append(len(self.at))
-
     def mote_of(self, index: int) -> int:
         """The mote whose line this is."""
         return bisect_right(self.starts, index) - 1
@@ -98,6 +83,10 @@ class Trace:
         """The lines of a kind that a mote has, by their indices."""
         begin, end = self.starts[mote], self.starts[mote + 1]
         return list(compress(range(begin, end), self.kind[begin:end].translate(MASKS[CODES[kind]])))
+
+    def moments(self, mote: int, kind: str) -> Sequence[int]:
+        """The moments of a mote's lines of one kind."""
+        return list(map(self.at.__getitem__, self.rows(mote, kind)))
 
     def is_named(self, name: str) -> bool:
         """True if a line has a process of this name."""
@@ -251,12 +240,6 @@ class Log(Sequence[Packet]):
         self.first.extend(accumulate(copies, initial=self.first.pop()))
         self.to.extend(to)
         self.arrival.extend(arrival)
-
-    def add(self, packets: Iterable[Packet]) -> None:
-        """Adds packets one by one."""
-        for at, sender, number, value, copies in packets:
-            self.extend([at], [sender], [number], [value], [len(copies)], [copy.to for copy in copies],
-                        [LOST if copy.at is None else copy.at for copy in copies])
 
     def __len__(self) -> int:
         return len(self.at)

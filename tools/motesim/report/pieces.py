@@ -14,7 +14,7 @@ from itertools import chain, compress, repeat
 from operator import eq, gt, lt, or_
 from typing import NamedTuple
 
-from motesim.notation.keywords import EVENTS, SYSTEM
+from motesim.notation.grammar import EVENTS, SYSTEM
 from motesim.report.columns import CODES, KINDS, LOST, MASKS, TYPES, Fields
 from motesim.report.lines import FIELDS, MOST_NUMBER, MOST_WORD
 from motesim.report.patterns import LOG, TRACE, WITH_DIGIT

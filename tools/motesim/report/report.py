@@ -14,6 +14,7 @@ from itertools import compress, count, repeat
 from operator import add, mul
 from typing import NamedTuple, overload
 
+from motesim.faults import Fault
 from motesim.report import fast, strict
 from motesim.report.columns import KINDS, LOST, Log, MoteLines, Trace
 from motesim.report.lines import Copy, Line, Packet
@@ -86,12 +87,9 @@ class Report:
         found = fast.read(data)
         if found is not None:
             return cls(*found)
-        by_line = strict.read(strict.text_of(data))
-        trace, log = Trace([]), Log()
-        for _, _, lines in by_line.motes:
-            trace.add(lines)
-        log.add(by_line.medium)
-        return cls([program for program, _, _ in by_line.motes], trace, log, by_line.left)
+        # (this has the fault of a text that isn't a report)
+        strict.read(strict.text_of(data))
+        raise Fault('a process that read a part of the report has failed')
 
     def lines(self, *kinds: str) -> Iterator[Line]:
         """The lines of all traces, mote after mote; if kinds are named, only the lines of these kinds."""

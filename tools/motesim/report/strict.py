@@ -4,15 +4,13 @@
 """
 from __future__ import annotations
 
-import gc
 import re
 import sys
-from collections.abc import Callable
-from typing import Any, NamedTuple, NoReturn
+from typing import Any, NoReturn
 
 from motesim.faults import Fault
-from motesim.notation.keywords import EVENTS, RESERVED, SYSTEM
-from motesim.report.lines import FIELDS, FORMS, MOST_MOMENT, MOST_NUMBER, MOST_WORD, Copy, Line, Packet
+from motesim.notation.grammar import EVENTS, RESERVED, SYSTEM
+from motesim.report.lines import FIELDS, MOST_MOMENT, MOST_NUMBER, MOST_WORD
 
 
 class ReportFault(Fault):
@@ -26,14 +24,6 @@ class ReportFault(Fault):
             shown += ' (a line of a report ends with only LF, not as on Windows)' if found.endswith('\r') else ''
         where = 'the report is cut off at line %d' % row if is_cut else 'line %d' % row
         super().__init__('%s: expected %s, but %s' % (where, expected, shown))
-
-
-class Read(NamedTuple):
-    """The contents of a report: for each mote its program, its row and its lines; then the log."""
-    motes: list[tuple[str, int, list[Line]]]
-    medium: list[Packet]
-    left: int
-    medium_row: int
 
 
 def text_of(text: str | bytes) -> str:
@@ -109,20 +99,16 @@ class _Reader:
         # (no other line has this beginning: a trace's lines and the medium's begin with a moment)
         self.count = text.startswith('mote ') + text.count('\nmote ')
         self.moments = Numbers('a moment', MOST_MOMENT)
-        self.numbers = Numbers('a number', MOST_NUMBER)
-        self.words = Numbers('a word of 16 bits', MOST_WORD)
+        self.numbers, words = Numbers('a number', MOST_NUMBER), Numbers('a word of 16 bits', MOST_WORD)
         self.senders = Numbers('a mote of this report', self.count - 1)
         self.arrivals = Numbers('an arrival', MOST_NUMBER)
-        process = Names('a process', SYSTEM)
-        target = Names('a process or all', SYSTEM + ('all',))
-        tables = {'process': process, 'event': Names('an event', EVENTS), 'word': self.words, 'value': self.words,
+        self.packet = self.moments, self.senders, self.numbers, words
+        process, target = Names('a process', SYSTEM), Names('a process or all', SYSTEM + ('all',))
+        tables = {'process': process, 'event': Names('an event', EVENTS), 'word': words, 'value': words,
                   'sender': self.senders, 'number': self.numbers, 'serial': self.numbers}
-        self.forms: dict[str, tuple[Any, ...]] = {}
-        for kind, fields in FIELDS.items():
-            named = [tables[field] for field in fields.split()]
-            if kind in ('post', 'full'):
-                named = [target if table is process else table for table in named]
-            self.forms[kind] = FORMS[kind], kind, len(named) + 2, *(named + [None] * 4)[:4]
+        self.forms: dict[str, list[Words]] = {kind: [
+            target if kind in ('post', 'full') and field == 'process' else tables[field] for field in fields.split()]
+            for kind, fields in FIELDS.items()}
 
     def fault(self, expected: str, row: int | None = None) -> NoReturn:
         row = self.at if row is None else row
@@ -131,70 +117,42 @@ class _Reader:
         is_cut = row > 0 and row >= len(self.rows) - 1
         raise ReportFault(row + 1, expected, None if is_end else self.rows[row], is_cut)
 
-    def read(self) -> Read:
-        was_on = gc.isenabled()
-        # (the garbage collector would search millions of tuples, none of which is in a cycle)
-        gc.disable()
-        try:
-            motes = [self.mote(number) for number in range(max(1, self.count))]
-            if self.rows[self.at] != 'medium':
-                self.fault("'medium'" if self.count == len(motes) else "'mote %d' and a program" % len(motes))
-            row = self.at + 1
+    def read(self) -> None:
+        motes = max(1, self.count)
+        for number in range(motes):
+            if not re.fullmatch('mote %d ([A-Za-z0-9_-]{1,32})' % number, self.rows[self.at]):
+                self.fault("'mote %d' and the name of its program" % number)
             self.at += 1
-            medium = self.medium()
-            left = self.left()
-        finally:
-            if was_on:
-                gc.enable()
-        return Read(motes, medium, left, row)
-
-    def mote(self, number: int) -> tuple[str, int, list[Line]]:
-        head = re.fullmatch('mote %d ([A-Za-z0-9_-]{1,32})' % number, self.rows[self.at])
-        if not head:
-            self.fault("'mote %d' and the name of its program" % number)
-        row = self.at + 1
+            self.trace(number)
+        if self.rows[self.at] != 'medium':
+            self.fault("'medium'" if self.count == motes else "'mote %d' and a program" % motes)
         self.at += 1
-        return head[1], row, self.trace(number)
+        self.medium()
+        self.left()
 
-    def trace(self, mote: int) -> list[Line]:
-        """The lines up to the next mote or the medium."""
-        rows, forms, moments, last = self.rows, self.forms, self.moments, 0
-        lines: list[Line] = []
-        new: Callable[..., Any] = tuple.__new__
-        none: tuple[Any, ...] = (None, '', 0, None, None, None, None)
-        for at in range(self.at, len(rows)):
-            words = rows[at].split(' ')
-            count = len(words)
-            form, kind, length, a, b, c, d = forms[words[1]] if count > 1 and words[1] in forms else none
-            if count != length:
+    def trace(self, mote: int) -> None:
+        """Reads the lines up to the next mote or the medium."""
+        last, has_halted = 0, False
+        for at in range(self.at, len(self.rows)):
+            words = self.rows[at].split(' ')
+            tables = self.forms.get(words[1]) if len(words) > 1 else None
+            if tables is None or len(words) != len(tables) + 2:
                 if words[0] in ('mote', 'medium'):
                     self.at = at
-                    break
+                    return
                 self.bad_line(at, words)
             try:
-                # (most of the time is spent here, so each length has its own code)
-                moment = moments[words[0]]
-                if count == 4:
-                    lines.append(new(form, (mote, moment, a[words[2]], b[words[3]], kind)))
-                elif count == 5:
-                    lines.append(new(form, (mote, moment, a[words[2]], b[words[3]], c[words[4]], kind)))
-                elif count == 6:
-                    lines.append(new(form, (mote, moment, a[words[2]], b[words[3]], c[words[4]], d[words[5]], kind)))
-                elif count == 3:
-                    lines.append(new(form, (mote, moment, a[words[2]], kind)))
-                else:
-                    lines.append(new(form, (mote, moment, kind)))
+                moment: int = self.moments[words[0]]
+                for table, word in zip(tables, words[2:]):
+                    table[word]
             except Bad as bad:
                 self.fault(str(bad), at)
             if moment < last:
                 self.fault('a moment from %d on' % last, at)
-            last = moment
-        else:
-            self.fault("a line of mote %d, the next mote or 'medium'" % mote, len(rows))
-        for index, line in enumerate(lines):
-            if line.kind == 'halt' and index + 1 < len(lines):
-                self.fault('nothing more of mote %d, which has halted' % mote, self.at - len(lines) + index + 1)
-        return lines
+            if has_halted:
+                self.fault('nothing more of mote %d, which has halted' % mote, at)
+            last, has_halted = moment, words[1] == 'halt'
+        self.fault("a line of mote %d, the next mote or 'medium'" % mote, len(self.rows))
 
     def bad_line(self, at: int, words: list[str]) -> NoReturn:
         """The fault of a line that isn't one of a trace."""
@@ -204,49 +162,40 @@ class _Reader:
             self.fault("a line of a trace, 'mote' or 'medium'", at)
         self.fault('a moment and one of %s' % ', '.join(FIELDS), at)
 
-    def medium(self) -> list[Packet]:
-        """The packets up to the last line."""
-        rows, last = self.rows, (-1, -1, -1)
-        packets: list[Packet] = []
-        new: Callable[..., Any] = tuple.__new__
-        tables = self.moments, self.senders, self.numbers, self.words
-        senders, arrivals = self.senders, self.arrivals
-        for at in range(self.at, len(rows)):
-            words = rows[at].split(' ')
+    def medium(self) -> None:
+        """Reads the packets up to the last line."""
+        last = (-1, -1, -1)
+        for at in range(self.at, len(self.rows)):
+            words = self.rows[at].split(' ')
             if words[0] == 'left':
                 self.at = at
-                return packets
+                return
             if len(words) < 4:
                 self.fault("MOMENT SENDER NUMBER VALUE and the packet's copies, or 'left' and a number", at)
             try:
-                moment, sender, number, value = (table[word] for table, word in zip(tables, words))
-                key: tuple[int, int, int] = moment, sender, number
-                copies: list[Copy] = []
+                moment, sender, number, _ = (table[word] for table, word in zip(self.packet, words))
                 heard = -1
                 for word in words[4:]:
                     name, _, after = word.partition('@')
-                    to = senders[name]
-                    arrival = None if after == 'lost' else arrivals[after]
+                    to: int = self.senders[name]
                     if to <= heard or to == sender:
                         self.fault('receivers in rising order, without the sender', at)
-                    if arrival is not None and arrival <= moment:
+                    if after != 'lost' and self.arrivals[after] <= moment:
                         self.fault('arrivals after moment %d' % moment, at)
-                    copies.append(new(Copy, (to, arrival)))
                     heard = to
             except Bad as bad:
                 self.fault(str(bad), at)
-            if key <= last:
+            if (moment, sender, number) <= last:
                 self.fault('packets in the order of moment, sender and number', at)
-            last = key
-            packets.append(new(Packet, (moment, sender, number, value, tuple(copies))))
-        self.fault("a packet, or 'left' and a number", len(rows))
+            last = moment, sender, number
+        self.fault("a packet, or 'left' and a number", len(self.rows))
 
-    def left(self) -> int:
+    def left(self) -> None:
         words = self.rows[self.at].split(' ')
         try:
             if len(words) != 2:
                 raise Bad("'left' and a number")
-            left: int = self.numbers[words[1]]
+            self.numbers[words[1]]
         except Bad as bad:
             self.fault(str(bad))
         self.at += 1
@@ -254,9 +203,8 @@ class _Reader:
             self.fault("a line end after 'left'")
         if self.at != len(self.rows) - 1 or self.rows[-1]:
             self.fault('nothing more')
-        return left
 
 
-def read(text: str) -> Read:
+def read(text: str) -> None:
     """Reads a report; any other text raises a `ReportFault`."""
-    return _Reader(text).read()
+    _Reader(text).read()

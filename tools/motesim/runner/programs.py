@@ -6,17 +6,15 @@ out/programs by a digest of what they were made from:
 
     proved-DIGEST/motesim      built by `./prove` or `./test`; the digest is of the sources, contracts and proofs
     compiled-DIGEST/motesim    compiled without a proof; the digest is of the sources
-    slow-DIGEST/motesim        a copy of the first compiled one (motesim.runner.optimized)
 
 If there is none, the tools run the script web/motesim, which runs the WebAssembly module of these sources in node. The
 module has the same reports, and needs longer for them.
 
-A binary in this folder is complete, and never changes, except that an optimized one replaces the first compiled one.
+A binary in this folder is complete, and never changes.
 """
 from __future__ import annotations
 
 import contextlib
-import fcntl
 import functools
 import hashlib
 import os
@@ -28,21 +26,13 @@ from collections.abc import Sequence
 from pathlib import Path
 
 from motesim.faults import Fault
-from motesim.runner import waiting
 from motesim.runner.module import SCRIPT, SOURCE, read_about
-from motesim.runner.waiting import clock, ends, is_free, say
 
 TOP = Path(__file__).resolve().parents[3]
 # The binary that a proof builds; the next proof replaces it.
 PROVED = TOP / 'crates/motesim/out/motesim'
 DAY = 86_400
 PROGRAMS = TOP / 'out/programs'
-# The file that the process which compiles a binary has locked.
-COMPILES = PROGRAMS / 'compiling.lock'
-# The folder next to a binary that isn't optimized yet, with the inputs of the linker.
-PARTS = 'parts'
-# The least niceness of the process that optimizes a binary: the user's other work goes first, but doesn't starve it.
-NICENESS = 5
 # The binary in an archive that tools/pack made (an archive has no crates); and the page that the archive has if the
 # binary was proved.
 PACKED, PACKED_PROVED = TOP / 'motesim', TOP / 'PROVED.md'
@@ -57,8 +47,6 @@ NO_NODE = 'without the Rattle kit, which compiles motesim, a WebAssembly module 
           '`apt-get install nodejs`), or open %s in a browser'
 OTHER_SOURCES = 'there is no Rattle kit here, which compiles motesim, and web/motesim.wasm was made from other ' \
                 'sources than those in crates/; to run it nevertheless, set the environment variable MOTESIM to %s'
-WAITING = 'waiting for motesim, which another command is compiling; this usually needs about a minute'
-STILL = 'still waiting for the motesim that another command is compiling (%s so far)'
 
 
 class ProgramFault(Fault):
@@ -167,25 +155,6 @@ def compiled_program() -> Path | None:
     return compiled_kept() if any(PROGRAMS.glob('compiled-*')) and is_program(compiled_kept()) else None
 
 
-def optimizer_of(program: Path) -> Path:
-    """The script that replaces a compiled binary by an optimized one, and then deletes itself."""
-    return program.resolve().parent / PARTS / 'optimize'
-
-
-def optimize(program: Path, niceness: int = NICENESS) -> None:
-    """Starts a process in the background that replaces a compiled binary by an optimized one, unless this is done
-    already, another process does it, or the folder can't be changed. The process has at least this niceness."""
-    script = optimizer_of(program)
-    with contextlib.suppress(OSError), open(script, 'rb') as held:
-        fcntl.flock(held, fcntl.LOCK_EX | fcntl.LOCK_NB)
-        # (those who wait say how long it lasts)
-        os.utime(script)
-        # (the process has the lock until it ends)
-        subprocess.Popen(['nice', '-n', str(max(0, niceness - os.nice(0))), script], stdin=subprocess.DEVNULL,
-                         stdout=subprocess.DEVNULL, stderr=subprocess.DEVNULL, start_new_session=True,
-                         pass_fds=[held.fileno()])
-
-
 def program_of_sources(may_be_proved: bool = True) -> Path | None:
     """The binary of these sources to run, or None if none has been built."""
     if not (TOP / 'crates.txt').is_file():
@@ -215,22 +184,22 @@ def is_module(program: Path) -> bool:
     return program.resolve() == SCRIPT.resolve()
 
 
-def _is_kept_as(kinds: tuple[str, ...], program: Path) -> bool:
-    return program.parent.parent == PROGRAMS.resolve() and program.parent.name.startswith(kinds)
+def _is_kept_as(kind: str, program: Path) -> bool:
+    return program.parent.parent == PROGRAMS.resolve() and program.parent.name.startswith(kind)
 
 
 def is_proved(program: Path) -> bool:
     """Returns whether a binary was built by a proof: in this tree, or for an archive."""
     program = program.resolve()
     is_packed = program == PACKED.resolve() and PACKED_PROVED.is_file()
-    return is_packed or program == PROVED.resolve() or _is_kept_as(('proved-',), program)
+    return is_packed or program == PROVED.resolve() or _is_kept_as('proved-', program)
 
 
 def is_compiled(program: Path) -> bool:
     """Returns whether a binary was compiled without a proof: here, or for an archive."""
     program = program.resolve()
     is_packed = program == PACKED.resolve() and not PACKED_PROVED.is_file()
-    return is_packed or _is_kept_as(('compiled-', 'slow-'), program)
+    return is_packed or _is_kept_as('compiled-', program)
 
 
 def is_said_today() -> bool:
@@ -265,25 +234,10 @@ def program_path() -> Path:
     return _program_here()
 
 
-def wait_for_compiled() -> None:
-    """If another process compiles a binary of this tree, returns once this process ends. Lines say for how long this
-    lasts."""
-    began = time.monotonic()
-    with contextlib.suppress(FileNotFoundError), open(COMPILES, 'rb') as held:
-        if is_free(held):
-            return
-        say(WAITING)
-        while not ends(held, waiting.SAID_EVERY):
-            say(STILL % clock(time.monotonic() - began))
-
-
 @functools.cache
 def _program_here() -> Path:
     """The binary of these sources. A process uses the same one even if the sources change."""
     found = program_of_sources() or module_program()
-    if found is None:
-        wait_for_compiled()
-        found = program_of_sources()
     if found is None:
         raise ProgramFault(nothing_runs())
     if is_module(found):

@@ -11,7 +11,7 @@ from dataclasses import dataclass
 from typing import Any
 
 from motesim.notation.faults import ProgramError
-from motesim.notation.faults import find_fault as find_program_fault
+from motesim.notation.reader import find_fault as find_program_fault
 from motesim.scenario.inline import Path as Path
 from motesim.scenario.inline import inline_keys, inline_values
 from motesim.toml import NoToml, read_toml
@@ -79,19 +79,33 @@ class ScenarioError(Exception):
 
 @dataclass(frozen=True)
 class Rule:
-    """The rule of a key: its kind, and the least and the greatest number, or count."""
+    """The rule of a key: its kind, the least and the greatest number, or count, and what it means."""
     kind: type
     least: int = 0
     most: int = 0
     is_needed: bool = True
+    means: str = ''
 
 
-TOP = {'version': Rule(int, 1, 2), 'end': Rule(int, 0, 1_000_000), 'medium': Rule(dict), 'programs': Rule(dict),
-       'mote': Rule(list, 1, 1_000), 'loss': Rule(list, 0, 10_000, False)}
-MEDIUM = {'range': Rule(int, 0, 100_000), 'base': Rule(int, 0, 1_000_000), 'per': Rule(int, 0, 1_000_000)}
-LOSS = {'from': Rule(int, 0, 1_000_000), 'to': Rule(int, 0, 1_000_000), 'every': Rule(int, 0, 1_000_000)}
-MOTE = {'x': Rule(int, -30_000, 30_000), 'y': Rule(int, -30_000, 30_000), 'program': Rule(str)}
-QUEUE = Rule(int, 1, 128)
+TOP = {'version': Rule(int, 1, 2, means='the form of the scenario'),
+       'end': Rule(int, 0, 1_000_000, means='the last moment'),
+       'medium': Rule(dict, means='the radio'),
+       'programs': Rule(dict, means='the programs, at most 100'),
+       'mote': Rule(list, 1, 1_000, means='the motes'),
+       'loss': Rule(list, 0, 10_000, False, 'the losses')}
+MEDIUM = {'range': Rule(int, 0, 100_000, means='the greatest distance at which a packet is heard'),
+          'base': Rule(int, 0, 1_000_000, means='the least delay'),
+          'per': Rule(int, 0, 1_000_000, means='the divisor of the squared distance in the delay')}
+LOSS = {'from': Rule(int, 0, 1_000_000, means='the number of the mote that sends'),
+        'to': Rule(int, 0, 1_000_000, means='the number of the mote that hears'),
+        'every': Rule(int, 0, 1_000_000, means='k, where every k-th packet of the sender is lost')}
+MOTE = {'x': Rule(int, -30_000, 30_000, means="the mote's place"),
+        'y': Rule(int, -30_000, 30_000, means="the mote's place"),
+        'program': Rule(str, means='the name of the program that the mote runs')}
+QUEUE = Rule(int, 1, 128, False, 'the number of events for which the queue of a mote with this program has room')
+# The keys of version 2, which version 1 doesn't allow.
+COLLIDE = Rule(bool, means='whether copies that arrive together collide')
+QUEUES = Rule(dict, is_needed=False, means='the room in event queues')
 KINDS = {int: 'a whole number', str: 'a text', dict: 'a table', list: 'an array of tables', bool: '`true` or `false`'}
 MOST_PROGRAMS = 100
 
@@ -229,8 +243,8 @@ def _too_large(value: object, path: Path) -> Iterator[Path]:
 
 def _check(tables: dict[str, Any]) -> None:
     is_second = type(tables.get('version')) is int and tables['version'] == 2
-    _check_table(tables, (), {**TOP, 'queue': Rule(dict, is_needed=False)} if is_second else TOP)
-    _check_table(tables['medium'], ('medium',), {**MEDIUM, 'collide': Rule(bool)} if is_second else MEDIUM)
+    _check_table(tables, (), {**TOP, 'queue': QUEUES} if is_second else TOP)
+    _check_table(tables['medium'], ('medium',), {**MEDIUM, 'collide': COLLIDE} if is_second else MEDIUM)
     for index, loss in enumerate(tables.get('loss', [])):
         _check_table(loss, ('loss', index), LOSS)
     _check_programs(tables['programs'])
@@ -311,11 +325,6 @@ def places(text: str) -> dict[Path, Place]:
             for length in range(1, len(names) + 1):
                 found.setdefault(table + names[:length], Place(number, entry.start(1), len(entry[1])))
     return found
-
-
-def first_table(text: str) -> int | None:
-    """The line on which the first table is named."""
-    return next((number for number, line in _lines(text) if HEADER.match(line)), None)
 
 
 def place_of(text: str, path: Path) -> Place:

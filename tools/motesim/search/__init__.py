@@ -13,11 +13,11 @@
     work.py            one run of a set of faults
     single_packets.py  whether the link of a lost packet loses only this packet in the run
     one_program.py     runs of `motesim`, one after the other, at little cost
-    quick_judge.py     which sentences hold for a report: the results of motesim.judge in a fraction of its time
     runner.py          many runs by several processes, or by a Dask cluster
     kept.py            the sets that were tried, for --resume
     progress.py        the progress of a search, on standard error
     found.py           the files and tables of the sets that were found
+    say.py             what is said about a search and its results
     numbers.py         the whole numbers of an option, or of a key of a study
     study.py           searches with their expected results
 

@@ -11,7 +11,9 @@ from __future__ import annotations
 import re
 
 from motesim.faults import Fault
-from motesim.notation.faults import LONGEST_NAME, Token, find_fault, tokens_of
+from motesim.notation.grammar import LONGEST_NAME
+from motesim.notation.reader import find_fault, read_program
+from motesim.notation.tree import Program
 
 DIES, LATE = 'fails', 'starts late'
 NAMES = {DIES: 'failing', LATE: 'starting'}
@@ -27,14 +29,7 @@ class NoRoom(Fault):
 
 def halts(program: str) -> bool:
     """Returns whether a mote with this program fails by halting, because killing its processes might not silence it."""
-    return any(token.text in GOES_ON for token in tokens_of(program))
-
-
-def processes_of(tokens: list[Token]) -> list[str]:
-    """The processes that a program declares, in order."""
-    begin = next(index for index, token in enumerate(tokens) if token.text == 'process') + 1
-    end = next(index for index in range(begin, len(tokens)) if tokens[index].text == ';')
-    return [token.text for token in tokens[begin:end:2]]
+    return any(token.text in GOES_ON for token in read_program(program).tokens)
 
 
 def _wait(moment: int) -> str:
@@ -61,50 +56,27 @@ def added_code(name: str, kind: str, moment: int, processes: list[str], by_halti
     return 'code %s {\n%s%s  body {\n%s%s  }\n}\n' % (name, rounds, timer, wait, acts)
 
 
-def _free_name(tokens: list[Token], kind: str) -> str:
-    """A name for the process that isn't in use in the program."""
-    used = {token.text for token in tokens}
+def added_name(program: str, kind: str) -> str:
+    """A name for the process that a program gets, which isn't in use in the program."""
+    used = {token.text for token in read_program(program).tokens}
     names = [NAMES[kind]] + ['%s%d' % (NAMES[kind], number) for number in range(2, len(used) + 3)]
     return next(name for name in names if name not in used and len(name) <= LONGEST_NAME)
 
 
-def added_name(program: str, kind: str) -> str:
-    """The name of the process that a program gets."""
-    return _free_name(tokens_of(program), kind)
-
-
-def offsets_of(text: str) -> list[int]:
-    """The places at which the tokens of a program begin; the last place is the end of the text."""
-    begins = [0]
-    for row in text.split('\n'):
-        begins.append(begins[-1] + len(row) + 1)
-    return [begins[token.line - 1] + token.column for token in tokens_of(text)]
-
-
-def _inner_names(tokens: list[Token]) -> set[str]:
-    return {token.text for token in tokens if token.kind == 'name'}
-
-
 def changed_program(program: str, kind: str, moment: int) -> str:
     """The text of a program with the process added. The text of the program stays, except for two lines."""
-    tokens, offsets = tokens_of(program), offsets_of(program)
-    name = _free_name(tokens, kind)
-    processes = processes_of(tokens)
-    first = next(index for index, token in enumerate(tokens) if token.text == 'process')
-    end = next(index for index in range(first, len(tokens)) if tokens[index].text == ';')
-    edits = [(offsets[end], offsets[end], ', ' + name)]
-    starts, edit = _autostart(tokens, offsets, end, name, kind)
-    edits.append(edit)
+    read, name = read_program(program), added_name(program, kind)
+    processes, starts = [it.text for it in read.processes], read.starts
     is_halted = kind == DIES and halts(program)
-    acts_on = starts if kind == LATE else processes
-    code = added_code(name, kind, moment, acts_on, is_halted)
+    code = added_code(name, kind, moment, starts if kind == LATE else processes, is_halted)
     # (a name in one process may be a name that all processes of the program share)
+    used = {it.text for it in read.tokens if it.kind == 'name'}
     for inner in ('wait', 'rounds'):
-        while re.search(r'\b%s\b' % inner, code) and inner in _inner_names(tokens):
+        while re.search(r'\b%s\b' % inner, code) and inner in used:
             code = re.sub(r'\b%s\b' % inner, inner + '_', code)
             inner += '_'
-    for begin, behind, text in sorted(edits, reverse=True):
-        program = program[:begin] + text + program[behind:]
+    for begin, end, text in _edits(read, name, kind):
+        program = program[:begin] + text + program[end:]
     program += ('' if program.endswith('\n') else '\n') + code
     if "'''" in program:
         raise NoRoom("it has ''' in a comment, so it can't be copied into a literal string")
@@ -114,13 +86,12 @@ def changed_program(program: str, kind: str, moment: int) -> str:
     return program
 
 
-def _autostart(tokens: list[Token], offsets: list[int], end: int, name: str, kind: str
-               ) -> tuple[list[str], tuple[int, int, str]]:
-    """The processes that start at boot, and the change that adds the new one, or leaves them unchanged."""
-    if tokens[end + 1].text != 'autostart':
-        return [], (offsets[end] + 1, offsets[end] + 1, '\nautostart %s;' % name)
-    behind = next(index for index in range(end, len(tokens)) if tokens[index].text == ';' and index > end)
-    starts = [token.text for token in tokens[end + 2:behind:2]]
-    if kind == DIES:
-        return starts, (offsets[behind], offsets[behind], ', ' + name)
-    return starts, (offsets[end + 2], offsets[behind], name)
+def _edits(read: Program, name: str, kind: str) -> list[tuple[int, int, str]]:
+    """The changes that declare the process, and let it start at boot, the later places first."""
+    end = read.processes[-1].end
+    declared = (end, end, ', ' + name)
+    if not read.autostart:
+        semicolon = read.tokens[read.processes[-1].number + 1].end
+        return [(semicolon, semicolon, '\nautostart %s;' % name), declared]
+    first, last = read.autostart[0], read.autostart[-1]
+    return [(first.begin if kind == LATE else last.end, last.end, name if kind == LATE else ', ' + name), declared]

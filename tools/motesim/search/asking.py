@@ -5,7 +5,6 @@ import hashlib
 from collections.abc import Callable
 
 from motesim.judge.sentences import Sentence
-from motesim.runner.optimized import optimized_path
 from motesim.runner.versions import program_digest
 from motesim.search import calculated
 from motesim.search.change import Base
@@ -13,7 +12,7 @@ from motesim.search.faults import (
     WHY_NONE, Asked, absent_kinds, after_packets, faults_of, untried_copies, without_effect,
 )
 from motesim.search.kept import Kept
-from motesim.runner import Limits
+from motesim.runner import Limits, program_path
 from motesim.search.one_program import LIMITS, OneProgram
 from motesim.search.prepare import plain_run, prepare
 from motesim.search.runner import Here, OnCluster, Runner
@@ -36,7 +35,7 @@ class Asking:
     def __init__(self, base: Base, texts: list[str], sentences: list[Sentence], asked: Asked, bounds: Bounds,
                  limits: Limits = LIMITS):
         self.base, self.texts, self.sentences, self.bounds, self.limits = base, texts, sentences, bounds, limits
-        self.path = optimized_path()
+        self.path = program_path().resolve()
         program = OneProgram(str(self.path), limits)
         self.plain = plain_run(base, program, sentences)
         asked.sent = tuple(self.plain.sent)

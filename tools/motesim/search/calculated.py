@@ -3,7 +3,7 @@ from __future__ import annotations
 
 from collections.abc import Sequence
 
-from motesim.explain.said import in_words
+from motesim.explain.say import in_words
 from motesim.explain.warnings import of_numbers_in
 from motesim.search.change import Base
 from motesim.search.faults import FaultyPart, change_of

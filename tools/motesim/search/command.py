@@ -17,14 +17,12 @@ from motesim.scenario.fields import Field
 from motesim.search.asking import Asking
 from motesim.search.change import NUMBERS, Base
 from motesim.search.faults import KINDS, Asked
-from motesim.search.found import (
-    Found, as_csv, as_json, counted, covered_lines, earlier_files, found_by, is_whole, line_of_earlier, verdict_lines,
-    write_files, write_whole,
-)
+from motesim.search.found import Found, as_csv, earlier_files, found_by, write_files, write_whole
 from motesim.search.kept import Kept
 from motesim.search.one_program import LIMITS
 from motesim.search.numbers import LEAST, numbers_of_words
 from motesim.search.progress import ProgressOfSearch
+from motesim.search.say import as_json, covered_lines, last_line, line_of_earlier, result_line, verdict_lines
 from motesim.search.search import Bounds, Search
 from motesim.search.shrink import parts_and_sentences
 from motesim.search.shrink_found import shrink_each
@@ -162,33 +160,6 @@ def small_names(asking: Asking, found: list[Found]) -> list[str]:
     """The names of the small scenarios that --shrink writes."""
     broken = {sentence for it in found for sentence in it.sentences}
     return ['small_%d.toml' % number for number, it in enumerate(asking.texts, 1) if it in broken]
-
-
-def result_line(search: Search, found: list[Found]) -> str:
-    """How many expectations hold in the runs of a search."""
-    wanted, holding = (bin(mask).count('1') for mask in (search.known.wanted, search.holding))
-    broken = len({sentence for it in found for sentence in it.sentences})
-    which = 'every run' if is_whole(search) else 'every run that was made'
-    said = '%d of %d expectations hold in %s' % (holding, wanted, which)
-    said += ', %d %s broken' % (broken, 'is' if broken == 1 else 'are') if broken else ''
-    return said + '; {:,} runs'.format(search.runs)
-
-
-def last_line(search: Search, found: list[Found], folder: Path, base: Base) -> str:
-    """The last line: how many expectations hold."""
-    if not (search.runs or search.ended_by):
-        wanted = bin(search.known.wanted).count('1')
-        return ('no run was made, so nothing is known about %s: choose other kinds of faults with --faults'
-                % counted(wanted, 'expectation', 'expectations'))
-    said = result_line(search, found)
-    if found:
-        said += '\n%s in %s, with the table found.csv; ' % (
-            counted(len(found), 'counter-example is', 'counter-examples are'), folder)
-        said += ('make the scenario of the plan by `tools/scenario %s -o NAME.toml`; then `tools/studio FILE --against '
-                 'NAME.toml` shows both' if base.plan else '`tools/studio FILE --against %s` shows one') % base.name
-    if search.ended_by:
-        said += '\nNOT ALL WAS TRIED: %s; --resume continues' % search.ended_by
-    return said
 
 
 def checked(files: list[str], processes: int) -> int:

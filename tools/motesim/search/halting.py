@@ -5,16 +5,11 @@ are only about halts are judged without this line, so for all other motes.
 """
 from __future__ import annotations
 
-from array import array
-from bisect import bisect_right
-from collections.abc import Iterable
+from collections.abc import Iterable, Sequence
 from dataclasses import fields, is_dataclass
-from functools import cached_property
 
-from motesim.judge.judge import Judge
+from motesim.judge.judge import broken_of
 from motesim.judge.sentences import Does, Lines, Sentence
-from motesim.report import Report, Trace
-from motesim.report.columns import CODES
 from motesim.scenario.scenario import Scenario
 
 
@@ -32,49 +27,37 @@ def is_only_about_halts(sentence: Sentence) -> bool:
     return isinstance(sentence, Does) and all(pattern[0] == 'halt' for pattern in sentence.deed.patterns)
 
 
+def trace_of(report: bytes, mote: int) -> tuple[int, int]:
+    """The place of a mote's lines in a report, without the end of the last one."""
+    end = report.rindex(b'\nmedium\n')
+    begin = 0 if mote == 0 else report.index(b'\nmote %d ' % mote) + 1
+    following = report.find(b'\nmote ', begin, end)
+    return report.index(b'\n', begin), end if following < 0 else following
+
+
 def without_halts(report: bytes, failed: Iterable[tuple[int, int]]) -> bytes:
     """The report without the lines `halt` of motes that failed, each named with the moment of its failure. A mote that
     halted earlier keeps its line."""
-    text = b'\n' + report
     for mote, moment in failed:
-        begin = text.index(b'\nmote %d ' % mote)
-        end = text.find(b'\nmote ', begin + 1)
-        end = text.rindex(b'\nmedium\n') if end < 0 else end
-        kept = text[:end].removesuffix(b'\n%d halt' % moment)
-        text = kept + text[end:]
-    return text[1:]
+        end = trace_of(report, mote)[1]
+        report = report[:end].removesuffix(b'\n%d halt' % moment) + report[end:]
+    return report
 
 
-def with_halt(report: Report, mote: int, moment: int) -> Report:
+def with_halt(report: bytes, mote: int, moment: int) -> bytes:
     """The report with a line `halt` of a mote, after its lines up to this moment. Its later lines stay."""
-    before = report.trace
-    place = bisect_right(before.at, moment, before.starts[mote], before.starts[mote + 1])
-    trace = Trace(before.names)
-    trace.starts = array('I', (it + (number > mote) for number, it in enumerate(before.starts)))
-    trace.at = before.at[:place] + array('I', [moment]) + before.at[place:]
-    trace.kind = before.kind[:place] + bytes([CODES['halt']]) + before.kind[place:]
-    trace.of = before.of
-    return Report([it.program for it in report.motes], trace, report.log, report.left)
+    begin, end = trace_of(report, mote)
+    lines = report[begin:end].split(b'\n')[1:]
+    place = sum(int(line.split(b' ', 1)[0]) <= moment for line in lines)
+    return b'\n'.join([report[:begin], *lines[:place], b'%d halt' % moment, *lines[place:]]) + report[end:]
 
 
-class HaltLines:
-    """The run without a fault, to which lines `halt` are added."""
-
-    def __init__(self, scenario: Scenario, report: bytes, sentences: dict[int, Sentence]):
-        self.scenario, self.data = scenario, report
-        self.sentences = {number: it for number, it in sentences.items() if is_about_halts(it)}
-
-    @cached_property
-    def report(self) -> Report:
-        return Report.parse(self.data)
-
-    def hidden(self, mote: int, moment: int) -> list[int]:
-        """The expectations that are broken by the line `halt` of a mote that fails at this moment."""
-        if not self.sentences:
-            return []
-        own = self.report.motes[mote].halted()
-        if own is not None and own <= moment:
-            # (it has halted already, so it has no other line `halt`)
-            return []
-        judge = Judge(with_halt(self.report, mote, moment), self.scenario)
-        return [number for number, it in self.sentences.items() if judge.broken(it)]
+def hidden_by_halt(scenario: Scenario, report: bytes, sentences: Sequence[Sentence], held: Iterable[int], mote: int,
+                   moment: int) -> list[int]:
+    """The expectations, of those that hold, which the line `halt` of a mote that fails at this moment breaks; none if
+    the mote has halted already, and so has no other such line. `report` is that of the run without a fault."""
+    about = [number for number in held if is_about_halts(sentences[number])]
+    begin, end = trace_of(report, mote)
+    last = report[begin:end].rpartition(b'\n')[2].split(b' ')
+    has_halted = last[1:] == [b'halt'] and int(last[0]) <= moment
+    return broken_of(sentences, with_halt(report, mote, moment), scenario, about) if about and not has_halted else []

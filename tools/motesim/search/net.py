@@ -4,10 +4,12 @@ from __future__ import annotations
 from collections.abc import Iterator
 from typing import Any, NamedTuple
 
+from motesim.notation.printer import program_text
+from motesim.notation.reader import read_program
+from motesim.notation.tree import Program
 from motesim.plan.text import escaped, is_literal
 from motesim.scenario.scenario import Scenario
 from motesim.search.smaller import Step, instead, programs, renumbered, smaller_numbers, without
-from motesim.search.tree import Program, program_text, read_program
 
 
 class Mote(NamedTuple):

@@ -16,11 +16,11 @@ from motesim.runner.programs import ProgramFault
 from motesim.search.added import DIES, LATE, NoRoom, added_name, halts
 from motesim.search.change import Base, CannotChange, Change
 from motesim.search.faults import FaultyPart
-from motesim.search.halting import HaltLines, is_only_about_halts
+from motesim.search.halting import hidden_by_halt, is_only_about_halts
 from motesim.search.one_program import OneProgram
-from motesim.search.quick_judge import QuickJudge
 from motesim.search.sets import Set
 from motesim.search.work import mask_of
+from motesim.judge.judge import broken_of
 from motesim.judge.sentences import Sentence
 
 ADDED = {'fails': DIES, 'late': LATE}
@@ -50,7 +50,7 @@ def plain_run(base: Base, program: OneProgram, sentences: list[Sentence]) -> Pla
     if why:
         raise Fault('%s has no report, even if no fault is added: %s' % (base.name, why))
     sections = answer.report.partition(b'\nmedium\n')[0].split(b'\nmote ')
-    return Plain(answer.report, QuickJudge(sentences).broken(answer.report, base.scenario_itself),
+    return Plain(answer.report, broken_of(sentences, answer.report, base.scenario_itself, range(len(sentences))),
                  [section.count(b' send ') for section in sections],
                  max(map(int, OF_PACKETS.findall(answer.report)), default=0))
 
@@ -118,9 +118,8 @@ class Prepared(NamedTuple):
 def prepare(base: Base, plain: Plain, program: OneProgram, sentences: list[Sentence],
             faults: list[FaultyPart]) -> Prepared:
     """Leaves out the faults that can't be made, and notes the reasons."""
-    judge, seen = QuickJudge(sentences), dict[tuple[int, str], tuple[str, int]]()
-    halt_lines = HaltLines(base.scenario_itself, plain.report,
-                           {number: it for number, it in enumerate(sentences) if number not in plain.broken})
+    seen = dict[tuple[int, str], tuple[str, int]]()
+    held = [number for number in range(len(sentences)) if number not in plain.broken]
     kept: list[FaultyPart] = []
     left_out, blind, halting = dict[tuple[int, str], list[str]](), dict[int, int](), dict[int, int]()
     of_halts = mask_of([number for number, it in enumerate(sentences) if is_only_about_halts(it)])
@@ -129,7 +128,7 @@ def prepare(base: Base, plain: Plain, program: OneProgram, sentences: list[Sente
         if kind is not None:
             mote = int(fault.effect[1])
             if (mote, kind) not in seen:
-                seen[mote, kind] = _tried(base, plain, program, judge, mote, kind)
+                seen[mote, kind] = _tried(base, plain, program, sentences, mote, kind)
             why, mask = seen[mote, kind]
             if why:
                 kinds = left_out.setdefault((mote, why), [])
@@ -137,7 +136,8 @@ def prepare(base: Base, plain: Plain, program: OneProgram, sentences: list[Sente
                 continue
             hidden = 0
             if kind == DIES and halts(base.tables['programs'][base.scenario_itself.places[mote].program]):
-                hidden = mask_of(halt_lines.hidden(mote, int(fault.effect[2])))
+                hidden = mask_of(hidden_by_halt(base.scenario_itself, plain.report, sentences, held, mote,
+                                                int(fault.effect[2])))
             mask |= hidden & ~of_halts
             if mask:
                 blind[len(kept)] = mask
@@ -156,12 +156,13 @@ def _left_out(reasons: dict[tuple[int, str], list[str]]) -> list[str]:
             for (why, kinds), motes in motes_of.items()]
 
 
-def _tried(base: Base, plain: Plain, program: OneProgram, judge: QuickJudge, mote: int, kind: str) -> tuple[str, int]:
+def _tried(base: Base, plain: Plain, program: OneProgram, sentences: list[Sentence], mote: int,
+           kind: str) -> tuple[str, int]:
     try:
         why, report = difference(base, plain, program, mote, kind)
     except (NoRoom, CannotChange) as fault:
         return str(fault), 0
     if why:
         return why, 0
-    broken = set(judge.broken(report, base.scenario_itself)) - set(plain.broken)
-    return '', mask_of(sorted(broken))
+    others = [number for number in range(len(sentences)) if number not in plain.broken]
+    return '', mask_of(broken_of(sentences, report, base.scenario_itself, others))

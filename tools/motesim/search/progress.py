@@ -5,8 +5,7 @@ import json
 import time
 from typing import TYPE_CHECKING
 
-from motesim.progress import Progress
-from motesim.runner.waiting import clock
+from motesim.progress import Progress, clock
 from motesim.search.sets import count_of
 
 if TYPE_CHECKING:

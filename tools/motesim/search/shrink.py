@@ -13,7 +13,7 @@ from typing import NamedTuple
 from motesim.faults import Fault
 from motesim.judge.judge import Broken, Judge
 from motesim.judge.sentences import Sentence, SentenceFault, names_of, read_sentence
-from motesim.report import Report
+from motesim.report.lazy import LazyReport
 from motesim.runner.programs import ProgramFault
 from motesim.scenario.fields import Field
 from motesim.scenario.scenario import Scenario
@@ -23,7 +23,6 @@ from motesim.search.following import follow, names_motes_in_quotes
 from motesim.search.halting import is_only_about_halts, without_halts
 from motesim.search.net import PARTS, Net, NetStep, loss_steps, mote_steps, net_of, number_steps, program_steps
 from motesim.search.one_program import OneProgram
-from motesim.search.quick_judge import QuickJudge
 from motesim.why.cause import NO_CAUSE, Cause, cause_of
 from motesim.why.source import Source
 
@@ -95,15 +94,12 @@ class Seen(NamedTuple):
 
     def is_broken(self, sentence: str) -> bool:
         """Returns whether a sentence is broken, or names something that the scenario no longer has."""
-        read = self.read(sentence)
-        return read is None or bool(QuickJudge([read]).broken(self.report_for(read), self.scenario))
+        return self.read(sentence) is None or self.broken(sentence) is not None
 
     def broken(self, sentence: str) -> Broken | None:
-        """Returns the lines that break a sentence; None if it names something that the scenario no longer has."""
+        """What breaks a sentence; None if it holds, or names something that the scenario no longer has."""
         read = self.read(sentence)
-        if read is None or not self.is_broken(sentence):
-            return None
-        return Judge(Report.parse(self.report_for(read)), self.scenario).broken(read)
+        return Judge(LazyReport(self.report_for(read)), self.scenario).broken(read) if read else None
 
 
 @dataclass

@@ -12,17 +12,17 @@ from motesim.runner.interrupt import Break
 from motesim.faults import INTERRUPTED, Fault
 from motesim.files import refuse_inputs
 from motesim.judge.expectations import beside, fields_beside, parts_of, read_all, text_of
-from motesim.judge.judge import Judge
+from motesim.judge.judge import broken_of
 from motesim.judge.sentences import names_of
-from motesim.report import Report
 from motesim.runner.programs import ProgramFault, program_path
 from motesim.scenario.scenario import Scenario
 from motesim.search.change import Base
 from motesim.search.faults import effect_of
-from motesim.search.found import counted, toml_text, write_whole
+from motesim.search.found import toml_text, write_whole
 from motesim.search.net import PARTS, Net, net_of
 from motesim.search.one_program import LIMITS, OneProgram
 from motesim.search.progress import ProgressOfSearch
+from motesim.search.say import counted
 from motesim.search.shrink import Case, Shrinking, case_of, parts_and_sentences
 from motesim.search.smaller import statements_in
 
@@ -41,10 +41,9 @@ def first_broken(base: Base, path: Path, program: OneProgram) -> str:
         why = str(fault)
     if why:
         raise Fault('%s has no report: %s' % (base.name, why))
-    judge = Judge(Report.parse(answer.report), base.scenario_itself)
-    for text, sentence in zip(texts, sentences):
-        if judge.broken(sentence):
-            return text
+    broken = broken_of(sentences, answer.report, base.scenario_itself, range(len(sentences)))
+    if broken:
+        return texts[broken[0]]
     raise Fault('%s breaks no expectation of %s' % (base.name, path))
 
 

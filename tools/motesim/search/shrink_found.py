@@ -7,9 +7,10 @@ from pathlib import Path
 
 from motesim.runner.interrupt import Break
 from motesim.search.asking import Asking
-from motesim.search.found import Found, counted
+from motesim.search.found import Found
 from motesim.search.one_program import OneProgram
 from motesim.search.progress import ProgressOfSearch
+from motesim.search.say import counted
 from motesim.search.search import Search
 from motesim.search.shrink import Case, Shrinking, case_of
 from motesim.search.shrink_command import differing, limit_in_words, runs_of, sizes, why_over, write_result

@@ -8,14 +8,12 @@ from __future__ import annotations
 from collections.abc import Iterable
 
 from motesim.search.faults import FaultyPart
+from motesim.search.halting import trace_of
 
 
 def sent_by(report: bytes, mote: int) -> int:
     """The number of packets that a mote sends, by its report."""
-    head = b'mote %d ' % mote
-    begin = 0 if report.startswith(head) else report.index(b'\n' + head)
-    # (no line of a trace begins with a letter)
-    return report.count(b' send ', begin, report.index(b'\nm', begin + 1))
+    return report.count(b' send ', *trace_of(report, mote))
 
 
 def loses_more(faults: Iterable[FaultyPart], report: bytes, losses: dict[tuple[int, int], int]) -> bool:

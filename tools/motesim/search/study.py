@@ -25,9 +25,10 @@ from motesim.judge.sentences import names_of
 from motesim.search.asking import Asking
 from motesim.search.change import Base
 from motesim.search.faults import Asked
-from motesim.search.found import covered_lines, found_by
+from motesim.search.found import found_by
 from motesim.search.kept import Kept
 from motesim.search.numbers import LEAST, numbers_of_words
+from motesim.search.say import covered_lines
 from motesim.search.search import Bounds
 from motesim.toml import NoToml, read_toml
 

@@ -12,13 +12,12 @@ from motesim.search.added import NoRoom
 from motesim.search.faults import FaultyPart, change_of
 from motesim.search.halting import without_halts
 from motesim.search.one_program import OneProgram
-from motesim.search.quick_judge import QuickJudge
 from motesim.search.sets import Set
 from motesim.search.single_packets import loses_more
-from motesim.judge.judge import Judge
+from motesim.judge.judge import Judge, broken_of
 from motesim.judge.sentences import Sentence
 from motesim.judge.shortfall import Shortfall, shortfall_of
-from motesim.report import Report
+from motesim.report.lazy import LazyReport
 
 RUN, SAME, STOPPED, UNMADE, MORE = 'run', 'same', 'stopped', 'unmade', 'more'
 
@@ -64,7 +63,7 @@ class Bench:
 
     def __init__(self, work: Work):
         self.base, self.faults, self.halting = work.base, work.faults, work.halting
-        self.judge, self.sentences = QuickJudge(work.sentences), work.sentences
+        self.sentences = work.sentences
         self.program = OneProgram(work.program, work.limits)
 
     def change(self, found: Set) -> Change:
@@ -108,7 +107,7 @@ class Bench:
     def lacks(self, report: bytes, change: Change, task: Task) -> Shortfall:
         """The lines that a report lacks for the expectations to be tried."""
         wanted = [self.sentences[number] for number in numbers_of(task.wanted)]
-        return shortfall_of(Judge(Report.parse(report), self.base.scenario(change)), wanted)
+        return shortfall_of(Judge(LazyReport(report), self.base.scenario(change)), wanted)
 
     def broken(self, report: bytes, change: Change, task: Task) -> int:
         """The expectations that a report breaks. Those about halts are judged for the motes that the faults don't
@@ -118,10 +117,10 @@ class Bench:
         for number in halting:
             apart |= self.halting[number] & task.wanted
         scenario = self.base.scenario(change)
-        found = self.judge.broken(report, scenario, numbers_of(task.wanted & ~apart))
+        found = broken_of(self.sentences, report, scenario, numbers_of(task.wanted & ~apart))
         if apart:
             failed = [(int(mote), int(moment)) for _, mote, moment in (self.faults[it].effect for it in halting)]
-            found += self.judge.broken(without_halts(report, failed), scenario, numbers_of(apart))
+            found += broken_of(self.sentences, without_halts(report, failed), scenario, numbers_of(apart))
         return mask_of(found)
 
 

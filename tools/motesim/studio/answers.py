@@ -1,14 +1,11 @@
-"""The results of a run for the page: its error, its differences from another run, the sentences that hold, and its
-totals."""
+"""The results of a run for the page: its error, its warnings, and the sentences that hold."""
 from __future__ import annotations
 
 from itertools import zip_longest
 from typing import Any, NamedTuple
 
-from motesim.comparison.columns import MEDIUM
-from motesim.comparison.reports import Difference, compared, differences, lists_of, origin, packet_of, row_of
 from motesim.explain.explanation import TEXT, correction_of, explanation, place_of_fault
-from motesim.explain.said import in_words
+from motesim.explain.say import in_words
 from motesim.explain.warnings import warnings
 from motesim.faults import Fault
 from motesim.judge import expectations
@@ -20,9 +17,8 @@ from motesim.report.run import Run
 from motesim.scenario import Scenario
 from motesim.scenario.faults import Place, place_of
 from motesim.scenario.in_programs import place_of_token
-from motesim.summary.counts import LINK_NAMES, summary
 
-MOST_ROWS, MOST_LINKS, MOST_PARTS, MOST_WARNINGS = 12, 400, 1_000, 20
+MOST_WARNINGS = 20
 
 
 class Finished(NamedTuple):
@@ -89,34 +85,6 @@ def warned(done: Finished) -> list[dict[str, Any]]:
     return found
 
 
-def difference(before: Finished, after: Finished, is_pinned: bool) -> dict[str, Any]:
-    """The differences between two runs: the lines of tools/compare; and, as data, the first difference (`first`),
-    the moment of the first one in each trace (`parts`), and the motes that run another program (`motes`)."""
-    one = before.named('the pinned run' if is_pinned else 'the previous run')
-    lines, first, is_same = compared(one, after.named('this run'), MOST_ROWS)
-    reports = before.run.report, after.run.report
-    programs = [[mote.program for mote in report.motes] for report in reports]
-    found: dict[str, Any] = {'same': is_same, 'lines': lines, 'first': None, 'parts': [], 'motes': [
-        mote for mote, (ours, other) in enumerate(zip_longest(*programs)) if ours != other]}
-    if first:
-        in_medium = first.mote == MEDIUM
-        found['first'] = {'at': first.at, 'mote': packet_of(reports, first).sender if in_medium else first.mote,
-                          'index': -1 if in_medium else first.place, 'inMedium': in_medium,
-                          'sides': [side(report, first) for report in reports]}
-        found['parts'] = [[it.mote, it.at] for it in differences(*reports) if it.mote != MEDIUM][:MOST_PARTS]
-    return found
-
-
-def side(report: Report, it: Difference) -> dict[str, Any]:
-    """The line of a report at a difference: its row, its text, and its origin. If there is no text, the report has no
-    such mote (`has_mote` is false), or the mote's trace ends earlier."""
-    lines = lists_of(report).get(it.mote)
-    if lines is None or it.place >= len(lines):
-        return {'row': None, 'text': None, 'why': '', 'has_mote': lines is not None}
-    line = lines[it.place]
-    return {'row': row_of(report, it.mote, it.place), 'text': str(line), 'why': origin(line, report), 'has_mote': True}
-
-
 def part_for(text: str, saved: str, parts: list[expectations.Part]) -> expectations.Part:
     """The part of a file of expectations for this text: the part of a change, if the text has this change."""
     for part in parts[1:]:
@@ -180,13 +148,3 @@ def changes_of(expected: tuple[str, str] | None) -> list[dict[str, Any]]:
     unnamed = {'change %d of %s' % (number, expected[0]) for number in range(1, len(parts))}
     return [{'about': part.name if part.name not in unnamed else '', 'replace': part.replace}
             for part in parts if part.replace]
-
-
-def sums(done: Finished) -> dict[str, Any]:
-    """The tables of tools/summary."""
-    motes, net, links = summary(done.run)
-    return {
-        'motes': [list(net), *(list(row.values()) for row in [*motes, net])],
-        'links': [LINK_NAMES, *(list(row.values()) for row in links[:MOST_LINKS])],
-        'more': max(0, len(links) - MOST_LINKS),
-    }

@@ -23,7 +23,6 @@ from motesim.studio.server import Server
 from motesim.studio.session import Session
 
 PORT = 20917
-NO_EDITOR = "The editor isn't installed (Debian's package libjs-codemirror): the page has a plain text area instead."
 
 
 def has_screen() -> bool:
@@ -61,8 +60,6 @@ def serve(server: Server, is_open: bool) -> None:
     for number in (signal.SIGTERM, signal.SIGHUP):
         signal.signal(number, signal.default_int_handler)
     print(server.address, flush=True)
-    if not server.session.has_editor:
-        print('studio: ' + NO_EDITOR, file=sys.stderr, flush=True)
     with opened(server.address, is_open):
         server.serve_forever(poll_interval=0.2)
 

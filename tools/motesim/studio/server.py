@@ -19,16 +19,12 @@ from typing import Any
 from motesim.faults import Fault
 from motesim.studio.session import HTML, JSON, Session, as_json
 from motesim.timeline.bundle import modules_of
+from motesim.timeline.html import MARK, TEMPLATE, style
 
 FOLDER = Path(__file__).resolve().parent.parent
-PAGE, TIMELINE = FOLDER / 'studio/page', FOLDER / 'timeline/page'
-CODEMIRROR = Path('/usr/share/javascript/codemirror')
-# The files of Debian's package libjs-codemirror that the page needs.
-EDITOR = ['lib/codemirror.js', 'lib/codemirror.css', 'mode/toml/toml.js', 'addon/edit/matchbrackets.js',
-          'addon/edit/closebrackets.js', 'addon/dialog/dialog.js', 'addon/dialog/dialog.css',
-          'addon/search/searchcursor.js', 'addon/search/search.js', 'addon/search/jump-to-line.js',
-          'addon/selection/active-line.js', 'addon/comment/comment.js']
-KINDS = {'.js': 'text/javascript; charset=utf-8', '.css': 'text/css; charset=utf-8'}
+ENTRY = FOLDER / 'studio/page/studio.js'
+SCRIPT = '<script type="module" src="studio/page/studio.js"></script>'
+JAVASCRIPT = 'text/javascript; charset=utf-8'
 LONGEST_QUESTION = 8 << 20
 HEADERS = {
     'Cache-Control': 'no-store', 'Referrer-Policy': 'no-referrer', 'X-Content-Type-Options': 'nosniff',
@@ -40,21 +36,18 @@ HEADERS = {
 }
 
 
-def has_editor(codemirror: Path | None) -> bool:
-    return codemirror is not None and all((codemirror / name).is_file() for name in EDITOR)
-
-
 @functools.cache
 def modules() -> dict[str, bytes]:
     """The modules of the page by their addresses, which are their paths in the package."""
-    found = modules_of(PAGE / 'studio.js')
-    return {path.relative_to(FOLDER).as_posix(): text.encode('utf-8') for path, text in found.items()}
+    return {path.relative_to(FOLDER).as_posix(): text.encode('utf-8') for path, text in modules_of(ENTRY).items()}
 
 
-@functools.cache
-def style() -> bytes:
-    return b''.join((folder / name).read_bytes() for folder, name in (
-        (TIMELINE, 'page.css'), (PAGE, 'text.css'), (PAGE, 'studio.css')))
+def page() -> bytes:
+    """The page."""
+    # (a browser that knows all modules from the beginning needn't find one after another)
+    loads = ''.join('<link rel="modulepreload" href="%s">\n' % name for name in modules())
+    fill = {'TITLE': 'motesim studio', 'KIND': 'served', 'STYLE': style(), 'POLICY': loads, 'SCRIPT': SCRIPT}
+    return MARK.sub(lambda mark: fill.get(mark[1], ''), TEMPLATE.read_text('utf-8')).encode('utf-8')
 
 
 class Handler(BaseHTTPRequestHandler):
@@ -143,12 +136,9 @@ class Server(ThreadingHTTPServer):
     """The studio's server. A browser opens its `address`."""
     daemon_threads = True
 
-    def __init__(self, session: Session, codemirror: Path | None = CODEMIRROR, port: int = 0,
-                 token: str | None = None):
+    def __init__(self, session: Session, port: int = 0, token: str | None = None):
         self.session = session
         self.token = token or secrets.token_urlsafe(24)
-        self.codemirror = codemirror if has_editor(codemirror) else None
-        session.has_editor = self.codemirror is not None
         self.connections: set[socket.socket] = set()
         super().__init__(('127.0.0.1', port), Handler)
 
@@ -182,29 +172,11 @@ class Server(ThreadingHTTPServer):
         if not isinstance(fault, (ConnectionError, TimeoutError)):
             print('studio: a request failed: %s: %s' % (type(fault).__name__, fault), file=sys.stderr)
 
-    def page(self) -> bytes:
-        """The page, with the editor if it is installed."""
-        text = (PAGE / 'studio.html').read_text('utf-8')
-        names = EDITOR if self.codemirror else []
-        for mark, kind, form in [('@STYLES@', '.css', '<link rel="stylesheet" href="codemirror/%s">'),
-                                 ('@SCRIPTS@', '.js', '<script src="codemirror/%s"></script>')]:
-            text = text.replace(mark, '\n'.join(form % name for name in names if name.endswith(kind)))
-        # (a browser that knows all modules from the beginning needn't find one after another)
-        loads = ['<link rel="modulepreload" href="%s">' % name for name in modules()]
-        return text.replace('@MODULES@', '\n'.join(loads)).encode('utf-8')
-
     def file(self, name: str | None) -> tuple[str, bytes] | None:
         """A file of the page: its kind and its bytes."""
         if name is None:
             return None
         name = name.partition('?')[0]
         if name == '':
-            return HTML, self.page()
-        if name in modules():
-            return KINDS['.js'], modules()[name]
-        if name == 'studio.css':
-            return KINDS['.css'], style()
-        inner = name.removeprefix('codemirror/')
-        if self.codemirror and inner != name and inner in EDITOR:
-            return KINDS[Path(inner).suffix], (self.codemirror / inner).read_bytes()
-        return None
+            return HTML, page()
+        return (JAVASCRIPT, modules()[name]) if name in modules() else None

@@ -14,13 +14,12 @@ from typing import Any, Callable, NamedTuple
 
 from motesim.explain.within import busiest
 from motesim.faults import Fault
-from motesim.notation.grammar import COLOURS, NAMING
 from motesim.report import ReportFault
 from motesim.scenario import ScenarioFault
 from motesim.search.faults import KINDS
-from motesim.studio import answers, guides
+from motesim.studio import answers
 from motesim.studio.desk import Changed, Desk, Document
-from motesim.scenario.edits import edit
+from motesim.studio.examples import offered
 from motesim.studio.runs import LimitMet, Runs, Superseded
 from motesim.studio.searches import OF_PAGE, Searches, wanted_of
 from motesim.timeline.columns import Columns, table_of
@@ -60,10 +59,10 @@ def _text(asked: dict[str, Any], name: str) -> str:
 
 
 class Session:
-    """Runs, files and edits for the page."""
+    """Runs and files for the page."""
 
-    def __init__(self, desk: Desk, runs: Runs, has_editor: bool = True, against: str | None = None):
-        self.desk, self.runs, self.has_editor = desk, runs, has_editor
+    def __init__(self, desk: Desk, runs: Runs, against: str | None = None):
+        self.desk, self.runs = desk, runs
         self.searches = Searches(runs.limits)
         self.against = against
         self.kept: OrderedDict[int, answers.Finished] = OrderedDict()
@@ -71,12 +70,11 @@ class Session:
         self.work = threading.Lock()
         self.does: dict[str, Callable[[dict[str, Any]], Answered]] = {
             'begin': self.begin, 'open': self.open, 'run': self.run, 'stop': self.stop, 'advise': self.advise,
-            'judge': self.judge, 'edit': self.edit,
-            'save': self.save, 'export': self.export, 'alive': self.alive, 'search': self.search,
+            'judge': self.judge, 'save': self.save, 'export': self.export, 'search': self.search,
             'searched': self.searched, 'stop-search': self.stop_search, 'counter-example': self.counter_example,
             'shrink': self.shrink}
         self.causes = Causes()
-        for what in 'why', 'state', 'statement', 'values', 'lines':
+        for what in 'why', 'state', 'statement', 'lines':
             self.does[what] = functools.partial(self.cause, what)
 
     def answer(self, what: str, asked: dict[str, Any]) -> Answered:
@@ -86,38 +84,20 @@ class Session:
 
     # Files.
 
-    def opened(self, it: Document) -> Answered:
-        """A document for the page, with its guide and the changes that its expectations name."""
+    def opened(self, it: Document) -> dict[str, Any]:
+        """A document for the page, with the changes that its expectations name."""
         expected = self.desk.expectations(it.where, it.name) if it.stamp else None
-        return as_json({'document': it._asdict(), 'may_save': self.desk.may_save(it._asdict()),
-                     'guide': guides.guide(it.name, it.text) if self.is_example(it) else guides.comment(it.text),
-                     'changes': answers.changes_of(expected), 'expects': expected[0] if expected else None})
-
-    def is_example(self, it: Document) -> bool:
-        here = it.where == 'example' or self.desk.folder == self.desk.examples
-        return here and it.name in self.desk.names('example')
+        return {'document': it._asdict(), 'may_save': self.desk.may_save(it._asdict()),
+                'changes': answers.changes_of(expected)}
 
     def begin(self, asked: dict[str, Any]) -> Answered:
         """The content of the page when it opens."""
-        examples = [{'name': name, 'title': guides.title(self.desk.read('example', name).text)}
-                    for name in self.desk.names('example')]
         files = [] if self.desk.folder == self.desk.examples else self.desk.names('folder')
-        opened = json.loads(self.opened(self.desk.first()).data)
-        return as_json({**opened, 'examples': examples, 'files': files, 'folder': str(self.desk.folder),
-                        'editor': self.has_editor, 'against': self.against,
-                        'kinds': [[kind, KINDS[kind][1]] for kind in OF_PAGE],
-                        'words': {'colours': COLOURS, 'naming': NAMING}})
+        return as_json({**self.opened(self.desk.first()), **offered(), 'files': files, 'folder': str(self.desk.folder),
+                        'against': self.against, 'kinds': [[kind, KINDS[kind][1]] for kind in OF_PAGE]})
 
     def open(self, asked: dict[str, Any]) -> Answered:
-        return self.opened(self.desk.read(_text(asked, 'where'), _text(asked, 'name')))
-
-    def alive(self, asked: dict[str, Any]) -> Answered:
-        """The present stamp of the open file; it also shows the page that the studio is running."""
-        try:
-            stamp = self.desk.stamp(_text(asked, 'where'), _text(asked, 'name'))
-        except Fault:
-            stamp = None
-        return as_json({'stamp': stamp})
+        return as_json(self.opened(self.desk.read(_text(asked, 'where'), _text(asked, 'name'))))
 
     def document(self, asked: dict[str, Any]) -> dict[str, Any]:
         it = {name: _text(asked, name) for name in ('where', 'name', 'text', 'stamp')}
@@ -160,7 +140,7 @@ class Session:
             return framed({'limit': str(fault), 'number': ticket}, b'')
         except (ReportFault, ScenarioFault) as fault:
             return framed({'limit': 'This run cannot be shown: %s' % fault}, b'')
-        self.keep(done, asked.get('pinned'))
+        self.keep(done)
         return framed({'number': ticket, 'run': table_of(done.run, columns)}, columns.joined())
 
     def stop(self, asked: dict[str, Any]) -> Answered:
@@ -175,32 +155,25 @@ class Session:
             self.runs.newest == asked.get('number') and time.monotonic() < until))
         return as_json({'does': does})
 
-    def keep(self, done: answers.Finished, pinned: object) -> None:
-        """Keeps the last runs and the pinned run."""
+    def keep(self, done: answers.Finished) -> None:
+        """Keeps the last runs."""
         with self.lock:
             self.kept[done.number] = done
-            for number in list(self.kept):
-                if len(self.kept) <= MOST_KEPT:
-                    break
-                if number not in (pinned, done.number):
-                    del self.kept[number]
+            while len(self.kept) > MOST_KEPT:
+                self.kept.popitem(last=False)
 
     def kept_run(self, number: object) -> answers.Finished | None:
         with self.lock:
             return self.kept.get(number) if type(number) is int else None
 
     def judge(self, asked: dict[str, Any]) -> Answered:
-        """The totals and warnings of a run, the expectations that hold, and the differences from another run."""
-        done, before = self.kept_run(asked.get('number')), self.kept_run(asked.get('against'))
+        """The warnings of a run, and the expectations that hold."""
+        done = self.kept_run(asked.get('number'))
         if done is None:
             return as_json({'gone': True})
         with self.work:
-            found: dict[str, Any] = {'sums': answers.sums(done), 'warnings': answers.warned(done)}
-            if before:
-                found['difference'] = answers.difference(before, done, asked.get('is_pinned') is True)
-            expected = self.expectations(asked)
-            found['checks'] = answers.checks(done, _text(asked, 'saved'), expected)
-        return as_json(found)
+            return as_json({'warnings': answers.warned(done), 'checks': answers.checks(
+                done, _text(asked, 'saved'), self.expectations(asked))})
 
     def expectations(self, asked: dict[str, Any]) -> tuple[str, str] | None:
         try:
@@ -214,14 +187,6 @@ class Session:
         if done is None:
             return as_json({'said': 'The studio no longer has this run. Change the text, and ask again.'})
         return as_json(self.causes.answer(what, done.number, done.run, asked))
-
-    def edit(self, asked: dict[str, Any]) -> Answered:
-        """The changes of the text for an edit on the map."""
-        text, wish = _text(asked, 'text'), asked.get('edit')
-        changes, said = edit(text, wish if type(wish) is dict else {})
-        return as_json({'said': said, 'changes': [
-            {'begin': answers.column16(text, it.begin), 'end': answers.column16(text, it.end), 'text': it.text}
-            for it in sorted(changes, reverse=True)]})
 
     def export(self, asked: dict[str, Any]) -> Answered:
         """The page of a run in one file, the same that tools/timeline writes."""

@@ -11,10 +11,11 @@ from itertools import repeat
 from operator import add, mul
 from typing import Any
 
+from motesim.cells import aligned
 from motesim.report.moments import collided
 from motesim.faults import Fault
 from motesim.summary.flows import NAMES as FLOW_NAMES
-from motesim.summary.flows import NAMES_BY, flow_rows, flow_rows_by, same_value_in_flow, silent
+from motesim.summary.flows import NAMES_BY, doubts, flow_rows, flow_rows_by
 from motesim.summary.shares import share
 from motesim.report import KINDS, LOST, MOST_MOMENT, OUTCOMES, Report
 from motesim.report.run import Run, read_run
@@ -128,13 +129,9 @@ def shown(value: int | float | str | None) -> str:
 
 
 def table(rows: list[Row], names: list[str]) -> Iterator[str]:
-    """The rows in columns: names of programs are aligned left, everything else is aligned right."""
+    """The rows in columns."""
     texts = [names, *([shown(value) for value in row.values()] for row in rows)]
-    widths = [max(map(len, column)) for column in zip(*texts)]
-    lefts = [name == 'program' for name in names]
-    for row in texts:
-        yield ' '.join(text.ljust(width) if is_left else text.rjust(width)
-                        for text, width, is_left in zip(row, widths, lefts)).rstrip()
+    return aligned(texts, [place for place, name in enumerate(names) if name == 'program'])
 
 
 def write_csv(rows: list[Row], names: list[str]) -> None:
@@ -144,78 +141,53 @@ def write_csv(rows: list[Row], names: list[str]) -> None:
     writer.writerows(rows)
 
 
-def warn_of_flow(run: Run, words: str) -> None:
-    """Reports why a flow has nothing to show, and whether prints begin messages of the same value."""
-    for line in filter(None, (*silent(run.report, run.scenario, words), same_value_in_flow(run.report, words))):
+def show(asked: argparse.Namespace, rows: list[Row], names: list[str], parts: dict[str, Any]) -> int:
+    """Prints rows in the chosen form; `parts` is the object for JSON."""
+    if asked.json:
+        print(json.dumps(parts, indent=1))
+    elif asked.csv:
+        write_csv(rows, names)
+    else:
+        print('\n'.join(table(rows, names)))
+    return 0
+
+
+def show_flow(run: Run, asked: argparse.Namespace) -> int:
+    """Shows the rows of a flow, or those of its intervals, and why a flow has nothing to show or may mislead."""
+    words, by = asked.flow, asked.by
+    if by is None:
+        rows, names = flow_rows(run.report, run.scenario, words), FLOW_NAMES
+        parts = {'flow': words, 'origins': rows[:-1], 'net': rows[-1]}
+    else:
+        rows, names = flow_rows_by(run.report, run.scenario, words, by), NAMES_BY
+        parts = {'flow': words, 'by': by, 'intervals': rows}
+    for line in doubts(run.report, run.scenario, words):
         print('summary: %s' % line, file=sys.stderr)
-
-
-def show_flow(run: Run, words: argparse.Namespace) -> int:
-    """Shows the rows of a flow in the chosen form."""
-    rows = flow_rows(run.report, run.scenario, words.flow)
-    warn_of_flow(run, words.flow)
-    if words.json:
-        print(json.dumps({'flow': words.flow, 'origins': rows[:-1], 'net': rows[-1]}, indent=1))
-    elif words.csv:
-        write_csv(rows, FLOW_NAMES)
-    else:
-        print('\n'.join(table(rows, FLOW_NAMES)))
-    return 0
-
-
-def show_series(asked: argparse.Namespace) -> int:
-    """Shows the events of each interval in the chosen form."""
-    run = read_run(asked.report, asked.scenario)
-    rows = list(Series(run.report, asked.by, run.scenario.end if run.scenario else None).rows())
-    if asked.json:
-        print(json.dumps({'by': asked.by, 'intervals': rows}, indent=1))
-    elif asked.csv:
-        write_csv(rows, SERIES_NAMES)
-    else:
-        print('\n'.join(table(rows, SERIES_NAMES)))
-    return 0
-
-
-def show_flow_series(asked: argparse.Namespace) -> int:
-    """Shows the messages that began in each interval in the chosen form."""
-    if not 1 <= asked.by <= MOST_MOMENT:
-        raise Fault('--by: an interval has 1 to %d moments' % MOST_MOMENT)
-    run = read_run(asked.report, asked.scenario)
-    rows = flow_rows_by(run.report, run.scenario, asked.flow, asked.by)
-    warn_of_flow(run, asked.flow)
-    if asked.json:
-        print(json.dumps({'flow': asked.flow, 'by': asked.by, 'intervals': rows}, indent=1))
-    elif asked.csv:
-        write_csv(rows, NAMES_BY)
-    else:
-        print('\n'.join(table(rows, NAMES_BY)))
-    return 0
+    return show(asked, rows, names, parts)
 
 
 def status_of(asked: argparse.Namespace) -> int:
     """Prints the summary; returns the status."""
-    if asked.by is not None:
-        return show_flow_series(asked) if asked.flow is not None else show_series(asked)
+    if asked.by is not None and not 1 <= asked.by <= MOST_MOMENT:
+        raise Fault('--by: an interval has 1 to %d moments' % MOST_MOMENT)
     run = read_run(asked.report, asked.scenario)
     if asked.flow is not None:
         return show_flow(run, asked)
+    if asked.by is not None:
+        its = list(Series(run.report, asked.by, run.scenario.end if run.scenario else None).rows())
+        return show(asked, its, SERIES_NAMES, {'by': asked.by, 'intervals': its})
     motes, net, links = summary(run)
     of_moments = collided(run.report)
     if of_moments:
         print('summary: %d of the %d collided copies collided with another packet that their sender sent at the same '
               'moment; tools/explain names these motes' % (of_moments, net['collided']), file=sys.stderr)
-    names, of_links = list(net), LINK_NAMES
-    if asked.json:
-        parts = {'motes': motes, 'net': {name: net[name] for name in names[2:]}, 'links': links}
-        kept = ['links'] if asked.links else ['motes', 'net'] if asked.motes else list(parts)
-        print(json.dumps({name: parts[name] for name in kept}, indent=1))
-    elif asked.csv:
-        write_csv(links, of_links) if asked.links else write_csv(motes + [net], names)
-    else:
-        if not asked.links:
-            print('\n'.join(table(motes + [net], names)))
-        if not (asked.links or asked.motes):
-            print()
-        if not asked.motes:
-            print('\n'.join(table(links, of_links)) if links else 'no link carried anything')
+    parts = {'motes': motes, 'net': {name: value for name, value in net.items() if name not in ('mote', 'program')},
+             'links': links}
+    if asked.links and (asked.csv or asked.json or links):
+        return show(asked, links, LINK_NAMES, {'links': links})
+    if not asked.links:
+        show(asked, motes + [net], list(net), {name: its for name, its in parts.items() if not (asked.motes and name == 'links')})
+    if not (asked.json or asked.csv or asked.motes):
+        lines = table(links, LINK_NAMES) if links else ['no link carried anything']
+        print('\n'.join([*[''] * (not asked.links), *lines]))
     return 0

@@ -16,7 +16,7 @@ from typing import NamedTuple, Union
 
 from motesim.faults import Fault
 from motesim.text import nearest
-from motesim.notation.keywords import SYSTEM
+from motesim.notation.grammar import SYSTEM
 from motesim.report import MOST_WORD, Line, Report
 from motesim.scenario import Scenario
 from motesim.judge.sentences import names_of, processes_of
@@ -28,15 +28,17 @@ NAMES_BY = ['from', 'to', 'sent', 'delivered', 'ratio', 'reached', 'copies', 'du
 FORM = re.compile(r'\s*(?:(send|recv)|print\s+([A-Za-z][A-Za-z0-9_]*))'
                   r'(?:\s+([0-9]{1,5})(?:\s+to\s+([0-9]{1,5}))?)?\s*')
 
-# The beginnings of the warnings about messages that have the same value.
-SHARED = 'several motes print the same value as a source'
-TWICE = 'a mote prints the same value twice as a source'
+# The warnings about messages that have the same value.
+SHARED = ('several motes print the same value as a source: motes %d and %d print %d. Messages are matched by value, so the '
+          'message of one mote counts as that of the other. Print values that differ for each mote, such as '
+          '`print ((self * 256) + n)`, or use another measure')
+TWICE = ('a mote prints the same value twice as a source: mote %d prints %d at moment %d and at moment %d. Messages are '
+         'matched by value, so these two messages count as one in a flow, and in a `delivery` a duplicate of the later '
+         'one counts as the earlier one. Print another value for each message, or use another measure')
 # The end of the first of these warnings if the same lines begin messages and deliver them.
 SAME_LINES = ('. In this flow, the same lines begin messages and deliver them: the first line with a value begins the '
               'message, and the lines of other motes with this value are its deliveries. So messages of several motes '
               'need different lines for their beginning and their delivery, as in `print source -> print sink`')
-
-
 # The faults of flows without a value.
 BACKWARDS = 'no flow: %r: no value is from %d to %d; write the smaller number first'
 TOO_GREAT = 'no flow: %%r: values are 0 to %d, and %%d is greater' % MOST_WORD
@@ -118,46 +120,46 @@ def check_processes(report: Report, scenario: Scenario, marks: tuple[Mark, Mark]
                 process, like(process, scenario, known)))
 
 
-def silent(report: Report, scenario: Scenario | None, words: str) -> Iterator[str]:
+def silent(report: Report, scenario: Scenario | None, marks: tuple[Mark, Mark]) -> str:
     """The reason why a flow has nothing to show: no line begins a message, or none is a delivery."""
-    begin, end = read_flow(words)
-    for mark, what in (begin, 'no message began'), (end, 'nothing was delivered'):
+    for mark, what in zip(marks, ('no message began', 'nothing was delivered')):
         if not any(map(mark.has, report.lines(mark.kind))):
             known = report.trace.processes() - {'all'}
             more = like(mark.process, scenario, known) if mark.process and mark.process not in known else ''
-            yield 'the report has no line `%s`, so %s%s' % (mark, what, more)
-            return
+            return 'the report has no line `%s`, so %s%s' % (mark, what, more)
+    return ''
 
 
-def same_value(sources: Iterable[Line]) -> str:
-    """A warning if several motes print a value as the source of a message, or if a mote prints a value twice;
-    otherwise an empty text."""
+def same_value(sources: Iterable[Line]) -> tuple[Line, Line] | None:
+    """Two lines that print the same value as sources of messages: of several motes, or else of one mote."""
     firsts: dict[int, Line] = {}
     again: tuple[Line, Line] | None = None
     for line in sources:
-        if line.kind != 'print' or line.value is None:
-            continue
-        first = firsts.setdefault(line.value, line)
-        if first.mote != line.mote:
-            return ('%s: motes %d and %d print %d. Messages are matched by value, so the message of one mote counts as '
-                    'that of the other. Print values that differ for each mote, such as `print ((self * 256) + n)`, '
-                    'or use another measure' % (SHARED, first.mote, line.mote, line.value))
-        if first is not line and again is None:
-            again = first, line
-    if again is None:
-        return ''
-    first, line = again
-    return ('%s: mote %d prints %d at moment %d and at moment %d. Messages are matched by value, so these two messages '
-            'count as one in a flow, and in a `delivery` a duplicate of the later one counts as the earlier one. Print '
-            'another value for each message, or use another measure' % (
-                TWICE, first.mote, first.value or 0, first.at, line.at))
+        if line.kind == 'print' and line.value is not None:
+            first = firsts.setdefault(line.value, line)
+            if first.mote != line.mote:
+                return first, line
+            if first is not line:
+                again = again or (first, line)
+    return again
 
 
-def same_value_in_flow(report: Report, words: str) -> str:
-    """A warning if prints begin several messages of the same value; otherwise an empty text."""
-    begin, end = read_flow(words)
-    found = same_value(it for it in report.lines(begin.kind) if begin.has(it))
-    return found + SAME_LINES if found.startswith(SHARED) and begin == end else found
+def same_sources(report: Report, begin: Mark) -> tuple[Line, Line] | None:
+    """Two lines that begin messages of the same value in a flow."""
+    return same_value(it for it in report.lines(begin.kind) if begin.has(it))
+
+
+def doubts(report: Report, scenario: Scenario | None, words: str) -> Iterator[str]:
+    """Yields why a flow has nothing to show, and that prints begin several messages of the same value."""
+    marks = begin, end = read_flow(words)
+    if reason := silent(report, scenario, marks):
+        yield reason
+    if its := same_sources(report, begin):
+        one, other = its
+        if one.mote == other.mote:
+            yield TWICE % (one.mote, one.value, one.at, other.at)
+        else:
+            yield SHARED % (one.mote, other.mote, one.value) + SAME_LINES * (begin == end)
 
 
 def messages(report: Report, begin: Mark, end: Mark) -> dict[int, Message]:

@@ -4,8 +4,7 @@ from __future__ import annotations
 from collections import Counter
 from collections.abc import Iterator
 
-from motesim.faults import Fault
-from motesim.report import MOST_MOMENT, OUTCOMES, Report
+from motesim.report import OUTCOMES, Report
 from motesim.summary.shares import share
 
 # A row, by the names of its columns; None for a mean of no values.
@@ -19,8 +18,6 @@ class Series:
     """The intervals of a run, each `by` moments long, from 0 to its last moment."""
 
     def __init__(self, report: Report, by: int, end: int | None = None):
-        if not 1 <= by <= MOST_MOMENT:
-            raise Fault('--by: an interval has 1 to %d moments' % MOST_MOMENT)
         self.report, self.by = report, by
         latest = max([0, *report.trace.at, *report.log.at])
         self.count = (latest if end is None else max(end, latest)) // by + 1

@@ -29,7 +29,10 @@ from motesim.timeline.note import Note
 from motesim.why.pages import causes_of
 
 Writer = Callable[[str | Path, Iterable[bytes]], None]
-PAGE = Path(__file__).resolve().parent / 'page'
+PACKAGES = Path(__file__).resolve().parent.parent
+# All pages have one template and one style.
+TEMPLATE = PACKAGES / 'web/page/web.html'
+STYLES = [PACKAGES / name for name in ('timeline/page/page.css', 'studio/page/text.css', 'web/page/web.css')]
 # A place in the template to be filled.
 MARK = re.compile('@([A-Z]+)@')
 
@@ -37,7 +40,11 @@ MARK = re.compile('@([A-Z]+)@')
 @functools.cache
 def script() -> str:
     """The script of the page."""
-    return bundle(PAGE / 'open.js')
+    return bundle(PACKAGES / 'timeline/page/open.js')
+
+
+def style() -> str:
+    return ''.join(path.read_text('utf-8') for path in STYLES)
 
 
 def _escaped(text: str) -> str:
@@ -57,14 +64,12 @@ def page_of(title: str, runs: Sequence[Run], start: int | None = None, mote: int
         packed.append(base64.b64encode(columns).decode('ascii'))
     data = json.dumps({'title': title, 'start': start, 'mote': mote, 'note': note.as_json() if note else None,
                        'runs': table}, separators=(',', ':'))
-    fill = {
-        'TITLE': [_escaped(title)], 'STYLE': [(PAGE / 'page.css').read_text('utf-8')],
-        'DATA': [data.replace('<', '\\u003c')], 'SCRIPT': [script()],
-        'COLUMNS': ['<script id="run%d" type="text/plain">%s</script>\n' % item for item in enumerate(packed)],
-    }
-    for place, part in enumerate(MARK.split((PAGE / 'page.html').read_text('utf-8'))):
+    blocks = ('<script id="run%d" type="text/plain">%s</script>\n' % item for item in enumerate(packed))
+    fill = {'TITLE': [_escaped(title)], 'KIND': ['run'], 'STYLE': [style()], 'DATA': [data.replace('<', '\\u003c')],
+            'SCRIPT': [*blocks, '<script>\n', script(), '\n</script>']}
+    for place, part in enumerate(MARK.split(TEMPLATE.read_text('utf-8'))):
         if place % 2:
-            yield from fill[part]
+            yield from fill.get(part, ())
         else:
             yield part
 

@@ -80,5 +80,4 @@ def _near(asker: Asker, missing: Missing) -> tuple[Line, ...]:
 
 def _text(source: Source, row: int) -> str:
     """A row of the report."""
-    where = source.traces.at_row(row)
-    return source.traces.text(where) if where else source.traces.medium_line(row) or ''
+    return source.traces.report.row(row)

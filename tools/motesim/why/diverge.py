@@ -108,7 +108,7 @@ def instead(one: Source, other: Source, hop: Hop, there: At) -> str:
     if hop.how == 'medium':
         packet = other.traces.packet(there.mote, number_of(other, there))
         if packet:
-            return fate_of(other, packet[0], packet[1].split(' '), hop.where.mote).words
+            return fate_of(other, packet[0], str(packet[1]).split(' '), hop.where.mote).words
     if hop.how == 'posted' and there.place >= 0:
         return after_post(other, there, words[-1]).words
     if hop.how == 'packet' and there.place >= 0:

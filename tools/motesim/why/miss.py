@@ -126,15 +126,13 @@ class _Misses:
     def lost(self) -> Iterator[tuple[list[str], int, Fate]]:
         """The copies that didn't arrive, or that no process took: the words and the row of their packet, and their
         fate. For a line `recv` they only have to arrive."""
-        sender = rb'\d+' if self.sender is None else b'%d' % self.sender
-        for row, text in self.source.traces.packets(rb'%s \d+ \d+ .*\b%d@.*' % (sender, self.mote)):
-            words = text.split(' ')
-            if int(words[0]) > self.end:
+        for row, packet in self.source.traces.packets_to(self.mote, self.sender):
+            if packet.at > self.end:
                 return
-            if any(it.startswith('%d@' % self.mote) for it in words[4:]):
-                fate = fate_of(self.source, row, words, self.mote)
-                if fate.is_loss and not (self.kind == 'recv' and self.is_received(words)):
-                    yield words, row, fate
+            words = str(packet).split(' ')
+            fate = fate_of(self.source, row, words, self.mote)
+            if fate.is_loss and not (self.kind == 'recv' and self.is_received(words)):
+                yield words, row, fate
 
     def is_received(self, words: list[str]) -> bool:
         place = self.source.traces.arrivals(self.mote).get((int(words[1]), int(words[2])))

@@ -10,7 +10,7 @@ from typing import Any
 from motesim.faults import Fault
 from motesim.report.run import Run
 from motesim.why.chain import Explainer, cause_of, wait_of
-from motesim.replay.file import ScenarioFile
+from motesim.scenario.in_programs import ScenarioFile
 from motesim.why.source import At, Source
 
 # A page with more lines than this doesn't have their causes: the search for them would last longer than making the

@@ -15,7 +15,6 @@ from motesim.judge.hearing import hearing
 from motesim.judge.judge import Apart, Broken, Event, Judge, Row, Span, periods, within
 from motesim.judge.remarks import outcome_never
 from motesim.judge.sentences import Copies, Count, Does, Hears, Motes, Packets, Sentence, names_of, read_sentence
-from motesim.report import Report
 from motesim.why.fate import loss_of
 from motesim.why.source import At, Source, Traces
 
@@ -68,7 +67,7 @@ def line_asked(traces: Traces, question: str) -> At | None:
     if number:
         row = int(number[2])
         where = traces.at_row(row)
-        last = traces.medium_row - 1
+        last = traces.report.medium_row - 1
         if where is None:
             raise Unasked('line %d is in no trace: the traces have the lines 1 to %d of the report' % (row, last))
         if number[1] and int(number[1]) != where.mote:
@@ -101,7 +100,7 @@ class Asker:
 
     @cached_property
     def judge(self) -> Judge:
-        return Judge(Report.parse(self.traces.data), self.source.scenario)
+        return Judge(self.traces.report, self.source.scenario)
 
     def read(self, question: str) -> Sentence:
         return read_sentence(question, names_of(self.source.scenario))
@@ -125,14 +124,15 @@ class Asker:
     def of_medium(self, question: str) -> Asked | None:
         """The line that sent a packet, if a question is about the packet's line of the medium."""
         number = LINE.fullmatch(question)
-        text = self.traces.medium_line(int(number[2])) if number and number[1] is None else None
-        sent = self.sent(int(number[2])) if number and text else None
-        return Asked(sent, True, 'this line sent the packet of `%s`, in the log of the medium' % text) if sent else None
+        packet = self.traces.medium_line(int(number[2])) if number and number[1] is None else None
+        sent = self.traces.send_of(packet.sender, packet.number) if packet else None
+        said = 'this line sent the packet of `%s`, in the log of the medium' % str(packet)
+        return Asked(sent, True, said) if sent else None
 
     def sent(self, row: int) -> At | None:
         """The line that sent the packet of a line of the medium."""
-        words = (self.traces.medium_line(row) or '').split(' ')
-        return self.traces.send_of(int(words[1]), int(words[2])) if len(words) > 2 else None
+        packet = self.traces.medium_line(row)
+        return self.traces.send_of(packet.sender, packet.number) if packet else None
 
     def positive(self, question: str) -> str:
         """The sentence about a line that a question says isn't there, such as `mote 1 sends` for `mote 1 never sends`;
@@ -222,9 +222,8 @@ class Asker:
         """The reasons for which the medium lost the copies of the packet that a line sent."""
         if not isinstance(it, Copies) or it.outcome != 'lost':
             return ''
-        packet = int(self.traces.text(where).split(' ')[2])
-        _, text = self.traces.packet(where.mote, packet) or (0, '')
-        lost = [int(word.partition('@')[0]) for word in text.split(' ')[4:] if word.endswith('@lost')]
+        found = self.traces.packet(where.mote, int(self.traces.text(where).split(' ')[2]))
+        lost = [copy.to for copy in found[1].copies if copy.at is None] if found else []
         return '; '.join('the copy for mote %d: %s' % (to, loss_of(self.source, where.mote, to)) for to in lost
                          if it.motes is None or to in it.motes)
 

@@ -1,25 +1,23 @@
-"""The source for questions about a run: the report's bytes, and the scenario. A trace is parsed when it is needed."""
+"""The source for questions about a run: the report, and the scenario."""
 from __future__ import annotations
 
-import re
+from bisect import bisect_right
 from collections.abc import Iterator
+from itertools import compress, count
 from pathlib import Path
 from typing import NamedTuple
 
 from motesim.judge.expectations import fields_beside
 from motesim.report.belongs import check_scenario
 from motesim.faults import Fault
-from motesim.report import Report
+from motesim.report import Packet, Report
 from motesim.report.run import NoReport, is_scenario, read_file, refuse_others, run_program
 from motesim.scenario.encodings import decoded
 from motesim.scenario.scenario import Scenario
 from motesim.replay.endless import Endless, LastRun, endless
-from motesim.replay.file import ScenarioFile
+from motesim.scenario.in_programs import ScenarioFile
 from motesim.replay.mote import QUEUE, Replay
 from motesim.replay.translate import Program, translated
-
-HEAD = re.compile(rb'mote (\d+) ([A-Za-z0-9_-]{1,32})')
-
 
 class At(NamedTuple):
     """A line of a trace: the mote, and the place in its trace from 0. The place -1 is the head, `mote N PROGRAM`."""
@@ -28,85 +26,47 @@ class At(NamedTuple):
 
 
 class Traces:
-    """The traces and the log of the medium in a report's bytes."""
+    """The lines of a report's traces as texts, by their places."""
 
-    def __init__(self, data: bytes):
-        self.data = data
-        self.begins: list[int] = []
-        self.ends: list[int] = []
-        self.programs: list[str] = []
-        self.head_rows: list[int] = []
-        self.read_heads()
+    def __init__(self, report: Report):
+        self.report = report
+        self.programs = [it.program for it in report.motes]
         self.kept: dict[int, list[str]] = {}
         self.sends: dict[int, list[int]] = {}
         self.came: dict[int, dict[tuple[int, int], int]] = {}
         self.collided: dict[int, dict[str, list[int]]] = {}
 
-    def read_heads(self) -> None:
-        """The bounds of each trace. A text that is not a report raises the strict reader's error."""
-        data, at, row = self.data, 0, 1
-        while True:
-            end = data.find(b'\n', at)
-            head = HEAD.fullmatch(data, at, end)
-            if end < 0 or head is None or int(head[1]) != len(self.begins):
-                break
-            self.programs.append(head[2].decode('ascii'))
-            self.head_rows.append(row)
-            self.begins.append(end + 1)
-            following = data.find(b'\nmote ', end)
-            at = (data.find(b'\nmedium\n', end) if following < 0 else following) + 1
-            self.ends.append(at)
-            if not at:
-                break
-            row += data.count(b'\n', end, at)
-        self.medium_row = row
-        self.medium_begin = at + len(b'medium\n')
-        self.medium_end = data.rfind(b'\n', 0, len(data) - 1) + 1
-        if not (self.begins and data[at:self.medium_begin] == b'medium\n' and data.endswith(b'\n')
-                and data.startswith(b'left ', self.medium_end)):
-            Report.parse(data)
-            raise Fault('the report can\'t be read')
-
     @property
     def motes(self) -> int:
-        return len(self.begins)
+        return len(self.programs)
 
     def lines(self, mote: int) -> list[str]:
         """The lines of a mote's trace."""
         if mote not in self.kept:
-            text = self.data[self.begins[mote]:self.ends[mote]].decode('ascii', 'replace')
-            self.kept[mote] = text.split('\n')[:-1]
+            self.kept[mote] = list(map(str, self.report.motes[mote].lines))
         return self.kept[mote]
 
     def row(self, where: At) -> int:
         """The line of the report, counted from 1."""
-        return self.head_rows[where.mote] + 1 + where.place
+        return self.report.motes[where.mote].row + 1 + where.place
 
     def text(self, where: At) -> str:
-        if where.place < 0:
-            return 'mote %d %s' % (where.mote, self.programs[where.mote])
-        return self.lines(where.mote)[where.place]
+        return str(self.report.motes[where.mote]) if where.place < 0 else self.lines(where.mote)[where.place]
 
     def moment(self, where: At) -> int:
         return 0 if where.place < 0 else int(self.text(where).partition(' ')[0])
 
-    def medium_line(self, row: int) -> str | None:
+    def medium_line(self, row: int) -> Packet | None:
         """A line of the log of the medium, by its line of the report."""
-        packets = self.data.count(b'\n', self.medium_begin, self.medium_end)
-        if not self.medium_row < row <= self.medium_row + packets:
-            return None
-        begin = self.medium_begin
-        for _ in range(row - self.medium_row - 1):
-            begin = self.data.find(b'\n', begin) + 1
-        return self.data[begin:self.data.find(b'\n', begin)].decode('ascii', 'replace')
+        place = row - self.report.medium_row - 1
+        return self.report.log[place] if 0 <= place < len(self.report.log) else None
 
     def at_row(self, row: int) -> At | None:
         """The place of a line of the report; None for a line of the medium, or if there is no such line."""
-        for mote in range(self.motes):
-            last = self.head_rows[mote + 1] if mote + 1 < self.motes else self.medium_row
-            if self.head_rows[mote] <= row < last:
-                return At(mote, row - self.head_rows[mote] - 1)
-        return None
+        if not 0 < row < self.report.medium_row:
+            return None
+        mote = bisect_right(self.report.motes, row, key=lambda it: it.row) - 1
+        return At(mote, row - self.report.motes[mote].row - 1)
 
     def send_of(self, sender: int, number: int) -> At | None:
         """The line by which a mote sent a packet."""
@@ -138,26 +98,20 @@ class Traces:
                     found.setdefault(moment, []).append(place)
         return self.collided[mote].get(at, [])
 
-    def packets(self, pattern: bytes = rb'\d+ \d+ \d+.*') -> Iterator[tuple[int, str]]:
-        """The lines of the medium that have this pattern after the moment, each with its number in the report."""
-        row, counted = self.medium_row + 1, self.medium_begin
-        for it in re.compile(rb'^\d+ ' + pattern + rb'$', re.M).finditer(self.data, counted, self.medium_end):
-            row += self.data.count(b'\n', counted, it.start())
-            counted = it.start()
-            yield row, it[0].decode('ascii')
+    def packets_to(self, mote: int, sender: int | None) -> Iterator[tuple[int, Packet]]:
+        """The packets with a copy for a mote, each with its line of the report; if a sender is named, only its own."""
+        log = self.report.log
+        for copy in compress(count(), map(mote.__eq__, log.to)):
+            packet = bisect_right(log.first, copy) - 1
+            if sender in (None, log.sender[packet]):
+                yield self.report.medium_row + 1 + packet, log[packet]
 
-    def packet(self, sender: int, number: int) -> tuple[int, str] | None:
-        """The line of a packet in the log of the medium."""
-        mark = b' %d %d ' % (sender, number)
-        at = self.data.find(mark, self.medium_begin, self.medium_end)
-        while at >= 0:
-            begin = self.data.rfind(b'\n', 0, at) + 1
-            if b' ' not in self.data[begin:at]:
-                end = self.data.find(b'\n', at)
-                row = self.medium_row + 1 + self.data.count(b'\n', self.medium_begin, begin)
-                return row, self.data[begin:end].decode('ascii')
-            at = self.data.find(mark, at + 1, self.medium_end)
-        return None
+    def packet(self, sender: int, number: int) -> tuple[int, Packet] | None:
+        """The line of a packet in the log of the medium, and the packet."""
+        log = self.report.log
+        places = compress(count(), map(number.__eq__, log.number))
+        place = next((it for it in places if log.sender[it] == sender), None)
+        return None if place is None else (self.report.medium_row + 1 + place, log[place])
 
 
 class Source:
@@ -165,7 +119,7 @@ class Source:
 
     def __init__(self, name: str, data: bytes, scenario: Scenario, file: ScenarioFile | None = None):
         self.name, self.scenario, self.file = name, scenario, file
-        self.traces = Traces(data)
+        self.traces = Traces(Report.parse(data))
         self.replays: dict[int, Replay] = {}
         self.translated: dict[str, Program] = {}
         self.details: dict[str, Program] = {}
@@ -244,14 +198,6 @@ def read_traces(path: str | Path, scenario: str | Path | None = None) -> tuple[b
         raise Fault('%s: %s' % (scenario, fault)) from None
 
 
-def traces_of(path: str | Path, data: bytes) -> Traces:
-    """The traces in a report's bytes; a fault names the file."""
-    try:
-        return Traces(data)
-    except Fault as fault:
-        raise Fault('%s: %s' % (path, fault)) from None
-
-
 def scenario_file(path: str | Path) -> ScenarioFile | None:
     """A scenario's file, unless it is standard input, which can't be read twice."""
     return None if str(path) == '-' else ScenarioFile(Path(path).name, read_file(path).decode('utf-8'))
@@ -266,7 +212,7 @@ def read_source(path: str | Path, scenario: str | Path | None = None) -> Source:
     try:
         source = Source(str(path), data, found, scenario_file(path if scenario is None else scenario))
         if scenario is not None:
-            check_scenario(Report.parse(data), found)
+            check_scenario(source.traces.report, found)
         return source
     except Fault as fault:
         raise Fault('%s: %s' % (path, fault)) from None

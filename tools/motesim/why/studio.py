@@ -1,5 +1,5 @@
-"""The replies to the studio's questions about a run: the reason for a line, a mote's state, values over time, and the
-lines of a sentence."""
+"""The replies to the studio's questions about a run: the reason for a line, a mote's state, and the lines of a
+sentence."""
 from __future__ import annotations
 
 import threading
@@ -19,9 +19,8 @@ from motesim.why.question import Asked, Asker
 from motesim.why.source import At, Source
 from motesim.why.state import after_line, after_moment
 from motesim.why.state import as_json as state_as_json
-from motesim.why.watch import read_watch, replayed
 
-MOST_KEPT, MOST_LINES, MOST_VALUES = 4, 100_000, 20_000
+MOST_KEPT = 4
 Said = dict[str, Any]
 
 
@@ -48,8 +47,7 @@ class Causes:
 
     def answer(self, what: str, number: int, run: Run, asked: Said) -> Said:
         """Returns the answer to a question; if there is none, `said` has the reason."""
-        does = {'why': self.why, 'state': self.state, 'statement': self.statement, 'values': self.values,
-                'lines': self.lines}
+        does = {'why': self.why, 'state': self.state, 'statement': self.statement, 'lines': self.lines}
         with self.lock:
             try:
                 return does[what](self.source(number, run), asked)
@@ -103,18 +101,7 @@ class Causes:
             return {'statement': -1}
         return {'statement': program.place.above + program.statement(number).line - 1}
 
-    def values(self, source: Source, asked: Said) -> Said:
-        """The values of variables on all motes that have them: mote, line of the report, moment, name and value."""
-        if source.traces.medium_row > MOST_LINES:
-            raise Fault('the run has more than %d lines; tools/why --watch shows the values of some motes' %
-                        MOST_LINES)
-        motes, watched = read_watch(source, 'every mote %s' % asked.get('names', ''))
-        found = replayed(source, motes, watched)
-        return {'values': [[it.mote, it.row, it.at, it.variable, it.value] for it in found[:MOST_VALUES]],
-                'more': max(0, len(found) - MOST_VALUES)}
-
     def lines(self, source: Source, asked: Said) -> Said:
         """The lines that a sentence is about, in chronological order."""
         wanted = Filter(None, tuple(FIELDS), None, None, (0, None))
-        log = of_sentence(source, str(asked.get('sentence', '')), wanted)
-        return {'rows': [log.rows[place] for place in log.order]}
+        return {'rows': [row for _, _, row, _ in of_sentence(source, str(asked.get('sentence', '')), wanted)]}

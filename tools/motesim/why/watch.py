@@ -4,6 +4,7 @@ from __future__ import annotations
 import re
 from typing import Any, NamedTuple
 
+from motesim.cells import aligned
 from motesim.text import nearest
 from motesim.faults import Fault
 from motesim.why.source import At, Source
@@ -109,13 +110,10 @@ def in_order(values: list[Given]) -> list[Given]:
 
 def rows(values: list[Given]) -> list[str]:
     """The values as a table, by moment."""
-    table = [('moment', 'mote', 'line', 'variable', 'value')]
-    table += [(str(it.at), str(it.mote), str(it.row) if it.row else '-', '%s.%s' % (it.process, it.variable),
-               str(it.value)) for it in in_order(values)]
-    widths = [max(map(len, column)) for column in zip(*table)]
-    return ['%s %s %s  %s  %s' % (at.rjust(widths[0]), mote.rjust(widths[1]), row.rjust(widths[2]),
-                                  name.ljust(widths[3]), value.rjust(widths[4]))
-            for at, mote, row, name, value in table]
+    table = [('moment', 'mote', 'line', ' variable', ' value')]
+    table += [(str(it.at), str(it.mote), str(it.row) if it.row else '-', ' %s.%s' % (it.process, it.variable),
+               ' %d' % it.value) for it in in_order(values)]
+    return list(aligned(table, [3]))
 
 
 def as_json(values: list[Given]) -> list[dict[str, Any]]:

@@ -28,6 +28,8 @@ OF_SAFETY = re.compile(r'overflow_|nonzero_|(slice_|offset_)?bounds-|prove-|(ind
 OF_INVARIANT = re.compile(r'loop-|invariant_of-')
 # The notes of a check about a goal that `search` did not prove, with the words for them in the log.
 NOTES = {'allow values at which this goal is false': 'false', 'gave up at one of its limits': 'search gave up'}
+# The beginning of the goals if the harmless twin is accepted.
+TWIN_ACCEPTED = 'twin accepted; '
 # The line of a function that is proved; the note about a goal that is not; and an error about a goal of a contract that the edit removed.
 PROVED = re.compile(r'fn (\S+): proved$')
 NOT_PROVED = re.compile(r'note: .* it is not proved that .*\(`([^`]+)`\)')
@@ -51,9 +53,16 @@ class Verdict(NamedTuple):
 
 
 def function_of(name: str) -> str:
-    """The function in a name that a check prints: f in c::m::S::f, and in the closure c::m::fn::S::f::closure."""
-    _, is_closure, path = name.partition('::fn::')
-    return next(it for it in path.split('::') if it[0].islower()) if is_closure else name.split('::')[-1]
+    """The function in a name that a check prints: c::m::S::f, also for its closure c::m::fn::S::f::closure."""
+    around, is_closure, path = name.partition('::fn::')
+    parts = path.split('::')
+    end = next(at for at, it in enumerate(parts, 1) if it[0].islower()) if is_closure else 0
+    return '::'.join([around, *parts[:end]])
+
+
+def is_in(name: str, function: str | None) -> bool:
+    """Returns whether a check prints this name for a function, which the end of its path names."""
+    return function is not None and ('::' + function_of(name)).endswith('::' + function)
 
 
 def proof_folders(name: str) -> tuple[str, str]:
@@ -148,7 +157,7 @@ def refused_in(lines: Sequence[str], crate: Path) -> dict[str, Verdict]:
 
 def best(edit: Edit, refused: dict[str, Verdict]) -> Verdict:
     """The verdict on a mutant: the verdict on its function, or the best one if any function may be refused."""
-    found = [it for name, it in refused.items() if edit.function in (None, function_of(name))]
+    found = [it for name, it in refused.items() if edit.function is None or is_in(name, edit.function)]
     return min(found, key=lambda it: KINDS.index(it.kind), default=Verdict(NOT_REFUSED))
 
 
@@ -187,7 +196,9 @@ class Trial:
             return dict.fromkeys(group, Verdict(UNKNOWN, '', "the crate without an edit isn't proved"))
         found = self.verdicts_together(group, self.kept) if len(group) > 1 else {}
         found = {it: found.get(it) or self.verdict_alone(it, self.kept) for it in group}
-        return found | self.twins_refused([it for it in group if it.twin and found[it].kind == CONTRACT], self.kept)
+        with_twin = [it for it in group if it.twin and found[it].kind == CONTRACT]
+        accepted = {it: found[it]._replace(why=TWIN_ACCEPTED + found[it].why) for it in with_twin}
+        return found | accepted | self.twins_refused(with_twin, self.kept)
 
     def twins_refused(self, group: Sequence[Edit], kept: Path) -> dict[Edit, Verdict]:
         """The verdicts on those mutants whose harmless twin the prover doesn't accept: first all in one check."""
@@ -198,7 +209,7 @@ class Trial:
         proved = {function_of(it[1]) for it in map(PROVED.match, lines) if it} - refused
         found = {}
         for edit in group if status else ():
-            if edit.function not in proved:
+            if not any(is_in(it, edit.function) for it in proved):
                 lines, status, _ = self.check([edit], kept, twins=True)
                 if status:
                     found[edit] = best(edit, refused_in(lines, Path(self.crate.folder)))._replace(kind=TWIN)

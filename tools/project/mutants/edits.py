@@ -12,15 +12,16 @@ from project.kit import Crate, edited
 
 FOLDERS = ('must-fail', 'gate-bodies', 'wrong-bodies')
 # The most mutants that one check judges.
-MOST = 12
+MOST = 30
 TWIN = re.compile(r'(?m)^new: .*\ntwin: ')
+IMPL = re.compile(r'impl(?:<.*?>)? (\w+)(?:<.*>)? \{')
 HEAD = re.compile(r'( *)(?:pub(?:\([\w ]+\))? |const |unsafe |extern "C" )*fn (\w+)')
 
 
 @dataclass(frozen=True, eq=False)
 class Edit:
-    """A mutant: its crate and its file; the name of the function that has to be refused, None if any may be; whether a
-    check may judge it together with others; the reason if it can't be applied; and the file's text."""
+    """A mutant: its crate and its file; the function that has to be refused, by the end of its path, None if any may
+    be; whether a check may judge it together with others; the reason if it can't be applied; and the file's text."""
     crate: Crate
     file: Path
     function: str | None
@@ -52,8 +53,17 @@ def body_of(lines: Sequence[str], at: int, indent: str) -> range:
     return range(opening + 1, next((it for it in range(opening, len(lines)) if lines[it] == indent + '}'), opening))
 
 
-def function_around(old: str, new: str) -> str | None:
-    """The name of the function whose body contains all differences of two texts."""
+def path_of(lines: Sequence[str], at: int, head: re.Match[str], file: Path) -> str:
+    """TYPE::NAME or MODULE::NAME of the function whose head is at this line, or NAME in a trait, or in the root."""
+    if head[1]:
+        opening = next((it for it in reversed(lines[:at]) if it and not it.startswith(' ')), '')
+        found = IMPL.match(opening)
+        return '%s::%s' % (found[1], head[2]) if found else head[2]
+    return head[2] if file.stem in ('lib', 'main') else '%s::%s' % (file.stem, head[2])
+
+
+def function_around(old: str, new: str, file: Path) -> str | None:
+    """The function whose body contains all differences of two texts of a file."""
     lines = old.split('\n')
     first = os.path.commonprefix([old, new]).count('\n')
     last = max(first, old.count('\n') - os.path.commonprefix([old[::-1], new[::-1]]).count('\n'))
@@ -61,23 +71,25 @@ def function_around(old: str, new: str) -> str | None:
         head = HEAD.match(lines[at])
         body = body_of(lines, at, head[1]) if head else []
         if head and first in body and last in body:
-            return head[2]
+            return path_of(lines, at, head, file)
     return None
 
 
 def read(file: Path, crate: Crate, functions: Counter[str], modules: set[str]) -> Edit:
     """Reads the edit of a mutant. A line `refused: FUNCTION` names the function if more than its body changes. A check
-    may judge it with others if it changes only one body, no other function has the same name, and it changes no module
-    in another file (a check of functions by name would also check those of that module)."""
+    may judge it with others if it changes only one body, and the path of the function is known, or no other function
+    or module has its name (a check of functions by name would also check those)."""
     text = file.read_text('utf-8')
     texts, trouble = edited(text, crate.folder)
     if not trouble and TWIN.search(text):
         trouble = edited(TWIN.sub('new: ', text), crate.folder)[1]
-    around = [function_around(Path(crate.folder, path).read_text('utf-8'), new) for path, new in texts.items()]
+    around = [function_around(Path(crate.folder, path).read_text('utf-8'), new, Path(path))
+              for path, new in texts.items()]
     named = re.findall(r'(?m)^refused: (?:\S*::)?(\w+)$', text)
     function = around[0] if len(around) == 1 else None
     in_module = function is None or any(Path(path).stem == function for path in texts)
-    may_share = function is not None and functions[function] == 1 and (in_module or function not in modules)
+    is_alone = function is not None and functions[function] == 1 and (in_module or function not in modules)
+    may_share = function is not None and ('::' in function or is_alone)
     return Edit(crate, file, function or (named[0] if named else None), may_share, trouble, text)
 
 

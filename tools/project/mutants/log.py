@@ -1,12 +1,21 @@
 """The last verdict on each mutant, with a digest of the texts: docs/proof/wrong_bodies.tsv.
 
 A line has the mutant, the day, the verdict, the refused function, the goals or the error for which it was refused, and
-a digest of everything on which the verdict depends: the mutant, its crate, the crates below with their proofs, the
-lines of these crates in crates.txt, the code that judges, and the kit. In the crates, lines that have only a comment
-don't count; in the code that judges, which is in Python, they do.
+a digest of everything on which the verdict depends:
+
+- the mutant, without its remarks;
+- its crate;
+- of the crates below everything but the bodies of functions, and the proofs that these bodies need, because a function
+  is proved from its own body and from the contracts of the functions that it calls;
+- the lines of these crates in crates.txt;
+- the code that judges;
+- the logic of the kit.
+
+Comments and docstrings never count.
 """
 from __future__ import annotations
 
+import ast
 import hashlib
 import re
 import time
@@ -17,15 +26,17 @@ from typing import NamedTuple
 
 from project.kit import Crate, version
 from project.mutants.checks import CONTRACT, OPEN, Verdict
-from project.mutants.edits import Edit
+from project.mutants.edits import HEAD, Edit, body_of
 from motesim.runner.programs import ALL_PARTS, TOP
 
 KEPT = TOP / 'docs/proof/wrong_bodies.tsv'
-HEAD = '# written by tools/dev/wrong_bodies: mutant, day, what it came to, function, goals or error, digest\n'
-# The code that judges.
-JUDGES = 'kit.py', 'mutants/checks.py', 'mutants/edits.py'
+HEAD_LINE = '# written by tools/dev/wrong_bodies: mutant, day, what it came to, function, goals or error, digest\n'
+# The code that judges: these modules, and what they import from project.kit.
+JUDGES = 'mutants/checks.py', 'mutants/edits.py'
 # The beginnings of lines that have only a comment, by the ending of the file.
-COMMENTS = {'.rt': b'//', '.antt': b'--'}
+COMMENTS = {'.rt': '//', '.antt': '--', '.edit': '#'}
+# The files of proofs that belong to a body.
+OF_BODIES = 'Answers.antt', 'Invariants.antt', 'Proof.antt'
 MOST_LETTERS = 100
 
 
@@ -36,20 +47,52 @@ class Tried(NamedTuple):
     digest: str
 
 
-def without_comments(path: Path) -> bytes:
-    mark = COMMENTS.get(path.suffix)
-    return b'\n'.join(it for it in path.read_bytes().split(b'\n') if not (mark and it.lstrip().startswith(mark)))
+def without_comments(file: Path) -> list[str]:
+    """The lines of a file without those that have only a comment."""
+    mark = COMMENTS.get(file.suffix)
+    return [it for it in file.read_text('utf-8').split('\n') if not (mark and it.lstrip().startswith(mark))]
+
+
+def without_bodies(lines: list[str]) -> list[str]:
+    """The lines of a source without the bodies of functions. (A constant may need the body of a `const fn`.)"""
+    skipped: set[int] = set()
+    for at, line in enumerate(lines):
+        if (head := HEAD.match(line)) and 'const ' not in line:
+            body = body_of(lines, at, head[1])
+            # (a function of a trait that has no body ends with a semicolon)
+            skipped |= set() if any(it.endswith(';') for it in lines[at:body.start]) else {*body}
+    return [it for at, it in enumerate(lines) if at not in skipped]
 
 
 @cache
-def sum_of(folder: Path, parts: Iterable[str]) -> bytes:
-    """A digest of these parts of a folder."""
+def sum_of(folder: Path, is_below: bool) -> bytes:
+    """A digest of a crate: of the whole, or of what can change a verdict on a mutant of a crate above it."""
     found = hashlib.sha256()
-    for path in sorted(it for part in parts for it in [folder / part, *(folder / part).rglob('*')]):
-        if path.is_file() and '__pycache__' not in path.parts:
-            name, text = str(path.relative_to(folder)).encode(), hashlib.sha256(without_comments(path)).digest()
-            found.update(b'%s %s\n' % (name, text))
+    for path in sorted(it for part in ALL_PARTS for it in (folder / part).rglob('*')):
+        if path.is_file() and not (is_below and path.name in OF_BODIES):
+            lines = without_comments(path)
+            lines = without_bodies(lines) if is_below and path.suffix == '.rt' else lines
+            text = hashlib.sha256('\n'.join(lines).encode()).digest()
+            found.update(b'%s %s\n' % (str(path.relative_to(folder)).encode(), text))
     return found.digest()
+
+
+def code_of(file: Path, names: Iterable[str] = ()) -> str:
+    """The code of a module, or of these functions in it, without comments and docstrings."""
+    tree = ast.parse(file.read_text('utf-8'))
+    for it in ast.walk(tree):
+        if isinstance(it, (ast.Module, ast.ClassDef, ast.FunctionDef)) and ast.get_docstring(it) is not None:
+            del it.body[0]
+    tree.body = [it for it in tree.body if not names or getattr(it, 'name', '') in names]
+    return ast.unparse(tree)
+
+
+@cache
+def judging_code(folder: Path) -> bytes:
+    """The code that judges, with the functions of kit.py that it imports."""
+    texts = [code_of(folder / it) for it in JUDGES]
+    names = re.findall(r'\w+', ' '.join(re.findall(r'from project\.kit import (.*)', '\n'.join(texts))))
+    return '\n'.join([*texts, code_of(folder / 'kit.py', names)]).encode()
 
 
 def lines_of(crates: Iterable[Crate], top: Path) -> bytes:
@@ -62,11 +105,11 @@ def lines_of(crates: Iterable[Crate], top: Path) -> bytes:
 @cache
 def digest(edit: Edit, top: Path = TOP) -> str:
     """A digest of a mutant and of everything on which its verdict depends."""
-    crates = [edit.crate, *sorted(edit.crate.below(), key=lambda it: it.name)]
-    found = hashlib.sha256(edit.file.read_bytes() + version().encode())
-    for it in crates:
-        found.update(it.name.encode() + sum_of(Path(it.folder), ALL_PARTS))
-    found.update(lines_of(crates, top) + sum_of(top / 'tools/project', JUDGES))
+    below = sorted(edit.crate.below(), key=lambda it: it.name)
+    found = hashlib.sha256('\n'.join(without_comments(edit.file)).encode() + version().partition(' ')[2].encode())
+    for it in [edit.crate, *below]:
+        found.update(it.name.encode() + sum_of(Path(it.folder), it is not edit.crate))
+    found.update(lines_of([edit.crate, *below], top) + judging_code(top / 'tools/project'))
     return found.hexdigest()[:16]
 
 
@@ -92,4 +135,4 @@ def note(found: Mapping[Edit, Verdict], edits: Iterable[Edit]) -> None:
     rows = ['\t'.join([name, day, kind, function, ' '.join(why[:MOST_LETTERS].split()), digest]) + '\n'
             for name, (day, (kind, function, why), digest) in sorted(kept.items())]
     KEPT.parent.mkdir(exist_ok=True)
-    KEPT.write_text(HEAD + ''.join(rows), 'utf-8')
+    KEPT.write_text(HEAD_LINE + ''.join(rows), 'utf-8')

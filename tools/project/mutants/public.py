@@ -11,13 +11,15 @@ from pathlib import Path
 
 from motesim.runner.programs import TOP
 from project.mutants import log
-from project.mutants.checks import CONTRACT
-from project.mutants.edits import FOLDERS, TWIN
+from project.mutants.checks import CONTRACT, TWIN_ACCEPTED
 
 LISTED = TOP / 'docs/proof/without_mutants.tsv'
+# The reasons: there is no wrong body; the prover alone can accept no twin; and nobody has written one that binds.
+REASONS = ONE_VALUE, BY_HAND, OPEN = 'one value fits', 'proved by hand', 'open'
 HEAD_LINE = '# public functions without a mutant that shows that the promise binds: function, reason\n'
 EXPORTS = re.compile(r'(?m)^pub use [\w:]+?::(?:\{([^}]*)\}|(\w+));')
 HEAD = re.compile(r'( *)pub (?:const )?fn (\w+)')
+TYPE = re.compile(r'(?m)^pub (?:struct|enum) (\w+)')
 IMPL = re.compile(r'impl(?:<.*?>)? (\w+)(?:<.*>)? \{')
 
 
@@ -25,8 +27,8 @@ def is_of_tests(crate: Path) -> bool:
     return crate.name.startswith('test_') or crate.name.endswith('_tests')
 
 
-def promises(file: Path, exported: set[str]) -> Iterator[str]:
-    """The exported functions in a file that have a clause and a body, as TYPE::NAME or NAME."""
+def promises(file: Path, exported: set[str]) -> Iterator[tuple[str, str]]:
+    """The exported functions in a file that have a clause and a body: the type, '' if there is none, and the name."""
     lines, type_of = file.read_text('utf-8').split('\n'), ''
     for at, line in enumerate(lines):
         if line.startswith(('impl', '}')):
@@ -39,26 +41,29 @@ def promises(file: Path, exported: set[str]) -> Iterator[str]:
             is_empty = lines[end].endswith('{}') or lines[end + 1] == head[1] + '}'
             is_promise = not is_empty and any(it.lstrip().startswith('ensures ') for it in lines[at:end + 1])
             if is_promise and (type_of or head[2]) in exported:
-                yield '::'.join(filter(None, [type_of, head[2]]))
+                yield type_of, head[2]
 
 
 def public_functions(top: Path = TOP) -> set[str]:
-    """The public functions that make a promise, as CRATE::MODULE::TYPE::NAME, without laws."""
+    """The public functions that make a promise, as CRATE::MODULE::NAME, without laws. For a function of a type the
+    module is that in which the type is declared."""
     found = set()
     for root in (it for it in sorted(top.glob('crates/*/src/lib.rt')) if not is_of_tests(it.parents[1])):
         names = {it.strip() for both in EXPORTS.findall(root.read_text('utf-8')) for it in ','.join(both).split(',')}
-        for file in (it for it in root.parent.rglob('*.rt') if it.stem != 'laws'):
-            place = [root.parents[1].name, *file.relative_to(root.parent).with_suffix('').parts]
-            found |= {'::'.join([*place, it]) for it in promises(file, names)}
+        modules = {it: '::'.join(it.relative_to(root.parent).with_suffix('').parts) for it in root.parent.rglob('*.rt')}
+        of_types = {name: module for it, module in modules.items() for name in TYPE.findall(it.read_text('utf-8'))}
+        for file, module in modules.items():
+            for type_of, name in promises(file, names) if file.stem != 'laws' else ():
+                place = [of_types.get(type_of, module), type_of, name]
+                found.add('::'.join([root.parents[1].name, *filter(None, place)]))
     return found
 
 
 def with_evidence() -> set[str]:
-    """The functions with a mutant of kind `contract` that has a false goal, or a harmless twin."""
-    files = {'%s/%s' % (it.parents[1].name, it.stem): it
-             for folder in FOLDERS for it in TOP.glob('crates/*/%s/*.edit' % folder)}
-    return {it.verdict.function for name, it in log.noted().items() if it.verdict.kind == CONTRACT and name in files
-            and ('(false)' in it.verdict.why or TWIN.search(files[name].read_text('utf-8')))}
+    """The functions with a mutant that was refused for a goal of a contract that is false, or that has a harmless twin
+    which was accepted."""
+    return {it.verdict.function for it in log.noted().values() if it.verdict.kind == CONTRACT
+            and ('(false)' in it.verdict.why or it.verdict.why.startswith(TWIN_ACCEPTED))}
 
 
 def listed() -> dict[str, str]:
@@ -67,10 +72,23 @@ def listed() -> dict[str, str]:
     return dict(it.split('\t') for it in rows if not it.startswith('#'))
 
 
+def is_by_hand(function: str, top: Path = TOP) -> bool:
+    """Returns whether goals of a function's contract are proved by hand."""
+    crate, *place = function.split('::')
+    answers = top.joinpath('crates', crate, 'proofs', *place, 'Answers.antt')
+    return answers.is_file() and 'goal.returns' in answers.read_text('utf-8')
+
+
+def reason(function: str, known: str | None) -> str:
+    """The reason why a function has no such mutant, by that which the list has."""
+    return ONE_VALUE if known == ONE_VALUE else BY_HAND if is_by_hand(function) else OPEN
+
+
 def note() -> None:
-    """Deletes the listed functions that have such a mutant now, or are gone, and lists the others as open."""
+    """Deletes the listed functions that have such a mutant now, or are gone, and lists the others."""
     lacking, known = public_functions() - with_evidence(), listed()
-    LISTED.write_text(HEAD_LINE + ''.join('%s\t%s\n' % (it, known.get(it, 'open')) for it in sorted(lacking)), 'utf-8')
+    rows = ('%s\t%s\n' % (it, reason(it, known.get(it))) for it in sorted(lacking))
+    LISTED.write_text(HEAD_LINE + ''.join(rows), 'utf-8')
 
 
 if __name__ == '__main__':

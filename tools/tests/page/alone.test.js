@@ -1,19 +1,16 @@
-// The page without a server: the same columns, sums, differences and edits as the tools have.
+// The page without a server: the same columns, fates, sums and differences as the tools have.
 import assert from 'node:assert/strict';
 import {test} from 'node:test';
-import {applied} from '../../motesim/studio/page/text.js';
 import {Run} from '../../motesim/timeline/page/data.js';
 import {indexRun} from '../../motesim/timeline/page/index.js';
-import {chainOf} from '../../motesim/web/page/chain.js';
+import {chainOf} from '../../motesim/timeline/page/causes.js';
 import {difference} from '../../motesim/web/page/diff.js';
-import {Refused} from '../../motesim/timeline/page/stage.js';
-import {edit} from '../../motesim/web/page/edits.js';
 import {columnsOf, lastMoment} from '../../motesim/web/page/report.js';
 import {scenarioOf} from '../../motesim/web/page/scenario.js';
 import {packed, unpackedText} from '../../motesim/web/page/share.js';
-import {sums} from '../../motesim/web/page/sums.js';
+import {sums} from '../../motesim/timeline/page/sums.js';
 import {readToml} from '../../motesim/web/page/toml.js';
-import {given} from './data.js';
+import {given, sameFates} from './data.js';
 
 async function runOf({name, report, scenario}) {
   const {table, buffer} = columnsOf(report), run = new Run({name, ...table, ...scenarioOf(scenario)}, buffer);
@@ -43,7 +40,8 @@ for (const it of given.alone.runs) {
     for (const [name, value] of Object.entries(it.table)) assert.deepEqual(run[name], value, name);
     const ours = sums(run);
     near(ours.motes, it.sums.motes, it.name);
-    near(ours.links.slice(0, it.sums.links.length), it.sums.links, it.name);
+    near(ours.links, it.sums.links, it.name);
+    sameFates(run, it.outcomes);
   });
 }
 
@@ -55,21 +53,9 @@ for (const {name, one, other, found} of given.alone.differences) {
     const {at, mote, index, inMedium, sides} = ours.first;
     assert.deepEqual({at, mote, index, inMedium}, {at: found.first.at, mote: found.first.mote, index: found.first.index,
       inMedium: found.first.inMedium});
-    assert.deepEqual(sides.map(side => side.text), found.first.sides.map(side => side.text));
+    assert.deepEqual(sides.map(side => side.text), found.first.sides);
   });
 }
-
-test('the same edits', () => {
-  assert.ok(given.alone.edits.length > 100);
-  for (const {text, wish, edited, said} of given.alone.edits) {
-    if (edited === null) {
-      assert.throws(() => edit(text, wish), Refused);
-      continue;
-    }
-    const made = edit(text, wish);
-    assert.deepEqual([applied(text, made.changes), made.said], [edited, said], JSON.stringify(wish));
-  }
-});
 
 test('the same values of each scenario', () => {
   for (const {name, text, tables} of given.alone.texts) assert.deepEqual(readToml(text).tables, tables, name);
@@ -77,7 +63,7 @@ test('the same values of each scenario', () => {
 
 test('a chain of causes ends at the timer that began the wave', async () => {
   const run = await runOf(given.alone.runs.find(it => it.name === 'flooding'));
-  const line = run.prints[24][0], {hops} = chainOf(run, line);
+  const line = run.prints[24][0], {hops} = await chainOf(run, line);
   assert.equal(hops[0].words, 'print flood 1');
   const last = hops[hops.length - 1];
   assert.deepEqual([last.mote, last.at, last.because], [0, 40, 'a timer had come to its end']);

@@ -1,4 +1,5 @@
 // The runs that test_page_modules.py writes for these tests, and words of the notation.
+import assert from 'node:assert/strict';
 import {readFileSync} from 'node:fs';
 import {Run, unpacked} from '../../motesim/timeline/page/data.js';
 import {indexRun} from '../../motesim/timeline/page/index.js';
@@ -13,4 +14,12 @@ export async function runOf(name) {
   const run = new Run(table, await unpacked(columns));
   await indexRun(run);
   return run;
+}
+
+const FATES = {received: [0, 1, 2, 8], overflowed: [3], collided: [4], lost: [5], halted: [6], left: [7]};
+
+/** The copies of a run have the fates that the Python package found. */
+export function sameFates(run, outcomes) {
+  assert.equal(run.copyFate.length, outcomes.length);
+  outcomes.forEach((what, c) => assert.ok(FATES[what].includes(run.copyFate[c]), `copy ${c}`));
 }

@@ -3,7 +3,7 @@ import assert from 'node:assert/strict';
 import {test} from 'node:test';
 import {KINDS, lowerBound} from '../../motesim/timeline/page/data.js';
 import {findHearers} from '../../motesim/timeline/page/index.js';
-import {given, names, runOf} from './data.js';
+import {given, names, runOf, sameFates} from './data.js';
 
 for (const name of names) {
   test(`${name}: the rows of the report come back`, async () => {
@@ -30,10 +30,7 @@ for (const name of names) {
   });
 
   test(`${name}: copies have the fates of the report`, async () => {
-    const run = await runOf(name), words = {received: [0, 1, 2, 8], overflowed: [3], collided: [4], lost: [5], halted: [6],
-      left: [7]};
-    assert.equal(run.copyFate.length, given.runs[name].outcomes.length);
-    given.runs[name].outcomes.forEach((what, c) => assert.ok(words[what].includes(run.copyFate[c]), `copy ${c}`));
+    sameFates(await runOf(name), given.runs[name].outcomes);
   });
 }
 

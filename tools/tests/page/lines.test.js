@@ -2,11 +2,10 @@
 import assert from 'node:assert/strict';
 import {test} from 'node:test';
 import {isCall, nextLine, nextMoment, orderOf, placeOf, placesOf, stateAfter
-  } from '../../motesim/studio/page/chronology.js';
-import {searchesOf} from '../../motesim/studio/page/stops.js';
+  } from '../../motesim/timeline/page/chronology.js';
+import {searchesOf} from '../../motesim/timeline/page/stops.js';
 import {findLines} from '../../motesim/timeline/page/query.js';
-import {intervalOf, seriesOf} from '../../motesim/timeline/page/series.js';
-import {given, names, runOf} from './data.js';
+import {names, runOf} from './data.js';
 
 test('all words of a search fit a line', async () => {
   const run = await runOf('small_network'), found = words => findLines(run, words.split(' '))[0];
@@ -66,13 +65,4 @@ test('the state of a mote is what its lines have said so far', async () => {
   assert.equal(state.running, first);
   const taken = nextLine(run, first, 1, line => run.text(line).startsWith('2 take 0'));
   assert.equal(stateAfter(run, 0, taken).running, taken);
-});
-
-test('intervals have the values of tools/summary --by', async () => {
-  const {name, by, rows} = given.series, run = await runOf(name), its = seriesOf(run, by);
-  for (const column of ['sent', 'received', 'lost', 'overflowed', 'collided', 'halted', 'left', 'queue']) {
-    assert.deepEqual(Array.from(its[column]), rows.map(row => row[column]), column);
-  }
-  assert.equal(intervalOf({end: 59}), 1);
-  assert.equal(intervalOf({end: 1000}), 20);
 });

@@ -3,7 +3,7 @@ import {readdirSync} from 'node:fs';
 import {test} from 'node:test';
 
 const FOLDERS = ['timeline', 'studio', 'web'].map(name => `../../motesim/${name}/page/`);
-const OPENING = ['open.js', 'studio.js', 'web.js', 'worker.js'];
+const OPENING = ['open.js', 'studio.js', 'lone.js', 'worker.js'];
 
 for (const folder of FOLDERS) {
   for (const name of readdirSync(new URL(folder, import.meta.url))) {

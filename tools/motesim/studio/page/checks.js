@@ -1,35 +1,35 @@
 // @ts-check
-// Warnings, the sentences that hold or don't, and the sums of a run.
+// Warnings, and the sentences that hold or don't.
 import {byId, element, makeButton} from '../../timeline/page/dom.js';
 import {chooseRow} from '../../timeline/page/rows.js';
 import {page} from '../../timeline/page/stage.js';
-import {showTab} from '../../timeline/page/tabs.js';
-import {count} from '../../timeline/page/words.js';
-import {labelTab, markEarlier} from './tabs.js';
-import {fillSums} from './totals.js';
+import {goTo} from '../../web/page/web.js';
 import {askQuestion} from './whys.js';
+
+/** @param {string} id @param {string} words @param {string} className */
+export function labelTab(id, words, className = '') {
+  Object.assign(byId(`tab-${id}`), {textContent: words, className});
+}
+
+/** Marks what is shown in a panel as the results of an earlier text. */
+export function markEarlier(box) {
+  if (!box.childNodes.length || box.classList.contains('earlier')) return;
+  box.classList.add('earlier');
+  box.prepend(Object.assign(element('p', 'These results are of an earlier text.'), {className: 'of-earlier'}));
+}
 
 /** Shows warnings about what is legal but probably not meant. A click leads to its place. */
 function showWarnings(warnings) {
-  const box = byId('warnings');
-  box.hidden = !warnings.length;
-  box.replaceChildren(...warnings.map(({name, text, place}) => makeButton(`Warning (${name}): ${text}.`, () => {
-    if (place) page.studio.editor.goTo(place[0], place[1], place[2] - place[1]);
-  })));
-  page.studio.editor.refresh();
-}
-
-/** Marks the results as those of an earlier text, until those of the present one are there. */
-function outdateChecks() {
-  labelTab('checks', 'Checks');
-  for (const box of [byId('checks'), byId('sums')]) if (box.querySelector('li, table')) markEarlier(box);
+  byId('warnings').hidden = !warnings.length;
+  byId('warnings').replaceChildren(...warnings.map(({name, text, place}) =>
+    makeButton(`Warning (${name}): ${text}.`, () => { if (place) goTo(...place); })));
 }
 
 function showChecks(checks) {
   const box = byId('checks');
   box.classList.remove('earlier');
+  labelTab('checks', 'Checks');
   if (!checks) {
-    labelTab('checks', 'Checks');
     box.replaceChildren(element('p', 'There are no expectations for this scenario. Write some, such as "mote 6 ' +
       'prints flood 1 by 60" into a file NAME.expect.toml next to NAME.toml: they are checked here after each run.'));
     return;
@@ -46,43 +46,25 @@ function showChecks(checks) {
     element('ul', '', checks.marks.map(checkItem)));
 }
 
+/** A sentence. A click on a broken one shows the line that breaks it, or how near the run came. */
 function checkItem(it) {
   const sign = Object.assign(element('span', it.holds ? '✓' : '✗'), {className: 'sign'});
   sign.setAttribute('aria-label', it.holds ? 'holds' : 'broken');
-  const inside = element('div');
-  if (it.row) {
-    const button = makeButton(it.sentence, () => {
-      chooseRow(page.panes[0], it.row);
-      showTab('chosen');
-    });
-    button.title = 'Show the line that breaks it';
-    inside.append(button);
-  } else if (it.holds) inside.append(element('span', it.sentence));
-  else {
-    const button = makeButton(it.sentence, () => askQuestion(it.sentence));
-    button.title = 'Show how near the run came';
-    inside.append(button);
-  }
-  if (it.required) inside.append(' (required)');
+  const words = it.holds && !it.row ? element('span', it.sentence) :
+    makeButton(it.sentence, () => it.row ? chooseRow(page.panes[0], it.row) : askQuestion(it.sentence));
+  const inside = element('div', '', [words, it.required ? ' (required)' : '']);
   const why = [...(it.holds ? [] : it.more), ...(it.remark ? [it.remark] : [])].join('\n');
   if (why) inside.append(Object.assign(element('span', why), {className: 'why'}));
-  const item = element('li', '', [sign, inside]);
-  item.className = it.holds ? 'holds' : 'broken';
-  return item;
-}
-
-function showSums(sums) {
-  const box = byId('sums');
-  box.classList.remove('earlier');
-  fillSums(box, sums);
-  if (sums.more) box.append(element('p', `${count(sums.more, 'link')} more: tools/summary shows them.`));
+  return Object.assign(element('li', '', [sign, inside]), {className: it.holds ? 'holds' : 'broken'});
 }
 
 /** Shows the results of runs from now on. */
 export function beginChecks() {
-  page.reactions.outdated.push(outdateChecks);
-  page.reactions.judged.push(({sums, warnings, checks}) => {
-    showSums(sums);
+  page.reactions.outdated.push(() => {
+    labelTab('checks', 'Checks');
+    markEarlier(byId('checks'));
+  });
+  page.reactions.judged.push(({warnings, checks}) => {
     showWarnings(warnings);
     showChecks(checks);
   });

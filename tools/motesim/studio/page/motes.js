@@ -7,6 +7,7 @@ import {colours, path, stroke} from '../../timeline/page/forms.js';
 import {delayOf, findHearers} from '../../timeline/page/index.js';
 import {page, Refused} from '../../timeline/page/stage.js';
 import {count} from '../../timeline/page/words.js';
+import {edit} from '../../web/page/edits.js';
 
 /** Moves the motes back to the places that they have in the run. */
 function restoreMotes() {
@@ -50,8 +51,8 @@ const groundEdits = {
     const map = page.maps[0];
     if (page.ground.adding) {
       setAdding(false);
-      const [toX, toY] = map.placeAt(x, y);
-      page.edit({what: 'add', x: toX, y: toY, program: programNear(map, x, y)});
+      const [toX, toY] = map.placeAt(x, y), {run} = map;
+      page.edit({what: 'add', x: toX, y: toY, program: run.programs[run.begins[map.moteNear(x, y, Infinity)]]});
       return true;
     }
     if (mote >= 0) return false;
@@ -60,22 +61,8 @@ const groundEdits = {
   },
 };
 
-/** The program of the nearest mote. */
-function programNear(map, x, y) {
-  const {run} = map;
-  let best = Infinity, found = 0;
-  for (let m = 0; m < run.begins.length; m++) {
-    const away = Math.hypot(map.x(m) - x, map.y(m) - y);
-    if (away < best) {
-      best = away;
-      found = m;
-    }
-  }
-  return run.programs[run.begins[found]];
-}
-
 /** Waits for the place of a new mote, or stops waiting. */
-export function setAdding(isAdding) {
+function setAdding(isAdding) {
   page.ground.adding = isAdding;
   byId('add').setAttribute('aria-pressed', String(isAdding));
   page.maps[0].canvas.style.cursor = isAdding ? 'crosshair' : '';
@@ -98,7 +85,7 @@ function showWay(way) {
 }
 
 function wayOf(run, s, r) {
-  const every = run.lossOf.get(s * 65536 + r), lost = run.troubled.get(s * 65536 + r), box = element('p');
+  const every = run.lossOf.get(s * 65536 + r), box = element('p');
   const input = Object.assign(element('input'), {type: 'number', min: 0, max: 1000000, value: every || '',
     placeholder: 'none'});
   const label = element('label', '', ['loses 1 in ', input]);
@@ -107,8 +94,6 @@ function wayOf(run, s, r) {
   input.addEventListener('change',
     () => page.edit({what: 'lose', from: s, to: r, every: Math.floor(Number(input.value)) || 0}));
   box.append(`${s} → ${r}: ${count(delayOf(run, s, r), 'moment')}, `, label);
-  if (lost) box.append(element('br'), [['lost', 0], ['collided', 1], ['found no room', 2]].filter(([, i]) => lost[i])
-    .map(([name, i]) => `${lost[i]} ${name}`).join(', ') + ' in this run');
   return box;
 }
 
@@ -148,17 +133,15 @@ function nameRemove() {
  * there are none.
  * @param {() => string} textOf @param {(changes: any[]) => void} apply @param {(words: string) => void} refuse */
 export function beginMotes(textOf, apply, refuse) {
-  page.edit = async wish => {
-    const text = textOf();
+  page.edit = wish => {
     try {
-      const {changes, said} = await page.backend.edit({text, edit: wish});
-      if (textOf() !== text) throw new Refused('The text was changed meanwhile. Do it again.');
+      const {changes, said} = edit(textOf(), wish);
       byId('map-said').textContent = said;
       if (changes.length) apply(changes);
     } catch (fault) {
       if (!(fault instanceof Refused)) throw fault;
       restoreMotes();
-      if (fault.message) refuse(fault.message);
+      refuse(fault.message);
     }
   };
   page.followers.push(nameRemove);

@@ -1,13 +1,8 @@
 // @ts-check
-// The colours of a scenario's text: TOML by the editor's own mode, and the notation of programs in its strings. A
-// statement has the colour of its marks on the lanes.
+// The colours of the notation of programs. A statement has the colour of its marks on the lanes.
 
-// The editor's knowledge of programs, and of the tables around them.
-const PROGRAM = {lineComment: '//', electricInput: /^\s*\}$/}, TABLES = {lineComment: '#'};
-
-/** The tokens of programs. `colours` has the words of each colour, `naming` those in front of a name.
-
-    The result takes a stream and a state {quote, before, depth}, as CodeMirror's modes do, and returns a colour. */
+/** The tokens of programs. `colours` has the words of each colour, `naming` those in front of a name. The
+    result takes a stream and a state {quote, before, depth}, and returns a colour. */
 export function notationTokens({colours, naming}) {
   const colourOf = new Map(Object.entries(colours).flatMap(([colour, words]) => words.map(word => [word, colour])));
   return (stream, state) => {
@@ -34,36 +29,4 @@ function comment(stream, state) {
   if (state.quote.length > 1) stream.skipToEnd();
   else while (!stream.eol() && stream.peek() !== state.quote) stream.next();
   return 'comment';
-}
-
-/** Defines CodeMirror's mode `motes`. */
-export function defineMode(CodeMirror, words) {
-  const notationToken = notationTokens(words);
-  CodeMirror.defineMode('motes', config => {
-    const toml = CodeMirror.getMode(config, 'toml');
-    return {
-      startState: () => ({toml: CodeMirror.startState(toml), quote: '', before: '', depth: 0}),
-      copyState: state => ({...state, toml: CodeMirror.copyState(toml, state.toml)}),
-      token(stream, state) {
-        if (state.quote) {
-          if (stream.match(state.quote)) {
-            state.quote = '';
-            return 'string';
-          }
-          return notationToken(stream, state);
-        }
-        const opens = stream.match(/^("""|''')/) || stream.match(/^["'](?=\s*(event|semaphore|process)\b)/);
-        if (opens) {
-          Object.assign(state, {quote: opens[0], before: '', depth: 0});
-          return 'string';
-        }
-        return toml.token(stream, state.toml);
-      },
-      indent(state, after) {
-        if (!state.quote) return 0;
-        return Math.max(0, state.depth - (/^\s*\}/.test(after) ? 1 : 0)) * config.indentUnit;
-      },
-      innerMode: state => ({state, mode: state.quote ? PROGRAM : TABLES}),
-    };
-  });
 }

@@ -3,30 +3,33 @@
 import {Run} from '../../timeline/page/data.js';
 import {indexRun} from '../../timeline/page/index.js';
 import {Refused} from '../../timeline/page/stage.js';
-import {Lost, keep, lose} from './link.js';
+
+const LOST = 'The studio doesn\'t answer. Start it again, and open its page: the browser keeps your text.';
 
 /** @implements {Backend}
  * @typedef {import('../../timeline/page/stage.js').Answer} Answer
  * @typedef {import('../../timeline/page/stage.js').Backend} Backend */
 export class Server {
-  /** What it answers besides the first four questions. */
-  can = new Set(['files', 'explain', 'state', 'values', 'why', 'lines', 'checks', 'faults', 'export']);
+  can = new Set(['files', 'checks', 'lines']);
+  isStopped = false;
 
-  begin() { return this.ask('begin', {}); }
-
-  /** Runs a text. @param {{text: string, name: string, pinned: number}} asked @returns {Promise<Answer>} */
+  /** Runs a text. @param {{text: string, name: string}} asked @returns {Promise<Answer>} */
   async run(asked) {
+    this.isStopped = false;
     const got = await this.ask('run', asked), length = new DataView(got).getUint32(0, true);
     const {run: table, ...answer} = JSON.parse(new TextDecoder().decode(new Uint8Array(got, 4, length)));
+    if (answer.superseded && this.isStopped) return {limit: 'You stopped the run.'};
     if (!table) return answer;
     const run = new Run(table, got.slice(4 + length));
     await indexRun(run);
     return {...answer, run};
   }
 
-  judge(asked) { return this.ask('judge', asked); }
-  edit(asked) { return this.ask('edit', asked); }
-  stop() { return this.ask('stop', {}); }
+  /** Stops the run. */
+  stop() {
+    this.isStopped = true;
+    return this.ask('stop', {});
+  }
 
   /** Asks for a value, or for the bytes of a run or a page. @param {string} what @param {any} asked */
   async ask(what, asked) {
@@ -36,15 +39,10 @@ export class Server {
         body: JSON.stringify(asked)});
       if (answer.ok) got = await answer.arrayBuffer();
     } catch {
-      lose();
-      throw new Lost();
+      throw new Refused(LOST);
     }
-    if (answer.status === 403) {
-      lose();
-      throw new Lost();
-    }
+    if (answer.status === 403) throw new Refused(LOST);
     if (!answer.ok) throw new Refused(`The studio's answer has the status ${answer.status}.`);
-    keep();
     if (answer.headers.get('Content-Type') !== 'application/json') return got;
     const value = JSON.parse(new TextDecoder().decode(got));
     if (value.refused) throw new Refused(value.refused);

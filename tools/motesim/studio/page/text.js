@@ -27,15 +27,6 @@ export function applied(text, changes) {
   return text;
 }
 
-/** The changes that replace a piece of a text everywhere, the last one first. */
-export function replacements(whole, old, text) {
-  const changes = [];
-  for (let from = whole.indexOf(old); old && from >= 0; from = whole.indexOf(old, from + old.length)) {
-    changes.unshift({begin: from, end: from + old.length, text});
-  }
-  return changes;
-}
-
 /** The smallest piece of a text, from `begin` to `end`, that another text has differently: as `text`. */
 export function differing(old, text) {
   const least = Math.min(old.length, text.length);
@@ -49,10 +40,4 @@ export function differing(old, text) {
 export function movedOffset(offset, begin, end, length) {
   if (offset <= begin) return offset;
   return offset >= end ? offset + length - (end - begin) : Math.min(offset, begin + length);
-}
-
-/** A piece of a program on one line, shortened if it is long. */
-export function oneLine(text) {
-  const line = text.trim().replace(/\s+/g, ' ');
-  return line.length > 90 ? `${line.slice(0, 88)}…` : line;
 }

@@ -3,51 +3,40 @@
 import {chooseLine} from '../../timeline/page/details.js';
 import {byId, element, lineButton, withPlaces} from '../../timeline/page/dom.js';
 import {chooseRow} from '../../timeline/page/rows.js';
-import {page, Refused} from '../../timeline/page/stage.js';
+import {page} from '../../timeline/page/stage.js';
 import {showTab} from '../../timeline/page/tabs.js';
 import {sayWhy, showChain} from '../../timeline/page/why.js';
+import {attempt} from '../../web/page/web.js';
 
 /** The hops of a chain that the server found, with their lines in the run. */
-export function hopsOf({chain}) {
-  return chain.map(({mote, line: row, at, words, because, waited, how, for: wait}) =>
-    ({line: how === 'start' ? -1 : row - mote - 2, mote, at, row, words, because, waited, wait: wait || ''}));
-}
+const hopsOf = ({chain}) => chain.map(({mote, line: row, at, words, because, waited, how, for: wait}) =>
+  ({line: how === 'start' ? -1 : row - mote - 2, mote, at, row, words, because, waited, wait: wait || ''}));
 
-/** The chain of a line, from the server. */
-async function askedChain(run, line) {
+/** The chain of a line. */
+async function chainOf(run, line) {
   const row = run.numberOf(line, run.moteOf(line));
-  const answer = await page.backend.ask('why', {number: page.studio.number, row});
+  const answer = await page.backend.ask('why', {number: page.web.number, row});
   showTab('why');
   if (answer.said) throw new Error(answer.said);
   return {hops: hopsOf(answer), about: ''};
 }
 
-/** Asks a question in the tab *Why*. */
-export function askQuestion(text) {
-  byId('why-asked').value = text;
+/** Asks a question in the tab *Why*: answers it with a chain, or with the near misses. @param {string} question */
+export async function askQuestion(question) {
+  const [pane] = page.panes;
+  byId('why-asked').value = question;
   showTab('why');
-  return answerWhy();
-}
-
-/** Answers the question with a chain, or with the near misses. */
-async function answerWhy() {
-  const pane = page.panes[0], question = byId('why-asked').value.trim();
   if (!pane || !question) return;
-  let answer;
-  try {
-    answer = await page.backend.ask('why', {number: page.studio.number, question});
-  } catch (fault) {
-    if (fault instanceof Refused) return;
-    throw fault;
-  }
+  const answer = await attempt(() => page.backend.ask('why', {number: page.web.number, question}));
+  if (!answer) return;
   if (answer.said) return sayWhy(answer.said);
   if (answer.chain) {
     const hops = hopsOf(answer);
     showChain(pane, hops, answer.about || (answer.holds ? '' : 'The expectation does not hold.'));
     return chooseLine(pane, Math.max(0, hops[0].line), true);
   }
-  const items = answer.motes.flatMap(({mote, misses}) => misses.map(it => missButton(mote, it)));
-  sayWhy(`${answer.about}. The nearest:`, items);
+  sayWhy(`${answer.about}. The nearest:`,
+    answer.motes.flatMap(({mote, misses}) => misses.map(it => missButton(mote, it))));
 }
 
 /** Something that came near, as a button if a row of the report shows it. */
@@ -59,21 +48,16 @@ function missButton(mote, {words, line: row}) {
 
 /** Lets the server find causes from now on. */
 export function beginWhy() {
-  page.chainOf = askedChain;
-  const form = element('form'), input = element('input');
+  page.chainOf = chainOf;
+  const input = Object.assign(element('input'), {id: 'why-asked', type: 'text', spellcheck: false, autocomplete: 'off',
+    size: 44, placeholder: 'mote 24 prints flood 2, or a line of the report'});
+  const form = element('form', '', [Object.assign(element('label', 'Why, or why not:'), {htmlFor: 'why-asked'}), input,
+    element('button', 'Ask why')]);
   form.className = 'bar';
-  Object.assign(input, {id: 'why-asked', type: 'text', spellcheck: false, autocomplete: 'off', size: 44,
-    placeholder: 'mote 24 prints flood 2, or a line of the report'});
-  const button = element('button', 'Ask why');
-  button.type = 'submit';
-  form.append(Object.assign(element('label', 'Why, or why not:'), {htmlFor: 'why-asked'}), input, button);
   form.addEventListener('submit', event => {
     event.preventDefault();
-    answerWhy();
+    askQuestion(input.value.trim());
   });
-  const box = element('section');
-  box.id = 'why-chain';
-  box.append(element('p', 'Write an expectation, or the number of a line. Or select a line on the ' +
-    'lanes, and press W.'));
-  byId('why').append(form, box);
+  byId('why').append(form, Object.assign(element('section', '', [element('p', 'Write an expectation, or the number ' +
+    'of a line. Or select a line on the lanes, and press W.')]), {id: 'why-chain'}));
 }

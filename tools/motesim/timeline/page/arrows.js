@@ -1,13 +1,12 @@
 // @ts-check
 // Packets: an arrow for each copy, from its sender's lane at the moment of sending to its receiver's at arrival.
 import {RECV, SEND, lowerBound} from './data.js';
-import {byId} from './dom.js';
 import {colours, drawArrow, head, path, stroke} from './forms.js';
 import {arrivalOf} from './index.js';
 import {FULL_LANE, SMALL_LANE} from './layout.js';
 import {page} from './stage.js';
 
-const FEW = 250, MANY = 2500, MOST_ARROWS = 12000, MOST_VISITED = 15000;
+const FEW = 250, MANY = 2500, MOST_VISITED = 15000;
 
 /** The ends of the arrow of a copy. */
 function arrowEnds(pane, k, c) {
@@ -31,11 +30,10 @@ function copiesInView(pane) {
       if (y0 < top - pane.lane && y1 < top - pane.lane || y0 > bottom && y1 > bottom) continue;
       if (run.packetAt[k] + (run.copyAfter[c] || run.longest) < begin) continue;
       copies++;
-      if (found.length < 2 * MOST_ARROWS) found.push(k, c);
+      if (found.length < 2 * MANY) found.push(k, c);
     }
   }
   drawn.copies = copies * stride;
-  drawn.about = stride > 1;
   return found;
 }
 
@@ -43,13 +41,12 @@ export function drawArrows(pane) {
   // (a strip has arrows if the other lanes have)
   if (pane.strip && !pane.hasArrows) return;
   const c = pane.context, found = copiesInView(pane), {drawn, run} = pane;
-  const wish = byId('arrows').value;
-  if (!pane.strip) Object.assign(pane, {isCrowded: drawn.copies > FEW, hasArrows: wish === 'all' ||
-    wish === 'auto' && drawn.copies <= MANY && pane.lane >= 4});
+  if (!pane.strip) Object.assign(pane, {isPale: drawn.copies > FEW,
+    hasArrows: drawn.copies <= MANY && pane.lane >= 4});
   if (!pane.hasArrows) return;
   const size = pane.lane < 14 ? 3 : 4;
   c.save();
-  c.globalAlpha = pane.isCrowded ? 0.4 : 0.85;
+  c.globalAlpha = pane.isPale ? 0.4 : 0.85;
   for (let i = 0; i < found.length; i += 2) {
     const k = found[i], copy = found[i + 1], [x0, y0, x1, y1] = arrowEnds(pane, k, copy);
     drawArrow(c, x0, y0, x1, y1, run.copyFate[copy], 1, size);

@@ -1,9 +1,9 @@
 // @ts-check
 // The selection: its lines of the report, and related ones. Each line is a button that selects that line.
-import {COLLIDE, DEAF, DROP, KINDS, LOST, POST, RECV, SEND, TAKE, lowerBound} from './data.js';
-import {byId, element, lineButton, list, makeButton, table} from './dom.js';
+import {COLLIDE, DEAF, DROP, LOST, POST, RECV, SEND, TAKE, lowerBound} from './data.js';
+import {byId, element, lineButton, list, makeButton} from './dom.js';
 import {redraw} from './draw.js';
-import {COLLIDED, FATE_WORDS, GONE, MEDIUM, REFUSED, RING, UNHEARD, arrivalOf} from './index.js';
+import {FATE_WORDS, MEDIUM, arrivalOf} from './index.js';
 import {setNow} from './play.js';
 import {choose, page} from './stage.js';
 import {revealMoment} from './time.js';
@@ -111,7 +111,7 @@ function speak(pane) {
 
 /** Adds a packet: the medium's line, the send, and each copy with its fate. */
 function tellPacket(box, pane) {
-  const {run} = pane, {k, mote} = page.chosen, s = run.packetSender[k];
+  const {run} = pane, {k} = page.chosen, s = run.packetSender[k];
   box.append(element('h2', `Packet ${run.packetNumber[k]} of mote ${s}, value ${run.packetValue[k]}`));
   const items = [];
   if (run.sendLine[k] >= 0) items.push(traceButton(pane, run.sendLine[k], `sent by mote ${s}`));
@@ -161,23 +161,9 @@ function tellEvent(box, pane) {
       page.chosen.next.push(i);
   }
   if (run.silent[line]) items.push(element('span', 'This timer sends in other runs; in this run it doesn\'t.'));
-  for (const copy of copiesOfTurn(run, line, mote)) {
-    if (run.handLine[copy] === post && post >= 0) items.unshift(traceButton(pane, run.copyLine[copy],
-      'the packet that it is about'));
-  }
+  const copy = post < 0 ? -1 : run.handLine.indexOf(post);
+  if (copy >= 0) items.unshift(traceButton(pane, run.copyLine[copy], 'the packet that it is about'));
   box.append(list('ul', items));
-}
-
-/** The copies that were received in the turn that posted an event. */
-function copiesOfTurn(run, line, mote) {
-  const post = run.postOf(mote, run.x[line]), found = [];
-  if (post < 0 || run.e[post] !== run.packetEvent) return found;
-  const [from, to] = run.turn(post, mote);
-  for (let i = from; i < to; i++) {
-    const k = run.kind[i] === RECV ? run.packetOf(run.p[i], run.x[i]) : -1, copy = k < 0 ? -1 : run.copyFor(k, mote);
-    if (copy >= 0) found.push(copy);
-  }
-  return found;
 }
 
 /** Adds all lines that the mote wrote at this moment. */
@@ -194,33 +180,16 @@ function tellTurn(box, pane) {
   box.append(element('p', '', [makeButton(`All of mote ${mote}`, () => chooseMote(pane, mote, false))]));
 }
 
-/** Adds a mote: its program, the motes that it hears, and the packets of each link. */
+/** Adds a mote: its program, its place, the motes that it hears, and its first lines. */
 function tellMote(box, pane) {
-  const {run} = pane, {mote} = page.chosen, sums = new Map(), kinds = new Array(KINDS.length).fill(0);
-  for (let i = run.traceStart[mote]; i < run.traceStart[mote + 1]; i++) kinds[run.kind[i]]++;
-  box.append(element('h2', `Mote ${mote}, which runs ${run.programs[run.begins[mote]]}`));
+  const {run} = pane, {mote} = page.chosen, hears = run.hearers[mote], first = run.traceStart[mote];
   const place = run.places ? `It is at ${run.places[mote][0]}, ${run.places[mote][1]}. ` : '';
-  const hears = run.hearers[mote];
-  box.append(element('p', place + (hears.length ? `It hears ${count(hears.length, 'mote')}` +
-    (hears.length <= 30 ? `: ${hears.join(', ')}. ` : '. ') : 'It hears nobody. ') +
-    KINDS.map((kind, k) => kinds[k] ? `${kind} ${kinds[k]}` : '').filter(Boolean).join(', ') + '.'));
-  for (let k = 0; k < run.packets; k++) {
-    const copy = run.copyFor(k, mote);
-    if (copy < 0) continue;
-    const s = run.packetSender[k], sum = sums.get(s) || [0, 0, 0, 0, 0], fate = run.copyFate[copy];
-    sum[0]++;
-    sum[fate === MEDIUM ? 2 : fate === COLLIDED ? 3 : fate === RING || fate === REFUSED || fate === UNHEARD ||
-      fate === GONE ? 4 : 1]++;
-    sums.set(s, sum);
-  }
-  const rows = [...sums].sort((a, b) => a[0] - b[0]).slice(0, MOST_LISTED).map(([s, ofLink]) => {
-    const every = run.lossOf.get(s * 65536 + mote), name = `mote ${s}` + (every ? ` (loses 1 in ${every})` : '');
-    return element('tr', '', [name, ...ofLink].map(value => element('td', String(value))));
-  });
-  if (rows.length) box.append(table(['from', 'copies', 'came', 'lost', 'collided', 'refused'], rows));
-  const first = run.traceStart[mote], end = Math.min(run.traceStart[mote + 1], first + 40);
-  box.append(element('h3', 'Its first lines'));
-  box.append(list('ol', Array.from({length: end - first}, (_, i) => traceButton(pane, first + i, ''))));
+  const end = Math.min(run.traceStart[mote + 1], first + 40);
+  box.append(element('h2', `Mote ${mote}, which runs ${run.programs[run.begins[mote]]}`),
+    element('p', place + (hears.length ? `It hears ${count(hears.length, 'mote')}` +
+      (hears.length <= 30 ? `: ${hears.join(', ')}.` : '.') : 'It hears nobody.')),
+    element('h3', 'Its first lines'),
+    list('ol', Array.from({length: end - first}, (_, i) => traceButton(pane, first + i, ''))));
 }
 
 /** Follows the selection: from a send to a copy, from a copy to its event, from a post to its take, from there to

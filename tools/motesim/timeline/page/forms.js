@@ -5,6 +5,8 @@ import {COLLIDED, GONE, HANDED, LEFT, MEDIUM, RECEIVED, REFUSED, RING, UNHEARD} 
 
 /** The colours of the page by their names. */
 export const colours = {};
+// (pictures of forms in these colours)
+const stamps = new Map();
 
 /** Reads the colours from the style: those of the reader's system, or of print. */
 export function readColours() {
@@ -13,6 +15,7 @@ export function readColours() {
     'timer', 'run', 'run-ink', 'event', 'mark', 'halo', 'cursor', 'line']) {
     colours[name] = style.getPropertyValue('--' + name).trim();
   }
+  stamps.clear();
 }
 
 export function path(c, points, close) {
@@ -41,7 +44,7 @@ export function cross(c, x, y, r, colour, width = 1.6) {
   stroke(c, colour, width);
 }
 
-export function star(c, x, y, r, colour, width = 1.6) {
+function star(c, x, y, r, colour, width = 1.6) {
   c.beginPath();
   for (let i = 0; i < 3; i++) {
     const a = Math.PI * (i / 3 + 0.5), dx = Math.cos(a) * r, dy = Math.sin(a) * r;
@@ -129,6 +132,20 @@ export const FORM = {
     c.fillRect(x - r * 1.8, y - r, r * 3.6, r * 2);
   },
 };
+
+/** A form as a small picture of a square, made once for each size. `draw` draws it around a point.
+ * @param {string} name @param {number} r @param {number} dots those of a pixel
+ * @param {(c: any, x: number, y: number, r: number) => void} draw */
+export function stampOf(name, r, dots, draw = FORM[name]) {
+  const key = `${name} ${r} ${dots}`;
+  if (!stamps.has(key)) {
+    const side = Math.ceil(r * 3.4 + 2) * dots, canvas = new OffscreenCanvas(side, side), c = canvas.getContext('2d');
+    c.scale(dots, dots);
+    draw(c, side / dots / 2, side / dots / 2, r);
+    stamps.set(key, canvas.transferToImageBitmap());
+  }
+  return stamps.get(key);
+}
 
 /** The line and the end of an arrow by the fate of its copy. */
 const ARROW = [];

@@ -245,7 +245,7 @@ function makeOverview(run) {
   }
 }
 
-/** Lists the prints of each mote, the moment at which it halted, and the links with lost or collided copies. */
+/** Lists the prints of each mote, and the moment at which it halted. */
 function countByMote(run) {
   const {kind, traceStart} = run, motes = run.begins.length;
   run.prints = Array.from({length: motes}, () => []);
@@ -254,17 +254,6 @@ function countByMote(run) {
     for (let i = traceStart[m]; i < traceStart[m + 1]; i++) {
       if (kind[i] === PRINT) run.prints[m].push(i);
       else if (kind[i] === HALT) run.haltAt[m] = run.at[i];
-    }
-  }
-  run.troubled = new Map();
-  for (let k = 0; k < run.packets; k++) {
-    for (let c = run.copyStart[k]; c < run.copyStart[k + 1]; c++) {
-      const fate = run.copyFate[c];
-      if (fate === MEDIUM || fate === COLLIDED || fate === RING) {
-        const link = run.packetSender[k] * 65536 + run.copyTo[c], sum = run.troubled.get(link) || [0, 0, 0];
-        sum[fate === MEDIUM ? 0 : fate === COLLIDED ? 1 : 2]++;
-        run.troubled.set(link, sum);
-      }
     }
   }
 }

@@ -3,30 +3,14 @@
 import {drawArrows, drawChosen} from './arrows.js';
 import {drawAxis, drawBands, drawColumn, drawGrid, drawNames} from './axis.js';
 import {HALT, KINDS, POST, PRINT, RECV, SEND, START, TAKE, lowerBound} from './data.js';
-import {FORM, colours, path, stroke} from './forms.js';
+import {colours, path, stampOf, stroke} from './forms.js';
 import {drawHeads} from './heads.js';
 import {CLASS, OTHER} from './index.js';
 import {APART, AXIS, FULL_LANE, SMALL_LANE} from './layout.js';
-import {drawOverview, drawStrokes} from './overview.js';
+import {drawOverview} from './overview.js';
 import {page} from './stage.js';
 
-const sprites = new Map();
 const MOST_MARKS = 12000, MOST_RINGS = 3000;
-
-/** Forgets the pictures of forms, whose colours have changed. */
-export function forgetForms() { sprites.clear(); }
-
-/** A form as a small picture, made once for each size. */
-function sprite(form, r, dots) {
-  const key = `${form} ${r} ${dots}`;
-  if (!sprites.has(key)) {
-    const side = Math.ceil(r * 3.4 + 2) * dots, canvas = new OffscreenCanvas(side, side), c = canvas.getContext('2d');
-    c.scale(dots, dots);
-    FORM[form](c, side / dots / 2, side / dots / 2, r);
-    sprites.set(key, canvas.transferToImageBitmap());
-  }
-  return sprites.get(key);
-}
 
 /** The form of a line. */
 function formOf(run, line) {
@@ -39,7 +23,7 @@ function formOf(run, line) {
 /** Draws a mark, unless another of its form is in the same place, and notes it for clicks. */
 function putMark(pane, form, x, y, r, line) {
   let mark = pane.marks.get(form);
-  if (!mark) pane.marks.set(form, mark = {picture: sprite(form, r, pane.dots), last: -99});
+  if (!mark) pane.marks.set(form, mark = {picture: stampOf(form, r, pane.dots), last: -99});
   if (x - mark.last < Math.max(1.2, r * 0.5)) {
     pane.drawn.thinned++;
     return false;
@@ -116,25 +100,19 @@ function drawRuns(pane, mote, from, to, xOf) {
   }
 }
 
-/** Draws lanes with forms, or with strokes if a lane, or all lanes together, have too many lines for forms. */
-function drawLanes(pane, from, to) {
+/** True if the lanes in view are too low for forms, or have too many lines. */
+function isCrowded(pane, from, to) {
+  if (pane.lane < SMALL_LANE) return true;
   let lines = 0;
   for (let place = from; place < to; place++) {
     const [a, b] = pane.linesInView(pane.order[place]);
     lines += b - a;
   }
-  const most = pane.lane >= FULL_LANE ? MOST_MARKS : MOST_MARKS * 4;
-  if (!pane.strip) pane.most = lines > most ? most / (to - from) : Math.max(900, (pane.width - pane.gutter) * 2);
-  for (let place = from; place < to; place++) drawLane(pane, pane.order[place]);
+  return lines > (pane.lane >= FULL_LANE ? MOST_MARKS : MOST_MARKS * 4);
 }
 
 function drawLane(pane, mote) {
   const {run, drawn} = pane, [from, to] = pane.linesInView(mote), isFull = pane.lane >= FULL_LANE;
-  // (a strip at a side has forms if the rest of its lane has)
-  if (!pane.strip || pane.strip.right - pane.strip.left === pane.width - pane.gutter) {
-    if (to - from > pane.most) pane.stroked.add(mote); else pane.stroked.delete(mote);
-  }
-  if (pane.stroked.has(mote)) return drawStrokes(pane, mote);
   const r = isFull ? Math.max(3, Math.min(6.5, Math.round(pane.lane * 0.17) / 2)) :
     Math.max(2.5, Math.min(5.5, Math.round(pane.lane * 0.5) / 2));
   const top = pane.laneTop(mote), {kind, at} = run;
@@ -185,7 +163,7 @@ function drawLane(pane, mote) {
 
 /** Draws rings around the lines that a search has found. */
 function drawFound(pane, from, to) {
-  const {run, context: c} = pane, found = page.search.found[pane.number];
+  const {run, context: c} = pane, found = page.logged.found[pane.number];
   if (!found || !found.length) return;
   let inView = 0;
   for (let place = from; place < to; place++) {
@@ -225,8 +203,10 @@ function drawSeen(pane) {
   drawBands(pane, from, to);
   drawGrid(pane);
   drawArrows(pane);
-  if (pane.lane < SMALL_LANE) drawOverview(pane, from, to);
-  else drawLanes(pane, from, to);
+  // (a strip is drawn as the lanes beside it)
+  if (!pane.strip) pane.isCrowded = isCrowded(pane, from, to);
+  if (pane.isCrowded) drawOverview(pane, from, to);
+  else for (let place = from; place < to; place++) drawLane(pane, pane.order[place]);
   drawChosen(pane);
   drawFound(pane, from, to);
   for (const draw of page.overlays) draw(pane);
@@ -251,9 +231,8 @@ function drawAround(pane) {
 export function drawLanesOf(pane) {
   pane.hits = [];
   pane.arrows = [];
-  pane.stroked = new Set();
   pane.isMoved = false;
-  pane.drawn = {lines: 0, thinned: 0, low: 0, strokes: 0, rings: 0, unlabelled: 0, asColours: false, copies: 0,
+  pane.drawn = {lines: 0, thinned: 0, low: 0, rings: 0, unlabelled: 0, asColours: false, copies: 0,
     arrows: 0};
   drawSeen(pane);
   drawAround(pane);

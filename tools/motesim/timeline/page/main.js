@@ -1,39 +1,29 @@
 // @ts-check
 // The page of runs: shows them, and reacts to mouse, keys and buttons.
-import {aim, followMouse} from './aim.js';
 import {chooseAgain, chooseCopy, chooseLine, chooseMote, chosenInWords, follow, selectNothing, walk, walkLanes
   } from './details.js';
 import {byId, element} from './dom.js';
 import {drawAll, redraw, redrawLanes} from './draw.js';
 import {drawLegend, readColours} from './forms.js';
 import {arrivalOf} from './index.js';
-import {forgetForms} from './lanes.js';
 import {AXIS, FULL_LANE, TALL_LANE} from './layout.js';
+import {find, walkLog} from './log.js';
 import {MapView} from './map.js';
 import {itemAt, itemInWords} from './near.js';
 import {Pane} from './pane.js';
 import {onPinch} from './pinch.js';
 import {fillSpeeds, followNow, setNow, startPlaying, step, stopPlaying} from './play.js';
-import {find, findAgain, goTo} from './search.js';
-import {seriesOf} from './series.js';
 import {page} from './stage.js';
+import {showTab} from './tabs.js';
 import {isWhole, keepTime, leastScale, showTime, zoomTime} from './time.js';
 import {offerTips} from './tip.js';
 import {askWhy, closeWhy, drawChain, drawChainOnMap, offerWhy} from './why.js';
 import {count} from './words.js';
 
-/** The height that all panes together may have, if the page doesn't measure it in another way. */
-function roomInWindow() {
-  const isWide = window.innerWidth > 900, above = document.querySelector('header').offsetHeight;
-  const isAlone = document.body.classList.contains('only-timeline');
-  return Math.max(380, isAlone ? window.innerHeight :
-    isWide ? window.innerHeight - above - (page.panes.length > 1 ? 76 : 54) : window.innerHeight * 0.68);
-}
-
 /** Fits panes and maps to the window. */
 export function resize() {
   if (!page.panes.length) return;
-  const height = (page.roomForPanes || roomInWindow)(), titles = page.panes.length > 1 ? page.panes.length * 28 : 0;
+  const height = Math.max(120, byId('panes').clientHeight), titles = page.panes.length > 1 ? page.panes.length * 28 : 0;
   const fits = page.panes.map(pane => pane.isFit);
   for (const pane of page.panes) {
     const wanted = pane.heads + AXIS + pane.order.length * TALL_LANE;
@@ -75,6 +65,12 @@ export function whole() {
   for (const pane of page.panes) pane.fit();
 }
 
+/** The place at which keys and buttons zoom: that of the moment that is shown, if it is in view, or the middle. */
+function aim() {
+  const x = (Math.floor(page.play.now) + 0.5 - page.time.begin) * page.time.scale;
+  return page.play.now > 0 && x >= 0 && x <= page.time.width ? x : page.time.width / 2;
+}
+
 const DO = {
   'zoom-in': () => zoomTime(1.5, aim()),
   'zoom-out': () => zoomTime(1 / 1.5, aim()),
@@ -95,7 +91,7 @@ const DO = {
 };
 
 /** Carries out the command of a button or a key. */
-export function act(name) {
+function act(name) {
   DO[name]();
   keepTime();
   for (const pane of page.panes) pane.keep();
@@ -112,8 +108,8 @@ const KEYS = {
 function onKey(event) {
   if (event.ctrlKey || event.metaKey || event.altKey) return;
   const there = event.target.closest &&
-    event.target.closest('input, textarea, select, button, summary, #details, #matches');
-  const isTyping = there && !there.matches('button, #details, #matches');
+    event.target.closest('input, textarea, select, button, summary, #details, #drawer');
+  const isTyping = there && !there.matches('button, #details, #drawer');
   if (isTyping && event.key !== 'Escape') return;
   if (there && (event.key === ' ' || event.key === 'Enter' || event.key.startsWith('Arrow') ||
     event.key.startsWith('Page'))) return;
@@ -126,9 +122,12 @@ function onKey(event) {
   else if (event.key === 'Enter') follow();
   else if (event.key === 'f' || event.key === 'F') zoomToChosen();
   else if ((event.key === 'w' || event.key === 'W') && chosen.line >= 0) askWhy(chosen.pane, chosen.line);
-  else if (event.key === 'n' || event.key === 'N') goTo(page.search.at + 1);
-  else if (event.key === 'p' || event.key === 'P') goTo(page.search.at - 1);
-  else if (event.key === '/') byId('words').focus();
+  else if (event.key === 'n' || event.key === 'N') walkLog(1);
+  else if (event.key === 'p' || event.key === 'P') walkLog(-1);
+  else if (event.key === '/') {
+    showTab('log');
+    byId('log-asked').focus();
+  }
   else if (event.key === 'Escape') {
     if (isTyping) event.target.blur(); else {
       selectNothing();
@@ -165,7 +164,6 @@ function onClick(pane, x, y) {
 function listenTo(pane) {
   const {canvas} = pane;
   let held = null;
-  followMouse(pane);
   onPinch(canvas, (factor, x) => {
     held = null;
     zoomTime(factor, x - pane.gutter);
@@ -213,18 +211,10 @@ export function listen() {
   page.overlays.push(drawChain);
   page.mapOverlays.push(drawChainOnMap);
   page.offers.push(offerWhy);
-  Object.assign(page, {redraw, redrawLanes, drawAll, find, act, setNow, count, seriesOf});
+  Object.assign(page, {redraw, redrawLanes, drawAll, find, act, setNow, count});
   document.addEventListener('keydown', onKey);
   for (const button of /** @type {NodeListOf<HTMLElement>} */ (document.querySelectorAll('[data-do]')))
     button.addEventListener('click', () => act(button.dataset.do));
-  byId('search').addEventListener('submit', event => {
-    event.preventDefault();
-    find(byId('words').value);
-  });
-  byId('words').addEventListener('search', event => { if (!event.target.value) find(''); });
-  byId('found-next').addEventListener('click', () => goTo(page.search.at + 1));
-  byId('found-before').addEventListener('click', () => goTo(page.search.at - 1));
-  byId('arrows').addEventListener('change', redraw);
   byId('now').addEventListener('change', event => {
     stopPlaying();
     setNow(Number(event.target.value) || 0);
@@ -242,7 +232,6 @@ export function listen() {
 /** Draws everything again in other colours: at once if the page is being printed. */
 function recolour(now) {
   readColours();
-  forgetForms();
   drawLegend();
   for (const map of page.maps) map.still = null;
   if (now === true) drawAll(); else redraw();
@@ -305,7 +294,6 @@ export function showInstead(pane, run) {
   if (isFit) pane.fit(); else pane.keep();
   page.play.now = Math.min(page.play.now, page.time.end);
   const now = page.play.now;
-  if (page.search.total) findAgain();
   if (kept) chooseAgain(pane, kept);
   setNow(now);
 }

@@ -3,7 +3,7 @@
 import {COLLIDE, DEAF, KINDS, LOST, RECV, SEND, lowerBound} from './data.js';
 import {chooseMote} from './details.js';
 import {redraw} from './draw.js';
-import {FORM, colours, cross, drawArrow, fill, path, star, stroke} from './forms.js';
+import {FORM, colours, cross, drawArrow, fill, path, stampOf, stroke} from './forms.js';
 import {HANDED, MEDIUM, arrivalOf} from './index.js';
 import {linkInWords, moteInWords} from './near.js';
 import {onPinch} from './pinch.js';
@@ -13,11 +13,10 @@ import {offerTips} from './tip.js';
 import {count} from './words.js';
 
 const MOST_LINKS = 12000;
-// The places of a loss's label along its link, and on which side of it; of one of two opposite losses, near its
-// receiver.
-const PLACES = [[0.5, -1], [0.5, 1], [0.7, -1], [0.7, 1], [0.6, -1], [0.6, 1]], OF_BOTH = PLACES.slice(2);
 // The height of a label, and its distance from its link.
 const TALL = 12, APART = 6;
+// The radius below which a disc is drawn as a square; and the motes of a net above which each disc is.
+const LEAST_ROUND = 2.5, MANY = 400;
 
 export class MapView extends MapLayout {
   constructor(pane, box, several) {
@@ -27,6 +26,7 @@ export class MapView extends MapLayout {
     this.edits = null;
     // (the element whose height the map has, instead of the one that suits the motes)
     this.frame = null;
+    this.dots = 1;
     box.innerHTML = '<h2></h2><canvas></canvas><p></p>';
     box.querySelector('h2').textContent = several ? `Map of ${pane.run.name}` : 'Map';
     this.canvas = box.querySelector('canvas');
@@ -42,7 +42,7 @@ export class MapView extends MapLayout {
 
   /** Makes the picture as large as the page shows it, so that the mouse finds the motes at their places. */
   resize() {
-    const dots = window.devicePixelRatio || 1;
+    const dots = this.dots = window.devicePixelRatio || 1;
     this.fitTo(this.canvas.clientWidth || 120, this.frame && this.frame.clientHeight);
     const border = this.canvas.offsetHeight - this.canvas.clientHeight;
     this.canvas.style.height = this.height + border + 'px';
@@ -54,7 +54,7 @@ export class MapView extends MapLayout {
 
   /** Draws links and losses, which don't change with the moment, as a picture to keep. */
   drawStill() {
-    const {run} = this, dots = window.devicePixelRatio || 1, canvas = document.createElement('canvas');
+    const {run, dots} = this, canvas = document.createElement('canvas');
     canvas.width = this.canvas.width;
     canvas.height = this.canvas.height;
     const c = canvas.getContext('2d');
@@ -72,9 +72,10 @@ export class MapView extends MapLayout {
     }
     const losses = run.losses.filter(([s, r]) => run.hearers[s] && run.hearers[s].includes(r));
     for (const [s, r] of losses) this.drawLoss(c, s, r);
-    this.drawShares(c, losses);
-    if (run.troubled.size <= 3000) for (const [link, sum] of run.troubled)
-      this.drawTrouble(c, link >>> 16, link & 65535, sum);
+    Object.assign(c, {font: '11px system-ui, "DejaVu Sans", sans-serif', fillStyle: colours.trouble,
+      textAlign: 'center', textBaseline: 'middle'});
+    this.shares = [];
+    for (const [s, r, every] of losses) this.drawShare(c, s, r, every);
     return canvas;
   }
 
@@ -91,48 +92,15 @@ export class MapView extends MapLayout {
     cross(c, mx, my, 4, colours.trouble, 1.8);
   }
 
-  /** Draws the shares of losses next to their links, as far as none overlaps another; keeps their boxes. */
-  drawShares(c, losses) {
-    const both = new Set(losses.map(([s, r]) => `${r} ${s}`));
-    c.font = '11px system-ui, "DejaVu Sans", sans-serif';
-    c.fillStyle = colours.trouble;
-    c.textAlign = 'center';
-    c.textBaseline = 'bottom';
-    this.shares = [];
-    for (const [s, r, every] of losses) {
-      const dx = this.x(r) - this.x(s), dy = this.y(r) - this.y(s);
-      const long = Math.hypot(dx, dy);
-      if (long <= 30) continue;
-      const text = every === 1 ? 'all' : `1 in ${every}`, wide = c.measureText(text).width;
-      for (const [way, side] of both.has(`${s} ${r}`) ? OF_BOTH : PLACES) {
-        // (beside a steep link, above or below a flat one)
-        const x = this.x(s) + dx * way - dy / long * side * (wide / 2 + APART);
-        const y = this.y(s) + dy * way + dx / long * side * (TALL / 2 + APART) + TALL / 2;
-        if (!this.hasRoom(x, y, wide)) continue;
-        c.fillText(text, x, y);
-        this.shares.push({x, y, wide});
-        break;
-      }
-    }
-  }
-
-  /** Returns whether a label that ends above `y` lies in the map, and overlaps neither a mote nor another label. */
-  hasRoom(x, y, wide) {
-    if (x < wide / 2 || x > this.width - wide / 2 || y < TALL || y > this.height) return false;
-    const isNear = it => Math.abs(it.x - x) < (it.wide + wide) / 2 + 3 && Math.abs(it.y - y) < TALL;
-    if (this.shares.some(isNear)) return false;
-    for (let m = 0; m < this.run.begins.length; m++)
-      if (Math.abs(this.x(m) - x) < wide / 2 + this.radius + 1 &&
-          Math.abs(this.y(m) - y + TALL / 2) < TALL / 2 + this.radius) return false;
-    return true;
-  }
-
-  /** Draws a star at the receiver's end of a link if copies collided there, and a box if they found no room. */
-  drawTrouble(c, s, r, [, collided, ring]) {
-    const dx = this.x(s) - this.x(r), dy = this.y(s) - this.y(r), long = Math.hypot(dx, dy);
-    if (long < 4 * this.radius || long < 16 || !collided && !ring) return;
-    const away = this.radius + 7, x = this.x(r) + dx / long * away, y = this.y(r) + dy / long * away;
-    if (collided) star(c, x, y, 4, colours.trouble, 1.4); else FORM.lost(c, x, y, 3);
+  /** Draws the share of a link's losses beside it, nearer to the receiver; opposite links have it on other sides. */
+  drawShare(c, s, r, every) {
+    const dx = this.x(r) - this.x(s), dy = this.y(r) - this.y(s), long = Math.hypot(dx, dy);
+    if (long <= 30) return;
+    const text = every === 1 ? 'all' : `1 in ${every}`, wide = c.measureText(text).width;
+    const x = this.x(s) + dx * 0.66 + dy / long * (wide / 2 + APART);
+    const y = this.y(s) + dy * 0.66 - dx / long * (TALL / 2 + APART);
+    c.fillText(text, x, y);
+    this.shares.push({x, y, wide});
   }
 
   draw() {
@@ -179,14 +147,30 @@ export class MapView extends MapLayout {
         const r = run.copyTo[copy], fate = run.copyFate[copy], isLost = fate === MEDIUM && share > 0.55;
         const way = isLost ? 0.6 : 0.12 + 0.76 * share, x = this.x(s) + (this.x(r) - this.x(s)) * way;
         const y = this.y(s) + (this.y(r) - this.y(s)) * way, size = Math.max(2, this.radius * 0.4);
-        if (isLost) cross(c, x, y, size, colours.trouble, 2); else {
-          c.beginPath();
-          c.arc(x, y, size, 0, 7);
-          fill(c, fate === HANDED ? colours.send : colours.trouble);
-        }
+        if (isLost) cross(c, x, y, size, colours.trouble, 2);
+        else this.drawDisc(x, y, size, fate === HANDED ? 'send' : 'trouble');
       }
     }
     return count(flying, 'copy');
+  }
+
+  /** Draws a disc by its picture, because a large net has thousands of them in each frame. */
+  drawDisc(x, y, r, colour, edge = '', wide = 0) {
+    const {dots, context} = this;
+    if (r < LEAST_ROUND || this.run.begins.length > MANY) {
+      const side = Math.max(2, Math.round(2 * r));
+      context.fillStyle = colours[colour];
+      return context.fillRect(Math.round(x - r), Math.round(y - r), side, side);
+    }
+    const place = at => Math.round((at - side / 2) * dots) / dots;
+    const picture = stampOf(`disc ${colour} ${edge} ${wide}`, r, dots, (c, middle) => {
+      c.beginPath();
+      c.arc(middle, middle, r, 0, 7);
+      fill(c, colours[colour]);
+      if (edge) stroke(c, colours[edge], wide);
+    });
+    const side = picture.width / dots;
+    context.drawImage(picture, place(x), place(y), side, side);
   }
 
   /** Draws a mote and its action at this moment. */
@@ -205,10 +189,8 @@ export class MapView extends MapLayout {
       else if (run.silent[i]) silent = true;
     }
     const isChosen = page.chosen.pane === this.pane && page.chosen.mote === m, isHalted = run.haltAt[m] <= now;
-    c.beginPath();
-    c.arc(x, y, r, 0, 7);
-    fill(c, sends ? colours.send : isHalted ? colours.grid : hears ? colours.recv : colours.run);
-    stroke(c, isChosen ? colours.mark : colours.quiet, isChosen ? 3 : 1);
+    this.drawDisc(x, y, r, sends ? 'send' : isHalted ? 'grid' : hears ? 'recv' : 'run', isChosen ? 'mark' : 'quiet',
+      isChosen ? 3 : 1);
     if (sends) {
       c.beginPath();
       c.arc(x, y, r + 4, 0, 7);

@@ -7,11 +7,11 @@ import {chooseLine, chooseMote} from './details.js';
 import {byId, element, lineButton, list} from './dom.js';
 import {drawAll} from './draw.js';
 import {readColours} from './forms.js';
+import {beginDrawer} from './drawer.js';
 import {breathe, indexRun} from './index.js';
 import {FULL_LANE} from './layout.js';
-import {listen, showRuns, whole} from './main.js';
+import {listen, resize, showRuns, whole} from './main.js';
 import {setNow} from './play.js';
-import {offerSeries} from './plots.js';
 import {chooseRow} from './rows.js';
 import {page} from './stage.js';
 import {showTime} from './time.js';
@@ -67,6 +67,8 @@ function further(note, pane) {
 function openAtNote(note) {
   const box = byId('note'), [pane] = page.panes;
   box.hidden = false;
+  document.body.classList.add('noted');
+  resize();
   box.append(element('h2', `Broken: ${note.title}`), ...partsOf(note, pane),
     ...note.others.map(it => further(it, pane)));
   const first = note.lines.find(it => it.row);
@@ -93,6 +95,7 @@ function chooseAt(start, mote) {
 
 async function open() {
   page.chainOf = chainOf;
+  beginDrawer();
   const data = JSON.parse(byId('data').textContent), runs = [], begin = performance.now();
   readColours();
   for (const [number, table] of data.runs.entries()) {
@@ -103,8 +106,9 @@ async function open() {
     runs.push(run);
   }
   showRuns(runs);
-  offerSeries();
+  for (const map of page.maps) map.frame = byId('maps');
   listen();
+  resize();
   openAt(data);
   openAsAddressed();
   Object.assign(page, {opened: performance.now() - begin, ready: true});

@@ -1,5 +1,5 @@
 // @ts-check
-// Lanes with too many lines for forms: as colours of pixels, or as strokes.
+// Lanes with too many lines for forms: as colours of pixels.
 import {lowerBound} from './data.js';
 import {colours} from './forms.js';
 import {CLASS, HALTED, HEARD, OTHER, PRINTED, SENT, SILENT, TROUBLE} from './index.js';
@@ -76,27 +76,6 @@ export function drawOverview(pane, from, to) {
     pane.drawn.lines += b - a;
   }
   pane.drawn.asColours = true;
-}
-
-/** The strokes of a lane with a great many lines: class, colour, and the heights of its row. */
-/** @type {[number, string, number, number][]} */
-const STROKES = [[OTHER, 'run', 0.45, 0.55], [HEARD, 'recv', 0.66, 0.94], [SILENT, 'quiet', 0.3, 0.6],
-  [SENT, 'send', 0.16, 0.6], [PRINTED, 'print', 0.08, 0.3], [TROUBLE, 'trouble', 0.04, 0.96], [HALTED, 'ink', 0, 1]];
-
-export function drawStrokes(pane, mote) {
-  const [begin, width] = columnsInView(pane), tall = Math.max(1, Math.round(pane.lane));
-  const bits = columnsOf(pane, mote, begin, width), image = new ImageData(width, tall);
-  const pixels = new Uint32Array(image.data.buffer);
-  for (const [bit, colour, from, to] of STROKES) {
-    const value = pixelOf(colours[colour]), first = Math.floor(tall * from), last = Math.ceil(tall * to);
-    for (let j = 0; j < width; j++) {
-      if (bits[j] & bit) for (let y = first; y < last; y++) pixels[y * width + j] = value;
-    }
-  }
-  paint(pane, image, pane.laneTop(mote), pane.lane);
-  const [from, to] = pane.linesInView(mote);
-  pane.drawn.lines += to - from;
-  pane.drawn.strokes += to - from;
 }
 
 /** Draws a picture with a column for each pixel that is drawn. */

@@ -42,7 +42,8 @@ export class Pane extends Layout {
     const {dots, width, height, gutter, context, spare} = this;
     const left = gutter + Math.max(0, -x), upper = top + Math.max(0, -y);
     const wide = width - gutter - Math.abs(x), tall = height - top - Math.abs(y);
-    spare.drawImage(context.canvas, left * dots, upper * dots, wide * dots, tall * dots, left + x, upper + y, wide, tall);
+    spare.drawImage(context.canvas, left * dots, upper * dots, wide * dots, tall * dots, left + x, upper + y, wide,
+      tall);
     Object.assign(this, {context: spare, spare: context});
   }
 }

@@ -115,9 +115,9 @@ export class MapLayout {
     return Math.max(1.5, Math.min(14, each * 0.22));
   }
 
-  /** The mote nearest to a point, or -1 if none is near. */
-  moteNear(x, y) {
-    let best = Math.max(12, this.radius + 4), found = -1;
+  /** The mote nearest to a point, or -1 if none is within reach. */
+  moteNear(x, y, reach = Math.max(12, this.radius + 4)) {
+    let best = reach, found = -1;
     for (let m = 0; m < this.run.begins.length; m++) {
       const away = Math.hypot(x - this.x(m), y - this.y(m));
       if (away < best) {

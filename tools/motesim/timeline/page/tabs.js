@@ -51,4 +51,4 @@ export function beginPanels(panels, shown, mayClose = false) {
 }
 
 /** Opens a panel. @param {string} name */
-export const showTab = name => byId(`tab-${name}`).click();
+export function showTab(name) { if (byId(name).hidden) byId(`tab-${name}`).click(); }

@@ -1,10 +1,9 @@
 // @ts-check
 // Why a line is there: the chain of its causes, on the lanes, on the map, and as a list of lines.
 import {pathOf} from './causes.js';
-import {chartOf} from './chart.js';
 import {SEND} from './data.js';
 import {chooseLine, chooseMote} from './details.js';
-import {byId, element, handOut, lineButton, list, makeButton, withPlaces} from './dom.js';
+import {byId, element, lineButton, list, makeButton, withPlaces} from './dom.js';
 import {redraw} from './draw.js';
 import {colours, head, path, stroke} from './forms.js';
 import {SMALL_LANE} from './layout.js';
@@ -50,17 +49,12 @@ export function showChain(pane, hops, about) {
   Object.assign(page.why, {pane, run: pane.run, hops, about});
   const box = whyBox(), buttons = element('div'), [first] = hops;
   buttons.className = 'bar';
-  buttons.append(makeButton('Show the whole chain', showWholeChain),
-    makeButton('Save the chart as SVG', () => saveChart(pane.run, hops)), makeButton('Close', closeWhy));
+  buttons.append(makeButton('Show the whole chain', showWholeChain), makeButton('Close', closeWhy));
   const items = hops.map(hop => lineButton(`line ${hop.row} of the report`, `${hop.at} ${hop.words}`,
     `mote ${hop.mote}: ${hop.because}`, hop.line >= 0 && page.chosen.line === hop.line, () => chooseHop(pane, hop)));
-  const chart = element('div');
-  chart.className = 'chart';
-  chart.innerHTML = chartOf(pane.run, hops);
-  linkChart(chart, pane, hops);
   box.hidden = false;
   box.replaceChildren(element('h2', `Why mote ${first.mote} writes: ${first.at} ${first.words}`),
-    ...(about ? [element('p', about)] : []), element('p', pathOf(hops)), buttons, list('ol', items), chart);
+    ...(about ? [element('p', about)] : []), element('p', pathOf(hops)), buttons, list('ol', items));
   byId('spoken').textContent = `A chain of ${count(hops.length, 'line')}. ${pathOf(hops)}`;
   redraw();
 }
@@ -145,16 +139,4 @@ export function drawChainOnMap(map) {
 
 function chooseHop(pane, hop) {
   if (hop.line >= 0) chooseLine(pane, hop.line, true); else chooseMote(pane, hop.mote, true);
-}
-
-/** Makes each hop of a chart select its line. */
-function linkChart(box, pane, hops) {
-  for (const part of box.querySelectorAll('[data-hop]')) {
-    part.style.cursor = 'pointer';
-    part.addEventListener('click', () => chooseHop(pane, hops[Number(part.dataset.hop)]));
-  }
-}
-
-function saveChart(run, hops) {
-  handOut(`why_mote_${hops[0].mote}_line_${hops[0].row}.svg`, [chartOf(run, hops)], 'image/svg+xml');
 }

@@ -3,17 +3,12 @@
 import {Run} from '../../timeline/page/data.js';
 import {indexRun} from '../../timeline/page/index.js';
 import {Refused} from '../../timeline/page/stage.js';
-import {difference} from './diff.js';
-import {edit} from './edits.js';
+import {noteStart} from './keeping.js';
 import {lastMoment} from './report.js';
 import {placeOfFault, ruleOf, scenarioOf} from './scenario.js';
-import {sums} from './sums.js';
 
 /** The milliseconds after which a run is ended. */
 const MOST_TIME = 5000, SLOW = 'The run took longer than 5 seconds, so it was stopped.';
-
-/** The runs whose differences can be asked for. */
-const MOST_KEPT = 100;
 
 /** @implements {Backend}
  * @typedef {import('../../timeline/page/stage.js').Answer} Answer
@@ -23,24 +18,15 @@ export class Alone {
   can = new Set();
 
   /** @param {Promise<WebAssembly.Module>} module @param {string} script the worker's
-   * @param {any} data the examples, the words of the notation, and the rules that errors break */
-  constructor(module, script, data) {
+   * @param {Record<string, string>} rules those that errors break */
+  constructor(module, script, rules) {
     this.module = module;
     this.script = URL.createObjectURL(new Blob([script], {type: 'text/javascript'}));
-    this.data = data;
+    this.rules = rules;
     this.number = 0;
-    this.kept = /** @type {Map<number, any>} */ (new Map());
     this.worker = /** @type {Worker|null} */ (null);
     this.done = /** @type {((answer: any) => void)|null} */ (null);
     this.timer = 0;
-  }
-
-  /** The examples, first those with a card, and the words of the notation. */
-  async begin() {
-    const {cards, texts, words} = this.data, shown = cards.map(it => it.file);
-    const files = Object.keys(texts).filter(it => !shown.includes(it));
-    const examples = [...cards, ...files.map(file => ({file}))].map(it => ({...it, text: texts[it.file]}));
-    return {document: examples[0], examples, words};
   }
 
   /** Runs a text; a run that goes on is ended.
@@ -59,18 +45,17 @@ export class Alone {
       worker.onmessage = ({data}) => this.finish(data);
       worker.onerror = event => this.end({limit: `The run failed in this browser: ${event.message}`});
       this.timer = window.setTimeout(() => this.end({limit: SLOW}), MOST_TIME);
+      noteStart(text);
       worker.postMessage({number, text});
     });
+    noteStart(null);
     if (got.superseded || got.limit) return got;
     const {line} = got;
-    if (line) return {fault: {line, words: ruleOf(this.data.rules, line), place: placeOfFault(text, line)}};
+    if (line) return {fault: {line, words: ruleOf(this.rules, line), place: placeOfFault(text, line)}};
     const run = /** @type {any} */ (new Run({name, ...got.table, ...scenarioOf(text)}, got.buffer));
     run.end = Math.max(run.end, lastMoment(run));
     await indexRun(run);
     if (number !== this.number) return {superseded: true};
-    run.number = number;
-    this.kept.set(number, run);
-    this.kept.delete(number - MOST_KEPT);
     return {run, number, took: got.took};
   }
 
@@ -95,15 +80,6 @@ export class Alone {
     this.done = null;
     if (done) done(answer);
   }
-
-  /** The totals of a run, and its difference from another one. @param {{number: number, against: number}} asked */
-  judge({number, against}) {
-    const run = this.kept.get(number), before = this.kept.get(against);
-    return {sums: sums(run), difference: before ? difference(before, run) : null};
-  }
-
-  /** The changes of a text for an edit. @param {{text: string, edit: any}} asked */
-  edit({text, edit: wish}) { return edit(text, wish); }
 
   /** @returns {Promise<any>} */
   async ask() { throw new Refused('Only the studio answers this.'); }

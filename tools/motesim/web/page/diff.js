@@ -49,7 +49,7 @@ function firstOf(a, b, mote) {
 
 /** The first differences of all motes and of the medium, in the order of moments; the medium is behind the motes.
  * @param {any} a @param {any} b @returns {Difference[]} */
-export function differences(a, b) {
+function differences(a, b) {
   const found = [];
   for (let mote = MEDIUM; mote < Math.max(a.begins.length, b.begins.length); mote++) {
     const first = firstOf(a, b, mote);

@@ -1,6 +1,7 @@
 // @ts-check
 // Changes of a scenario's text: motes are moved, added and removed, links lose packets, and numbers are set. All else
 // stays in the text: comments, order and layout.
+import {applied} from '../../studio/page/text.js';
 import {Refused} from '../../timeline/page/stage.js';
 import {NoToml, readToml} from './toml.js';
 
@@ -182,6 +183,7 @@ const EDITS = {
 export function edit(source, wish) {
   try {
     const text = new Text(source), [changes, said] = EDITS[wish.what](text, wish);
+    readToml(applied(source, changes));
     return {changes, said};
   } catch (fault) {
     if (fault instanceof Refused) throw fault;

@@ -44,14 +44,15 @@ export async function textToOpen() {
 
 /** The address of this page with a text; null if it is too long for chats and mails.
  * @param {string} text @returns {Promise<string|null>} */
-export async function linkTo(text) {
+async function linkTo(text) {
   const hash = await packed(text);
   return hash.length > LONGEST_LINK ? null : `${location.href.split('#')[0]}#${hash}`;
 }
 
-/** Writes the text into the address, so that going back and reloading keep it. @param {string} text */
+/** Writes the text into the address, so that going back and reloading keep it; null takes it away.
+ * @param {string|null} text */
 export async function keepInAddress(text) {
-  const link = await linkTo(text);
+  const link = text === null ? null : await linkTo(text);
   try {
     history.replaceState(null, '', link || location.href.split('#')[0]);
   } catch {
@@ -60,7 +61,7 @@ export async function keepInAddress(text) {
 }
 
 /** Hands out this page with a text in it. @param {string} text @param {string} name */
-export function savePage(text, name) {
+function savePage(text, name) {
   const inside = JSON.stringify({text, name}).replace(/</g, '\\u003c');
   const begin = '<script id="saved" type="application/json">';
   const from = delivered.indexOf(begin) + begin.length, to = delivered.indexOf('</' + 'script>', from);

@@ -6,7 +6,7 @@ import {Tint} from '../../studio/page/tint.js';
 import {firstState} from '../../studio/page/tokens.js';
 
 // Pixels above and below the line that the reader types.
-export const MARGIN = 8;
+const MARGIN = 8;
 
 export class Pad {
   /** `changed` is called with the whole text after each change by the reader; `words` are those of the notation.
@@ -84,6 +84,13 @@ export class Pad {
     if (begin < 0) return;
     this.tint.lit = [row, column, column + piece.length];
     this.showRow(row);
+  }
+
+  /** Marks a row of the whole text as the statement that is selected; -1 marks none. @param {number} row */
+  lightRow(row) {
+    const shown = row - this.rowsBefore, isShown = row >= 0 && shown >= 0 && shown < this.area.value.split('\n').length;
+    this.tint.light(isShown ? shown : -1);
+    if (isShown) this.showRow(shown);
   }
 
   /** Tab writes two blanks, Enter keeps the indentation, Esc leaves the text.

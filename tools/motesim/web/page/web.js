@@ -1,222 +1,231 @@
 // @ts-check
-// The page without a server: a scenario that runs while it is changed, its map and its lanes, and the effect of each
-// change in a sentence.
+// The page on which a scenario is written: it runs while it is changed, with its map, its lanes, and the effect of each
+// change in a sentence. A backend runs the texts.
 import {beginFlag, goToDifference} from '../../studio/page/flag.js';
-import {beginLog} from '../../studio/page/log.js';
 import {beginMotes, renewMotes} from '../../studio/page/motes.js';
-import {beginSteps} from '../../studio/page/steps.js';
 import {applied, offsetOf} from '../../studio/page/text.js';
-import {fillSums} from '../../studio/page/totals.js';
-import {openAsAddressed} from '../../timeline/page/address.js';
+import {beginDrawer, showSums} from '../../timeline/page/drawer.js';
 import {selectNothing} from '../../timeline/page/details.js';
-import {byId, element} from '../../timeline/page/dom.js';
+import {byId, element, makeButton} from '../../timeline/page/dom.js';
 import {drawAll} from '../../timeline/page/draw.js';
 import {readColours} from '../../timeline/page/forms.js';
 import {listen, refit, showInstead, showRuns, whole} from '../../timeline/page/main.js';
 import {setNow, startPlaying, stopPlaying} from '../../timeline/page/play.js';
-import {page} from '../../timeline/page/stage.js';
-import {beginPanels, beginTabs} from '../../timeline/page/tabs.js';
-import {closeWhy} from '../../timeline/page/why.js';
+import {page, Refused} from '../../timeline/page/stage.js';
+import {beginTabs} from '../../timeline/page/tabs.js';
 import {count} from '../../timeline/page/words.js';
-import {Alone} from './alone.js';
-import {chainOf} from './chain.js';
+import {hideCard} from '../../timeline/page/card.js';
+import {difference} from './diff.js';
 import {effectInWords} from './effect.js';
 import {beginGallery, firstSentence} from './gallery.js';
-import {History} from './history.js';
-import {beginFiles, forgetDraft, keepDraft, keepInAddress, neverEnded, noteStart, showSharing, textToOpen
-  } from './keeping.js';
+import {beginFiles, showSharing} from './keeping.js';
 import {showNet} from './net.js';
 import {Pad} from './pad.js';
 import {programsOf} from './scenario.js';
 
-/** Milliseconds from a key to its run, to the sign of a long run, and to the address of the new text. */
-const PAUSE = 150, LONG = 500, ADDRESS = 1000;
-const ORIGINS = {link: 'This net came with the link.', page: 'This net was saved with the page.',
-  draft: 'This is your text of the last time. Examples has the others.'};
-const PANELS = [['log', 'Log'], ['steps', 'Steps'], ['sums', 'Sums'], ['legend', 'Forms']];
+/** Milliseconds from a key to its run, to the sign of a long run, and to the keeping of the text. */
+const PAUSE = 150, LONG = 500, KEEP = 1000;
 
-/** `intro` says where the text came from, `part` is the open tab of the text; `asked` counts the runs that were asked
- * for, `ran` is the last of them that ended, and `fresh` is true until the first run of a text. */
-page.web = {pad: /** @type {any} */ (null), history: new History(''), name: '', intro: '',
-  example: /** @type {any} */ (null), part: 'part-program', timer: 0, addressTimer: 0, asked: 0, ran: 0, fresh: true,
-  isWaiting: false, sums: null};
+const {web} = page, isStill = () => matchMedia('(prefers-reduced-motion: reduce)').matches;
+const react = (name, ...words) => page.reactions[name].forEach(does => does(...words));
 
-const isStill = () => matchMedia('(prefers-reduced-motion: reduce)').matches;
-
-/** Shows a sentence, with the buttons that belong to it.
+/** Shows a sentence, with the buttons that belong to it; `offers` are pairs of a name and a function.
  * @param {string} words @param {string} is */
-function say(words, is = '', {tries = false, shows = false, reverts = false} = {}) {
+export function say(words, is = '', {tries = false, shows = false, reverts = false,
+  offers = /** @type {[string, () => void][]} */ ([])} = {}) {
   byId('said').textContent = words;
   byId('sentence').dataset.is = is;
   byId('try').hidden = !tries;
   byId('show').hidden = !shows;
   byId('revert').hidden = !reverts;
+  byId('offers').replaceChildren(...offers.map(([name, does]) => makeButton(name, does)));
+}
+
+/** Does something that may be refused: then says why, and returns null.
+ * @param {() => any} work */
+export async function attempt(work) {
+  try {
+    return await work();
+  } catch (fault) {
+    if (!(fault instanceof Refused)) throw fault;
+    say(fault.message, 'bad');
+    return null;
+  }
 }
 
 /** Says what the open example is about, and offers its change; or where the text came from. */
 function sayIntro() {
-  const {example} = page.web;
-  if (!example) return say(page.web.intro);
-  byId('try').textContent = example.try || '';
-  const words = example.about || firstSentence(example.text) || `The example ${example.file}.`;
-  say(words, '', {tries: Boolean(example.try)});
+  const {example, intro, history} = web, tries = Boolean(example && example.replace);
+  if (tries) byId('try').textContent = example.try;
+  say(example && example.about || intro || firstSentence(history.text) || `This is ${web.document.name}.`, '', {tries});
 }
 
 // The text.
 
 /** Shows the text in the part that is open. @param {boolean} isNew */
 function showText(isNew = false) {
-  const {text} = page.web.history, programs = programsOf(text), which = byId('which');
+  const {text} = web.history, programs = programsOf(text), which = byId('which'), isNet = web.part === 'part-net';
   const names = programs.map(it => it.name), kept = which.value;
   if (names.join() !== [...which.options].map(it => it.value).join()) {
     which.replaceChildren(...names.map(name => Object.assign(element('option', name), {value: name})));
     if (names.includes(kept)) which.value = kept;
   }
-  const isProgram = page.web.part === 'part-program' && programs.length > 0;
+  const isProgram = web.part === 'part-program' && programs.length > 0;
   which.hidden = !isProgram || names.length < 2;
-  byId('net').hidden = page.web.part !== 'part-net';
-  byId('editor').hidden = page.web.part === 'part-net';
-  byId('editor').setAttribute('aria-labelledby', page.web.part);
-  if (page.web.part === 'part-net') showNet(text, page.edit);
+  byId('net').hidden = !isNet;
+  byId('editor').hidden = isNet;
+  byId('editor').setAttribute('aria-labelledby', web.part);
+  if (isNet) showNet(text, page.edit);
   const it = programs.find(one => one.name === which.value) || programs[0];
-  page.web.pad.show(text, isProgram ? it.begin : 0, isProgram ? it.end : text.length, isNew);
-  byId('undo').disabled = !page.web.history.before;
-  byId('redo').disabled = !page.web.history.canRedo;
+  web.pad.show(text, isProgram ? it.begin : 0, isProgram ? it.end : text.length, isNew);
+  nameSteps();
+}
+
+function nameSteps() {
+  byId('undo').disabled = !web.history.before;
+  byId('redo').disabled = !web.history.canRedo;
 }
 
 /** Takes a new text of the page, and runs it. @param {string} text @param {string} how */
-function change(text, how) {
-  page.web.history.take(text, how);
-  if (how === 'typed') {
-    byId('undo').disabled = !page.web.history.before;
-    byId('redo').disabled = true;
-  } else showText();
-  clearTimeout(page.web.timer);
-  page.web.timer = window.setTimeout(runNow, how === 'typed' ? PAUSE : 0);
-  keep();
+export function change(text, how) {
+  web.history.take(text, how);
+  if (how === 'typed') nameSteps(); else showText();
+  clearTimeout(web.timer);
+  web.timer = window.setTimeout(runNow, how === 'typed' ? PAUSE : 0);
+  changed();
 }
 
-/** Keeps the text where the reader finds it again. */
-function keep() {
-  clearTimeout(page.web.addressTimer);
-  page.web.addressTimer = window.setTimeout(() => {
-    keepDraft(page.web.history.text, page.web.name);
-    keepInAddress(page.web.history.text);
-  }, ADDRESS);
+/** Marks results as those of an earlier text, and keeps the new one where the reader finds it again. */
+function changed() {
+  react('outdated');
+  clearTimeout(web.keepTimer);
+  web.keepTimer = window.setTimeout(() => react('kept', web.history.text), KEEP);
 }
 
 /** Goes back to an earlier text, or on to a later one. @param {number} by */
 function go(by) {
-  if (!page.web.history.go(by)) return;
+  if (!web.history.go(by)) return;
   showText();
-  runNow();
-  keep();
-}
-
-/** Opens a text: that of an example, or one with an `intro`, which says where it came from.
- * @param {string} text @param {string} name @param {any} example @param {string} intro */
-function open(text, name, example, intro = '') {
-  Object.assign(page.web, {name, example, intro, fresh: true});
-  page.web.history.begin(text);
-  document.title = `${name.replace(/\.toml$/, '')} – motesim`;
-  if (page.web.part === 'part-net') byId('part-program').click();
-  showText(true);
+  changed();
   return runNow();
 }
 
-/** @param {any} it an example */
-function openExample(it) {
-  forgetDraft();
-  clearTimeout(page.web.addressTimer);
-  try {
-    history.replaceState(null, '', location.href.split('#')[0]);
-  } catch {
-    // (a browser may refuse this for files)
+/** Opens a text: that of an example, or one with an `intro`, which says where it came from. With an earlier text, the
+ * page shows what has changed since; and one that `waits` isn't run yet.
+ * @param {any} document its name, its text, and where it is */
+export async function open(document, {example = /** @type {any} */ (null), intro = '',
+  against = /** @type {string|null} */ (null), waits = false} = {}) {
+  Object.assign(web, {document, example, intro, saved: document.text, fresh: true});
+  clearTimeout(web.keepTimer);
+  web.history.begin(against === null ? document.text : against);
+  if (web.part === 'part-net') byId('part-program').click();
+  showText(true);
+  if (waits) {
+    page.ready = true;
+    return say('The last run of this text never ended, so it waits.', 'bad', {offers: [['Run it', runNow]]});
   }
-  return open(it.text, `${it.file}.toml`, it);
+  await runNow();
+  react('opened', document);
+  if (against === null) return;
+  change(document.text, 'edit');
+  await runNow();
+  goToDifference();
 }
 
 /** Makes the change that the example offers. */
 function makeTry() {
-  let {text} = page.web.history;
-  for (const [old, piece] of Object.entries(page.web.example.replace)) text = text.split(old).join(piece);
-  const [old] = Object.keys(page.web.example.replace), piece = page.web.example.replace[old];
+  let {text} = web.history;
+  for (const [old, piece] of Object.entries(web.example.replace)) text = text.split(old).join(piece);
   byId('try').classList.remove('breathes');
-  if (text === page.web.history.text) {
+  if (text === web.history.text) {
     return say('The text no longer has what this would change. Undo, or open the example again.');
   }
   change(text, 'try');
-  page.web.pad.light(piece);
+  web.pad.light(Object.values(web.example.replace)[0]);
+}
+
+/** Selects a stretch of a row of the whole text. @param {number} row @param {number} from @param {number} to */
+export function goTo(row, from, to) {
+  const at = offsetOf(web.history.text, [row, 0]), {pad} = web;
+  const isShown = at >= pad.before.length && at <= pad.before.length + pad.area.value.length;
+  if (!isShown || web.part === 'part-net') byId('part-all').click();
+  const begin = offsetOf(web.history.text, [row, from]) - pad.before.length;
+  pad.select(begin, begin + to - from);
 }
 
 // Runs.
 
 /** Runs the text, and shows its run, its error, or its limit. */
-async function runNow() {
-  clearTimeout(page.web.timer);
-  const asked = ++page.web.asked, {step} = page.web.history;
-  page.web.isWaiting = false;
-  setTimeout(() => { byId('stop').hidden = asked !== page.web.asked || page.web.ran === asked; }, LONG);
-  noteStart(step.text);
-  const answer = await page.backend.run({text: step.text, name: page.web.name});
-  if (answer.superseded || asked !== page.web.asked) return;
-  page.web.ran = asked;
+export async function runNow() {
+  clearTimeout(web.timer);
+  const asked = ++web.asked, {step} = web.history;
+  setTimeout(() => { byId('stop').hidden = asked !== web.asked || web.ran === asked; }, LONG);
+  const answer = await attempt(() => page.backend.run({text: step.text, name: web.document.name}));
+  if (answer && answer.superseded || asked !== web.asked) return;
+  web.ran = asked;
   byId('stop').hidden = true;
-  noteStart(null);
-  if (answer.fault) showFault(answer.fault);
-  else if (answer.limit) showLimit(answer.limit);
-  else showRun(answer.run, answer.took, step);
+  if (answer && answer.run) await showRun(answer, step);
+  else {
+    document.body.classList.add('stale');
+    if (answer && answer.fault) showFault(answer.fault); else if (answer) await showLimit(answer, step.text);
+  }
   page.ready = true;
 }
 
 /** @param {any} fault */
-function showFault({line, words, place}) {
-  document.body.classList.add('stale');
+function showFault(fault) {
+  const {line, words, place, corrected} = web.fault = fault, above = web.part === 'part-all' ? 0 : web.pad.rowsBefore;
   byId('fault').hidden = false;
-  byId('fault').querySelector('p').textContent = [...words, line].join('\n');
+  byId('fault').querySelector('pre').textContent = [...words, line].join('\n');
   byId('fault-place').hidden = !place;
-  page.web.pad.mark(place);
-  const {part, pad} = page.web, above = part === 'part-program' ? pad.rowsBefore : 0;
-  const where = place ? ` in line ${place[0] + 1 - above}` : '';
-  say(`The text has an error${where}${page.panes.length ? ': the last run is shown' : ''}.`, 'bad',
-    {reverts: Boolean(page.web.history.before)});
+  byId('fault-correct').hidden = !corrected;
+  web.pad.mark(place);
+  say(`The text has an error${place ? ` in line ${place[0] + 1 - above}` : ''}${
+    page.panes.length ? ': the last run is shown' : ''}.`, 'bad', {reverts: Boolean(web.history.before)});
 }
 
 function noFault() {
-  document.body.classList.remove('stale');
   byId('fault').hidden = true;
-  page.web.pad.mark(null);
+  web.pad.mark(null);
 }
 
-/** @param {string} words */
-function showLimit(words) {
+/** Says that a run was stopped, and then, if the backend finds it out, what the run does so often.
+ * @param {any} answer @param {string} text */
+async function showLimit({limit, number}, text) {
+  const reverts = Boolean(web.history.before), {asked} = web;
   noFault();
-  document.body.classList.add('stale');
-  say(`${words} Does a loop repeat without waiting?`, 'bad', {reverts: Boolean(page.web.history.before)});
+  say(`${limit} Does a loop repeat without waiting?`, 'bad', {reverts});
+  const found = number && await attempt(() => page.backend.ask('advise', {text, number}));
+  if (found && found.does && asked === web.asked) say(limit + found.does, 'bad', {reverts});
 }
 
-/** @param {any} run @param {number} took @param {any} step */
-function showRun(run, took, step) {
+/** @param {any} answer @param {any} step */
+async function showRun({run, number, took}, step) {
   noFault();
+  document.body.classList.remove('stale');
   step.run = run;
-  const before = page.web.history.before, against = before && before.run;
-  const {sums, difference} = page.backend.judge({number: run.number, against: against ? against.number : 0});
-  page.differs = {first: difference && difference.first, parts: new Map(difference ? difference.parts : [])};
-  if (!page.panes.length) showFirst(run); else showInstead(page.panes[0], run);
+  const {before} = web.history, against = before && before.run;
+  const found = against ? /** @type {any} */ (difference(against, run)) : null;
+  web.number = number;
+  page.differs = {first: found && found.first, parts: new Map(found ? found.parts : [])};
+  if (page.panes.length) showInstead(page.panes[0], run); else showFirst(run);
   renewMotes();
-  page.web.sums = sums;
-  if (!byId('sums').hidden) fillSums(byId('sums'), sums);
-  if (page.web.part === 'part-net') showText();
-  byId('about').textContent = `${count(run.begins.length, 'mote')}, ${count(run.end + 1, 'moment')}, ` +
-    `${Math.max(1, Math.round(took))} ms`;
-  if (page.web.fresh) beginShow();
-  else if (difference) {
-    say(effectInWords(run, against, difference), difference.same ? 'same' : 'differs',
-      {shows: Boolean(difference.first), reverts: true});
+  showSums();
+  if (web.part === 'part-net') showText();
+  byId('about').textContent = `${count(run.begins.length, 'mote')}, ${count(run.end + 1, 'moment')}` +
+    (took === undefined ? '' : `, ${Math.max(1, Math.round(took))} ms`);
+  if (web.fresh) beginShow();
+  else if (found) {
+    say(effectInWords(run, against, found), found.same ? 'same' : 'differs',
+      {shows: Boolean(found.first), reverts: true});
     // (the button that was pressed is hidden now)
     if (document.activeElement === document.body && step.how === 'try') byId('revert').focus();
   } else if (!before) sayIntro();
   drawAll();
+  if (!page.backend.can.has('checks')) return;
+  const results = await attempt(() => page.backend.ask('judge', {...web.document, text: '', number, saved: web.saved}));
+  if (results && !results.gone && number === web.number) react('judged', results);
+  web.judged = number;
 }
 
 /** Shows the first run of the page. @param {any} run */
@@ -230,15 +239,14 @@ function showFirst(run) {
 
 /** Shows an opened text from its beginning; a wave runs over the net of an example. */
 function beginShow() {
-  const {example} = page.web, [from, to] = example && example.title ? [example.from, example.to] : [0, 0];
-  page.web.fresh = false;
+  const {example} = web, [from, to] = example && example.to ? [example.from, example.to] : [0, 0];
+  web.fresh = false;
   whole();
   selectNothing();
   hideCard();
   sayIntro();
-  if (!example) return;
-  byId('try').classList.add('breathes');
   stopPlaying();
+  byId('try').classList.toggle('breathes', Boolean(example));
   if (!to) return setNow(0);
   byId('speed').value = example.speed;
   if (isStill()) return setNow(example.still);
@@ -247,78 +255,30 @@ function beginShow() {
   startPlaying();
 }
 
-// The card of a selection.
-
-function hideCard() { byId('card').hidden = true; }
-
-/** Shows the card at the pointer, beside what was clicked. @param {number} x @param {number} y */
-function showCard(x, y) {
-  const card = byId('card');
-  card.hidden = !page.chosen.pane;
-  if (card.hidden) return;
-  const {width, height} = card.getBoundingClientRect();
-  const left = x + 24 + width < innerWidth ? x + 24 : Math.max(8, x - width - 24);
-  Object.assign(card.style, {left: `${left}px`, top: `${Math.max(8, Math.min(y - 30, innerHeight - height - 8))}px`});
-}
-
-/** Shows the card whenever something is selected by the pointer, and by a key once it was opened. */
-function beginCard() {
-  let before = 0;
-  for (const id of ['panes', 'maps']) {
-    byId(id).addEventListener('pointerdown', () => { before = page.chosen.times; }, true);
-    byId(id).addEventListener('pointerup', event => setTimeout(() => {
-      if (page.chosen.times !== before) showCard(event.clientX, event.clientY);
-    }));
-  }
-  // (the chain of causes makes the card longer)
-  new ResizeObserver(() => {
-    const {top, height} = byId('card').getBoundingClientRect();
-    if (top + height > innerHeight) byId('card').style.top = `${Math.max(8, innerHeight - height - 8)}px`;
-  }).observe(byId('card'));
-  byId('card-close').addEventListener('click', () => {
-    hideCard();
-    closeWhy();
-  });
-  document.addEventListener('keydown', event => {
-    if (event.key === 'Escape') hideCard();
-    const isChoosing = '[]{}wW'.includes(event.key) || event.key === 'Enter';
-    if (!isChoosing || !page.chosen.pane || document.activeElement !== page.panes[0].canvas) return;
-    const box = page.panes[0].canvas.getBoundingClientRect();
-    showCard(box.right - 420, box.top - 160);
-  });
-}
-
 // The page.
 
 function beginButtons() {
-  byId('undo').addEventListener('click', () => go(-1));
-  byId('redo').addEventListener('click', () => go(1));
-  byId('revert').addEventListener('click', () => {
+  const click = (name, does) => byId(name).addEventListener('click', does);
+  click('undo', () => go(-1));
+  click('redo', () => go(1));
+  click('revert', () => {
     go(-1);
     byId('try').focus();
   });
-  byId('try').addEventListener('click', () => page.web.isWaiting ? runNow() : makeTry());
-  byId('show').addEventListener('click', () => {
+  click('try', makeTry);
+  click('show', () => {
     stopPlaying();
     goToDifference();
   });
-  byId('share').addEventListener('click', () => showSharing(page.web.history.text, page.web.name));
-  byId('stop').addEventListener('click', () => page.backend.stop());
+  click('share', () => showSharing(web.history.text, web.document.name));
+  click('stop', () => page.backend.stop());
+  click('fault-place', () => { if (web.pad.place) goTo(...web.pad.place); });
+  click('fault-correct', () => change(web.fault.corrected, 'edit'));
   byId('which').addEventListener('change', () => showText(true));
-  byId('fault-place').addEventListener('click', () => {
-    if (!page.web.pad.place) return;
-    const [row, from, to] = page.web.pad.place, above = page.web.pad.before.length;
-    if (offsetOf(page.web.history.text, [row, 0]) < above) byId('part-all').click();
-    const begin = offsetOf(page.web.history.text, [row, from]) - page.web.pad.before.length;
-    page.web.pad.select(begin, begin + to - from);
-  });
   beginTabs(['part-program', 'part-net', 'part-all'], id => {
-    page.web.part = id;
+    web.part = id;
     showText(true);
   });
-  beginPanels(PANELS, name => {
-    if (name === 'sums' && page.web.sums) fillSums(byId('sums'), page.web.sums);
-  }, true);
   document.addEventListener('keydown', event => {
     if (!(event.ctrlKey || event.metaKey) || event.altKey) return;
     const key = event.key.toLowerCase(), by = key === 'z' && !event.shiftKey ? -1 : key === 'y' || key === 'z' ? 1 : 0;
@@ -329,58 +289,27 @@ function beginButtons() {
   }, true);
 }
 
-/** The module, unpacked and compiled. */
-async function moduleOf() {
-  const letters = atob(byId('module').textContent.trim()), bytes = Uint8Array.from(letters, it => it.charCodeAt(0));
-  const plain = new Blob([bytes]).stream().pipeThrough(new DecompressionStream('gzip'));
-  return WebAssembly.compile(await new Response(plain).arrayBuffer());
-}
-
-/** @param {import('../../timeline/page/stage.js').Backend} backend */
-async function begin(backend) {
+/** Begins the page. Returns its examples, those with a card first.
+ * @param {import('../../timeline/page/stage.js').Backend} backend @param {any} data the examples, with the words of the
+ * notation @param {string[][]} panels further panels, after those of each page */
+export function begin(backend, {cards, texts, words}, panels = []) {
+  const shown = cards.map(it => it.file), others = Object.keys(texts).filter(it => !shown.includes(it));
+  const examples = [...cards, ...others.map(file => ({file}))].map(it => ({...it, text: texts[it.file]}));
   readColours();
-  page.roomForPanes = () => Math.max(120, byId('panes').clientHeight);
-  page.chainOf = chainOf;
   page.backend = backend;
-  const {examples, words} = await backend.begin();
-  page.web.pad = new Pad(text => change(text, 'typed'), words);
+  page.goToLine = line => goTo(line - 1, 0, (web.history.text.split('\n')[line - 1] || '').length);
+  web.pad = new Pad(text => change(text, 'typed'), words);
   beginButtons();
-  beginCard();
   beginFlag();
-  beginMotes(() => page.web.history.text, changes => change(applied(page.web.history.text, changes), 'edit'),
+  beginMotes(() => web.history.text, changes => change(applied(web.history.text, changes), 'edit'),
     words => say(words, 'bad'));
-  beginSteps();
-  beginLog();
   beginGallery(examples, openExample);
-  beginFiles((text, name) => open(text, name, null, `This is ${name}.`), words => say(words, 'bad'));
-  let opened = null, broken = '';
-  try {
-    opened = await textToOpen();
-  } catch {
-    broken = 'The link is broken: no text can be read from it. This is the first example.';
-  }
-  if (!opened) {
-    await openExample(examples[0]);
-    if (broken) say(broken, 'bad');
-    return;
-  }
-  if (neverEnded(opened.text)) return offerRun(opened);
-  await open(opened.text, opened.name, null, ORIGINS[opened.from]);
-  if (opened.from === 'link' && page.panes.length) openAsAddressed();
+  beginFiles((text, name) => open({where: '', name, text}, {intro: `This is ${name}.`}), words => say(words, 'bad'));
+  beginDrawer(panels);
+  return examples;
 }
 
-/** Shows a text whose last run never ended, and waits for the reader. @param {any} opened */
-function offerRun({text, name, from}) {
-  Object.assign(page.web, {name, intro: ORIGINS[from]});
-  page.web.history.begin(text);
-  showText(true);
-  say('The last run of this text never ended, so it waits.', 'bad', {tries: true});
-  byId('try').textContent = 'Run it';
-  page.web.isWaiting = page.ready = true;
+/** @param {any} it an example */
+export function openExample(it) {
+  return open({where: 'example', name: `${it.file}.toml`, text: it.text}, {example: it});
 }
-
-window.motesim = page;
-begin(new Alone(moduleOf(), byId('worker').textContent, JSON.parse(byId('data').textContent))).catch(fault => {
-  byId('said').textContent = `This page can't run here: ${fault.message}`;
-  console.error(fault);
-});

@@ -1,6 +1,6 @@
 // @ts-check
-// The worker of the page: runs the module on one scenario at a time, and reads the report into columns. `runModule` is
-// in front of this script.
+// The worker of the page: runs the module on one scenario at a time, and reads the report into columns. The script
+// web/run_module.js is in front of this one.
 import {columnsOf} from './report.js';
 
 /** The longest report that a page shows, in bytes. */
@@ -27,7 +27,7 @@ function answerTo(text) {
     return {...columnsOf(textOf(streams[1])), took};
   } catch (fault) {
     if (fault instanceof TooLong) return {limit: 'The report is longer than 64 megabytes, so the run was stopped.'};
-    if (fault instanceof RangeError) return {limit: 'The text is nested too deep for this browser.'};
+    if (fault instanceof StackLimit) return {limit: `The run was stopped: ${fault.message}.`};
     return {limit: `The run failed in this browser: ${fault instanceof Error ? fault.message : fault}`};
   }
 }

@@ -21,7 +21,7 @@ returns-then-is_empty c = record {
       let d = c.drop_wake.new.self in
       let found : get nat_cmp old t ≡ Some b = sym c.in-Some-get_mut.ensures.value in
       let put = ((c.get_mut.follows.holds d).3 (subst IsSome (sym found) refl)).0 in
-      unwoken old c.remove-bucket.new.self t c.args.mote b d items holds found c.drop_wake.ensures.rest (c.drop_wake.ensures.falls (holds.ready t b found).falls) (one ∙ ap (wake_items c.args.mote) c.in-Some.is)
+      unwoken old c.remove-bucket.new.self t c.args.mote b d items holds found c.drop_wake.ensures.rest (c.drop_wake.ensures.is_sorted (holds.ready t b found).is_sorted) (one ∙ ap (wake_items c.args.mote) c.in-Some.is)
       (changed_gone old (c.get_mut.follows.lender d) c.remove-bucket.new.self t d (sym c.is_empty.ensures.value ∙ c.if-is_empty.true) put c.remove-bucket.ensures.updates.0);
 }
 
@@ -35,7 +35,7 @@ returns-else-is_empty c = record {
       let d = c.drop_wake.new.self in
       let found : get nat_cmp old t ≡ Some b = sym c.in-Some-get_mut.ensures.value in
       let put = ((c.get_mut.follows.holds d).3 (subst IsSome (sym found) refl)).0 in
-      unwoken old (c.get_mut.follows.lender d) t c.args.mote b d items holds found c.drop_wake.ensures.rest (c.drop_wake.ensures.falls (holds.ready t b found).falls) (one ∙ ap (wake_items c.args.mote) c.in-Some.is)
+      unwoken old (c.get_mut.follows.lender d) t c.args.mote b d items holds found c.drop_wake.ensures.rest (c.drop_wake.ensures.is_sorted (holds.ready t b found).is_sorted) (one ∙ ap (wake_items c.args.mote) c.in-Some.is)
       (changed_left old (c.get_mut.follows.lender d) t d (sym c.is_empty.ensures.value ∙ c.if-is_empty.false) put);
 }
 

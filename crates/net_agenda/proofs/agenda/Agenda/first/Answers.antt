@@ -1,6 +1,6 @@
 use Rattle.std.proofs.Common.{sym, ◌∙◌}
 use Rattle.std.proofs.lemmas.List.{nil_from_length}
-use Rattle.net_agenda.proofs.Falls.{first_some}
+use Rattle.net_agenda.proofs.Sorted.{first_some}
 use Rattle.net_agenda.proofs.Gathered.{zero_from}
 use Rattle.net_agenda.proofs.Moments.{least_of, none_of}
 use Rattle.net_agenda.proofs.agenda.Agenda.first.Goals as goal

@@ -13,9 +13,9 @@ returns-in-Some-clause-held c =
     let b = c.in-Some.bucket.now in
     let d = c.put_copies.new.self in
     let found : get nat_cmp old t ≡ Some b = sym c.in-Some.ensures.value in
-    if_all c.put_copies.result (λ n more filled falls items holds.
-    put_many old (c.get_mut.follows.lender d) t d items _ holds (more ∙ ap (λ l. l ++ map Packet (c.args.copy.now ∷ take n c.args.later.now)) (sym (ap (items_in t) found))) filled falls
-    ((c.get_mut.follows.holds d).3 (subst IsSome (sym found) refl)).0) c.put_copies.ensures.appended c.put_copies.ensures.filled c.put_copies.ensures.falls
+    if_all c.put_copies.result (λ n more filled is_sorted items holds.
+    put_many old (c.get_mut.follows.lender d) t d items _ holds (more ∙ ap (λ l. l ++ map Packet (c.args.copy.now ∷ take n c.args.later.now)) (sym (ap (items_in t) found))) filled is_sorted
+    ((c.get_mut.follows.holds d).3 (subst IsSome (sym found) refl)).0) c.put_copies.ensures.appended c.put_copies.ensures.filled c.put_copies.ensures.is_sorted
 
 pub returns-clause-held : goal.returns-clause-held
 returns-clause-held c = λ items holds.
@@ -26,5 +26,5 @@ returns-clause-held c = λ items holds.
     let none : get nat_cmp old t ≡ None = search rules in
     let run = map Packet (c.args.copy.now ∷ take n c.args.later.now) in
     let more = c.in_ok-count.ensures.appended ∙ (ap (λ l. map (item_at t) l ++ run) c.new-bucket.ensures.nothing ∙ ap (λ o. items_in t o ++ run) (sym none)) in
-    put_many old c.insert.new.self t d items _ holds more c.in_ok-count.ensures.filled c.in_ok-count.ensures.falls
+    put_many old c.insert.new.self t d items _ holds more c.in_ok-count.ensures.filled c.in_ok-count.ensures.is_sorted
     (λ q. c.in_ok-insert.ensures.updates.0 q ∙ ap (λ m. cond (is_eq (nat_cmp t q)) (Some d) (get nat_cmp m q)) c.get_mut.follows.holds-at-none)

@@ -25,7 +25,7 @@ returns-then-is_empty-clause-copies c =
     let t = c.args.moment in
     let b = c.in-Some.bucket.now in
     let found : get nat_cmp old t ≡ Some b = sym c.in-Some.ensures.value in
-    on_ok_weaker c.take-taken.result (λ is items holds. is (holds.ready t b found).falls ∙ arrivals_found old t c.args.mote b items holds found) c.take-taken.ensures.copies
+    on_ok_weaker c.take-taken.result (λ is items holds. is (holds.ready t b found).is_sorted ∙ arrivals_found old t c.args.mote b items holds found) c.take-taken.ensures.copies
 
 pub returns-then-is_empty-clause-rest : goal.returns-then-is_empty-clause-rest
 returns-then-is_empty-clause-rest c = λ items holds.
@@ -35,7 +35,7 @@ returns-then-is_empty-clause-rest c = λ items holds.
     let d = c.take-taken.new.self in
     let found : get nat_cmp old t ≡ Some b = sym c.in-Some.ensures.value in
     let put = ((c.get_mut.follows.holds d).3 (subst IsSome (sym found) refl)).0 in
-    taken old c.remove-bucket.new.self t c.args.mote b d items holds found (c.take-taken.ensures.rest (holds.ready t b found).falls)
+    taken old c.remove-bucket.new.self t c.args.mote b d items holds found (c.take-taken.ensures.rest (holds.ready t b found).is_sorted)
     (changed_gone old (c.get_mut.follows.lender d) c.remove-bucket.new.self t d (sym c.is_empty.ensures.value ∙ c.if-is_empty.true) put c.remove-bucket.ensures.updates.0)
 
 pub returns-else-is_empty-clause-copies : goal.returns-else-is_empty-clause-copies
@@ -44,7 +44,7 @@ returns-else-is_empty-clause-copies c =
     let t = c.args.moment in
     let b = c.in-Some.bucket.now in
     let found : get nat_cmp old t ≡ Some b = sym c.in-Some.ensures.value in
-    on_ok_weaker c.take-taken.result (λ is items holds. is (holds.ready t b found).falls ∙ arrivals_found old t c.args.mote b items holds found) c.take-taken.ensures.copies
+    on_ok_weaker c.take-taken.result (λ is items holds. is (holds.ready t b found).is_sorted ∙ arrivals_found old t c.args.mote b items holds found) c.take-taken.ensures.copies
 
 pub returns-else-is_empty-clause-rest : goal.returns-else-is_empty-clause-rest
 returns-else-is_empty-clause-rest c = λ items holds.
@@ -54,5 +54,5 @@ returns-else-is_empty-clause-rest c = λ items holds.
     let d = c.take-taken.new.self in
     let found : get nat_cmp old t ≡ Some b = sym c.in-Some.ensures.value in
     let put = ((c.get_mut.follows.holds d).3 (subst IsSome (sym found) refl)).0 in
-    taken old (c.get_mut.follows.lender d) t c.args.mote b d items holds found (c.take-taken.ensures.rest (holds.ready t b found).falls)
+    taken old (c.get_mut.follows.lender d) t c.args.mote b d items holds found (c.take-taken.ensures.rest (holds.ready t b found).is_sorted)
     (changed_left old (c.get_mut.follows.lender d) t d (sym c.is_empty.ensures.value ∙ c.if-is_empty.false) put)

@@ -1,10 +1,8 @@
-use Rattle.std.proofs.Common.{rules, arith, ◌≡◌, ◌<◌, ◌-◌, ◌∙◌, [], Ok, Err, length, refl}
+use Rattle.std.proofs.Common.{rules, arith, ◌≡◌, ◌<◌, ◌-◌, ◌∙◌, [], Ok, Err, refl}
 use Rattle.program_tree.specs.Program.{tree_of, code_of}
 use Rattle.protothread.specs.Remainder.{whole_of}
 use Rattle.process_kernel.proofs.Absent.{nothing_runs}
 use Rattle.process_kernel.proofs.Depth.{deeper_call, deeper_run, run_opens, halt_tells}
-use Rattle.process_kernel.proofs.Starts.{on_ok_both, enlisted_runs}
-use Rattle.process_kernel.specs.Members.{place_of}
 use Rattle.process_kernel.specs.Calls.{Answer}
 use Rattle.process_kernel.specs.Ctimer.{ctimer_of}
 use Rattle.process_kernel.specs.Reaction.{react_of, resume_of}
@@ -20,7 +18,7 @@ unfolding act_of
 act-returns-in-Poll t c = record {
   follows = record {
     exact = λ k enough. search (rules, c.poll.ensures.exact (tree_of c.args.program.now));
-    spends = search rules;
+    continues = search rules;
     grows = search rules;
   };
 }
@@ -30,7 +28,7 @@ unfolding act_of
 act-returns-in-Stop t c = record {
   follows = record {
     exact = λ k enough. search (rules, c.stop_timer.ensures.exact (tree_of c.args.program.now));
-    spends = search rules;
+    continues = search rules;
     grows = search rules;
   };
 }
@@ -40,7 +38,7 @@ unfolding act_of
 act-returns-in-Take t c = record {
   follows = record {
     exact = λ k enough. search (rules, c.take_semaphore.ensures.exact (tree_of c.args.program.now));
-    spends = search rules;
+    continues = search rules;
     grows = search rules;
   };
 }
@@ -50,58 +48,68 @@ unfolding act_of
 act-returns-in-Signal t c = record {
   follows = record {
     exact = λ k enough. search (rules, c.signal_semaphore.ensures.exact (tree_of c.args.program.now));
-    spends = search rules;
+    continues = search rules;
     grows = search rules;
   };
 }
 
-pub call-returns-then-not-is_running-clause-follows : goal.call-returns-then-not-is_running-clause-follows
+pub call-returns-then-not-is_running : goal.call-returns-then-not-is_running
 unfolding call_of answered
-call-returns-then-not-is_running-clause-follows t c = record {
-  exact = deeper_call (Ok tt) (kernel_state_of (tree_of c.args.program.now) c.args.self.now) _ _ _ (λ k enough. search rules);
-  spends = search rules;
-  grows = search rules;
+call-returns-then-not-is_running t c = record {
+  follows = record {
+    exact = deeper_call (Ok tt) (kernel_state_of (tree_of c.args.program.now) c.args.self.now) _ _ _ (λ k enough. search rules);
+    continues = search rules;
+    grows = search rules;
+  };
 }
 
-pub call-returns-in_err-spend-clause-follows : goal.call-returns-in_err-spend-clause-follows
+pub call-returns-in_err-spend : goal.call-returns-in_err-spend
 unfolding call_of answered
-call-returns-in_err-spend-clause-follows t c = record {
-  exact = deeper_call _ _ _ _ _ (λ k enough. search (rules, c.in_err-spend.ensures.exact (tree_of c.args.program.now)));
-  spends = search rules;
-  grows = search rules;
+call-returns-in_err-spend t c = record {
+  follows = record {
+    exact = deeper_call _ _ _ _ _ (λ k enough. search (rules, c.in_err-spend.ensures.exact (tree_of c.args.program.now)));
+    continues = search rules;
+    grows = search rules;
+  };
 }
 
-pub call-returns-in_err-answer-clause-follows : goal.call-returns-in_err-answer-clause-follows
+pub call-returns-in_err-answer : goal.call-returns-in_err-answer
 unfolding call_of answered
-call-returns-in_err-answer-clause-follows t c = record {
-  exact = let T = tree_of c.args.program.now in
-      deeper_call _ _ _ _ _ (λ k enough. search (rules, c.in_ok-spend.ensures.exact T, c.set_state.ensures.exact T));
-  spends = search rules;
-  grows = search rules;
+call-returns-in_err-answer t c = record {
+  follows = record {
+    exact = let T = tree_of c.args.program.now in
+        deeper_call _ _ _ _ _ (λ k enough. search (rules, c.in_ok-spend.ensures.exact T, c.set_state.ensures.exact T));
+    continues = search rules;
+    grows = search rules;
+  };
 }
 
-pub call-returns-then-is_event-clause-follows : goal.call-returns-then-is_event-clause-follows
+pub call-returns-then-is_event : goal.call-returns-then-is_event
 unfolding call_of answered
-call-returns-then-is_event-clause-follows t c = record {
-  exact = let T = tree_of c.args.program.now in
-      deeper_call _ _ _ _ _ (λ k enough. search (rules, c.in_ok-spend.ensures.exact T, c.set_state.ensures.exact T));
-  spends = search rules;
-  grows = search rules;
+call-returns-then-is_event t c = record {
+  follows = record {
+    exact = let T = tree_of c.args.program.now in
+        deeper_call _ _ _ _ _ (λ k enough. search (rules, c.in_ok-spend.ensures.exact T, c.set_state.ensures.exact T));
+    continues = search rules;
+    grows = search rules;
+  };
 }
 
-pub call-returns-else-is_event-clause-follows : goal.call-returns-else-is_event-clause-follows
+pub call-returns-else-is_event : goal.call-returns-else-is_event
 unfolding call_of answered
-call-returns-else-is_event-clause-follows t c = record {
-  exact = let T = tree_of c.args.program.now in
-      deeper_call (Ok tt) (kernel_state_of T c.set_state-else-is_event.new.self) _ _ _
-      (λ k enough. search (
-        rules,
-        c.in_ok-spend.ensures.exact T,
-        c.set_state.ensures.exact T,
-        c.set_state-else-is_event.ensures.exact T,
-      ));
-  spends = search rules;
-  grows = search rules;
+call-returns-else-is_event t c = record {
+  follows = record {
+    exact = let T = tree_of c.args.program.now in
+        deeper_call (Ok tt) (kernel_state_of T c.set_state-else-is_event.new.self) _ _ _
+        (λ k enough. search (
+          rules,
+          c.in_ok-spend.ensures.exact T,
+          c.set_state.ensures.exact T,
+          c.set_state-else-is_event.ensures.exact T,
+        ));
+    continues = search rules;
+    grows = search rules;
+  };
 }
 
 pub exit-returns-in_err-walk : goal.exit-returns-in_err-walk
@@ -109,7 +117,7 @@ unfolding exit_of
 exit-returns-in_err-walk t c = record {
   follows = record {
     exact = λ k enough. search (rules, c.begin_exit.ensures.exact (tree_of c.args.program.now));
-    spends = search rules;
+    continues = search rules;
     grows = search rules;
   };
 }
@@ -119,7 +127,7 @@ unfolding exit_of
 exit-returns-in_err-run_last t c = record {
   follows = record {
     exact = λ k enough. search (rules, c.begin_exit.ensures.exact (tree_of c.args.program.now));
-    spends = search rules;
+    continues = search rules;
     grows = search rules;
   };
 }
@@ -133,7 +141,7 @@ exit-returns t c = record {
       c.begin_exit.ensures.exact (tree_of c.args.program.now),
       c.leave.ensures.exact (tree_of c.args.program.now),
     );
-    spends = search rules;
+    continues = search rules;
     grows = search rules;
   };
 }
@@ -143,7 +151,7 @@ unfolding perform_of
 perform-returns-in_err-is_full-in-Post t c = record {
   follows = record {
     exact = λ k enough. search (rules, c.in_err-is_full-in-Post.ensures.exact (tree_of c.args.program.now));
-    spends = search rules;
+    continues = search rules;
     grows = search rules;
   };
 }
@@ -157,7 +165,7 @@ perform-returns-in_ok-is_full-in-Post t c = record {
       c.in_ok-is_full-in-Post.ensures.exact (tree_of c.args.program.now),
       c.answer.ensures.exact (tree_of c.args.program.now) (code_of c.args.text.now),
     );
-    spends = search rules;
+    continues = search rules;
     grows = search rules;
   };
 }
@@ -167,7 +175,7 @@ unfolding react_of
 react-returns-in_err-react_as_etimer-in-Etimer t c = record {
   follows = record {
     exact = λ k enough. search (rules, c.in_err-react_as_etimer-in-Etimer.ensures.exact (tree_of c.args.program.now));
-    spends = search rules;
+    continues = search rules;
     grows = search rules;
   };
 }
@@ -177,7 +185,7 @@ unfolding react_of
 react-returns-in_ok-react_as_etimer-in-Etimer t c = record {
   follows = record {
     exact = λ k enough. search (rules, c.in_ok-react_as_etimer-in-Etimer.ensures.exact (tree_of c.args.program.now));
-    spends = search rules;
+    continues = search rules;
     grows = search rules;
   };
 }
@@ -188,7 +196,7 @@ react_as_ctimer-returns-then-not-takes_callback t c = record {
   follows = record {
     exact = let T = tree_of c.args.program.now in
         λ k enough. search (rules, c.takes_callback.ensures.waited T, c.takes_callback.ensures.after T);
-    spends = search rules;
+    continues = search rules;
     grows = search rules;
   };
 }
@@ -199,7 +207,7 @@ react_as_ctimer-returns t c = record {
   follows = record {
     exact = let T = tree_of c.args.program.now in
         λ k enough. search (rules, c.takes_callback.ensures.waited T, c.takes_callback.ensures.after T);
-    spends = search rules;
+    continues = search rules;
     grows = search rules;
   };
 }
@@ -214,7 +222,7 @@ resume-returns-in_err-answer t c = record {
           c.in_ok-body.ensures.exact T (code_of c.args.text.now) c.requires.text,
           c.take_thread.ensures.after T,
         );
-    spends = search rules;
+    continues = search rules;
     grows = search rules;
   };
 }
@@ -230,7 +238,7 @@ resume-returns t c = record {
           c.take_thread.ensures.after T,
           c.put_thread.ensures.exact T (code_of c.args.text.now) c.requires.text,
         );
-    spends = search rules;
+    continues = search rules;
     grows = search rules;
   };
 }
@@ -240,8 +248,8 @@ unfolding run_of
 run-loop-op-preserved t c =
     let T = tree_of c.args.program.now in
     let pays = c.in-Op.ensures.pays in
-    let spends = c.in_ok-perform-in-Op.ensures.follows.spends in (
-      (omega (arith, pays, spends), omega (arith, pays, spends), spends.2 ∙ c.in-Op.ensures.first_list ∙ c.loop-op.invariant.0.2),
+    let goes = c.in_ok-perform-in-Op.ensures.follows.continues in (
+      (omega (arith, pays, goes), goes.1 ∙ c.in-Op.ensures.first_list ∙ c.loop-op.invariant.0.1),
       search rules,
       λ k enough.
           let now = c.loop-op.invariant.2 k enough in
@@ -249,7 +257,7 @@ run-loop-op-preserved t c =
           let more : 0 < now.0 = omega (arith, now.1) in
           let left : c.advance.new.self.fuel < rest = omega (arith, now.1, pays) in (
             rest,
-            omega (arith, left, spends),
+            omega (arith, left, goes),
             now.2 ∙ run_opens _ _ _ _ _ now.0 more
                 ∙ rw (c.in-Op.ensures.exact T, c.in_ok-perform-in-Op.ensures.follows.exact rest left) refl,
           ),
@@ -263,7 +271,7 @@ run-returns-in_err-perform-in-Op t c = record {
         let now = c.loop-op.invariant.2 k enough in
         rw now.2 (deeper_run _ _ _ _ _ _ _
         (λ j left. rw (c.in-Op.ensures.exact (tree_of c.args.program.now)) (search rules)) now.0 now.1);
-    spends = search rules;
+    continues = search rules;
     grows = search rules;
   };
 }
@@ -276,7 +284,7 @@ run-returns-in-Done t c = record {
         let now = c.loop-op.invariant.2 k enough in
         let more : 0 < now.0 = omega (arith, now.1) in
         now.2 ∙ run_opens _ _ _ _ _ now.0 more ∙ rw (c.in-Done.ensures.exact (tree_of c.args.program.now)) refl;
-    spends = search rules;
+    continues = search rules;
     grows = search rules;
   };
 }
@@ -292,7 +300,7 @@ run-returns-in-Runaway t c = record {
         (λ j left. rw (c.in-Runaway.ensures.exact T)
         (halt_tells Answer c.halt.result (kernel_state_of T c.advance.new.self) (kernel_state_of T c.halt.new.self)
         (c.halt.ensures.exact T))) now.0 now.1);
-    spends = search rules;
+    continues = search rules;
     grows = search rules;
   };
 }
@@ -302,7 +310,7 @@ unfolding last_run_of
 run_last-returns-in_err-spend t c = record {
   follows = record {
     exact = λ k enough. search (rules, c.in_err-spend.ensures.exact (tree_of c.args.program.now));
-    spends = search rules;
+    continues = search rules;
     grows = search rules;
   };
 }
@@ -312,7 +320,7 @@ unfolding last_run_of
 run_last-returns-in_err-react t c = record {
   follows = record {
     exact = λ k enough. search (rules, c.in_ok-spend.ensures.exact (tree_of c.args.program.now));
-    spends = search rules;
+    continues = search rules;
     grows = search rules;
   };
 }
@@ -322,7 +330,7 @@ unfolding last_run_of
 run_last-returns t c = record {
   follows = record {
     exact = λ k enough. search (rules, c.in_ok-spend.ensures.exact (tree_of c.args.program.now));
-    spends = search rules;
+    continues = search rules;
     grows = search rules;
   };
 }
@@ -332,7 +340,7 @@ unfolding start_of
 start-returns-in_err-enlist t c = record {
   follows = record {
     exact = λ k enough. search (rules, c.in_err-enlist.ensures.exact (tree_of c.args.program.now));
-    spends = search rules;
+    continues = search rules;
     grows = search rules;
   };
 }
@@ -340,20 +348,11 @@ start-returns-in_err-enlist t c = record {
 pub start-returns-in_ok-enlist : goal.start-returns-in_ok-enlist
 unfolding start_of
 start-returns-in_ok-enlist t c = record {
-  follows =
-      let T = tree_of c.args.program.now in
-      let old = kernel_state_of T c.args.self.now in
-      let listed = c.in_ok-enlist.ensures.exact T in
-      let within : place_of c.args.process < length c.args.self.now.shown.states.items = search rules in
-      let runs = enlisted_runs old (kernel_state_of T c.enlist.new.self) c.args.process within listed in
-      let counts = c.in_ok-enlist.ensures.counts in
-      record {
-        exact = λ k enough. search (rules, listed);
-        spends =
-            on_ok_both c.call.result _ _ _ c.call.ensures.follows.spends c.call.ensures.pays (λ spends pays.
-            let cost = pays runs in (omega (arith, counts, spends), omega (arith, counts, cost), spends.2 ∙ counts.2));
-        grows = search rules;
-      };
+  follows = record {
+    exact = λ k enough. search (rules, c.in_ok-enlist.ensures.exact (tree_of c.args.program.now));
+    continues = search rules;
+    grows = search rules;
+  };
 }
 
 pub run_part-returns-then-is_empty : goal.run_part-returns-then-is_empty
@@ -364,7 +363,7 @@ run_part-returns-then-is_empty t c = record {
         nothing_runs (code_of c.args.text.now) c.args.part none k
         (kernel_state_of (tree_of c.args.program.now) c.args.self.now) c.args.process c.args.event.now
         (omega (arith, enough));
-    spends = search rules;
+    continues = search rules;
     grows = search rules;
   };
 }

@@ -3,7 +3,7 @@ use Rattle.program_tree.specs.Program.{tree_of, code_of}
 use Rattle.protothread.specs.Places.{remainder_of}
 use Rattle.process_kernel.specs.Calls.{walk_of}
 use Rattle.process_kernel.specs.Call.{calls_of}
-use Rattle.process_kernel.specs.Views.{kernel_state_of, Spends, Grows}
+use Rattle.process_kernel.specs.Views.{kernel_state_of, Continues, Grows}
 use Rattle.process_kernel.proofs.machine.Machine.+kernel.Given as goal
 
 -- Each call of a running process and each step of a thread spends a unit of work. A function has a higher rank than
@@ -62,7 +62,7 @@ decreases-walk l = 7 * l.self.now.fuel + 1
 -- running the whole thread from the first state has the same result as running its remainder from the current state
 abbrev pub invariant-run-loop-op : goal.invariant-run-loop-op
 invariant-run-loop-op l =
-    Spends 0 l.fn.self l.self
+    Continues l.fn.self l.self
     × Grows l.fn.self.out l.self.out
     × ((k : ℕ) → l.fn.self.fuel < k → (m : ℕ) × (l.self.fuel < m)
     × ((calls_of k).run (kernel_state_of (tree_of l.program) l.fn.self) (code_of l.text)
@@ -75,7 +75,7 @@ decreases-run-loop-op l = l.self.fuel
 
 abbrev pub invariant-walk-loop-member : goal.invariant-walk-loop-member
 invariant-walk-loop-member l =
-    Spends 0 l.fn.self l.self
+    Continues l.fn.self l.self
     × Grows l.fn.self.out l.self.out
     × ((k : ℕ) → l.fn.self.fuel < k
     → walk_of (calls_of k) l.event l.skipped l.members (kernel_state_of (tree_of l.program) l.fn.self)

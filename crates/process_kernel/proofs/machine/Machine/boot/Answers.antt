@@ -7,9 +7,9 @@ unfolding boot_of
 returns-in_err-start_each c = record {
   follows = record {
     exact = λ k enough.
-        let first = c.in_ok-start.ensures.follows.spends in
-        let second = c.in_ok-start-2.ensures.follows.spends in
-        let third = c.in_ok-start-3.ensures.follows.spends in
+        let first = c.in_ok-start.ensures.follows.continues in
+        let second = c.in_ok-start-2.ensures.follows.continues in
+        let third = c.in_ok-start-3.ensures.follows.continues in
         search (
           rules,
           c.in_ok-start.ensures.follows.exact k enough,
@@ -17,7 +17,7 @@ returns-in_err-start_each c = record {
           c.in_ok-start-3.ensures.follows.exact k (omega (arith, first, second)),
           rw c.autostart.ensures.value at (c.in_err-start_each.ensures.follows.exact k (omega (arith, first, second, third))),
         );
-    spends = search rules;
+    continues = search rules;
     grows = search rules;
   };
 }
@@ -27,9 +27,9 @@ unfolding boot_of
 returns c = record {
   follows = record {
     exact = λ k enough.
-        let first = c.in_ok-start.ensures.follows.spends in
-        let second = c.in_ok-start-2.ensures.follows.spends in
-        let third = c.in_ok-start-3.ensures.follows.spends in
+        let first = c.in_ok-start.ensures.follows.continues in
+        let second = c.in_ok-start-2.ensures.follows.continues in
+        let third = c.in_ok-start-3.ensures.follows.continues in
         search (
           rules,
           c.in_ok-start.ensures.follows.exact k enough,
@@ -37,7 +37,7 @@ returns c = record {
           c.in_ok-start-3.ensures.follows.exact k (omega (arith, first, second)),
           rw c.autostart.ensures.value at (c.in_ok-start_each.ensures.follows.exact k (omega (arith, first, second, third))),
         );
-    spends = search rules;
+    continues = search rules;
     grows = search rules;
   };
 }

@@ -13,9 +13,9 @@ returns-in_err-give_in_turn c = record {
     exact = λ k enough.
         let inv = c.loop-place.invariant in
         let rest = rest_begins c.args.self.now c.loop-place.self c.loop-place.place c.first_member-member.result
-        c.requires.numbered inv.0.2 c.first_member-member.ensures.member in
+        c.requires.numbered inv.0.1 c.first_member-member.ensures.member in
         rw (inv.2 k enough, rest) (search (rules, c.in_err-give_in_turn.ensures.follows.exact k (omega (arith, enough, inv.0.0))));
-    spends = search rules;
+    continues = search rules;
     grows = search rules;
   };
 }
@@ -26,10 +26,9 @@ loop-place-preserved c =
     let ms = c.args.self.now.members.items in
     let inv = c.loop-place.invariant in
     let turn = c.in_ok-give_in_turn.ensures.follows in
-    let spends = turn.spends in
     let rest = rest_begins c.args.self.now c.loop-place.self c.loop-place.place c.first_member-member.result
-    c.requires.numbered inv.0.2 c.first_member-member.ensures.member in (
-      (omega (arith, inv.0.0, spends.0), omega (arith, inv.0.1, spends.1), spends.2 ∙ inv.0.2),
+    c.requires.numbered inv.0.1 c.first_member-member.ensures.member in (
+      (omega (arith, inv.0.0, turn.continues.0), turn.continues.1 ∙ inv.0.1),
       search rules,
       λ k enough.
           inv.2 k enough ∙ ap (λ xs. walk_broadcast (calls_of k) c.args.posted.now xs (kernel_state_of T c.loop-place.self)) rest

@@ -8,7 +8,7 @@ unfolding give_of
 returns-in_err-write c = record {
   follows = record {
     exact = λ k enough. search (rules, c.in_err-write.ensures.exact (tree_of c.args.program.now));
-    spends = search rules;
+    continues = search rules;
     grows = search rules;
   };
 }
@@ -18,7 +18,7 @@ unfolding give_of
 returns c = record {
   follows = record {
     exact = λ k enough. search (rules, c.in_ok-write.ensures.exact (tree_of c.args.program.now));
-    spends = search rules;
+    continues = search rules;
     grows = search rules;
   };
 }

@@ -16,7 +16,7 @@ pub invariant_of-self-2-clause-few_members : goal.invariant_of-self-2-clause-few
 invariant_of-self-2-clause-few_members c =
     let s = c.keep_first_list.new.self in
     let room = length-lt (record { process = c.args.process; incarnation = 0 }) s.members.items
-    (length s.shown.states.items) s.are_members (rw c.in_ok-keep_first_list.ensures.shown c.requires.process_exists)
+    (length s.view.states.items) s.are_members (rw c.in_ok-keep_first_list.ensures.view c.requires.process_exists)
     (rw c.in_ok-keep_first_list.ensures.members c.requires.away) in
     few (is_ok c.insert.result) s.members.items c.insert.new.self.items _ c.insert.ensures.items
     (omega (arith, room, s.few_processes))

@@ -25,7 +25,7 @@ pub invariant_of-self-clause-are_members : goal.invariant_of-self-clause-are_mem
 invariant_of-self-clause-are_members c =
     let is = are c.args.self.now.members.items _ c.number.new.members (vec_len c.args.self.now.members)
     (search rules) c.deref_mut.ensures.value c.number.ensures.numbered in
-    subst (λ ms. AreMembers ms (length c.args.self.now.shown.states.items)) (sym is)
+    subst (λ ms. AreMembers ms (length c.args.self.now.view.states.items)) (sym is)
     (AreMembers-numbered 0 _ _ c.args.self.now.are_members)
 
 pub invariant_of-self-clause-few_members : goal.invariant_of-self-clause-few_members

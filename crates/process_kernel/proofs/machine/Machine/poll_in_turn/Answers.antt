@@ -8,7 +8,7 @@ unfolding poll_turn_of
 returns c = record {
   follows = record {
     exact = λ k enough. search (rules, c.set_needs_poll.ensures.exact (tree_of c.args.program.now));
-    spends = search rules;
+    continues = search rules;
     grows = search rules;
   };
 }

@@ -14,7 +14,7 @@ loop-timer-init c = (
   search rules,
   search rules,
   λ t.
-      let b = begin (length c.args.self.now.shown.timers.listed) (kernel_state_of t c.args.self.now) (omega arith) in
+      let b = begin (length c.args.self.now.view.timers.listed) (kernel_state_of t c.args.self.now) (omega arith) in
       (b.left, b.enough, b.walks),
 )
 
@@ -36,7 +36,7 @@ loop-timer-preserved-then-is_full c = (
   search rules,
   λ t.
       let now = c.loop-timer.invariant.3 t in
-      let same : c.poll.new.self.shown.timers ≡ c.loop-timer.self.shown.timers =
+      let same : c.poll.new.self.view.timers ≡ c.loop-timer.self.view.timers =
       c.poll.ensures.adds.0.1 ∙ c.in_ok-is_full.ensures.lists.1 in
       let at : Found (kernel_state_of t c.loop-timer.self) c.loop-timer.after c.in-Some.timer c.in-Some.owner =
       record { first = c.in-Some.ensures.first; owner = c.in-Some.ensures.owner } in (
@@ -51,11 +51,11 @@ loop-timer-preserved-then-is_full c = (
 
 pub loop-timer-smaller : goal.loop-timer-smaller
 loop-timer-smaller c =
-    let same : c.post.new.self.shown.timers ≡ c.loop-timer.self.shown.timers = c.in_ok-is_full.ensures.lists.1 in
-    let fewer : length c.fire.new.self.listed < length c.loop-timer.self.shown.timers.listed =
+    let same : c.post.new.self.view.timers ≡ c.loop-timer.self.view.timers = c.in_ok-is_full.ensures.lists.1 in
+    let fewer : length c.fire.new.self.listed < length c.loop-timer.self.view.timers.listed =
     rw (c.fire.ensures.after, same)
-    (fired_fewer c.loop-timer.self.shown.timers c.in-Some.timer c.in-Some.ensures.listed) in
-    square_less (length c.fire.new.self.listed) (length c.loop-timer.self.shown.timers.listed) _ fewer
+    (fired_fewer c.loop-timer.self.view.timers c.in-Some.timer c.in-Some.ensures.listed) in
+    square_less (length c.fire.new.self.listed) (length c.loop-timer.self.view.timers.listed) _ fewer
 
 pub loop-timer-preserved : goal.loop-timer-preserved
 unfolding fired_of
@@ -65,10 +65,10 @@ loop-timer-preserved c = (
   search rules,
   λ t.
       let now = c.loop-timer.invariant.3 t in
-      let same : c.post.new.self.shown.timers ≡ c.loop-timer.self.shown.timers = c.in_ok-is_full.ensures.lists.1 in
-      let fewer : length c.fire.new.self.listed < length c.loop-timer.self.shown.timers.listed =
+      let same : c.post.new.self.view.timers ≡ c.loop-timer.self.view.timers = c.in_ok-is_full.ensures.lists.1 in
+      let fewer : length c.fire.new.self.listed < length c.loop-timer.self.view.timers.listed =
       rw (c.fire.ensures.after, same)
-      (fired_fewer c.loop-timer.self.shown.timers c.in-Some.timer c.in-Some.ensures.listed) in
+      (fired_fewer c.loop-timer.self.view.timers c.in-Some.timer c.in-Some.ensures.listed) in
       let at : Found (kernel_state_of t c.loop-timer.self) c.loop-timer.after c.in-Some.timer c.in-Some.owner =
       record { first = c.in-Some.ensures.first; owner = c.in-Some.ensures.owner } in
       let next = fired_step
@@ -85,4 +85,4 @@ unfolding first_due
 returns-clause-exact c = λ t.
     let now = c.loop-timer.invariant.3 t in
     now.2 ∙ walk_none (walks_of now.0) (kernel_state_of t c.loop-timer.self)
-    (members_after c.loop-timer.after c.loop-timer.self.shown.timers.listed) (sym c.in_default.ensures.first)
+    (members_after c.loop-timer.after c.loop-timer.self.view.timers.listed) (sym c.in_default.ensures.first)

@@ -3,12 +3,12 @@ use Rattle.program_tree.specs.Program.{tree_of}
 use Rattle.program_tree.specs.declared.event.Proc.TheVariants.{Own}
 use Rattle.process_kernel.specs.Call.{calls_of}
 use Rattle.process_kernel.specs.Boot.{starts_of}
-use Rattle.process_kernel.specs.Views.{kernel_state_of, Spends, Grows}
+use Rattle.process_kernel.specs.Views.{kernel_state_of, Continues, Grows}
 use Rattle.process_kernel.proofs.machine.Machine.start_each.Given as goal
 
 abbrev pub invariant-loop-process : goal.invariant-loop-process
 invariant-loop-process l =
-    Spends 0 l.fn.self l.self
+    Continues l.fn.self l.self
     × Grows l.fn.self.out l.self.out
     × ((k : ℕ) → l.fn.self.fuel < k
     → starts_of (calls_of k) (map Own l.processes) (kernel_state_of (tree_of l.program) l.fn.self)

@@ -18,5 +18,5 @@ returns-clause-exact c = λ t. let gone = rest c.before in search (rules, gone, 
 
 pub invariant_of-self-clause-are_members : goal.invariant_of-self-clause-are_members
 invariant_of-self-clause-are_members c =
-    subst (λ ms. AreMembers ms (length c.keep_first_list.new.self.shown.states.items)) (sym (rest c))
+    subst (λ ms. AreMembers ms (length c.keep_first_list.new.self.view.states.items)) (sym (rest c))
     (AreMembers-filter _ _ _ c.keep_first_list.new.self.are_members)

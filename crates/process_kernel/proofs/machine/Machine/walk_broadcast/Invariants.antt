@@ -2,12 +2,12 @@ use Rattle.std.proofs.Common.{◌≡◌, ◌<◌, ℕ, drop}
 use Rattle.program_tree.specs.Program.{tree_of}
 use Rattle.process_kernel.specs.Call.{calls_of}
 use Rattle.process_kernel.specs.Delivery.{walk_broadcast}
-use Rattle.process_kernel.specs.Views.{kernel_state_of, Spends, Grows}
+use Rattle.process_kernel.specs.Views.{kernel_state_of, Continues, Grows}
 use Rattle.process_kernel.proofs.machine.Machine.walk_broadcast.Given as goal
 
 abbrev pub invariant-loop-member : goal.invariant-loop-member
 invariant-loop-member l =
-    Spends 0 l.fn.self l.self
+    Continues l.fn.self l.self
     × Grows l.fn.self.out l.self.out
     × ((k : ℕ) → l.fn.self.fuel < k
     → walk_broadcast (calls_of k) l.posted l.members (kernel_state_of (tree_of l.program) l.fn.self)

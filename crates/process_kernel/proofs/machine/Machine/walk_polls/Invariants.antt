@@ -2,12 +2,12 @@ use Rattle.std.proofs.Common.{◌≡◌, ◌<◌, ℕ, drop}
 use Rattle.program_tree.specs.Program.{tree_of}
 use Rattle.process_kernel.specs.Call.{calls_of}
 use Rattle.process_kernel.specs.Polls.{walk_polls}
-use Rattle.process_kernel.specs.Views.{kernel_state_of, Spends, Grows}
+use Rattle.process_kernel.specs.Views.{kernel_state_of, Continues, Grows}
 use Rattle.process_kernel.proofs.machine.Machine.walk_polls.Given as goal
 
 abbrev pub invariant-loop-member : goal.invariant-loop-member
 invariant-loop-member l =
-    Spends 0 l.fn.self l.self
+    Continues l.fn.self l.self
     × Grows l.fn.self.out l.self.out
     × ((k : ℕ) → l.fn.self.fuel < k → walk_polls (calls_of k) l.members (kernel_state_of (tree_of l.program) l.fn.self)
     ≡ walk_polls (calls_of k) (drop l.member-index l.members) (kernel_state_of (tree_of l.program) l.self))

@@ -6,13 +6,13 @@ pub returns : goal.returns
 unfolding unbooted
 returns c = record {
   state =
-      let shown = c.in_ok-first_shown.ensures in
+      let view = c.in_ok-first_view.ensures in
       rw (
-        shown.mote.0,
-        shown.mote.1,
-        shown.timers.1,
-        shown.states,
-        shown.semaphores,
+        view.mote.0,
+        view.mote.1,
+        view.timers.1,
+        view.states,
+        view.semaphores,
         c.in_ok-new.ensures.empty,
         c.in_ok-new-2.ensures.empty,
         c.in_ok-new-3.ensures.empty,

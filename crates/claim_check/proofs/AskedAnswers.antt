@@ -1,0 +1,29 @@
+-- The result of what the arguments ask for.
+use Rattle.std.proofs.Common.{◌≡◌, ℕ, List, Bool, true, false, Result, subst, sym}
+use Rattle.std.specs.Bool.{MatchBool}
+use Rattle.window_workers.specs.declared.sync.SyncKind.TheVariants as sync
+use Rattle.simulation.specs.Simulation.{way_by}
+use Rattle.claim_check.specs.Check.{Checks}
+use Rattle.claim_check.specs.Command.{AnswersAsked, faults_of, is_survey}
+use Rattle.claim_check.specs.Survey.{Surveys}
+use Rattle.claim_check.specs.declared.answers.Answers.{Answers}
+use Rattle.claim_check.specs.declared.command_line.Asked.{Asked}
+use Rattle.claim_check.specs.declared.error.CheckError.{CheckError}
+use Rattle.claim_check.specs.declared.surveying.Faults.{Faults}
+
+-- the result of a survey, or of one run
+abbrev either : Asked → (s c : List ℕ) → Result Answers CheckError → Bool → Type 0
+either asked s c r b =
+    MatchBool b (Surveys (way_by asked.workers sync.Joins) (faults_of asked) s c r) (Checks (way_by asked.workers sync.Joins) s c r)
+
+pub by_survey : (asked : Asked) (s c : List ℕ) (r : Result Answers CheckError) (test : Bool) (f : Faults) → test ≡ is_survey asked → test ≡ true → f ≡ faults_of asked
+    → Surveys (way_by asked.workers sync.Joins) f s c r → AnswersAsked asked s c r
+by_survey asked s c r test f same is these h =
+    let now : either asked s c r true = subst (λ g. Surveys (way_by asked.workers sync.Joins) g s c r) these h in
+    subst (either asked s c r) same (subst (either asked s c r) (sym is) now)
+
+pub by_check : (asked : Asked) (s c : List ℕ) (r : Result Answers CheckError) (test : Bool) → test ≡ is_survey asked → test ≡ false
+    → Checks (way_by asked.workers sync.Joins) s c r → AnswersAsked asked s c r
+by_check asked s c r test same is h =
+    let now : either asked s c r false = h in
+    subst (either asked s c r) same (subst (either asked s c r) (sym is) now)

@@ -1,0 +1,5 @@
+mod Answered
+mod AskedAnswers
+mod SharedNames
+mod Surveyed
+mod WordFacts

@@ -1,0 +1,53 @@
+-- Results of a survey.
+use Rattle.std.proofs.Common.{◌≡◌, ◌≤◌, ◌^◌, ℕ, List, [], Result, Ok, Err, length, map, ◌∙◌, ap, subst, sym}
+use Rattle.std.proofs.lemmas.List.{length-map}
+use Rattle.mote_net.specs.Net.{NetModel}
+use Rattle.claims.specs.declared.claim.Claim.{Claim}
+use Rattle.claim_text.specs.ClaimText.{text_of}
+use Rattle.claim_text.specs.ClaimLines.{claim_lines}
+use Rattle.net_scenario.specs.Reading.{TellsNet}
+use Rattle.simulation.specs.Input.{IsText}
+use Rattle.simulation.specs.Simulation.{Way}
+use Rattle.simulation.specs.declared.error.SimError.{SimError}
+use Rattle.simulation.specs.declared.error.SimError.TheVariants as fault
+use Rattle.simulation.proofs.Printed.{scenario_of}
+use Rattle.claim_check.specs.Names.{AreNames}
+use Rattle.claim_check.specs.NetSurveys.{SurveysNet}
+use Rattle.claim_check.specs.Survey.{AnswersSurvey, HasTooManyFaults, Surveyed, Surveys, faults_in, limits_of}
+use Rattle.claim_check.specs.declared.answers.Answers.{Answers}
+use Rattle.claim_check.specs.declared.error.CheckError.{CheckError}
+use Rattle.claim_check.specs.declared.error.CheckError.TheVariants as check
+use Rattle.claim_check.specs.declared.surveying.Faults.{Faults}
+
+pub surveyed : (f : Faults) (s c : List ℕ) (a : Answers) (net : NetModel) (names : List (List ℕ)) (cs : List Claim) → IsText s → TellsNet s net → AreNames net names
+    → map (text_of names) cs ≡ claim_lines [] c → AnswersSurvey names net cs (faults_in f net) (limits_of f) a → Surveyed f s c a
+surveyed f s c a net names cs is_text tells named read survey =
+    record { from = scenario_of s net is_text tells; names = names; named = named; asked = cs; read = read; survey = survey }
+
+pub too_many_faults : (f : Faults) (s : List ℕ) (net : NetModel) → IsText s → TellsNet s net → 2 ^ 16 ≤ length (faults_in f net) → HasTooManyFaults f s
+too_many_faults f s net is_text tells many = record { from = scenario_of s net is_text tells; many = many }
+
+-- so many claims were read from so many lines
+many_lines : (names : List (List ℕ)) (cs : List Claim) (c : List ℕ) → map (text_of names) cs ≡ claim_lines [] c → 2 ^ 16 ≤ length cs → 2 ^ 16 ≤ length (claim_lines [] c)
+many_lines names cs c read many = subst (λ n. 2 ^ 16 ≤ n) (sym (length-map cs (text_of names)) ∙ ap length read) many
+
+-- the survey of a scenario's net is one of the scenario
+module _ (way : Way) (f : Faults) (s c : List ℕ) (names : List (List ℕ)) (net : NetModel) (cs : List Claim) (is_text : IsText s) (tells : TellsNet s net) (named : AreNames net names)
+    (read : map (text_of names) cs ≡ claim_lines [] c) where
+  by_fault : (e : SimError) → SurveysNet way f names net cs (Err (check.Simulation e)) → Surveys way f s c (Err (check.Simulation e))
+  by_fault fault.Read h = absurd h
+  by_fault fault.TooLong h = absurd h
+  by_fault fault.NotText h = absurd h
+  by_fault (fault.Scenario e) h = absurd h
+  by_fault (fault.Run e) h = (scenario_of s net is_text tells, h)
+  by_fault (fault.Print e) h = absurd h
+  by_fault fault.Memory h = tt
+
+  pub surveys : (r : Result Answers CheckError) → SurveysNet way f names net cs r → Surveys way f s c r
+  surveys (Ok a) h = (h.0, surveyed f s c a net names cs is_text tells named read h.1)
+  surveys (Err (check.Simulation e)) h = by_fault e h
+  surveys (Err (check.Input e)) h = absurd h
+  surveys (Err (check.Claims e)) h = absurd h
+  surveys (Err check.TooManyClaims) h = (scenario_of s net is_text tells, many_lines names cs c read h)
+  surveys (Err check.TooManyFaults) h = too_many_faults f s net is_text tells h
+  surveys (Err check.Write) h = absurd h

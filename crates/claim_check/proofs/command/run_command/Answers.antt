@@ -1,0 +1,7 @@
+use Rattle.std.proofs.Common.{inl}
+use Rattle.claim_check.proofs.command.run_command.Goals as goal
+
+pub returns-in-Ok : goal.returns-in-Ok
+returns-in-Ok g c = record {
+  commands = inl (c.in-Ok.asked, c.in-Ok.ensures.asks, record { answer = c.check_asked-answer.result; of_some = c.check_asked-answer.ensures.checks_some; status_is = c.status_of.ensures.status });
+}

@@ -1,0 +1,77 @@
+-- The request or the error of a command line. `clap` finds matches or errors, and these determine the result.
+use Rattle.std.specs.Prelude.{◌≡◌, ◌⊎◌, ℕ, pos, Bool, true, false, List, [], Option, Some, None, codes, unwrap_or}
+use Rattle.std.specs.Str.Parse.{ParsesUnsigned, ExplainsUnsignedError, HasUnsignedDigitsIfOk}
+use Rattle.clap.specs.Words.{App, Row, Rule, Text, IsAmong, fault_of, first_of, matches_of, new_app, new_rule, one_of}
+use Rattle.clap.specs.Words.{ReadsOne, with_rule}
+use Rattle.clap.specs.Simple.{on_top}
+use Rattle.clap.specs.declared.builder.action.ArgAction.TheVariants.{SetTrue}
+use Rattle.clap.specs.declared.builder.value_parser.ValueParser.{ValueParser}
+use Rattle.clap.specs.declared.builder.value_parser.ValueParser.TheVariants as parser
+use Rattle.clap.specs.declared.error.kind.ErrorKind.{ErrorKind}
+use Rattle.clap.specs.declared.error.kind.ErrorKind.TheVariants as kind
+use Rattle.simulation.specs.Words.{ReadsWorkers, workers_rule}
+use Rattle.claim_check.specs.declared.command_line.Asked.{Asked}
+
+-- a file that must be named
+abbrev pub file_rule : (name : Text) → Rule
+file_rule name = record (new_rule name) { required = true }
+
+-- an option without a value
+abbrev pub flag_rule : (name : Text) → Rule
+flag_rule name = record (new_rule name) { long = Some name; action = Some SetTrue }
+
+-- an option with a number
+abbrev pub number_rule : (name : Text) → ValueParser → Rule
+number_rule name parser = record (new_rule name) { long = Some name; value_names = 1; parser = Some parser }
+
+-- `--at-most K`, from 0 to 255
+abbrev pub at_most_rule : Rule
+at_most_rule = number_rule (codes "at-most") (parser.Signed (pos 0) (pos 255))
+
+-- `--runs N`, below 2 ^ 64
+abbrev pub runs_rule : Rule
+runs_rule = number_rule (codes "runs") (parser.Unsigned 0 18446744073709551615)
+
+-- the options of a survey: `[--links] [--silent] [--at-most K] [--runs N]`
+abbrev pub with_survey : App → App
+with_survey app = with_rule (with_rule (with_rule (with_rule app (flag_rule (codes "links"))) (flag_rule (codes "silent")))
+    at_most_rule) runs_rule
+
+-- the command as `clap` reads it, with a version: `motecheck [--workers N] [options of a survey] SCENARIO CLAIMS`
+abbrev pub motecheck_app : App
+motecheck_app =
+    with_rule (with_rule (with_survey (with_rule
+    (on_top (λ s. record s { has_version = true }) (new_app (codes "motecheck"))) workers_rule))
+    (file_rule (codes "SCENARIO"))) (file_rule (codes "CLAIMS"))
+
+-- the flag was given or not
+abbrev pub ReadsFlag : Option Text → Bool → Type 0
+ReadsFlag text flag = (text ≡ None → flag ≡ false) × (text ≡ Some (codes "true") → flag ≡ true)
+    × (text ≡ Some (codes "false") → flag ≡ false)
+
+-- the text of a number of so many bits reads as this number, or as none
+abbrev pub ReadsNumber : (bits : ℕ) → Option Text → Option ℕ → Type 0
+ReadsNumber bits None number = number ≡ None
+ReadsNumber bits (Some text) number =
+    ReadsOne
+    (λ bytes r. ParsesUnsigned bits 10 bytes r × ExplainsUnsignedError 10 bytes r × HasUnsignedDigitsIfOk bytes r)
+    text number
+
+-- this is the request, if `clap` found these values
+pub record AskedIn (rows : List Row) (asked : Asked) : Type 0 where
+  pub scenario : asked.scenario.now ≡ unwrap_or (first_of (codes "SCENARIO") rows) []
+  pub claims : asked.claims.now ≡ unwrap_or (first_of (codes "CLAIMS") rows) []
+  pub workers : ReadsWorkers (one_of (codes "workers") rows) asked.workers
+  pub links : ReadsFlag (one_of (codes "links") rows) asked.links
+  pub silent : ReadsFlag (one_of (codes "silent") rows) asked.silent
+  pub at_most : ReadsNumber 8 (one_of (codes "at-most") rows) asked.at_most
+  pub runs : ReadsNumber 64 (one_of (codes "runs") rows) asked.runs
+
+-- the arguments, of which the first is the program's name, have no error, and ask for this
+pub record AsksFor (words : List Text) (asked : Asked) : Type 0 where
+  pub accepted : fault_of motecheck_app words ≡ []
+  pub values : AskedIn (matches_of motecheck_app words) asked
+
+-- the reason why the arguments are refused, or ask for help; an allocation may fail for any arguments
+abbrev pub FaultOf : (words : List Text) → ErrorKind → Type 0
+FaultOf words k = (k ≡ kind.OutOfMemory) ⊎ IsAmong k (fault_of motecheck_app words)

@@ -1,0 +1,22 @@
+//! Checks claims about the run of a scenario, or about its runs with sets of faults, from the bytes of both to the bytes
+//! of the answers; and the command that does it.
+#![tactic(auto)]
+
+mod answers;
+mod checking;
+mod command;
+mod command_line;
+mod error;
+mod names;
+mod output;
+mod process;
+mod progress;
+mod surveying;
+
+pub use answers::Answers;
+pub use checking::{check, check_serial};
+pub use command::{check_asked, run_command, status_of};
+pub use command_line::{Asked, asked_by};
+pub use error::CheckError;
+pub use process::run_process;
+pub use surveying::{Faults, MOST, check_with_faults};

@@ -1,0 +1,77 @@
+//! The command, with the arguments of the process.
+ghost use Rattle.std.specs.Prelude.{◌≡◌, MatchResult};
+ghost use Rattle.claim_check.specs.Command.{ReturnsSome, RunsSome};
+
+use crate::command::{run_command, status_of};
+use crate::error::CheckError;
+use simulation::SimError;
+use std::alloc::{AllocError, Global};
+use std::io::{Eprint, Write};
+use std::random::RandomSource;
+use std::rt::{Env, Files};
+use std::sync::Wait;
+use std::thread::Threads;
+use std::{env, io};
+
+fn borrow_words(alloc: Global, words: &[String]) -> Result<Vec<&str>, AllocError> {
+    words.iter().map(|word| word.as_str()).collect(alloc)
+}
+
+/// Returns the arguments of the process.
+fn words_of<T: AllocGlobal + Env>(rt: &T) -> io::Result<Vec<String>> {
+    let words = env::args(rt)?.collect(rt.alloc())?;
+    Ok(words)
+}
+
+/// Runs the command with these arguments.
+fn run_words<T, W, E>(
+    rt: &T,
+    words: &[String],
+    output: &mut W,
+    errors: &mut E,
+) -> Result<u8, AllocError>
+where
+    T: AllocGlobal + Eprint + Files + Threads + Wait + RandomSource + Sync,
+    W: Write,
+    E: Write,
+    ensures runs { MatchResult result (RunsSome (W.contents output.old) (W.contents output.new))
+        (λ _. W.contents output.new ≡ W.contents output.old) }
+{
+    let words = borrow_words(rt.alloc(), words)?;
+    Ok(run_command(rt, &words, output, errors))
+}
+
+/// Runs the command with the arguments of the process.
+fn run<T, W, E>(rt: &T, output: &mut W, errors: &mut E) -> io::Result<u8>
+where
+    T: AllocGlobal + Env + Eprint + Files + Threads + Wait + RandomSource + Sync,
+    W: Write,
+    E: Write,
+    ensures runs { MatchResult result (RunsSome (W.contents output.old) (W.contents output.new))
+        (λ _. W.contents output.new ≡ W.contents output.old) }
+{
+    let words = words_of(rt)?;
+    Ok(run_words(rt, &words, output, errors)?)
+}
+
+/// Runs `run_command` with the arguments of the process, and returns the exit status of the command. If an argument
+/// isn't UTF-8, the status is 2, and a line in `errors` reports this.
+pub fn run_process<T, W, E>(rt: &T, output: &mut W, errors: &mut E) -> u8
+where
+    T: AllocGlobal + Env + Eprint + Files + Threads + Wait + RandomSource + Sync,
+    W: Write,
+    E: Write,
+    ensures returns_some { ReturnsSome (W.contents output.old) (W.contents output.new) result }
+{
+    match run(rt, output, errors) {
+        Ok(status) => status,
+        Err(error) if error.kind() == io::ErrorKind::InvalidData => {
+            let _ = writeln!(
+                errors,
+                "error: invalid UTF-8 was detected in one or more arguments"
+            );
+            2
+        }
+        Err(_) => status_of(Err(CheckError::Simulation(SimError::Memory)), errors),
+    }
+}

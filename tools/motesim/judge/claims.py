@@ -1,0 +1,283 @@
+"""The claims that a sentence means for a scenario, in the text of claims.
+
+A sentence holds if each of its claims does. The scenario gives the hops, the neighbours and the numbers of processes;
+the claims are about the report alone.
+"""
+from __future__ import annotations
+
+from collections.abc import Iterator, Sequence
+from pathlib import Path
+
+from motesim.faults import Fault
+from motesim.judge.claim_words import (
+    ALL, Case, Counted, Deed, Limits, Test, claim_text, every_line, limited, lines_of, motes_text, period_text, ratio,
+    set_text,
+)
+from motesim.judge.expectations import known_of, parts_of, place_of_part, read_all, text_of
+from motesim.judge.judge import BECAME, periods
+from motesim.judge.links import Apart, Links, Span
+from motesim.judge.sentences import (
+    Copies, Count, Deed as Action, Does, Hears, Lines, MediumLine, Motes, Packets, Pattern, Refused, Relation, Sentence,
+    Value, processes_of,
+)
+from motesim.notation.grammar import SYSTEM
+from motesim.notation.reader import read_program
+from motesim.report import FIELDS
+from motesim.scenario import Scenario
+
+EVENTS = {'init': 0x81, 'poll': 0x82, 'exit': 0x83, 'continue': 0x85, 'msg': 0x86, 'exited': 0x87, 'timer': 0x88,
+          'com': 0x89, 'packet': 0x8a}
+FIRST_DECLARED, MOST = 0x8b, (1 << 64) - 1
+# The parts of a pattern in their order, and the part that a field of a line is.
+PARTS = ('process', 'serial', 'event', 'sender', 'packet', 'value')
+PART_OF = {'number': 'packet', 'word': 'value'}
+OF_SCENARIO = {Hears: 'it is about the scenario', Refused: 'it is about a scenario without a report',
+               MediumLine: 'claims have no whole lines of the medium'}
+NO_CLAIM = '# no claim: %s'
+
+
+class NoClaim(Exception):
+    """A sentence that claims can't say, with the reason."""
+
+
+class _Program:
+    """The numbers of a program's processes and declared events."""
+
+    def __init__(self, text: str):
+        self.processes = processes_of(text)
+        self.events = EVENTS | {it.text: FIRST_DECLARED + place for place, it in enumerate(read_program(text).events)}
+
+
+class Claims:
+    """A scenario whose sentences are translated."""
+
+    def __init__(self, scenario: Scenario):
+        self.scenario, self.links = scenario, Links(scenario)
+        programs = {name: _Program(text) for name, text in scenario.programs.items()}
+        self.programs = [programs[it.program] for it in scenario.places]
+        # (motes with other names have claims with numbers)
+        self.is_named = all(it.processes == self.programs[0].processes for it in self.programs)
+        # The motes of the last sentence that have no distance. They have no case, and count as motes that don't do it.
+        self.apart: list[int] = []
+
+    def of(self, it: Sentence) -> list[str]:
+        """The claims that a sentence means. Raises `NoClaim` if claims can't say it."""
+        self.apart = []
+        if type(it) in OF_SCENARIO:
+            raise NoClaim(OF_SCENARIO[type(it)])
+        if isinstance(it, Does):
+            return [self.does(one) for one in periods(it) or [it]]
+        return [claim_text((1, 1), [self.of_net(it)])]
+
+    # Lines
+
+    def field(self, mote: int, field: str, wanted: str | Value) -> str | None:
+        """The part of a pattern that wants this word or value in a field; None if no line has it."""
+        if isinstance(wanted, Value):
+            return set_text(self.links.values(wanted, mote))
+        its = self.programs[mote]
+        if field == 'process':
+            is_known = wanted in SYSTEM or wanted == 'all' or self.is_named and wanted in its.processes
+            return wanted if is_known else str(its.processes.index(wanted)) if wanted in its.processes else None
+        if field == 'event':
+            return str(its.events[wanted]) if wanted in its.events else None
+        return wanted if wanted.isdecimal() and str(int(wanted)) == wanted and int(wanted) <= MOST else None
+
+    def pattern(self, mote: int, words: Pattern) -> str | None:
+        """The pattern of a mote's lines; None if no line of the mote can fit."""
+        kind, fields = str(words[0]), FIELDS[str(words[0])].split()
+        for value in words:
+            if isinstance(value, Value):
+                # (a mote may have no such value, whether or not it has such lines)
+                self.links.values(value, mote)
+        if len(words) > len(fields) + 1:
+            return None
+        parts: dict[str, str] = {}
+        for field, wanted in zip(fields, words[1:]):
+            if wanted is not None:
+                part = self.field(mote, field, wanted)
+                if part is None:
+                    return None
+                parts[PART_OF.get(field, field)] = part
+        return ' '.join([kind, *('%s %s' % (name, parts[name]) for name in PARTS if name in parts)])
+
+    def deed(self, patterns: Sequence[Pattern], motes: Sequence[int], spans: Sequence[Span]) -> Deed:
+        """The lines of motes, each in its span."""
+        its = [tuple(it for it in (self.pattern(mote, words) for words in patterns) if it) for mote in motes]
+        found = {it for it in its if it} or {()}
+        if len(found) > 1:
+            raise NoClaim('a claim counts lines of several motes by one pattern, which differs here')
+        return Deed(found.pop(), tuple((mote, span) for mote, span, own in zip(motes, spans, its)
+                                       if own or len(motes) == 1))
+
+    def chosen(self, motes: Motes) -> tuple[int, ...]:
+        numbers = range(self.scenario.motes) if motes.numbers is None else sorted(motes.numbers)
+        return tuple(mote for mote in numbers if mote not in motes.but)
+
+    # Sentences about motes
+
+    def does(self, it: Does) -> str:
+        chosen, cases = self.chosen(it.motes), list[Case]()
+        for unit in [chosen] if it.motes.kind == 'together' else [(mote,) for mote in chosen]:
+            try:
+                cases.append(tuple(self.tests(it, unit)))
+            except Apart:
+                self.apart += unit
+        return claim_text(of_motes(it.motes, len(chosen)), cases)
+
+    def tests(self, it: Does, motes: tuple[int, ...]) -> list[Test]:
+        """The tests of one mote, or of several together."""
+        other = it.than or it.relation
+        others = motes if other is None or other.motes is None else self.chosen(other.motes)
+        event = (other.deed if other else None) or it.deed
+        found = list[Test]()
+        for span in self.links.spans(it.window, motes[0]):
+            deed = self.deed(it.deed.patterns, motes, [span] * len(motes))
+            if it.than:
+                window = it.than.window
+                spans = [self.links.spans(window, mote)[0] for mote in others]
+                found += compared(it.count, lines_of(deed), lines_of(self.deed(event.patterns, others, spans)))
+            elif it.relation and it.relation.kind == 'each':
+                lines = self.deed(it.deed.patterns, motes, [ALL] * len(motes))
+                found += self.answered(it.relation, lines, event, others, span)
+            elif it.relation:
+                found += ordered(it, it.relation, deed, self.deed(event.patterns, others, [ALL] * len(others)))
+            else:
+                found.append(self.counted(it, deed, motes))
+        return found
+
+    def counted(self, it: Does, deed: Deed, motes: tuple[int, ...]) -> Test:
+        """The number of lines, or their values."""
+        own = it.deed
+        if own.way == 'any':
+            return limited(of_count(it.count), lines_of(deed))
+        values = [self.links.values(own.value, motes[0])] if own.value else [{value} for value in own.values]
+        listed = ', '.join(map(set_text, values))
+        if own.way == 'finally':
+            return Test('the last line %s has the value ' + listed, (deed,), deed.mote)
+        order = 'any order' if own.way == 'set' else 'order of time'
+        return Test('the lines %%s have in %s exactly the values %s' % (order, listed), (deed,), deed.mote)
+
+    def answered(self, it: Relation, lines: Deed, event: Action, motes: Sequence[int], span: Span) -> list[Test]:
+        """Each of the events has a line soon after it, except those near the end; and one of the events has."""
+        last = self.scenario.end - it.moments
+        early = (span[0], last if span[1] is None else min(span[1], last))
+        order = near(it.moments, 'before') + ' some line'
+        found = [every_line(self.deed(event.patterns, motes, [early] * len(motes)), order, lines)]
+        events = self.deed(event.patterns, motes, [span] * len(motes))
+        return found * (early[0] <= early[1]) + [limited((1, None), lines_of(events, order, lines))]
+
+    # Sentences about the net
+
+    def of_net(self, it: Sentence) -> Case:
+        if isinstance(it, Lines):
+            return (limited(of_count(it.count), Counted('line in the report', 'lines in the report')),)
+        assert isinstance(it, (Copies, Packets))
+        if isinstance(it, Copies) and it.outcome == 'left':
+            return (limited(of_count(it.count), Counted('copy left at the end', 'copies left at the end')),)
+        if isinstance(it, Copies) and it.outcome != 'lost':
+            return tuple(self.arrived(it, BECAME[it.outcome]))
+        if it.window.root is not None:
+            raise NoClaim('a claim counts packets, and copies that are lost, in one interval for all motes')
+        to = to_motes(it.motes) if isinstance(it, Copies) else ''
+        form = '%s' + to + ' sent%s and lost by the medium' if isinstance(it, Copies) else '%s sent%s'
+        one, many = ('copy', 'copies') if isinstance(it, Copies) else ('packet', 'packets')
+        found = [Counted(form % (one, when), form % (many, when))
+                 for when in map(period_text, self.links.spans(it.window, 0))]
+        return tuple(test for what in found for test in self.share_or_number(it, what, to))
+
+    def arrived(self, it: Copies, kind: str) -> list[Test]:
+        """Copies that became lines of this kind. The interval may depend on the mote."""
+        motes, apart = self.chosen(Motes('together', it.motes)), list[int]()
+        spans = {}
+        for mote in motes:
+            try:
+                spans[mote] = self.links.spans(it.window, mote)
+            except Apart:
+                apart.append(mote)
+        found = list[Test]()
+        for part in range(len(self.links.spans(it.window, it.window.root or 0))):
+            deed = self.deed([(kind,)], list(spans), [its[part] for its in spans.values()])
+            found += self.share_or_number(it, lines_of(deed), to_motes(it.motes))
+        never = [limited((0, 0), lines_of(self.deed([(kind,)], apart, [ALL] * len(apart))))] if apart else []
+        return found + never
+
+    def share_or_number(self, it: Copies | Packets, what: Counted, to: str) -> list[Test]:
+        if not it.count.is_part:
+            return [limited(of_count(it.count), what)]
+        due = '%s' + '%s lost by the medium or due by %d' % (to, self.scenario.end)
+        return compared(it.count, what, Counted(due % 'copy', due % 'copies'))
+
+
+def to_motes(motes: frozenset[int] | None) -> str:
+    return '' if motes is None else ' to mote%s %s' % ('s' * (len(motes) > 1), set_text(motes))
+
+
+def near(moments: int, where: str) -> str:
+    return ' within %d moment%s %s' % (moments, 's' * (moments != 1), where)
+
+
+def of_count(count: Count) -> Limits:
+    """The limits of a number. Nothing is fewer than 0."""
+    most = count.most
+    return (1, 0) if most is not None and most < 0 else (count.least, most)
+
+
+def of_motes(motes: Motes, number: int) -> Limits:
+    """The limits of the number of motes that do what a sentence says; `number` is that of all its motes."""
+    if motes.kind in ('each', 'together'):
+        number = 1 if motes.kind == 'together' else number
+        return number, number
+    if motes.kind != 'count':
+        return (0, 0) if motes.kind == 'no' else (1, None)
+    assert motes.count
+    if not motes.count.is_part:
+        return of_count(motes.count)
+    admitted = [it for it in range(number + 1) if motes.count.admits(it, number)]
+    if not admitted:
+        return number + 1, None
+    return admitted[0], None if motes.count.compare in ('at least', 'more than') else admitted[-1]
+
+
+def compared(count: Count, one: Counted, two: Counted) -> list[Test]:
+    """So many times as many things as others, or so large a share of them."""
+    unit, times = 100 if count.is_part else 1, count.number
+    at_least = ratio(two, times, one, unit, count.compare == 'more than')
+    at_most = ratio(one, unit, two, times, count.compare == 'fewer than')
+    return [at_least] * (count.compare in ('at least', 'more than', 'exactly')) + [at_most] * (
+        count.compare in ('at most', 'fewer than', 'exactly'))
+
+
+def ordered(it: Does, relation: Relation, deed: Deed, event: Deed) -> list[Test]:
+    """So many lines have the order; or there are lines, and all have it."""
+    if relation.kind == 'before':
+        order = ' before every line'
+    else:
+        order = (' after' if relation.kind == 'after' else near(relation.moments, 'after')) + ' some line'
+    if it.is_counted:
+        return [limited(of_count(it.count), lines_of(deed, order, event))]
+    return [limited(of_count(it.count), lines_of(deed)), every_line(deed, order, event)]
+
+
+def claims_shown(scenario: Path, expectations: Path) -> Iterator[str]:
+    """The lines of a text of claims: each expectation as a comment, and the claims that it means. Expectations that
+    claims can't say, and those about a changed scenario, have only a comment."""
+    name = str(expectations)
+    part, *others = parts_of(text_of(expectations), name)
+    known, names = known_of(text_of(scenario), part.fields)
+    sentences = read_all(part.sentences, names)
+    if known is None:
+        raise Fault('%s is no scenario, so no claims can be about it' % scenario)
+    claims = Claims(known)
+    for text, sentence in zip(part.sentences, sentences):
+        yield '# ' + ' '.join(text.split())
+        try:
+            yield from claims.of(sentence)
+        except NoClaim as why:
+            yield NO_CLAIM % why
+        if claims.apart:
+            yield '# without a distance, so without a case: ' + motes_text(sorted(set(claims.apart)))
+    if part.report is not None:
+        yield NO_CLAIM % 'the whole report'
+    for number, it in enumerate(others, 1):
+        yield NO_CLAIM % 'the expectations of %s are about another scenario' % place_of_part(number, it, name)

@@ -1,0 +1,56 @@
+// @ts-check
+// Opens the page without a server: on the text of a link, of this page, or of the last time, or on an example.
+import {openAsAddressed} from '../../timeline/page/address.js';
+import {chainOf} from '../../timeline/page/causes.js';
+import {byId} from '../../timeline/page/dom.js';
+import {page} from '../../timeline/page/stage.js';
+import {Alone} from './alone.js';
+import {forgetDraft, keepDraft, keepInAddress, neverEnded, textToOpen} from './keeping.js';
+import {begin, open, openExample, say} from './web.js';
+
+const ORIGINS = {link: 'This net came with the link.', page: 'This net was saved with the page.',
+  draft: 'This is your text of the last time. Examples has the others.'};
+
+/** The module, unpacked and compiled. */
+async function moduleOf() {
+  const letters = atob(byId('module').textContent.trim()), bytes = Uint8Array.from(letters, it => it.charCodeAt(0));
+  const plain = new Blob([bytes]).stream().pipeThrough(new DecompressionStream('gzip'));
+  return WebAssembly.compile(await new Response(plain).arrayBuffer());
+}
+
+async function start() {
+  const data = JSON.parse(byId('data').textContent);
+  const alone = new Alone(moduleOf(), byId('worker').textContent, data.rules);
+  page.chainOf = chainOf;
+  const [first] = begin(alone, data);
+  page.reactions.kept.push(text => {
+    keepDraft(text, page.web.document.name);
+    keepInAddress(text);
+  });
+  page.reactions.opened.push(({name, where}) => {
+    document.title = `${name.replace(/\.toml$/, '')} – motesim`;
+    if (where !== 'example') return;
+    forgetDraft();
+    keepInAddress(null);
+  });
+  let opened = null, broken = '';
+  try {
+    opened = await textToOpen();
+  } catch {
+    broken = 'The link is broken: no text can be read from it. This is the first example.';
+  }
+  if (!opened) {
+    await openExample(first);
+    if (broken) say(broken, 'bad');
+    return;
+  }
+  // (a text at which the browser gave up waits)
+  await open({where: '', ...opened}, {intro: ORIGINS[opened.from], waits: neverEnded(opened.text)});
+  if (opened.from === 'link' && page.panes.length) openAsAddressed();
+}
+
+window.motesim = page;
+start().catch(fault => {
+  byId('said').textContent = `This page can't run here: ${fault.message}`;
+  console.error(fault);
+});

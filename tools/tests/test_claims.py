@@ -1,0 +1,113 @@
+"""The claims that expectations mean: their texts; the verdicts on random runs of motecheck, of the tools' judge, and of
+the second judge, which was written from the page alone; and a survey of motecheck."""
+import contextlib
+import os
+import random
+import re
+import subprocess
+import unittest
+from itertools import permutations
+from pathlib import Path
+
+from here import TOP, call, room_of
+from motesim.judge.claims import Claims, NoClaim
+from motesim.judge.judge import Judge
+from motesim.judge.sentences import names_of, read_sentence
+from motesim.report import Report
+from motesim.report.run import program_path
+from motesim.scenario import Scenario
+from page_judge import PageJudge
+from page_sentences import Sentences, running_net_of
+from skips import need_program
+from test_relations import SCENARIO
+
+# Sentences as comments, each with its claims, as the tool writes them for `SCENARIO` without the link from 2 to 3.
+NOTES = ('# no claim', '# without a distance')
+TABLE = Path(__file__).with_name('claims.txt')
+CHECK = Path(os.environ.get('MOTECHECK', TOP / 'crates/motecheck/out/motecheck'))
+NETS, SENTENCES = range(int(os.environ.get('CLAIM_NETS', '12'))), 30
+
+
+class Texts(unittest.TestCase):
+    def test_the_claims_of_each_form(self) -> None:
+        room, wanted = room_of(self), TABLE.read_text()
+        sentences = [row[2:] for row in wanted.splitlines() if row.startswith('# ') and not row.startswith(NOTES)]
+        (room / 'net.toml').write_text(SCENARIO + '[[loss]]\nfrom = 2\nto = 3\nevery = 1\n')
+        (room / 'net.expect.toml').write_text('report = ""\nexpect = %r' % sentences)
+        self.assertEqual(call('expect', 'net.toml', '--claims', cwd=room).stdout, wanted)
+
+
+class Page(unittest.TestCase):
+    def test_motecheck_writes_what_the_page_shows(self) -> None:
+        need_motecheck(self)
+        room, page = room_of(self), (TOP / 'docs/use/TESTING.md').read_text('utf-8')
+        for name in 'tools', 'examples':
+            (room / name).symlink_to(TOP / name)
+        (room / 'crates/motecheck/out').mkdir(parents=True)
+        (room / 'crates/motecheck/out/motecheck').symlink_to(CHECK)
+        (room / 'crates/motecheck/data').symlink_to(TOP / 'crates/motecheck/data')
+        news = (TOP / 'examples/news.toml').read_text('utf-8')
+        (room / 'fixed.toml').write_text(news.replace('(is(packet) && (from < self))', 'is(packet)'))
+        blocks = [it for it in re.findall(r'^```\n(\$ .*?)^```$', page, re.S | re.M) if 'motecheck' in it]
+        self.assertEqual(len(blocks), 3)
+        for block in blocks:
+            lines = block.splitlines()
+            commands = [it[2:] for it in lines if it.startswith('$ ')]
+            done = subprocess.run(['bash', '-c', '\n'.join(commands)], cwd=room, capture_output=True, text=True)
+            self.assertEqual(done.stdout.splitlines(), lines[len(commands):], done.stderr)
+
+
+class Verdicts(unittest.TestCase):
+    def test_motecheck_and_both_judges_have_the_same_verdicts(self) -> None:
+        need_program(self)
+        need_motecheck(self)
+        found = [0, 0]
+        for seed in NETS:
+            chance = random.Random(seed)
+            text, motes = running_net_of(chance)
+            report = subprocess.run([program_path()], input=text, capture_output=True, text=True, check=True).stdout
+            scenario, page = Scenario.parse(text), PageJudge(text, report)
+            judge, names, claims = Judge(Report.parse(report), scenario), names_of(scenario), Claims(scenario)
+            said, rows = list[tuple[str, bool, int]](), list[str]()
+            for words, meaning in (it.sentence() for it in [Sentences(chance, motes)] * SENTENCES):
+                sentence, holds = read_sentence(words, names), page.holds(meaning)
+                with self.subTest(seed=seed, sentence=words):
+                    self.assertEqual(judge.broken(sentence) is None, holds)
+                with contextlib.suppress(NoClaim):
+                    rows += claims.of(sentence)
+                    said.append((words, holds, len(rows)))
+            lines = answers(self, text, rows)
+            self.assertEqual(len(lines), len(rows))
+            for (words, holds, end), (_, _, begin) in zip(said, [('', True, 0), *said]):
+                found[holds] += 1
+                with self.subTest(seed=seed, sentence=words, claims=rows[begin:end]):
+                    self.assertEqual(all(it.startswith('holds') for it in lines[begin:end]), holds)
+        self.assertGreater(min(found), sum(found) / 4, 'too few expectations hold, or too few are broken')
+
+
+class Surveys(unittest.TestCase):
+    def test_the_listed_links_are_those_whose_loss_breaks_the_claim(self) -> None:
+        need_motecheck(self)
+        news = (TOP / 'examples/news.toml').read_text()
+        claims = ['each of motes 1 to 8: the lines "print process news" have in order of time exactly the values 7']
+        alone, first, second, covered = answers(self, news, claims, '--links', '--workers', '2')
+        lost = [link for link in permutations(range(9), 2)
+                if answers(self, news + '[[loss]]\nfrom = %d\nto = %d\nevery = 1\n' % link, claims)[0].startswith('broken')]
+        self.assertEqual(alone, 'broken: ' + claims[0])
+        self.assertEqual([tuple(map(int, re.findall(r'\d+', it))) for it in (first, second)], lost)
+        self.assertEqual(covered, 'covered: all sets of at most 1 of 40 faults; runs: 41')
+
+
+def need_motecheck(case: unittest.TestCase) -> None:
+    if not CHECK.is_file():
+        case.skipTest('%s is not built' % CHECK)
+
+
+def answers(case: unittest.TestCase, scenario: str, claims: list[str], *options: str) -> list[str]:
+    """The lines of motecheck: an answer to each claim, or a survey."""
+    room = room_of(case)
+    (room / 'net.toml').write_text(scenario)
+    (room / 'net.claims').write_text('\n'.join(claims))
+    done = subprocess.run([CHECK, *options, 'net.toml', 'net.claims'], cwd=room, capture_output=True, text=True)
+    case.assertIn(done.returncode, (0, 3), done.stderr)
+    return done.stdout.splitlines()
