@@ -64,14 +64,14 @@ class OneProgram:
                 resource.prlimit(child, resource.RLIMIT_FSIZE, (self.limits.report, self.limits.report))
                 resource.prlimit(child, resource.RLIMIT_DATA, (self.limits.memory, self.limits.memory))
             is_main = threading.current_thread() is threading.main_thread()
-            status = self.wait_by_alarm(child) if is_main else self.wait_by_looking(child)
-            is_over = status is not None
+            is_over = self.ends_before_alarm(child) if is_main else self.ends_when_looked_at(child)
         finally:
             self.child = 0
+            # (nothing has waited for it yet, so no other process has its number)
             if not is_over:
                 os.kill(child, signal.SIGKILL)
-                os.waitpid(child, 0)
-        return self.answer(status)
+            status = os.waitstatus_to_exitcode(os.waitpid(child, 0)[1])
+        return self.answer(status if is_over else None)
 
     def stop(self) -> None:
         """Ends the present run, if there is one, and each later run. For handlers of signals."""
@@ -80,31 +80,29 @@ class OneProgram:
             with contextlib.suppress(ProcessLookupError):
                 os.kill(self.child, signal.SIGKILL)
 
-    def wait_by_alarm(self, child: int) -> int | None:
-        """The status of a run, or None once its time is over. Only the main thread gets alarms."""
+    def ends_before_alarm(self, child: int) -> bool:
+        """True if a run ends before its time is over; it is left to be waited for. Only the main thread gets alarms."""
         before = signal.signal(signal.SIGALRM, _ring)
-        status = None
         try:
             signal.setitimer(signal.ITIMER_REAL, self.limits.seconds)
-            status = os.waitstatus_to_exitcode(os.waitpid(child, 0)[1])
+            os.waitid(os.P_PID, child, os.WEXITED | os.WNOWAIT)
             signal.setitimer(signal.ITIMER_REAL, 0)
         except _Late:
-            pass
+            return False
         finally:
             signal.setitimer(signal.ITIMER_REAL, 0)
             signal.signal(signal.SIGALRM, before)
-        return status
+        return True
 
-    def wait_by_looking(self, child: int) -> int | None:
-        """The status of a run, or None once its time is over. For threads that get no alarms."""
+    def ends_when_looked_at(self, child: int) -> bool:
+        """True if a run ends before its time is over; it is left to be waited for. For threads that get no alarms."""
         end, pause = time.monotonic() + self.limits.seconds, PAUSE
         while time.monotonic() < end:
-            found, status = os.waitpid(child, os.WNOHANG)
-            if found:
-                return os.waitstatus_to_exitcode(status)
+            if os.waitid(os.P_PID, child, os.WEXITED | os.WNOWAIT | os.WNOHANG):
+                return True
             time.sleep(pause)
             pause = min(2 * pause, LONGEST_PAUSE)
-        return None
+        return False
 
     def answer(self, status: int | None) -> Answer:
         size = os.fstat(self.report).st_size
