@@ -968,3 +968,16 @@ class Programs(unittest.TestCase):
             long = OneProgram(self.program(folder, 'exec cat /dev/zero\n'), LIMITS._replace(report=100_000))
             with self.assertRaisesRegex(LimitMet, 'the report is longer than 100,000 bytes'):
                 long.run(b'')
+
+    def test_an_alarm_that_rings_as_the_run_ends(self) -> None:
+        def waitid(*words: int) -> object:
+            ended = wait(*words)
+            signal.raise_signal(signal.SIGALRM)
+            return ended
+
+        wait = os.waitid
+        with tempfile.TemporaryDirectory() as folder:
+            one = OneProgram(self.program(folder, 'cat\n'), LIMITS)
+            with mock.patch('os.waitid', waitid), self.assertRaisesRegex(LimitMet, 'no answer in 10 seconds'):
+                one.run(b'')
+            self.assertEqual(one.run(b'text').report, b'text')
