@@ -12,6 +12,7 @@ import runpy
 import threading
 import time
 import unittest
+from pathlib import Path
 from typing import Any
 
 from here import TOOLS, TOP, room_of
@@ -377,20 +378,41 @@ class Page(InBrowser):
         self.assertTrue(self.value('by("link").hidden'))
         self.assertIn('too long', self.value('by("sharing-said").textContent'))
 
+    def handed_out(self, name: str, file: str) -> Path:
+        """The file that a button of the dialog of sharing hands out."""
+        self.browser.call('Browser.setDownloadBehavior', behavior='allow', downloadPath=str(self.room))
+        self.press('share')
+        self.wait('by("sharing").open')
+        self.press(name)
+        # (the browser names a file so when it is complete)
+        until = time.monotonic() + 60
+        while not (self.room / file).exists() and time.monotonic() < until:
+            time.sleep(0.05)
+        return self.room / file
+
+    def drop(self, name: str, text: str) -> None:
+        """Drags a file over the page, and drops it."""
+        self.value('((file, held) => { held.items.add(file); ["dragover", "drop"].forEach(kind => by("panes").'
+                   'dispatchEvent(new DragEvent(kind, {dataTransfer: held, bubbles: true, cancelable: true}))); })('
+                   'new File([%s], %s), new DataTransfer())' % (json.dumps(text), json.dumps(name)))
+
+    def test_a_file_is_dropped_and_downloaded(self) -> None:
+        self.open()
+        self.drop('mine.toml', '\ufeff' + FLOODING.replace('end = 160', 'end = 50').replace('\n', '\r\n'))
+        self.wait('run.end === 50 && web.document.name === "mine.toml"')
+        self.assertFalse(self.value('document.body.classList.contains("dropping")'))
+        self.assertEqual(self.handed_out('download', 'mine.toml').read_text(),
+                         FLOODING.replace('end = 160', 'end = 50'))
+        self.drop('long.toml', '#' * 1_048_577)
+        self.wait('by("said").textContent === "long.toml is longer than 1,048,576 bytes, the limit."')
+        self.assertEqual(self.value('web.document.name'), 'mine.toml')
+
     def test_a_page_is_saved_with_its_text_and_a_draft_is_kept(self) -> None:
         self.open()
         self.press('try')
         self.wait('m.differs.first')
         text = self.value('text')
-        self.browser.call('Browser.setDownloadBehavior', behavior='allow', downloadPath=str(self.room))
-        self.press('share')
-        self.wait('by("sharing").open')
-        self.press('save-page')
-        saved = self.room / 'flooding.html'
-        for _ in range(200):
-            if saved.exists() and saved.stat().st_size > 100_000:
-                break
-            time.sleep(0.05)
+        saved = self.handed_out('save-page', 'flooding.html')
         time.sleep(1.2)
         self.browser.open(self.page)
         self.assertEqual(self.value('text'), text)
