@@ -328,6 +328,18 @@ class Page(InBrowser):
         self.wait('m.chosen.line >= 0')
         self.assertEqual(self.value('[run.numberOf(m.chosen.line, 24), Math.round(m.time.begin)]'), [row, 50])
 
+    def test_another_link_in_the_open_page_is_followed(self) -> None:
+        self.open()
+        self.put(FLOODING.replace('end = 160', 'end = 50'))
+        self.wait('run.end === 50 && location.hash.startsWith("#t=1.")')
+        link = self.browser.run('location.hash')
+        self.press('examples')
+        self.value('document.querySelector("#gallery-cards button").click()')
+        self.wait('run.end !== 50 && !location.hash')
+        self.browser.run('void (location.hash = %s)' % json.dumps(link))
+        self.browser.wait('window.motesim && motesim.ready && motesim.web.intro === "This net came with the link."')
+        self.assertEqual(self.value('run.end'), 50)
+
     def test_two_fingers_zoom(self) -> None:
         self.open()
         self.press('play')

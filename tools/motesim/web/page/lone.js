@@ -49,6 +49,8 @@ async function start() {
   if (opened.from === 'link' && page.panes.length) openAsAddressed();
 }
 
+// (another link, or a step back to one: the address of the page itself stays the same, so nothing is loaded)
+window.addEventListener('hashchange', () => location.reload());
 window.motesim = page;
 start().catch(fault => {
   byId('said').textContent = `This page can't run here: ${fault.message}`;
