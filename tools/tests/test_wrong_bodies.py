@@ -212,6 +212,11 @@ class WhatACheckSays(unittest.TestCase):
         found = self.verdict(error, 'fn c::q::post: not proved: it calls c::q::take')
         self.assertEqual(found, (ANSWER, 'c::q::post', error))
 
+    def test_of_several_answers_that_no_longer_fit_one_to_a_goal_of_a_contract_is_named(self) -> None:
+        errors = ['proofs/q/post/Answers.antt:%d:2: error: `%s`: the two sides differ' % it
+                  for it in [(4, 'loop-a-init'), (6, 'returns')]]
+        self.assertEqual(self.verdict(*errors, 'fn c::q::post: not proved'), (ANSWER, 'c::q::post', errors[1]))
+
     GONE = 'proofs/q/post/Answers.antt:4:2: error: `returns`: `goal.%s`: module `q.Goals` has no such name'
     NOTE = 'note: src/q.rt:2:1: it is not proved that it returns (`%s`)%s'
 
@@ -277,6 +282,14 @@ class Trials(unittest.TestCase):
         self.assertEqual(self.verdicts(said, one, two), {'low/a': CONTRACT, 'low/b': CONTRACT})
         said['new: a'] = self.BAD % 'one'
         self.assertEqual(self.verdicts(said, one, two), {'low/a': TWIN, 'low/b': CONTRACT})
+
+    def test_an_answer_that_fits_the_twin_alone_fails_for_its_value(self) -> None:
+        edit = Edit(self.LOW, Path('a'), 'one', True, None, 'new: x\ntwin: a')
+        for goal, kind in ('returns', CONTRACT), ('loop-a-init', ANSWER):
+            unfit = 'proofs/a/one/Answers.antt:4:2: error: `%s`: no proof\nfn c::a::one: not proved\n' % goal
+            for twin, found in (self.GOOD % 'one', kind), (unfit, TWIN if kind == CONTRACT else ANSWER):
+                said = {'new: x\ntwin: a': unfit, 'new: a': twin}
+                self.assertEqual(self.verdicts(said, edit), {'low/a': found}, (goal, twin))
 
     def test_an_open_one_of_many_is_tried_alone(self) -> None:
         # (the answer may be that of another edit's function)

@@ -94,8 +94,8 @@ impl Machine {
     }
 
     /// Executes one incarnation's turn in the walk of an event for all processes. First the polls run, if a poll is
-    /// requested. Then, if the incarnation is still on the list, its process gets the event; otherwise, nothing
-    /// happens.
+    /// requested. Then, if the incarnation is still on the list, its process gets the event; otherwise, only a line
+    /// `drop` is written.
     #[inline(always)]
     #[tactic(auto, unfolding(crate::specs::Delivery::visit_of))]
     fn give_in_turn(

@@ -30,6 +30,8 @@ OF_INVARIANT = re.compile(r'loop-|invariant_of-')
 NOTES = {'allow values at which this goal is false': 'false', 'gave up at one of its limits': 'search gave up'}
 # The beginning of the goals if the harmless twin is accepted.
 TWIN_ACCEPTED = 'twin accepted; '
+# The goal in an error about a proof by hand.
+OF_GOAL = re.compile(r': error: `([\w-]+)`')
 # The line of a function that is proved; the note about a goal that is not; and an error about a goal of a contract that the edit removed.
 PROVED = re.compile(r'fn (\S+): proved$')
 NOT_PROVED = re.compile(r'note: .* it is not proved that .*\(`([^`]+)`\)')
@@ -90,6 +92,12 @@ def by_hand(name: str, crate: Path) -> set[str]:
     return {unnumbered(goal) for it in files for goal in re.findall(r'goal\.([\w-]+)', it.read_text('utf-8'))}
 
 
+def is_of_contract(error: str) -> bool:
+    """Returns whether an error is about a proof by hand of a goal of a contract, outside of cycles of calls."""
+    goal = OF_GOAL.search(error)
+    return goal is not None and '/+' not in error and kind_of([goal[1]]) == CONTRACT
+
+
 def kind_of(goals: Sequence[str]) -> str:
     """The kind of a refusal for these goals."""
     if all(map(OF_SAFETY.match, goals)):
@@ -136,7 +144,8 @@ def verdict_of(name: str, said: str, notes: Sequence[str], lines: Sequence[str],
     goals = noted_goals(name, crate, notes, errors)
     if goals:
         return Verdict(kind_of(goals), name, in_one(goals))
-    error = next((it for it in errors if not OF_NAMES.search(it)), next(iter(errors), own))
+    fitting = [it for it in errors if not OF_NAMES.search(it)]
+    error = next(filter(is_of_contract, fitting), next(iter(fitting + errors), own))
     kind = LIMIT if LIMITS.search(error) or own == COULD_NOT_TELL else ANSWER
     return Verdict(kind, name, error or 'not proved')
 
@@ -153,6 +162,12 @@ def refused_in(lines: Sequence[str], crate: Path) -> dict[str, Verdict]:
             found |= {verdict.function: verdict} if verdict else {}
             notes = []
     return found
+
+
+def may_pass(verdict: Verdict) -> bool:
+    """Returns whether a refusal counts if the harmless twin is accepted. A proof by hand that no longer fits the mutant
+    fits the twin then, so it's the value that it doesn't fit."""
+    return verdict.kind == CONTRACT or verdict.kind == ANSWER and is_of_contract(verdict.why)
 
 
 def best(edit: Edit, refused: dict[str, Verdict]) -> Verdict:
@@ -196,8 +211,8 @@ class Trial:
             return dict.fromkeys(group, Verdict(UNKNOWN, '', "the crate without an edit isn't proved"))
         found = self.verdicts_together(group, self.kept) if len(group) > 1 else {}
         found = {it: found.get(it) or self.verdict_alone(it, self.kept) for it in group}
-        with_twin = [it for it in group if it.twin and found[it].kind == CONTRACT]
-        accepted = {it: found[it]._replace(why=TWIN_ACCEPTED + found[it].why) for it in with_twin}
+        with_twin = [it for it in group if it.twin and may_pass(found[it])]
+        accepted = {it: Verdict(CONTRACT, found[it].function, TWIN_ACCEPTED + found[it].why) for it in with_twin}
         return found | accepted | self.twins_refused(with_twin, self.kept)
 
     def twins_refused(self, group: Sequence[Edit], kept: Path) -> dict[Edit, Verdict]:
@@ -226,15 +241,15 @@ class Trial:
         return lines, ran.returncode, says_nothing(lines, texts)
 
     def verdicts_together(self, group: Sequence[Edit], kept: Path) -> dict[Edit, Verdict]:
-        """The verdicts on those mutants of a group that one check with all their edits refuses for their meaning. If
-        only a proof by hand no longer fits, it may be that of another mutant's function, in the same cycle of calls or
-        called by this one."""
+        """The verdicts on those mutants of a group that one check with all their edits refuses for their meaning, if
+        their harmless twins are accepted. If only another proof by hand no longer fits, it may be that of another
+        mutant's function, in the same cycle of calls or called by this one."""
         lines, _, is_void = self.check(group, kept)
         if is_void or not lines[-1].startswith(VERDICTS):
             return {}
         refused = refused_in(lines, Path(self.crate.folder))
         found = {it: best(it, refused) for it in group}
-        return {edit: verdict for edit, verdict in found.items() if verdict.kind == CONTRACT}
+        return {edit: it for edit, it in found.items() if it.kind == CONTRACT or edit.twin and may_pass(it)}
 
     def verdict_alone(self, edit: Edit, kept: Path) -> Verdict:
         """The verdict on a mutant by a check with only its edit."""

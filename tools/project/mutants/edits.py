@@ -85,7 +85,7 @@ def read(file: Path, crate: Crate, functions: Counter[str], modules: set[str]) -
         trouble = edited(TWIN.sub('new: ', text), crate.folder)[1]
     around = [function_around(Path(crate.folder, path).read_text('utf-8'), new, Path(path))
               for path, new in texts.items()]
-    named = re.findall(r'(?m)^refused: (?:\S*::)?(\w+)$', text)
+    named = re.findall(r'(?m)^refused: (?:%s::)?([\w:]+)$' % crate.name, text)
     function = around[0] if len(around) == 1 else None
     in_module = function is None or any(Path(path).stem == function for path in texts)
     is_alone = function is not None and functions[function] == 1 and (in_module or function not in modules)
