@@ -59,29 +59,29 @@ def is_program(path: Path) -> bool:
 
 # Sources.
 
+def _rows_of_crates(top: Path) -> dict[str, str]:
+    """The rows of crates.txt, by the names of their crates. A row has a name, options, and the crates that it uses."""
+    rows = (it.partition('#')[0].strip() for it in (top / 'crates.txt').read_text('utf-8').splitlines())
+    return {row.partition(':')[0].split()[0]: row for row in rows if row}
+
+
 def crates_of_program(top: Path, program: str = 'motesim') -> list[str]:
-    """The crates from which a program is made, in the order of their names. Each line of crates.txt has a name,
-    options, and the crates that it uses."""
-    below: dict[str, list[str]] = {}
-    for row in (top / 'crates.txt').read_text('utf-8').splitlines():
-        name, _, rest = row.partition('#')[0].partition(':')
-        if name.split():
-            below[name.split()[0]] = rest.split()
-    found: dict[str, None] = {}
-    left = [program]
+    """The crates from which a program is made, in the order of their names."""
+    rows, found, left = _rows_of_crates(top), set[str](), [program]
     while left:
         name = left.pop()
-        # (a name without a line in crates.txt is a library of the kit)
-        if name in below and name not in found:
-            found[name] = None
-            left += below[name]
+        # (a name without a row is a library of the kit)
+        if name in rows and name not in found:
+            found.add(name)
+            left += rows[name].partition(':')[2].split()
     return sorted(found)
 
 
 def digest(top: Path = TOP, parts: Sequence[str] = CODE, program: str = 'motesim') -> str:
-    """A digest of these parts of all crates from which a program is made."""
-    found = hashlib.sha256((top / 'crates.txt').read_bytes())
+    """A digest of these parts of all crates from which a program is made, and of their rows in crates.txt."""
+    rows, found = _rows_of_crates(top), hashlib.sha256()
     for crate in crates_of_program(top, program):
+        found.update(b'%s\n' % rows[crate].encode())
         for part in parts:
             for path in sorted((top / 'crates' / crate / part).rglob('*')):
                 if path.is_file():
