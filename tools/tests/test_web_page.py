@@ -379,8 +379,9 @@ class Page(InBrowser):
         self.assertEqual(self.value('text'), text)
         self.wait('!by("fault").hidden')
         self.assertIsNone(self.browser.run('window.wrong'))
-        self.browser.open(self.page, '#t=1.broken')
-        self.wait('by("said").textContent.includes("link is broken")')
+        for broken in '#t=1.broken', '#t=1.', '#t=2.' + link.partition('#t=1.')[2]:
+            self.browser.open(self.page, broken)
+            self.wait('by("said").textContent.includes("link is broken")')
         self.browser.run('localStorage.clear()')
         digits = ''.join('# %s\n' % hashlib.sha256(b'%d' % row).hexdigest() for row in range(400))
         self.put(FLOODING + digits)

@@ -26,12 +26,12 @@ export async function packed(text) {
   return `t=1.${btoa(letters).replace(/\+/g, '-').replace(/\//g, '_').replace(/=+$/, '')}`;
 }
 
-/** The text in the part of an address behind `#`; null if it has none.
+/** The text in the part of an address behind `#`; null if it has none. Fails if a text is cut off, or of another form.
  * @param {string} hash @returns {Promise<string|null>} */
 export async function unpackedText(hash) {
-  const found = /(?:^#?|&)t=1\.([A-Za-z0-9_-]+)/.exec(hash);
+  const found = /(?:^#?|&)t=(?:1\.([A-Za-z0-9_-]+))?/.exec(hash);
   if (!found) return null;
-  const letters = atob(found[1].replace(/-/g, '+').replace(/_/g, '/'));
+  const letters = atob((found[1] || '').replace(/-/g, '+').replace(/_/g, '/'));
   const bytes = Uint8Array.from(letters, it => it.charCodeAt(0));
   const plain = await piped(bytes, new DecompressionStream('deflate-raw'), LONGEST_TEXT);
   return new TextDecoder('utf-8', {fatal: true}).decode(plain);
