@@ -35,8 +35,8 @@ fn report_fault<E: Write>(fault: &CheckError, errors: &mut E) -> io::Result<()>
     writeln!(errors, "motecheck: {fault}")
 }
 
-/// Returns the exit status of a check: 0 if all claims hold, 3 if one is broken, or 1 after an error. It writes the line
-/// that reports the error to `errors`; the status is the same if this fails.
+/// Returns the exit status of a check: 0 if all claims hold, 3 if not, or 1 after an error. It writes the line that
+/// reports the error to `errors`; the status is the same if this fails. The clause says only the status.
 pub fn status_of<E: Write>(answer: Result<bool, CheckError>, errors: &mut E) -> u8
     ensures status { result ≡ status_of answer }
 {
@@ -147,10 +147,11 @@ where
 }
 
 /// Answers the claims in a file about the scenario in another one, as the arguments ask, and returns whether all claims
-/// hold.
+/// hold. The clause doesn't say what the files contain: the answers are those to some claims about some scenario.
 ///
 /// # Errors
-/// The errors of `check` or `check_with_faults`, and those of reading the two files and of writing the answers.
+/// The errors of `check` or `check_with_faults`, and those of reading the two files, and then nothing has been written;
+/// or `Write` after a proper prefix of the answers. No clause gives the cause of an error.
 pub fn check_asked<T, W, G>(
     rt: &T,
     asked: &Asked<'_>,
@@ -171,8 +172,9 @@ where
 }
 
 /// Runs the program with these arguments; the first is the program's name. It writes an answer to each claim to
-/// `output`, and the line of an error to `errors`. If the arguments ask for help, it writes the help to `output`; if
-/// they have an error, it writes the error to `errors`.
+/// `output`, as `check_asked` does, and the line of an error to `errors`. If the arguments ask for help, it writes the
+/// help to `output`; if they have an error, it writes the error to `errors`. No clause gives the text of the help, nor
+/// what is written to `errors`.
 ///
 /// It returns the exit status: 0 if all claims hold, or for help; 3 if a claim is broken, or if a survey left sets out; 1
 /// for an error, and 2 for an error of the arguments.

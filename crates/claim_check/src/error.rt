@@ -17,7 +17,7 @@ pub enum CheckError {
     Simulation(SimError),
     /// The claims couldn't be read as a text.
     Input(InputError),
-    /// The first error in the claims.
+    /// An error in the claims.
     Claims(ClaimsError),
     /// A survey of so many claims isn't possible.
     TooManyClaims,

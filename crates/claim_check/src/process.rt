@@ -54,8 +54,9 @@ where
     Ok(run_words(rt, &words, output, errors)?)
 }
 
-/// Runs `run_command` with the arguments of the process, and returns the exit status of the command. If an argument
-/// isn't UTF-8, the status is 2, and a line in `errors` reports this.
+/// Runs `run_command` with the arguments of the process, and returns the exit status of the command. If it can't read
+/// the arguments, for example because one isn't UTF-8, it writes nothing to `output`, and the status isn't 0. The clause
+/// doesn't say which arguments the process has, nor what is written to `errors`.
 pub fn run_process<T, W, E>(rt: &T, output: &mut W, errors: &mut E) -> u8
 where
     T: AllocGlobal + Env + Eprint + Files + Threads + Wait + RandomSource + Sync,
