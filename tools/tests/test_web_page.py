@@ -377,7 +377,7 @@ class Page(InBrowser):
         self.browser.run('localStorage.clear()')
         self.browser.open(self.page, '#' + link.partition('#')[2])
         self.assertEqual(self.value('text'), text)
-        self.wait('!by("fault").hidden')
+        self.wait('!by("fault").hidden && by("about").textContent === "No run yet"')
         self.assertIsNone(self.browser.run('window.wrong'))
         for broken in '#t=1.broken', '#t=1.', '#t=2.' + link.partition('#t=1.')[2]:
             self.browser.open(self.page, broken)
@@ -452,7 +452,7 @@ class Page(InBrowser):
         sign = self.value('[...text].reduce((sum, it) => (sum * 31 + it.codePointAt(0)) | 0, text.length)')
         self.browser.run('localStorage.setItem("motesim started", "%d")' % sign)
         self.open()
-        self.assertEqual(self.value('m.panes.length'), 0)
+        self.assertEqual(self.value('[m.panes.length, by("about").textContent]'), [0, 'No run yet'])
         self.value('by("offers").firstChild.click()')
         self.wait('run && run.end === 90')
 

@@ -121,7 +121,7 @@ export async function open(document, {example = /** @type {any} */ (null), intro
   if (web.part === 'part-net') byId('part-program').click();
   showText(true);
   if (waits) {
-    page.ready = true;
+    beReady();
     return say('The last run of this text never ended, so it waits.', 'bad', {offers: [['Run it', runNow]]});
   }
   await runNow();
@@ -169,7 +169,12 @@ export async function runNow() {
     document.body.classList.add('stale');
     if (answer && answer.fault) showFault(answer.fault); else if (answer) await showLimit(answer, step.text);
   }
+  beReady();
+}
+
+function beReady() {
   page.ready = true;
+  if (!page.panes.length) byId('about').textContent = 'No run yet';
 }
 
 /** @param {any} fault */
