@@ -95,3 +95,27 @@ def room_of(test: unittest.TestCase) -> Path:
     room = tempfile.TemporaryDirectory()
     test.addCleanup(room.cleanup)
     return Path(room.name).resolve()
+
+
+class Room(unittest.TestCase):
+    """Tests in a folder of their own."""
+
+    def setUp(self) -> None:
+        self.room = room_of(self)
+
+    def put(self, name: str, text: str = '') -> Path:
+        """Writes a file, in a folder that is made if it isn't there."""
+        path = self.room / name
+        path.parent.mkdir(parents=True, exist_ok=True)
+        path.write_text(text, 'utf-8')
+        return path
+
+    def put_program(self, name: str, text: str, shell: str = '/bin/sh') -> Path:
+        """Writes a script that can be run."""
+        path = self.put(name, '#!%s\n%s\n' % (shell, text))
+        path.chmod(0o755)
+        return path
+
+    def tool(self, name: str, *words: str, **more: str) -> subprocess.CompletedProcess[str]:
+        """Runs a tool in the folder, with these variables in its environment too."""
+        return call(name, *words, cwd=self.room, env={**os.environ, **more})

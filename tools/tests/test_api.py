@@ -7,7 +7,7 @@ import unittest
 from pathlib import Path
 from unittest import mock
 
-from here import TOOLS, room_of
+from here import TOOLS, Room
 import motesim
 from motesim import packages
 from stub import write_stub
@@ -35,9 +35,9 @@ program = "a.mote"
 MOTE = 'process a;\nautostart a;\ncode a { body { print ${first}; } }\n'
 
 
-class Calls(unittest.TestCase):
+class Calls(Room):
     def setUp(self) -> None:
-        self.room = room_of(self)
+        super().setUp()
         # (mote n of the stand-in prints P at moment P * (n + 1))
         patch = mock.patch.dict(os.environ, MOTESIM=str(write_stub(self.room)))
         patch.start()

@@ -6,7 +6,7 @@ import unittest
 from pathlib import Path
 from unittest import mock
 
-from here import room_of  # (it puts tools/ on the path)
+from here import Room  # (it puts tools/ on the path)
 from motesim.commands import explain as command
 from motesim.explain.applied import changes, in_net
 from motesim.scenario.faults import find_fault
@@ -38,10 +38,10 @@ class Changes(unittest.TestCase):
         self.assertEqual([it.edits[0].lines for it, _ in made], [('    print 1;',)])
 
 
-class Command(unittest.TestCase):
+class Command(Room):
     def setUp(self) -> None:
         need_program(self)
-        self.folder = room_of(self)
+        super().setUp()
 
     def run_on(self, *words: str) -> tuple[int, str, str]:
         out, err = io.StringIO(), io.StringIO()
@@ -55,11 +55,11 @@ class Command(unittest.TestCase):
         return status, out.getvalue(), err.getvalue()
 
     def written(self, name: str, text: str) -> str:
-        (self.folder / name).write_text(text)
-        return str(self.folder / name)
+        (self.room / name).write_text(text)
+        return str(self.room / name)
 
     def test_a_file_in_c_is_of_another_kind(self) -> None:
-        name, output = self.written('blink.c', C), self.folder / 'blink.toml'
+        name, output = self.written('blink.c', C), self.room / 'blink.toml'
         for words, status in ([name], 1), ([name, '--apply', str(output)], 2):
             found = self.run_on(*words)
             self.assertEqual((found[0], 'docs/use/CONTIKI.md' in found[1] + found[2]), (status, True))
@@ -77,37 +77,37 @@ class Command(unittest.TestCase):
     def test_a_scenario_is_not_written_into_a_file_for_programs(self) -> None:
         name = self.written('blink.mote', BROKEN)
         for other in 'new.mote', 'new.c':
-            status, _, err = self.run_on(name, '--apply', str(self.folder / other))
+            status, _, err = self.run_on(name, '--apply', str(self.room / other))
             self.assertEqual(status, 2)
             self.assertIn('would be a scenario, not a program: name a file NAME.toml with --apply', err)
-            self.assertFalse((self.folder / other).exists())
+            self.assertFalse((self.room / other).exists())
 
     def test_a_scenario_without_an_error_is_copied(self) -> None:
         text = in_net('p', 'process a; autostart a; code a { body { print 1; } }')
-        status, out, _ = self.run_on(self.written('net.toml', text), '--apply', str(self.folder / 'same.toml'))
-        self.assertEqual((status, (self.folder / 'same.toml').read_text()), (0, text))
+        status, out, _ = self.run_on(self.written('net.toml', text), '--apply', str(self.room / 'same.toml'))
+        self.assertEqual((status, (self.room / 'same.toml').read_text()), (0, text))
         self.assertIn('No line was changed: the text has no error.', out)
 
     def test_an_error_without_a_corrected_line_is_explained(self) -> None:
         text = in_net('p', 'process a;\nautostart a;\ncode a {\n  body {\n    goto out;\n  }\n}\n')
-        status, out, _ = self.run_on(self.written('net.toml', text), '--apply', str(self.folder / 'o.toml'))
+        status, out, _ = self.run_on(self.written('net.toml', text), '--apply', str(self.room / 'o.toml'))
         self.assertEqual(status, 1)
         self.assertIn('No line was changed: the first error has no corrected line.', out)
         self.assertIn('o.toml, line 11, which is line 5 of program p:', out)
 
     def test_a_file_that_is_there_already_is_kept_under_another_name(self) -> None:
-        output, name = self.folder / 'net.toml', self.written('b.mote', BROKEN)
+        output, name = self.room / 'net.toml', self.written('b.mote', BROKEN)
         output.write_text('# my net\n')
         _, out, _ = self.run_on(name, '--apply', str(output))
         self.assertIn('%s had another text, which is in %s~ now.' % (output, output), out)
-        self.assertEqual((self.folder / 'net.toml~').read_text(), '# my net\n')
+        self.assertEqual((self.room / 'net.toml~').read_text(), '# my net\n')
         # (the same file once more changes nothing)
         self.assertNotIn('had another text', self.run_on(name, '--apply', str(output))[1])
-        self.assertEqual((self.folder / 'net.toml~').read_text(), '# my net\n')
+        self.assertEqual((self.room / 'net.toml~').read_text(), '# my net\n')
 
     def test_quotes_in_a_program_are_refused(self) -> None:
         name = self.written('q.mote', "process a; // '''\n")
-        status, _, err = self.run_on(name, '--apply', str(self.folder / 'q.toml'))
+        status, _, err = self.run_on(name, '--apply', str(self.room / 'q.toml'))
         self.assertEqual(status, 2)
         self.assertIn('three single quotes in a row', err)
-        self.assertFalse((self.folder / 'q.toml').exists())
+        self.assertFalse((self.room / 'q.toml').exists())

@@ -9,13 +9,13 @@ import unittest
 from pathlib import Path
 from unittest import mock
 
-from here import TOP
+from here import TOP, Room
 from motesim.faults import Fault
 from motesim.notation.reader import find_fault
 from motesim.scenario import Scenario
 from project import bench
 
-PROGRAM = ('#!/bin/sh\necho "mote 0 p"\n[ "$1" = --workers ] && [ "$4" = ODD ] && echo "0 halt"\n'
+PROGRAM = ('echo "mote 0 p"\n[ "$1" = --workers ] && [ "$4" = ODD ] && echo "0 halt"\n'
            'echo medium\necho "left 0"\n')
 
 
@@ -81,18 +81,13 @@ class Ratios(unittest.TestCase):
         self.assertEqual(bench.cell('user', [1], [0]), 'user 1.000 s, 0.000 s')
 
 
-class Command(unittest.TestCase):
+class Command(Room):
     def said(self, odd: str, *asked: str) -> tuple[str, object]:
-        said = io.StringIO()
-        with tempfile.TemporaryDirectory() as room:
-            program = Path(room) / 'motesim'
-            program.write_text(PROGRAM.replace('ODD', odd))
-            program.chmod(0o755)
-            words = ['bench', '--rounds', '1', *asked]
-            with mock.patch.dict('os.environ', MOTESIM=str(program)), mock.patch.object(sys, 'argv', words), \
-                    contextlib.redirect_stdout(said), contextlib.redirect_stderr(said):
-                with self.assertRaises(SystemExit) as end:
-                    bench.main()
+        said, program = io.StringIO(), self.put_program('motesim', PROGRAM.replace('ODD', odd))
+        with mock.patch.dict('os.environ', MOTESIM=str(program)), contextlib.redirect_stdout(said), \
+                contextlib.redirect_stderr(said), self.assertRaises(SystemExit) as end, \
+                mock.patch.object(sys, 'argv', ['bench', '--rounds', '1', *asked]):
+            bench.main()
         return said.getvalue(), end.exception.code
 
     def test_each_way_has_a_line(self) -> None:

@@ -7,17 +7,15 @@ import sys
 import unittest
 from collections import Counter
 from itertools import product
-from pathlib import Path
 from typing import Any
 from unittest import mock
 
-from here import TOOLS, TOP, room_of
+from here import TOOLS, TOP, Room
 from motesim.faults import Fault
 from motesim.report import Report
 from motesim.runner import Answer
 from motesim.report.run import Run
 from motesim.scenario import Scenario
-from project import testing
 from skips import long
 
 # (no test here is worth several processes)
@@ -30,17 +28,13 @@ def module(name: str) -> dict[str, Any]:
         return runpy.run_path(str(TOP / 'tests' / name))
 
 
-class Check(unittest.TestCase):
+class Check(Room):
     def setUp(self) -> None:
-        self.room = room_of(self)
+        super().setUp()
         self.program = self.room / 'motesim'
 
-    def put(self, name: str, text: str) -> Path:
-        (self.room / name).write_text(text, 'utf-8')
-        return self.room / name
-
-    def put_program(self, script: str) -> None:
-        self.put('motesim', '#!/bin/sh\n%s\n' % script).chmod(0o755)
+    def put_motesim(self, script: str) -> None:
+        self.put_program('motesim', script)
 
     def check(self, command: str, *words: object) -> tuple[str, str, int]:
         """The output of a command, its last line, and its status."""
@@ -50,17 +44,14 @@ class Check(unittest.TestCase):
         return done.stdout, done.stdout.splitlines()[-1], done.returncode
 
 
-class Commands(Check):
-    def test_a_program_that_does_not_end_is_reported(self) -> None:
-        source = module('differences.py')
-        self.put_program('sleep 60')
-        with self.assertRaisesRegex(Fault, 'no answer in 0.1 seconds'):
-            source['answer'](self.program, b'', seconds=0.1)
-
-
 class Cases(Check):
+    def test_a_program_that_does_not_end_is_reported(self) -> None:
+        self.put_motesim('sleep 60')
+        with self.assertRaisesRegex(Fault, 'no answer in 0.1 seconds'):
+            module('differences.py')['answer'](self.program, b'', seconds=0.1)
+
     def test_a_case_that_fails_shows_the_lines_that_differ(self) -> None:
-        self.put_program('echo mote 0 p; echo medium; exit 3')
+        self.put_motesim('echo mote 0 p; echo medium; exit 3')
         said, last, status = self.check('run_cases', 'nets/two_senders')
         self.assertEqual((last, status), ('0 passed, 1 failed, 0 skipped', 1))
         self.assertIn('nets/two_senders', said)
@@ -68,12 +59,12 @@ class Cases(Check):
             self.assertIn('\n%s\n' % line, said)
 
     def test_a_folder_of_cases_and_a_name_of_no_case(self) -> None:
-        self.put_program('cat')
+        self.put_motesim('cat')
         cases = {it.with_suffix('') for it in (TOP / 'tests/cases/queues').iterdir()}
         self.assertEqual(self.check('run_cases', 'queues')[1], '0 passed, %d failed, 0 skipped' % len(cases))
         self.program.unlink()
         self.assertIn('there is no program', self.check('run_cases', 'queues')[0])
-        self.put_program('cat')
+        self.put_motesim('cat')
         said, _, status = self.check('run_cases', 'nets/none')
         self.assertEqual(('there is no case nets/none' in said, status != 0), (True, True))
 
@@ -95,7 +86,7 @@ class Cases(Check):
 
 class SpoiledBytes(Check):
     def test_each_byte_and_the_fronts_fail_for_another_program(self) -> None:
-        self.put_program('echo "motesim: scenario fault 1" >&2; exit 1')
+        self.put_motesim('echo "motesim: scenario fault 1" >&2; exit 1')
         said, last, status = self.check('spoil_bytes')
         self.assertEqual((last, status), ('1 passed, 7 failed, 0 skipped', 1))
         self.assertIn("180 times scenario fault 1, not 0', '0 times scenario is not UTF-8, not 180", said)
@@ -104,7 +95,7 @@ class SpoiledBytes(Check):
 
 class ChosenExamples(Check):
     def test_a_name_selects_an_example_or_a_task(self) -> None:
-        self.put_program('exit 1')
+        self.put_motesim('exit 1')
         said, last, _ = self.check('check_examples', 'flooding', 'task1')
         self.assertEqual(last, '0 passed, 2 failed, 0 skipped')
         for name in 'flooding.toml', 'task1.expect.toml':
@@ -121,7 +112,7 @@ class Workers(Check):
     def compared(self, odd: str) -> tuple[str, str, int]:
         """The result for a program that writes its arguments next to it, and the scenario, or something else if an
         argument is odd."""
-        self.put_program('echo "$*" >>%s/words\ncase " $* " in *" %s "*) echo another ;; *) cat ;; esac' % (
+        self.put_motesim('echo "$*" >>%s/words\ncase " $* " in *" %s "*) echo another ;; *) cat ;; esac' % (
             self.room, odd))
         return self.check('compare_workers', self.scenario)
 
@@ -178,7 +169,7 @@ nothing ran this
 class Pages(Check):
     def setUp(self) -> None:
         super().setUp()
-        self.put_program('echo "ran $(cat "$1")"')
+        self.put_motesim('echo "ran $(cat "$1")"')
 
     def test_another_output_fails(self) -> None:
         page = self.put('PAGE.md', PAGE)
@@ -258,41 +249,29 @@ class Examples(unittest.TestCase):
             check_readings(Run('r', Report.parse(REPORT.replace('304 send 1 2\n', '')), scenario))
 
 
-# A program that asks for memory three times; it says so if one is refused, except for the one in CALM.
+# A program that asks for memory three times, or starts two threads, the second one after the first has ended if JOINS is
+# 1; it says so if one is refused, except for the request CALM.
 ASKS = r"""
-#include <stdio.h>
-#include <stdlib.h>
-#include <unistd.h>
-
-int main(void) {
-  static char room[256];
-  setvbuf(stdout, room, _IOFBF, sizeof room);
-  for (int n = 1; n <= 3; n++) {
-    void *volatile part = malloc(100);
-    if (!part && n != CALM) return write(2, FAULT, sizeof FAULT - 1) > 0;
-  }
-  return write(1, "left 0\n", 7) != 7;
-}
-"""
-# A program that starts two threads, the second one after the first has ended if an argument says so.
-STARTS = r"""
 #include <pthread.h>
 #include <stdlib.h>
 #include <unistd.h>
 
-static void *work(void *given) {
-  return given;
-}
+static void *work(void *given) { return given; }
 
-int main(void) {
+int main(int count, char **words) {
   pthread_t made[2];
-  for (int n = 0; n < 2; n++) {
+  for (int n = 1; count == 1 && n <= 3; n++) {
+    void *volatile part = malloc(100);
+    if (!part && n != CALM) _exit(write(2, FAULT, sizeof FAULT - 1) > 0);
+  }
+  for (int n = 0; count > 1 && n < 2; n++) {
     if (pthread_create(&made[n], 0, work, 0)) _exit(write(2, FAULT, sizeof FAULT - 1) > 0);
     if (JOINS) pthread_join(made[n], 0);
   }
   _exit(write(1, "left 0\n", 7) != 7);
 }
 """
+WORKERS = '--workers', '2'
 NO_MEMORY, NO_THREAD = '"motesim: out of memory\\n"', '"motesim: run fault 5\\n"'
 
 
@@ -338,38 +317,22 @@ class Memory(Check):
         source = TOP / 'crates/part_tests/src' / folder.replace('::', '/')
         self.assertIn('fn %s(' % test, source.with_suffix('.rt').read_text('utf-8'))
 
-    def refused(self, source: str, *words: str, **defined: object) -> tuple[str, str, int]:
-        """The result for a program in C."""
-        path, scenario = self.put('p.c', source), self.put('s.toml', '')
-        flags = ['-D%s=%s' % it for it in defined.items()]
-        subprocess.run(['cc', '-O0', *flags, '-o', str(self.program), str(path), '-pthread'], check=True)
-        return self.check('refuse_memory', scenario, '--', *words)
-
     @unittest.skipUnless(shutil.which('cc'), 'there is no C compiler cc here')
     @long
     def test_each_request_is_refused(self) -> None:
-        for calm in 0, 2:
-            self.assertEqual(self.refused(ASKS, CALM=calm, FAULT=NO_MEMORY)[1:], ('1 passed, 0 failed, 0 skipped', 0))
-        for fault in '"motesim: fault\\n"', NO_THREAD:
-            said, last, status = self.refused(ASKS, CALM=1, FAULT=fault)
-            self.assertEqual((last, status), ('0 passed, 1 failed, 0 skipped', 1))
-            self.assertIn('request 2 refused: status 1, ', said)
-
-    @unittest.skipUnless(shutil.which('cc'), 'there is no C compiler cc here')
-    @long
-    def test_each_start_is_refused(self) -> None:
         # (a start asks for a stack, and for memory of the thread's own; the second one is refused a stack too, though
         # it could use that of a thread that has ended)
-        for joins in 0, 1:
-            passed = self.refused(STARTS, '--workers', '2', JOINS=joins, FAULT=NO_THREAD)
-            self.assertEqual(passed[1:], ('1 passed, 0 failed, 0 skipped', 0))
-        said, last, _ = self.refused(STARTS, '--workers', '2', JOINS=0, FAULT='"motesim: run fault 6\\n"')
-        self.assertIn('request 1 refused: ', said)
-        self.assertEqual(last, '0 passed, 1 failed, 0 skipped')
-
-    @unittest.skipUnless(shutil.which('cc'), 'there is no C compiler cc here')
-    @long
-    def test_a_program_that_can_not_be_refused_anything(self) -> None:
-        said, _, status = self.refused('int main(void) { return 0; }')
-        self.assertIn('no request that can be refused', said)
-        self.assertEqual(status, 1)
+        for words, calm, joins, fault, said in (
+                ((), 0, 0, NO_MEMORY, ''), ((), 2, 0, NO_MEMORY, ''), (WORKERS, 0, 0, NO_THREAD, ''),
+                (WORKERS, 0, 1, NO_THREAD, ''), ((), 1, 0, '"motesim: fault\\n"', 'request 2 refused: status 1, '),
+                ((), 1, 0, NO_THREAD, 'request 2 refused: status 1, '),
+                (WORKERS, 0, 0, '"motesim: run fault 6\\n"', 'request 1 refused: '),
+                ((), None, 0, NO_MEMORY, 'no request that can be refused')):
+            with self.subTest(words=words, calm=calm, joins=joins, fault=fault):
+                source = self.put('p.c', ASKS if calm is not None else 'int main(void) { return 0; }')
+                subprocess.run(['cc', '-O0', '-DCALM=%s' % calm, '-DJOINS=%d' % joins, '-DFAULT=' + fault, '-o',
+                                str(self.program), str(source), '-pthread'], check=True)
+                found, last, status = self.check('refuse_memory', self.put('s.toml'), '--', *words)
+                self.assertIn(said, found)
+                self.assertEqual(status, int(bool(said)))
+                self.assertEqual(last, '%d passed, %d failed, 0 skipped' % (not said, bool(said)))

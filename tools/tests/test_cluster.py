@@ -61,7 +61,7 @@ class Cluster(test_sweep.Bed):
         done = self.sweep(*self.words, '-o', 'dask.csv', '--dask', self.address)
         # (standard error may show the progress, on a busy machine)
         self.assertEqual((done.returncode, done.stdout), (0, 'dask.csv: 6 runs, 6 of them now, 0 with an error\n'))
-        self.assertEqual((self.folder / 'dask.csv').read_bytes(), (self.folder / 'net.csv').read_bytes())
+        self.assertEqual((self.room / 'dask.csv').read_bytes(), (self.room / 'net.csv').read_bytes())
 
     def test_the_sets_are_the_same(self) -> None:
         need_program(self)
@@ -75,7 +75,7 @@ class Cluster(test_sweep.Bed):
 
     def test_what_the_cluster_lacks_is_reported(self) -> None:
         """The built program, workers, and a scheduler."""
-        other = self.folder / 'other'
+        other = self.room / 'other'
         other.write_text(self.stub.read_text() + '# another\n')
         other.chmod(0o755)
         self.tell_program(other)

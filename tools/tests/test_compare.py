@@ -1,11 +1,9 @@
 """The place at which two reports diverge, by compare. The reports are worked out by hand."""
 import random
-import tempfile
 import unittest
 from collections import Counter
-from pathlib import Path
 
-from here import call
+from here import Room, call
 from motesim.comparison.scenarios import of_text
 from motesim.comparison import reports as compare
 from motesim.comparison import scenarios as scenario_differences
@@ -42,27 +40,8 @@ left 0
 '''
 
 # Here that timer is a moment earlier, so the two packets meet.
-B = '''mote 0 talker
-0 start etimer
-0 send 0 1
-5 send 1 2
-mote 1 hearer
-3 recv 0 0 1
-3 post 0 hearer packet 1
-3 take 0 hearer
-8 collide 0 1
-8 collide 2 0
-mote 2 talker
-0 start etimer
-5 post 0 talker timer 1
-5 take 0 talker
-5 send 0 7
-medium
-0 0 0 1 1@3
-5 0 1 2 1@8
-5 2 0 7 1@8
-left 0
-'''
+B = A.replace('6 ', '5 ').replace('5 2 0 7 1@9', '5 2 0 7 1@8').replace('8 recv 0 1 2', '8 collide 0 1\n8 collide 2 0')
+B = B[:B.index('8 post')] + B[B.index('mote 2'):]
 
 
 def compared(a: str, b: str) -> tuple[str, compare.Difference | None, bool]:
@@ -251,26 +230,22 @@ every = 2
             self.assertIn(wanted, next(of_text('p', a, b)))
 
     def test_each_part_is_told(self) -> None:
-        self.assertEqual(self.seen(), [])
-        self.assertEqual(self.seen(('end = 20', 'end = 30'), ('collide = true', 'collide = false')), [
-            'end is 20 in A and 30 in B', 'collide of medium is true in A and false in B'])
-        self.assertEqual(self.seen(('x = 3', 'x = 4')), ['the place of mote 1 is (3, 4) in A and (4, 4) in B'])
-        self.assertEqual(self.seen(('every = 2', 'every = 3')),
-                         ['the loss from 0 to 1 is every 2 in A and every 3 in B'])
-        self.assertEqual(self.seen(('from = 0\nto = 1', 'from = 1\nto = 0')), [
-            'the loss from 0 to 1 is every 2 in A and none in B',
-            'the loss from 1 to 0 is none in A and every 2 in B'])
-        self.assertEqual(self.seen(('print 1;', 'print 2;')), [
-            'program p differs in its line 2', '  A: code a { body { print 1; } }',
-            '  B: code a { body { print 2; } }'])
-        self.assertEqual(self.seen(('[[loss]]', '[queue]\np = 3\n[[loss]]')),
-                         ['queue of program p is none in A and 3 in B'])
-        self.assertEqual(self.seen(('[[loss]]', '[[mote]]\nx = 1\ny = 1\nprogram = "p"\n[[loss]]')), [
-            'there are 2 motes in A and 3 in B'])
-        self.assertEqual(self.seen(('"p"', '"q"'), ('\np = ', '\nq = '), ('print 1;', 'print 2;')), [
-            'the program of motes 0 to 1 is p in A and q in B', 'only A has a program p', 'only B has a program q',
-            'program p (q in B) differs in its line 2', '  A: code a { body { print 1; } }',
-            '  B: code a { body { print 2; } }'])
+        for changes, lines in (
+                ([], []), ([('end = 20', 'end = 30'), ('collide = true', 'collide = false')], [
+                    'end is 20 in A and 30 in B', 'collide of medium is true in A and false in B']),
+                ([('x = 3', 'x = 4')], ['the place of mote 1 is (3, 4) in A and (4, 4) in B']),
+                ([('every = 2', 'every = 3')], ['the loss from 0 to 1 is every 2 in A and every 3 in B']),
+                ([('from = 0\nto = 1', 'from = 1\nto = 0')], ['the loss from 0 to 1 is every 2 in A and none in B',
+                                                              'the loss from 1 to 0 is none in A and every 2 in B']),
+                ([('print 1;', 'print 2;')], ['program p differs in its line 2', '  A: code a { body { print 1; } }',
+                                              '  B: code a { body { print 2; } }']),
+                ([('[[loss]]', '[queue]\np = 3\n[[loss]]')], ['queue of program p is none in A and 3 in B']),
+                ([('[[loss]]', '[[mote]]\nx = 1\ny = 1\nprogram = "p"\n[[loss]]')], ['there are 2 motes in A and 3 in B']),
+                ([('"p"', '"q"'), ('\np = ', '\nq = '), ('print 1;', 'print 2;')], [
+                    'the program of motes 0 to 1 is p in A and q in B', 'only A has a program p', 'only B has a program q',
+                    'program p (q in B) differs in its line 2', '  A: code a { body { print 1; } }',
+                    '  B: code a { body { print 2; } }'])):
+            self.assertEqual(self.seen(*changes), lines)
 
     def test_only_so_many_are_shown(self) -> None:
         a, b = Scenario.parse(self.A), Scenario.parse(self.A.replace('end = 20', 'end = 21').replace('per = 100',
@@ -280,27 +255,17 @@ every = 2
                                                                   '  end is 20 in A and 21 in B', '  and 1 more lines'])
 
 
-class Command(unittest.TestCase):
-    def test_the_status_is_that_of_diff(self) -> None:
-        with tempfile.TemporaryDirectory() as folder:
-            paths = [Path(folder) / name for name in ('a', 'b', 'c')]
-            for path, text in zip(paths, (A, B, 'no report\n')):
-                path.write_text(text, encoding='ascii')
-            for pair, status in ((0, 0), 0), ((0, 1), 1), ((0, 2), 2), ((2, 0), 2):
-                done = call('compare', *(str(paths[it]) for it in pair))
-                self.assertEqual(done.returncode, status)
-                self.assertEqual(done.stderr.count('\n'), int(status == 2))
-                self.assertEqual(bool(done.stdout), status != 2)
+class Command(Room):
+    def test_the_status_is_that_of_diff_and_a_page_shows_both(self) -> None:
+        for name, text in ('a', A), ('b', B), ('c', 'no report\n'):
+            self.put(name, text)
+        for one, other, status in ('a', 'a', 0), ('a', 'b', 1), ('a', 'c', 2), ('c', 'a', 2):
+            done = self.tool('compare', one, other, *('--html', 'page.html') * (status == 1))
+            self.assertEqual((done.returncode, done.stderr.count('\n'), bool(done.stdout)),
+                             (status, int(status == 2), status != 2))
+        self.assertIn('<title>', (self.room / 'page.html').read_text('utf-8'))
 
     def test_standard_input_is_one_of_them_alone(self) -> None:
         done = call('compare', '-', '-', input=A)
         self.assertEqual((done.returncode, done.stdout), (2, ''))
         self.assertEqual(done.stderr, "compare: A and B can't both be standard input: one of them is a file\n")
-
-    def test_a_page_shows_both(self) -> None:
-        with tempfile.TemporaryDirectory() as folder:
-            paths = [Path(folder) / name for name in ('a', 'b', 'page.html')]
-            for path, text in zip(paths, (A, B)):
-                path.write_text(text, encoding='ascii')
-            self.assertEqual(call('compare', *map(str, paths[:2]), '--html', str(paths[2])).returncode, 1)
-            self.assertIn('<title>', paths[2].read_text(encoding='utf-8'))

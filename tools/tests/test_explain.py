@@ -3,16 +3,12 @@ import contextlib
 import io
 import os
 import re
-import sys
-import tempfile
 import time
 import unittest
 from collections.abc import Iterator, Sequence
-from pathlib import Path
 from unittest import mock
 
-from here import TOP
-from motesim.commands import explain as command
+from here import TOP, Room
 from motesim.explain import explanation as explain
 from motesim.explain.applied import changes
 from motesim.notation import faults as program_faults
@@ -196,28 +192,20 @@ class Scenarios(unittest.TestCase):
         text = changed({'[medium]': '[medum]'})
         self.assertEqual(mark_of(explain.explanation('..', text.encode(), 'motesim: scenario fault 2')), (3, '[medum]'))
 
-    def test_a_report_is_named(self) -> None:
-        lines = explain.explanation('r', b'mote 0 p\nmedium\nleft 0\n', 'motesim: scenario fault 1')
-        self.assertIn('Hint: This is a report, not a scenario', lines[-2])
-
-    def test_no_sign_that_a_terminal_takes_for_a_command_is_shown(self) -> None:
-        lines = explain.explanation('s.toml', b'\x1b[2J = 5\n', 'motesim: scenario fault 1')
-        self.assertEqual(lines[1], '  \ufffd[2J = 5')
-
-    def test_a_byte_that_is_not_utf_8_is_marked(self) -> None:
-        data = SCENARIO.replace('version', '# Z\xfcrich\nversion', 1).encode('cp1252')
-        lines = explain.explanation('s.toml', data, 'motesim: scenario is not UTF-8')
-        self.assertEqual(mark_of(lines)[0], 1)
-        self.assertTrue(any('UTF-8' in it and it.startswith('Hint') for it in lines))
-
-    def test_a_text_that_is_too_long(self) -> None:
-        lines = explain.explanation('s', b'#\n' * 524_289, 'motesim: scenario too long')
-        self.assertEqual(mark_of(lines)[0], 524_289)
-
-    def test_a_fault_of_which_no_place_is_known(self) -> None:
-        for line in 'motesim: out of memory', 'motesim: scenario fault 4', 'motesim: anything':
-            lines = explain.explanation('s', SCENARIO.encode(), line)
-            self.assertEqual(lines[-1], 'This tool can\'t show the place of the error.')
+    def test_what_is_no_scenario(self) -> None:
+        """A report, a sign that a terminal takes for a command, a byte that isn't UTF-8, a text that is too long, and
+        errors of which no place is known."""
+        latin = SCENARIO.replace('version', '# Z\xfcrich\nversion', 1).encode('cp1252')
+        for data, line, number, said in (
+                (b'mote 0 p\nmedium\nleft 0\n', 'scenario fault 1', 1, 'Hint: This is a report, not a scenario'),
+                (b'\x1b[2J = 5\n', 'scenario fault 1', 1, '  \ufffd[2J = 5'),
+                (latin, 'scenario is not UTF-8', 1, 'Hint: '), (b'#\n' * 524_289, 'scenario too long', 524_289, ''),
+                *((SCENARIO.encode(), it, None, 'This tool can\'t show the place of the error.') for it in (
+                    'out of memory', 'scenario fault 4', 'anything'))):
+            lines = explain.explanation('s.toml', data, 'motesim: ' + line)
+            self.assertTrue(any(it.startswith(said) for it in lines), lines)
+            if number:
+                self.assertEqual(mark_of(lines)[0], number)
 
     def test_a_long_line_is_shown_around_the_mark(self) -> None:
         text = 'process a; code a { body { %s print zz; } }' % ('yield; ' * 100)
@@ -283,37 +271,26 @@ class Cases(unittest.TestCase):
         self.assertGreater(count, 80)
 
 
-PROGRAM = """#!/bin/sh
-if grep -q 'end = 6'; then echo 'motesim: program p fault 3 line 2' >&2; exit 1; fi
+PROGRAM = """if grep -q 'end = 6'; then echo 'motesim: program p fault 3 line 2' >&2; exit 1; fi
 printf 'mote 0 p\\nmote 1 p\\nmedium\\nleft 0\\n'
 """
 
 
 EXPLAINED = """motesim: program p fault 3 line 2
-%s, line 10, which is line 2 of program p:
+s.toml, line 10, which is line 2 of program p:
   code a { body { print z; } }
                         ^
 UnknownName: """
 
 
-class Command(unittest.TestCase):
+class Command(Room):
     def test_what_is_printed(self) -> None:
-        with tempfile.TemporaryDirectory() as room:
-            program, scenario = Path(room) / 'motesim', Path(room) / 's.toml'
-            program.write_text(PROGRAM)
-            program.chmod(0o755)
-            tried: list[tuple[dict[str, str], int, str]] = [({'print 1': 'print z', 'end = 5': 'end = 6'}, 1,
-                                                             EXPLAINED % scenario), ({}, 0,
-                '%s has a report, and no error\n' % scenario)]
-            for changes, status, begin in tried:
-                scenario.write_text(changed(changes))
-                said = io.StringIO()
-                with mock.patch.dict(os.environ, MOTESIM=str(program)), contextlib.redirect_stdout(said):
-                    with mock.patch.object(sys, 'argv', ['explain', str(scenario)]):
-                        with self.assertRaises(SystemExit) as end:
-                            command.main()
-                self.assertEqual(end.exception.code, status)
-                self.assertTrue(said.getvalue().startswith(begin), said.getvalue())
+        program = self.put_program('motesim', PROGRAM)
+        for changes, status, begin in (({'print 1': 'print z', 'end = 5': 'end = 6'}, 1, EXPLAINED),
+                                       (dict[str, str](), 0, 's.toml has a report, and no error\n')):
+            self.put('s.toml', changed(changes))
+            done = self.tool('explain', 's.toml', MOTESIM=str(program))
+            self.assertEqual((done.returncode, done.stdout[:len(begin)]), (status, begin))
 
 
 class Failing(unittest.TestCase):
@@ -330,19 +307,13 @@ class Failing(unittest.TestCase):
         self.assertIn('because of an error in the tool itself: IndexError: of a tuple', ' '.join(found.split()))
         return found
 
-    def test_of_a_program(self) -> None:
-        found = self.explained({'print 1': 'print z'}, 'advice')
-        self.assertIn('print z', found)
-        self.assertIn('UnknownName: ', found)
-        self.assertIn('Allowed here: ', found)
-
-    def test_of_a_scenario(self) -> None:
-        found = self.explained({'end = 5': 'ende = 5'}, 'repair')
-        self.assertIn('ende = 5', found)
-        self.assertIn('Allowed here: ', found)
-
-    def test_of_a_place(self) -> None:
-        self.assertIn('UnknownName: ', self.explained({'print 1': 'print z'}, 'shown_program'))
+    def test_of_a_program_a_scenario_and_a_place(self) -> None:
+        for old, new, failing, said in (('print 1', 'print z', 'advice', ['print z', 'UnknownName: ', 'Allowed here: ']),
+                                        ('end = 5', 'ende = 5', 'repair', ['ende = 5', 'Allowed here: ']),
+                                        ('print 1', 'print z', 'shown_program', ['UnknownName: '])):
+            found = self.explained({old: new}, failing)
+            for it in said:
+                self.assertIn(it, found)
 
     def test_of_a_warning(self) -> None:
         program, said = b'#', io.StringIO()

@@ -3,10 +3,9 @@ import json
 import os
 import re
 import subprocess
-import unittest
 from collections import Counter
 
-from here import TOOLS, TOP, call, room_of
+from here import TOOLS, TOP, call, Room
 from motesim.export import pcapng, perfetto, times, vcd
 from motesim.report import Report
 from skips import interpreter_with, need_command
@@ -124,18 +123,18 @@ def read_vcd(text: str) -> dict[tuple[str, ...], list[tuple[int, int | None]]]:
     return found
 
 
-class ExportTest(unittest.TestCase):
+class ExportTest(Room):
     def setUp(self) -> None:
-        self.folder = room_of(self)
-        (self.folder / 'a.report').write_text(REPORT)
+        super().setUp()
+        (self.room / 'a.report').write_text(REPORT)
         self.report = Report.parse(REPORT)
 
     def run_it(self, *words: str) -> subprocess.CompletedProcess[str]:
-        return subprocess.run(words, cwd=self.folder, capture_output=True, text=True, timeout=120,
+        return subprocess.run(words, cwd=self.room, capture_output=True, text=True, timeout=120,
                               env={**os.environ, 'LC_ALL': 'C.UTF-8'})
 
     def export(self, *words: str) -> str:
-        done = call('export', *words, cwd=self.folder)
+        done = call('export', *words, cwd=self.room)
         self.assertEqual((done.returncode, done.stderr), (0, ''))
         return done.stdout
 
@@ -148,7 +147,7 @@ class ExportTest(unittest.TestCase):
 
     def test_a_waveform(self) -> None:
         self.assertEqual(self.export('a.report', '--to', 'vcd'), 'a.vcd\n')
-        found = read_vcd((self.folder / 'a.vcd').read_text())
+        found = read_vcd((self.room / 'a.vcd').read_text())
         for name, values in WAVES.items():
             self.assertEqual(found[name], values, name)
 
@@ -192,7 +191,7 @@ class ExportTest(unittest.TestCase):
 
     def test_a_trace_for_perfetto(self) -> None:
         self.assertEqual(self.export('a.report', '--to', 'perfetto'), 'a.perfetto.json\n')
-        trace = json.loads((self.folder / 'a.perfetto.json').read_text())
+        trace = json.loads((self.room / 'a.perfetto.json').read_text())
         events = trace['traceEvents']
         self.assertEqual(Counter(it['ph'] for it in events)['X'], 6 + 18 + 3)
         named = {it['tid']: (it['pid'], it['args']['name']) for it in events if it['name'] == 'thread_name'}
@@ -223,14 +222,14 @@ class ExportTest(unittest.TestCase):
             ''], done.stderr)
 
     def test_what_is_wrong_is_told(self) -> None:
-        (self.folder / 'late.report').write_text(REPORT.replace('1@21', '1@4000000000000000000'))
+        (self.room / 'late.report').write_text(REPORT.replace('1@21', '1@4000000000000000000'))
         for words, seen in [
             (('no.report', '--to', 'vcd'), 'no.report: No such file'),
             (('a.report', '--to', 'vcd', '-o', 'no/a.vcd'), 'no/a.vcd: No such file'),
             (('a.report', '--to', 'gif'), 'invalid choice'),
             (('late.report', '--to', 'pcapng'), 'a number that is too great'),
         ]:
-            done = call('export', *words, cwd=self.folder)
+            done = call('export', *words, cwd=self.room)
             self.assertEqual((done.returncode, done.stdout), (2, ''))
             self.assertIn(seen, done.stderr)
-        self.assertEqual(sorted(it.name for it in self.folder.iterdir()), ['a.report', 'late.report'])
+        self.assertEqual(sorted(it.name for it in self.room.iterdir()), ['a.report', 'late.report'])

@@ -2,11 +2,8 @@
 import contextlib
 import io
 import os
-import tempfile
-import unittest
-from pathlib import Path
 
-from here import TOP
+from here import TOP, Room
 from motesim.faults import Fault
 from motesim.search.study import check_studies, studies_of
 from skips import need_program
@@ -32,13 +29,11 @@ counts = [0, 4]
 ''' % ((REACHED,) * 3)
 
 
-class Studies(unittest.TestCase):
+class Studies(Room):
     def check(self, text: str) -> tuple[int, int, str]:
-        with tempfile.TemporaryDirectory() as folder, contextlib.redirect_stdout(io.StringIO()) as said:
-            Path(folder, 'diamond.toml').write_text(DIAMOND)
-            path = Path(folder, 'study.toml')
-            path.write_text(text)
-            return *check_studies(path, 2), said.getvalue()
+        self.put('diamond.toml', DIAMOND)
+        with contextlib.redirect_stdout(io.StringIO()) as said:
+            return *check_studies(self.put('study.toml', text), 2), said.getvalue()
 
     def test_of_the_examples(self) -> None:
         need_program(self)
@@ -102,7 +97,5 @@ class Studies(unittest.TestCase):
                              (STUDY.replace('breaks = []', '', 1), 'study 1 of .*: it needs `expect`, and exactly one'),
                              (STUDY.replace('breaks = []', 'breaks = []\ncounts = [0]', 1),
                               'study 1 of .*: it needs `expect`, and exactly one of `breaks` and `counts`$')):
-            with tempfile.TemporaryDirectory() as folder, self.assertRaisesRegex(Fault, wanted):
-                path = Path(folder, 'study.toml')
-                path.write_text(text)
-                studies_of(path)
+            with self.assertRaisesRegex(Fault, wanted):
+                studies_of(self.put('study.toml', text))

@@ -9,7 +9,7 @@ from collections.abc import Iterator
 from pathlib import Path
 from unittest import mock
 
-from here import TOOLS, call, room_of
+from here import TOOLS, Room
 from motesim.faults import Fault
 from motesim.files import NotWritten, write_whole
 from motesim.report import Report
@@ -25,11 +25,6 @@ mote = [{ x = 0, y = 0, program = "p" }]
 [programs]
 p = "process a; autostart a; code a { body { print 7; } }"
 '''
-
-
-class Room(unittest.TestCase):
-    def setUp(self) -> None:
-        self.room = room_of(self)
 
 
 class Whole(Room):
@@ -102,11 +97,8 @@ class Whole(Room):
 class OddNames(Room):
     """File names that are not UTF-8, or that the terminal can't show."""
 
-    def here(self, **variables: str) -> dict[str, str]:
-        return {**os.environ, 'MOTESIM': str(write_stub(self.room)), **variables}
-
     def run_it(self, *words: str) -> str:
-        done = call(*words, cwd=self.room, env=self.here())
+        done = self.tool(*words, MOTESIM=str(write_stub(self.room)))
         self.assertEqual((done.returncode, 'Traceback' in done.stderr), (0, False), words)
         return done.stdout
 
@@ -122,7 +114,7 @@ class OddNames(Room):
     def test_a_terminal_without_the_letters(self) -> None:
         (self.room / 'n\u00e9t.toml').write_text(SCENARIO)
         done = subprocess.run([TOOLS / 'timeline', 'n\u00e9t.toml'], cwd=self.room, capture_output=True,
-                              env=self.here(PYTHONIOENCODING='ascii'))
+                              env={**os.environ, 'MOTESIM': str(write_stub(self.room)), 'PYTHONIOENCODING': 'ascii'})
         self.assertEqual((done.returncode, done.stdout), (0, b'n\\xe9t.html\n'))
 
 

@@ -1,18 +1,14 @@
 """A plan from a scenario makes the same net."""
 import subprocess
-import unittest
 
-from here import TOP, call, room_of
+from here import TOP, call, Room
 from motesim.plan.plan import Plan
 from motesim.scenario import Scenario
 
 
-class FromScenario(unittest.TestCase):
-    def setUp(self) -> None:
-        self.folder = room_of(self)
-
+class FromScenario(Room):
     def made(self, *words: str, status: int = 0) -> subprocess.CompletedProcess[str]:
-        done = call('scenario', *words, cwd=self.folder)
+        done = call('scenario', *words, cwd=self.room)
         self.assertEqual(done.returncode, status, done)
         return done
 
@@ -21,7 +17,7 @@ class FromScenario(unittest.TestCase):
             if path.name.endswith('.expect.toml') or path.name == 'wrong.toml':
                 continue
             with self.subTest(path.name):
-                folder = self.folder / path.stem
+                folder = self.room / path.stem
                 folder.mkdir()
                 plan = folder / (path.stem + '.plan.toml')
                 self.made('--from', str(path), '-o', str(plan))
@@ -33,21 +29,21 @@ class FromScenario(unittest.TestCase):
                 self.assertEqual({name: before.queue[name] for name in before.queue if name in used}, after.queue)
 
     def test_its_numbers_are_parameters(self) -> None:
-        (self.folder / 'net.toml').write_bytes((TOP / 'examples/flooding.toml').read_bytes())
+        (self.room / 'net.toml').write_bytes((TOP / 'examples/flooding.toml').read_bytes())
         self.assertEqual(self.made('--from', 'net.toml').stdout.split(),
                          ['flood.mote', 'net.places.csv', 'net.losses.csv', 'net.plan.toml'])
         made = Scenario.parse(self.made('net.plan.toml', '--set', 'range=15', '--set', 'end=50').stdout)
         self.assertEqual((made.range, made.end), (15, 50))
 
     def test_nothing_is_written_over(self) -> None:
-        (self.folder / 'net.toml').write_bytes((TOP / 'examples/flooding.toml').read_bytes())
-        (self.folder / 'flood.mote').write_text('mine')
+        (self.room / 'net.toml').write_bytes((TOP / 'examples/flooding.toml').read_bytes())
+        (self.room / 'flood.mote').write_text('mine')
         self.assertIn('flood.mote is there already', self.made('--from', 'net.toml', status=2).stderr)
-        self.assertEqual((self.folder / 'flood.mote').read_text(), 'mine')
-        self.assertFalse((self.folder / 'net.plan.toml').exists())
+        self.assertEqual((self.room / 'flood.mote').read_text(), 'mine')
+        self.assertFalse((self.room / 'net.plan.toml').exists())
 
     def test_what_cannot_be_done_is_told(self) -> None:
         self.assertIn('name a PLAN', self.made(status=2).stderr)
         self.assertIn('No such file', self.made('--from', 'no.toml', status=2).stderr)
-        (self.folder / 'net.toml').write_text('version = 1')
+        (self.room / 'net.toml').write_text('version = 1')
         self.assertIn('scenario fault 2', self.made('--from', 'net.toml', status=2).stderr)

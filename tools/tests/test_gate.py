@@ -3,38 +3,28 @@ import os
 import re
 import shutil
 import subprocess
-import tempfile
 import unittest
-from pathlib import Path
 from unittest import mock
 
-from here import TOOLS, TOP, room_of
+from here import TOOLS, TOP, Room
 from motesim.faults import Fault
 from project import testing
 
 STEPS = ['run_cases', 'check_examples', 'check_tutorial', 'spoil_bytes', 'compare_workers', 'refuse_memory',
          'test_tools', 'wrong_bodies', 'check_module']
+PASSES = 'echo "2 passed, 0 failed"'
 
 
-class Gate(unittest.TestCase):
+class Gate(Room):
     def setUp(self) -> None:
-        self.room = room_of(self)
+        super().setUp()
         shutil.copy(TOP / 'test', self.room / 'test')
         for name in STEPS:
-            self.put('tools/dev/' + name, 'echo "2 passed, 0 failed"')
-        self.put('tools/differential', 'echo "2 passed, 0 failed"')
-        self.put('bin/rt', 'echo "2 passed, 0 failed"')
-        self.put('bin/nproc', 'echo 1')
-        self.put('bin/python3', 'true')
-        self.put('bin/node', 'true')
-        self.put('bin/wasm-opt', 'true')
-        self.put('crates/motesim/out/motesim', 'true')
-
-    def put(self, name: str, text: str) -> None:
-        path = self.room / name
-        path.parent.mkdir(parents=True, exist_ok=True)
-        path.write_text('#!/bin/sh\n%s\n' % text)
-        path.chmod(0o755)
+            self.put_program('tools/dev/' + name, PASSES)
+        for name, text in (('tools/differential', PASSES), ('bin/rt', PASSES), ('bin/nproc', 'echo 1'),
+                           *((it, 'true') for it in ('bin/python3', 'bin/node', 'bin/wasm-opt',
+                                                     'crates/motesim/out/motesim'))):
+            self.put_program(name, text)
 
     def run_it(self, *words: str, path: str | None = None) -> tuple[list[str], int]:
         here = {**os.environ, 'PATH': path or '%s:%s' % (self.room / 'bin', os.environ['PATH'])}
@@ -49,10 +39,11 @@ class Gate(unittest.TestCase):
         self.assertEqual((lines[-1], status), ('10 passed, 0 failed, 0 skipped', 0))
 
     def test_what_fails_and_what_is_skipped_counts(self) -> None:
-        self.put('tools/dev/test_tools',
+        self.put_program(
+            'tools/dev/test_tools',
                  'echo "skipped: test_a.B.c: no browser"; echo "5 passed, 1 failed, 3 skipped"; exit 1')
-        self.put('tools/dev/run_cases', 'exit 1')
-        self.put('tools/dev/spoil_bytes', 'echo "2 passed, 0 failed"; exit 3')
+        self.put_program('tools/dev/run_cases', 'exit 1')
+        self.put_program('tools/dev/spoil_bytes', 'echo "2 passed, 0 failed"; exit 3')
         lines, status = self.run_it()
         self.assertEqual((lines[-1], status), ('23 passed, 3 failed, 3 skipped', 1))
 
@@ -78,34 +69,26 @@ class Gate(unittest.TestCase):
         self.assertRegex(lines[-1], r'^\d+ passed, \d+ failed, \d+ skipped$')
 
 
-class Packages(unittest.TestCase):
+class Packages(Room):
     """The Debian packages that ./test installs. Debian's commands are stand-ins, and there are no steps."""
 
     def run_it(self, missing: str, can_install: bool, *words: str, user: int = 0) -> tuple[list[str], str]:
         """The lines before the first step, and the calls of apt-get, on a machine that lacks packages."""
-        with tempfile.TemporaryDirectory() as folder:
-            room = Path(folder)
-            for name, text in {'bin/dpkg-query': 'case " %s " in *" $4 "*) echo un ;; *) echo "ii " ;; esac' % missing,
-                               'bin/id': 'echo %d' % user, 'bin/python3': 'exit 1', 'bin/apt-get': 'echo "$*" >>"%s/calls"; exit %d' % (room,
-                    not can_install)}.items():
-                path = room / name
-                path.parent.mkdir(exist_ok=True)
-                path.write_text('#!/bin/sh\n%s\n' % text)
-                path.chmod(0o755)
-            (room / 'tools/dev').mkdir(parents=True)
-            for name in 'test', 'tools/dev/packages.txt':
-                shutil.copy(TOP / name, room / name)
-            here = {**os.environ, 'PATH': '%s:%s' % (room / 'bin', os.environ['PATH'])}
-            done = subprocess.run([room / 'test', '--quick', *words], env=here, capture_output=True, text=True,
-                                  timeout=60)
-            calls = (room / 'calls').read_text() if (room / 'calls').is_file() else ''
+        calls = self.put('calls')
+        for name, text in (('dpkg-query', 'case " %s " in *" $4 "*) echo un ;; *) echo "ii " ;; esac' % missing),
+                           ('id', 'echo %d' % user), ('python3', 'exit 1'),
+                           ('apt-get', 'echo "$*" >>"%s"; exit %d' % (calls, not can_install))):
+            self.put_program('bin/' + name, text)
+        (self.room / 'tools/dev').mkdir(parents=True, exist_ok=True)
+        for name in 'test', 'tools/dev/packages.txt':
+            shutil.copy(TOP / name, self.room / name)
+        here = {**os.environ, 'PATH': '%s:%s' % (self.room / 'bin', os.environ['PATH'])}
+        done = subprocess.run([self.room / 'test', '--quick', *words], env=here, capture_output=True, text=True, timeout=60)
         self.assertRegex(done.stdout.splitlines()[-1], r'^0 passed, \d+ failed, 0 skipped$')
-        return [it for it in done.stdout.splitlines() if 'not run' not in it][:-2], calls
-
-    def test_without_a_missing_one_nothing_is_said(self) -> None:
-        self.assertEqual(self.run_it('', True), ([], ''))
+        return [it for it in done.stdout.splitlines() if 'not run' not in it][:-2], calls.read_text()
 
     def test_root_installs_what_is_missing(self) -> None:
+        self.assertEqual(self.run_it('', True), ([], ''))
         lines, calls = self.run_it('mypy tcc', True)
         self.assertEqual(lines, ['== installing mypy tcc (--no-install leaves this out)'])
         self.assertEqual(calls, 'update -q\ninstall -y -q --no-install-recommends mypy tcc\n')
@@ -116,19 +99,14 @@ class Packages(unittest.TestCase):
             self.assertIn('`apt-get install mypy tcc`', lines[0])
             self.assertEqual([it.partition(':')[0].strip() for it in lines[1:]], ['mypy', 'tcc'])
             self.assertEqual(calls, '')
-
-    def test_what_can_not_be_installed_is_named(self) -> None:
         lines, _ = self.run_it('mypy', False)
         self.assertEqual(lines[1], "== mypy can't be installed: the tests that need it say so")
 
     def test_the_landing_calls_the_test(self) -> None:
-        with tempfile.TemporaryDirectory() as folder:
-            room = Path(folder)
-            (room / '.ci').mkdir()
-            shutil.copy(TOP / '.ci/run', room / '.ci/run')
-            (room / 'test').write_text('#!/bin/sh\necho "./test $*"; exit 3\n')
-            (room / 'test').chmod(0o755)
-            done = subprocess.run([room / '.ci/run', '--quick'], capture_output=True, text=True, timeout=60)
+        self.put_program('test', 'echo "./test $*"; exit 3')
+        self.put('.ci/run')
+        shutil.copy(TOP / '.ci/run', self.room / '.ci/run')
+        done = subprocess.run([self.room / '.ci/run', '--quick'], capture_output=True, text=True, timeout=60)
         self.assertEqual((done.stdout, done.returncode), ('./test --quick\n', 3))
 
 
@@ -146,18 +124,17 @@ class Other(unittest.TestCase):
 """
 
 
-class UnitTests(unittest.TestCase):
+class UnitTests(Room):
     """The counts of the tests of the tools."""
 
     def run_file(self, text: str, *may_skip: str, workers: int = 0) -> tuple[list[str], int]:
-        with tempfile.TemporaryDirectory() as room:
-            shutil.copy(TOP / 'tools/tests/conftest.py', room)
-            (Path(room) / 'test_page.py').write_text(text)
-            words = [*testing.pytest('scope'), *('--may-skip=' + it for it in may_skip), 'test_page.py']
-            if '-n' in words:
-                words[words.index('-n') + 1] = str(workers)
-            done = subprocess.run(words, cwd=room, env={**os.environ, 'PYTHONPATH': str(TOOLS / 'tests')},
-                                  capture_output=True, text=True, timeout=60)
+        shutil.copy(TOP / 'tools/tests/conftest.py', self.room)
+        self.put('test_page.py', text)
+        words = [*testing.pytest('scope'), *('--may-skip=' + it for it in may_skip), 'test_page.py']
+        if '-n' in words:
+            words[words.index('-n') + 1] = str(workers)
+        done = subprocess.run(words, cwd=self.room, env={**os.environ, 'PYTHONPATH': str(TOOLS / 'tests')},
+                              capture_output=True, text=True, timeout=60)
         return done.stdout.splitlines(), done.returncode
 
     def test_a_class_that_is_skipped_counts_as_all_its_tests(self) -> None:

@@ -1,9 +1,8 @@
 """No tool replaces its own inputs by a file that it writes, even if the two names of the file differ."""
 import os
 import subprocess
-import unittest
 
-from here import TOOLS, call, room_of
+from here import TOOLS, call, Room
 from motesim.faults import Fault
 from motesim.files import refuse_inputs
 from skips import interpreter_with, need_program
@@ -52,9 +51,9 @@ WRONG = ('scenario net.plan.toml -o net.plan.toml', 'scenario net.plan.toml -o a
          'pack solutions -o solutions/anna.toml')
 
 
-class Inputs(unittest.TestCase):
+class Inputs(Room):
     def setUp(self) -> None:
-        self.room = room_of(self)
+        super().setUp()
         for folder in 'solutions', 'other':
             (self.room / folder).mkdir()
         for name, text in FILES.items():

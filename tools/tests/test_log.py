@@ -4,17 +4,15 @@ import io
 import json
 import tempfile
 import unittest
-from collections.abc import Iterable
 from pathlib import Path
-from typing import Any
 
 from here import TOP, call
 import skips
 from motesim.faults import Fault
-from motesim.report import FIELDS, Report
+from motesim.report import Report
 from motesim.report.run import answer
 from motesim.scenario import Scenario
-from motesim.why.log import Filter, Row, filtered, kinds_of, numbers_of, of_sentence, words_of
+from motesim.why.log import Filter, kinds_of, numbers_of, of_sentence, rows_of
 from motesim.why.source import Source, read_traces
 
 # Both motes write lines at moment 2; the program of mote 0 has a process that is called `take`.
@@ -33,23 +31,24 @@ medium
 5 0 0 3 1@9
 left 0
 '''
-ALL = Filter(None, tuple(FIELDS), None, None, (0, None))
-
-
-def lines(rows: Iterable[Row]) -> list[tuple[int, int, int, str]]:
-    return [(at, mote, row, words_of(line)) for at, mote, row, line in rows]
 
 
 class Logs(unittest.TestCase):
-    def of(self, **changes: Any) -> list[int]:
-        """The lines of the report that a filter leaves, in the order of the log."""
-        return [it[2] for it in lines(filtered(Report.parse(REPORT), ALL._replace(**changes)))]
-
     def test_the_order_is_by_moment_then_by_mote(self) -> None:
-        self.assertEqual(lines(filtered(Report.parse(REPORT), ALL)), [
+        report = Report.parse(REPORT)
+        self.assertEqual([*rows_of(REPORT.encode(), report, Filter().lines(report))], [
             (0, 0, 2, 'start take'), (1, 1, 8, 'start b'), (2, 0, 3, 'post 0 take msg 7'), (2, 0, 4, 'take 0 take'),
             (2, 0, 5, 'print take 3'), (2, 1, 9, 'print b 7'), (2, 1, 10, 'full b com 3'), (5, 0, 6, 'send 0 3'),
             (9, 1, 11, 'recv 0 0 3')])
+
+    def test_filters(self) -> None:
+        """Each filter with the lines of the report that it leaves."""
+        report = Report.parse(REPORT)
+        for it, lines in ((Filter(motes=frozenset({1})), [8, 9, 10, 11]), (Filter(kinds=('print', 'recv')), [5, 9, 11]),
+                          (Filter(process='take'), [2, 3, 4, 5]), (Filter(process='none'), []),
+                          (Filter(value=7), [3, 9]), (Filter(value=0), []), (Filter(span=(2, 5)), [3, 4, 5, 9, 10, 6]),
+                          (Filter(frozenset({0}), ('print', 'send'), None, 3, (0, 4)), [5])):
+            self.assertEqual([row for _, _, row, _ in rows_of(REPORT.encode(), report, it.lines(report))], lines, it)
 
     def test_lists(self) -> None:
         self.assertEqual(numbers_of('3,5-7', 9, '--mote'), {3, 5, 6, 7})
@@ -82,23 +81,23 @@ class Runs(unittest.TestCase):
     def setUp(self) -> None:
         skips.need_program(self)
 
-    def test_sentences(self) -> None:
-        """Message 2 of flooding reaches motes 3 to 7 at 80 plus 3 for each hop, but for the loss from 0 to 1."""
+    def of_sentence(self, sentence: str) -> list[tuple[int, int]]:
+        """The moments and motes of the lines of flooding that a sentence is about."""
         data = (TOP / 'examples/flooding.toml').read_bytes()
         source = Source('flooding', answer(data).report, Scenario.parse(data))
-        log = of_sentence(source, 'motes 3 to 7 print flood 2 by 90', ALL)
-        self.assertEqual([it[:2] for it in lines(log)], [(83, 5), (86, 6), (89, 7)])
-        log = of_sentence(source, 'exactly 1 copy is lost at mote 1', ALL)
-        self.assertEqual([it[:2] for it in lines(log)], [(80, 0)])
+        trace = source.traces.report.trace
+        return [(trace.at[it], trace.mote[it]) for it in of_sentence(source, sentence, Filter())]
+
+    def test_sentences(self) -> None:
+        """Message 2 of flooding reaches motes 3 to 7 at 80 plus 3 for each hop, but for the loss from 0 to 1."""
+        self.assertEqual(self.of_sentence('motes 3 to 7 print flood 2 by 90'), [(83, 5), (86, 6), (89, 7)])
+        self.assertEqual(self.of_sentence('exactly 1 copy is lost at mote 1'), [(80, 0)])
 
     def test_a_time_that_depends_on_hops_is_that_of_each_mote(self) -> None:
         """Each of the 25 motes sends message 1 at 40 plus 3 for each hop from mote 0."""
-        data = (TOP / 'examples/flooding.toml').read_bytes()
-        source = Source('flooding', answer(data).report, Scenario.parse(data))
-        log = lines(of_sentence(source, 'exactly 25 packets are sent at 40 plus 3 for each hop from mote 0', ALL))
-        self.assertEqual((sorted({it[1] for it in log}), log[0][:2]), (list(range(25)), (40, 0)))
-        copies = of_sentence(source, 'at least 1 copy arrives at 40 plus 3 for each hop from mote 0', ALL)
-        self.assertEqual(lines(copies)[0][:2], (43, 1))
+        log = self.of_sentence('exactly 25 packets are sent at 40 plus 3 for each hop from mote 0')
+        self.assertEqual((sorted(mote for _, mote in log), log[0]), (list(range(25)), (40, 0)))
+        self.assertEqual(self.of_sentence('at least 1 copy arrives at 40 plus 3 for each hop from mote 0')[0], (43, 1))
 
     def log(self, *arguments: str) -> str:
         return call('log', 'examples/flooding.toml', *arguments, cwd=TOP, check=True).stdout

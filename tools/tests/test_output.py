@@ -6,24 +6,21 @@ import unittest
 from pathlib import Path
 from unittest import mock
 
-from here import TOP, room_of
+from here import TOP, Room
 from motesim.output import beside
 from motesim.runner import programs
 
 
-class Output(unittest.TestCase):
-    def setUp(self) -> None:
-        self.folder = room_of(self)
-
+class Output(Room):
     def test_next_to_the_source(self) -> None:
-        self.assertEqual(beside(str(self.folder / 'net.toml'), 'net.html'), self.folder / 'net.html')
-        with contextlib.chdir(self.folder):
+        self.assertEqual(beside(str(self.room / 'net.toml'), 'net.html'), self.room / 'net.html')
+        with contextlib.chdir(self.room):
             self.assertEqual(beside('net.toml', 'net.html'), Path('net.html'))
             self.assertEqual(beside('sub/net.toml', 'net.html'), Path('sub/net.html'))
 
     def test_never_among_the_files_of_the_repository(self) -> None:
         example = str(TOP / 'examples/flooding.toml')
-        with contextlib.chdir(self.folder):
+        with contextlib.chdir(self.room):
             self.assertEqual(beside(example, 'flooding.html'), Path('flooding.html'))
             self.assertEqual(beside('-', 'run.html'), Path('run.html'))
         with contextlib.chdir(TOP):

@@ -2,13 +2,10 @@
 import hashlib
 import math
 import random
-import re
-import subprocess
-import tempfile
 import unittest
 from pathlib import Path
 
-from here import TOP, call
+from here import TOP, Room
 from motesim.plan import places
 from motesim.scenario import faults as scenario_faults
 from motesim.plan.chance import Chance
@@ -68,8 +65,13 @@ def plan(text: str = PLAN, name: str = 'a.plan.toml') -> Plan:
 def with_places(rule: str) -> str:
     return PLAN.split('[places]')[0] + '[places]\n%s\nprogram = "flood.mote"\n' % rule
 
-PLAN_OF_ONE = ('end = 9\nmedium = { range = 9, base = 2, per = 9 }\n[places]\nrule = "line"\ncount = 1\nstep = 1\n'
-               'program = "%s"\n')
+
+
+def with_program(data: bytes) -> Plan:
+    """The plan with another program."""
+    there = plan(PLAN.replace('flood.mote', 'odd.mote'))
+    there.files.known['odd.mote'] = data
+    return there
 
 
 class ChanceTest(unittest.TestCase):
@@ -86,9 +88,7 @@ class ChanceTest(unittest.TestCase):
 
 class PlacesTest(unittest.TestCase):
     def test_a_place_of_a_list_may_be_a_parameter(self) -> None:
-        text = PLAN_OF_ONE % 'flood.mote'
-        text = text.replace('rule = "line"\ncount = 1\nstep = 1', 'rule = "list"\nat = [["${far}", 2], [0, 0]]')
-        made = plan(text + '[parameters]\nfar = 7\nperiod = 3\n').scenario({'far': 30})
+        made = plan(with_places('rule = "list"\nat = [["${step}", 2], [0, 0]]')).scenario({'step': 30})
         self.assertEqual([(it.x, it.y) for it in Scenario.parse(made).places], [(30, 2), (0, 0)])
 
     def test_a_ring_of_four(self) -> None:
@@ -118,10 +118,8 @@ class PlacesTest(unittest.TestCase):
             self.assertEqual(reached, set(found))
 
     def test_a_larger_net_of_one_seed_contains_the_smaller_one(self) -> None:
-        plan = ('end = 9\nmedium = { range = 9, base = 2, per = 9 }\n[parameters]\nmotes = 20\n[places]\n'
-                'rule = "random"\ncount = "${motes}"\nwidth = 99\nheight = 99\nseed = 1\nprogram = "a.mote"\n')
-        made = Plan('a.plan.toml', plan, Files(Path(), {'a.mote': b'process a;\ncode a { body { } }\n'}))
-        small, large = (Scenario.parse(made.scenario({'motes': it})).places for it in (20, 40))
+        made = plan(with_places('rule = "random"\ncount = "${step}"\nwidth = 99\nheight = 99\nseed = 1'))
+        small, large = (Scenario.parse(made.scenario({'step': it})).places for it in (20, 40))
         self.assertEqual(large[:20], small)
 
     def test_what_cannot_be_met_is_told(self) -> None:
@@ -130,13 +128,11 @@ class PlacesTest(unittest.TestCase):
         with self.assertRaisesRegex(places.NoPlace, 'connected'):
             places.scattered(3, 1000, 1000, 1, 0, 1)
         # (more motes, instead of fewer, help to connect a net)
-        text = ('end = 9\n[medium]\nrange = 1\nbase = 1\nper = 1\n[places]\nrule = "random"\ncount = 9\nwidth = %d\n'
-                'height = %d\nseed = 1\nleast = %d\nconnected = true\nprogram = "a.mote"\n')
+        rule = 'rule = "random"\ncount = 9\nwidth = %d\nheight = %d\nseed = 1\nleast = %d\nconnected = true'
         for side, least, said in (1000, 1, 'more motes, a smaller area, a larger `range` of the medium, or another'), (
                 2, 9, 'fewer motes, a larger area, a smaller `least`, or another'):
-            files = Files(Path(), {'a.mote': b'process a;\ncode a { body { } }\n'})
             with self.assertRaises(Fault) as caught:
-                Plan('a.plan.toml', text % (side, side, least), files).scenario({})
+                plan(with_places(rule % (side, side, least)).replace('range = 10', 'range = 1')).scenario({})
             self.assertIn(said, ' '.join(str(caught.exception).split()))
 
 
@@ -244,9 +240,7 @@ flood = 5
     def test_a_program_of_any_signs_comes_through(self) -> None:
         odd = SINK.replace('\n', '\r\n') + '// "\\ \x01\n'
         for source in SINK + "// it's '''quoted'''\n", SINK + '// no end', odd:
-            there = plan(PLAN.replace('flood.mote', 'odd.mote'))
-            there.files.known['odd.mote'] = source.encode()
-            self.assertEqual(Scenario.parse(there.scenario({})).programs['odd'], source)
+            self.assertEqual(Scenario.parse(with_program(source.encode()).scenario({})).programs['odd'], source)
 
     def test_the_program_takes_what_is_written(self) -> None:
         need_program(self)
@@ -319,18 +313,15 @@ class FaultsTest(unittest.TestCase):
             self.assertIn(words, ' '.join(it.strip() for it in rest), seen)
 
     def test_a_program_with_a_byte_order_mark(self) -> None:
-        plan = PLAN_OF_ONE % 'a.toml'
-        source = 'process a;\ncode a { body { } }\n'
-        made = Plan('a.plan.toml', plan, Files(Path(), {'a.toml': b'\xef\xbb\xbf' + source.encode()})).scenario({})
-        self.assertEqual(Scenario.parse(made).programs, {'a': source})
+        made = with_program(b'\xef\xbb\xbf' + SINK.encode()).scenario({})
+        self.assertEqual(Scenario.parse(made).programs, {'odd': SINK})
 
     def test_a_program_with_an_error_or_in_another_encoding(self) -> None:
-        plan = PLAN_OF_ONE % 'a.mote'
         source = 'process a;\nautostart a;\ncode a {\n  var n = 0;\n  body {\n    n = n + 1;\n  }\n}\n'
-        for data, words in ((source.encode(), 'tools/explain a.mote says more.\nAllowed here: `;`'),
-                            (source.encode('utf-16'), 'a.mote is not UTF-8, because of a byte in line 1. Save it')):
+        for data, words in ((source.encode(), 'tools/explain odd.mote says more.\nAllowed here: `;`'),
+                            (source.encode('utf-16'), 'odd.mote is not UTF-8, because of a byte in line 1. Save it')):
             with self.assertRaises(Fault) as seen:
-                Plan('a.plan.toml', plan, Files(Path(), {'a.mote': data})).scenario({})
+                with_program(data).scenario({})
             self.assertIn(words, str(seen.exception))
 
     def test_faults_of_files_beside(self) -> None:
@@ -373,30 +364,19 @@ file = "a.svg"
             plan().scenario({'speed': 1})
 
 
-class CommandTest(unittest.TestCase):
-    def run_it(self, *words: str) -> subprocess.CompletedProcess[str]:
-        return call('scenario', *words)
-
+class CommandTest(Room):
     def test_the_command(self) -> None:
-        with tempfile.TemporaryDirectory() as name:
-            folder = Path(name)
-            (folder / 'a.plan.toml').write_text(PLAN)
-            (folder / 'flood.mote').write_text(MOTE)
-            done = self.run_it(str(folder / 'a.plan.toml'), '--set', 'period=3')
-            self.assertEqual((done.returncode, done.stderr), (0, ''))
-            self.assertEqual(done.stdout, plan().scenario({'period': 3}))
-            to = self.run_it(str(folder / 'a.plan.toml'), '-o', str(folder / 'made.toml'), '--set', 'period=3')
-            self.assertEqual((to.returncode, (folder / 'made.toml').read_text()), (0, done.stdout))
-            wrong = self.run_it(str(folder / 'a.plan.toml'), '--set', 'step=many')
-            self.assertEqual((wrong.returncode, wrong.stdout), (2, ''))
-            self.assertTrue(re.match('scenario: /.*/a.plan.toml, line 13:\n', wrong.stderr), wrong.stderr)
-            self.assertEqual(self.run_it(str(folder / 'no.toml')).returncode, 2)
-
-    def test_a_parameter_that_nothing_uses_has_a_warning(self) -> None:
-        with tempfile.TemporaryDirectory() as name:
-            folder = Path(name)
-            (folder / 'a.plan.toml').write_text(PLAN.replace('[parameters]\n', '[parameters]\nunused = 1\n'))
-            (folder / 'flood.mote').write_text(MOTE)
-            for word, seen in ('unused=2', 'scenario: warning: nothing uses the parameter unused, '), ('period=3', ''):
-                done = self.run_it(str(folder / 'a.plan.toml'), '--set', word)
-                self.assertEqual((done.returncode, done.stderr.partition('so its')[0]), (0, seen), done.stderr)
+        self.put('a.plan.toml', PLAN)
+        self.put('flood.mote', MOTE)
+        done = self.tool('scenario', 'a.plan.toml', '--set', 'period=3')
+        self.assertEqual((done.returncode, done.stderr, done.stdout), (0, '', plan().scenario({'period': 3})))
+        to = self.tool('scenario', 'a.plan.toml', '-o', 'made.toml', '--set', 'period=3')
+        self.assertEqual((to.returncode, (self.room / 'made.toml').read_text()), (0, done.stdout))
+        wrong = self.tool('scenario', 'a.plan.toml', '--set', 'step=many')
+        self.assertEqual((wrong.returncode, wrong.stdout), (2, ''))
+        self.assertTrue(wrong.stderr.startswith('scenario: a.plan.toml, line 13:\n'), wrong.stderr)
+        self.assertEqual(self.tool('scenario', 'no.toml').returncode, 2)
+        self.put('a.plan.toml', PLAN.replace('[parameters]\n', '[parameters]\nunused = 1\n'))
+        for word, seen in ('unused=2', 'scenario: warning: nothing uses the parameter unused, '), ('period=3', ''):
+            done = self.tool('scenario', 'a.plan.toml', '--set', word)
+            self.assertEqual((done.returncode, done.stderr.partition('so its')[0]), (0, seen), done.stderr)

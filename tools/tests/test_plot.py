@@ -1,11 +1,10 @@
 """Plots: tables, pictures, comparisons, and what is refused."""
 import os
 import subprocess
-import unittest
 from collections.abc import Sequence
 from xml.etree import ElementTree
 
-from here import call, room_of
+from here import call, Room
 from motesim import packages
 from motesim.cells import Cell, line_of
 from motesim.experiments.results import Head
@@ -40,7 +39,7 @@ left out: 1 run with an error
 '''
 
 
-class PlotTest(unittest.TestCase):
+class PlotTest(Room):
     @classmethod
     def setUpClass(cls) -> None:
         # (the processes that draw a picture are forked from this one)
@@ -49,14 +48,14 @@ class PlotTest(unittest.TestCase):
             packages.load('matplotlib.pyplot')
 
     def setUp(self) -> None:
-        self.folder = room_of(self)
+        super().setUp()
         self.write([*RUNS, FAULTY])
 
     def write(self, runs: Sequence[Run]) -> None:
-        (self.folder / 'net.csv').write_text(results(runs))
+        (self.room / 'net.csv').write_text(results(runs))
 
     def plot(self, words: str, *more: str) -> subprocess.CompletedProcess[str]:
-        return call('plot', 'net.csv', *words.split(), *more, cwd=self.folder, env=dict(os.environ))
+        return call('plot', 'net.csv', *words.split(), *more, cwd=self.room, env=dict(os.environ))
 
     def rows(self, words: str) -> list[list[str]]:
         """The table of a command, without its heading."""
@@ -125,7 +124,7 @@ class PlotTest(unittest.TestCase):
             self.assertIn(said, done.stderr)
         for text, said in (HEAD.text(), 'has no runs'), ('period,sent\n1,2\n', 'isn\'t a file that this version of'), (
                 HEAD.text() + '1,2\n', 'row 1: 2 values instead of 15'):
-            (self.folder / 'net.csv').write_text(text)
+            (self.room / 'net.csv').write_text(text)
             self.assertIn(said, self.plot('--measure sent').stderr)
 
     def test_pictures_of_each_kind_with_their_tables(self) -> None:
@@ -140,9 +139,9 @@ class PlotTest(unittest.TestCase):
             for _ in range(2 if name == 'a.svg' else 1):
                 done = self.plot('--measure sent --where density=thin', *more.split(), '-o', name)
                 self.assertEqual((done.returncode, done.stdout.splitlines()[0], done.stderr), (0, name, ''))
-                made.append((self.folder / name).read_bytes())
+                made.append((self.room / name).read_bytes())
             self.assertTrue(made[0].startswith(head) and made[0] == made[-1], name)
-            lines = (self.folder / (name[0] + '.table.csv')).read_text().splitlines()
+            lines = (self.room / (name[0] + '.table.csv')).read_text().splitlines()
             self.assertIn('"command": "tools/plot net.csv', lines[0])
             self.assertGreater(len(lines), 2)
 
@@ -150,7 +149,7 @@ class PlotTest(unittest.TestCase):
         interpreter_with(self, 'matplotlib')
         done = self.plot('--measure sent --by density --against period -o a.svg --title', 'How it goes', '--y', 'packets')
         self.assertEqual(done.stdout.splitlines(), ['a.svg', 'left out: 1 run with an error'])
-        texts = [it.text for it in ElementTree.parse(self.folder / 'a.svg').iter() if it.tag.endswith('}text')]
+        texts = [it.text for it in ElementTree.parse(self.room / 'a.svg').iter() if it.tag.endswith('}text')]
         self.assertLess({'How it goes', 'density thin', 'density dense', 'period', 'packets'}, set(texts))
         wrong = self.plot('--measure sent --against density --by period --log -o b.svg')
         self.assertIn('`log` needs numbers above 0, and density has others', wrong.stderr)
@@ -165,8 +164,8 @@ class PlotTest(unittest.TestCase):
                            ('by = "sent"', '`by` names sent'), ('colour = 1', 'A plot has no key of this name'),
                            ('show = "heat"', 'This plot can\'t be drawn: `show` is'),
                            ('log = 1', 'This is not `true` or `false`'), ('confidence = "high"', 'can\'t be drawn')):
-            (self.folder / 'a.plan.toml').write_text(plan % more)
-            (self.folder / 'a.svg').unlink(missing_ok=True)
+            (self.room / 'a.plan.toml').write_text(plan % more)
+            (self.room / 'a.svg').unlink(missing_ok=True)
             done = self.plot('--plan a.plan.toml')
             self.assertIn(said, done.stderr)
-            self.assertEqual((done.returncode, (self.folder / 'a.svg').exists()), (2, False) if said else (0, True), done)
+            self.assertEqual((done.returncode, (self.room / 'a.svg').exists()), (2, False) if said else (0, True), done)

@@ -9,18 +9,15 @@ from pathlib import Path
 from typing import Any
 from unittest import mock
 
-from here import room_of  # (it puts tools/ on the path)
+from here import Room  # (it puts tools/ on the path)
 from project import prove
 from project.running import started
 from skips import long
 from unbuilt_tree import Tree, until
 
 
-class Copies(unittest.TestCase):
+class Copies(Room):
     """A proof of two crates by a stand-in for the kit."""
-
-    def setUp(self) -> None:
-        self.room = room_of(self)
 
     def test_it_has_the_crates_of_the_program_and_their_rows(self) -> None:
         for name in 'low/src/lib.rt', 'low/must-fail/a.edit', 'low/out/rlib', 'tests/src/lib.rt':

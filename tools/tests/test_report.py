@@ -2,12 +2,10 @@
 import os
 import random
 import re
-import stat
 import unittest
-from pathlib import Path
 from unittest import mock
 
-from here import TOP, room_of
+from here import TOP, Room
 from motesim.faults import Fault
 from motesim.report import Copy, Packet, Report, ReportFault
 from motesim.report import report as report_module
@@ -154,17 +152,13 @@ class Reports(unittest.TestCase):
             self.assertIn('expected ' + expected, said)
 
     def test_a_text_that_is_cut_off_or_goes_on_has_its_fault(self) -> None:
-        self.assertEqual(self.fault('')[0], 1)
-        self.assertEqual(self.fault('mote 0 a\n')[0], 2)
-        self.assertEqual(self.fault(SMALL[:-1]), (21, 
-                         "the report is cut off at line 21: expected a line end after 'left', but the text ends"))
-
-    def test_a_report_that_is_cut_off_is_told_so(self) -> None:
+        for text, row in ('', 1), ('mote 0 a\n', 2), (SMALL[:SMALL.index('left')], 20), (SMALL.replace('\n', '\r\n'), 1):
+            self.assertEqual(self.fault(text)[0], row)
         for cut in range(SMALL.index('\n') + 1, len(SMALL)):
             self.assertIn('the report is cut off at line ', self.fault(SMALL[:cut])[1])
-        self.assertEqual(self.fault(SMALL[:SMALL.index('left')])[0], 20)
+        self.assertEqual(self.fault(SMALL[:-1]), (
+            21, "the report is cut off at line 21: expected a line end after 'left', but the text ends"))
         self.assertEqual(self.fault(SMALL + '\n'), (21, "line 21: expected nothing more, but there is ''"))
-        self.assertEqual(self.fault(SMALL.replace('\n', '\r\n'))[0], 1)
         self.assertEqual(self.fault(b'mote 0 a\n0 halt\xff\n'),
                          (2, "line 2: expected text in ASCII, but there is '0 halt\\\\xff'"))
 
@@ -230,57 +224,47 @@ class Scenarios(unittest.TestCase):
                 check_scenario(Report.parse(EXAMPLE_REPORT), Scenario.parse(EXAMPLE.replace(*change)))
 
 
-class Runs(unittest.TestCase):
-    def setUp(self) -> None:
-        self.folder = room_of(self)
-
-    def write(self, name: str, text: str, mode: int = 0o644) -> Path:
-        path = self.folder / name
-        path.write_text(text, encoding='utf-8')
-        path.chmod(mode)
-        return path
-
+class Runs(Room):
     def as_program(self, text: str) -> mock._patch_dict:
         """As if the program were this script."""
-        path = self.write('motesim', text, stat.S_IRWXU)
-        return mock.patch.dict(os.environ, {'MOTESIM': str(path)})
+        return mock.patch.dict(os.environ, {'MOTESIM': str(self.put_program('motesim', text))})
 
     def test_a_report_is_read_and_a_scenario_is_run(self) -> None:
-        report = self.write('a.report', EXAMPLE_REPORT)
-        scenario = self.write('a.toml', EXAMPLE)
+        report = self.put('a.report', EXAMPLE_REPORT)
+        scenario = self.put('a.toml', EXAMPLE)
         found = read_run(report)
         self.assertEqual((found.report.text(), found.scenario), (EXAMPLE_REPORT, None))
         found = read_run(report, scenario)
         self.assertEqual(found.scenario and found.scenario.end, 20)
-        with self.as_program('#!/bin/sh\ncat >/dev/null\ncat %s\n' % report):
+        with self.as_program('cat >/dev/null\ncat %s' % report):
             found = read_run(scenario)
         self.assertEqual((found.report.text(), found.scenario and found.scenario.end), (EXAMPLE_REPORT, 20))
 
     def test_a_scenario_and_a_report_are_told_by_their_first_line(self) -> None:
-        report = self.write('r.toml', EXAMPLE_REPORT)
+        report = self.put('r.toml', EXAMPLE_REPORT)
         self.assertIsNone(read_run(report).scenario)
-        with self.as_program('#!/bin/sh\ncat >/dev/null\ncat %s\n' % report):
+        with self.as_program('cat >/dev/null\ncat %s' % report):
             for begin in '', '# A net\n', '\n\n  ', '\ufeff':
                 for name in 'net', 'net.txt', 'net.toml':
-                    scenario = read_run(self.write(name, begin + EXAMPLE)).scenario
+                    scenario = read_run(self.put(name, begin + EXAMPLE)).scenario
                     self.assertEqual(scenario and scenario.end, 20)
         for text in '[medium]\n', '"end" = 5\n', 'end=5\n':
             with self.assertRaisesRegex(ScenarioFault, r'net.txt: the scenario has no key .* \(tools/explain '):
-                read_run(self.write('net.txt', text))
+                read_run(self.put('net.txt', text))
         for text in 'mote 1 a\n', '0 start etimer\n':
             with self.assertRaisesRegex(ReportFault, 'net.txt: line 1: expected'):
-                read_run(self.write('net.txt', text))
+                read_run(self.put('net.txt', text))
         with self.assertRaisesRegex(ReportFault, 'net.txt: line 1: .* ends with only LF, not as on Windows'):
-            read_run(self.write('net.txt', EXAMPLE_REPORT.replace('\n', '\r\n')))
-        self.write('net.txt', '').write_bytes(EXAMPLE_REPORT.encode('utf-16'))
+            read_run(self.put('net.txt', EXAMPLE_REPORT.replace('\n', '\r\n')))
+        self.put('net.txt', '').write_bytes(EXAMPLE_REPORT.encode('utf-16'))
         with self.assertRaisesRegex(Fault, 'net.txt is not UTF-8, because of a byte in line 1. Save it as UTF-8'):
-            read_run(self.folder / 'net.txt')
+            read_run(self.room / 'net.txt')
         with self.assertRaisesRegex(Fault, 'net.txt is empty: expected a report or a scenario'):
-            read_run(self.write('net.txt', '\n'))
+            read_run(self.put('net.txt', '\n'))
 
     def test_what_can_not_be_run_or_read_has_a_fault(self) -> None:
-        scenario = self.write('a.toml', EXAMPLE)
-        with self.as_program('#!/bin/sh\necho motesim: medium fault 2 >&2\nexit 1\n'):
+        scenario = self.put('a.toml', EXAMPLE)
+        with self.as_program('echo motesim: medium fault 2 >&2\nexit 1'):
             with self.assertRaisesRegex(ProgramFault, 'a.toml: the scenario has no report: motesim: medium fault 2'):
                 read_run(scenario)
         with mock.patch.dict(os.environ, {'MOTESIM': '/nowhere/motesim'}):
@@ -290,10 +274,10 @@ class Runs(unittest.TestCase):
             read_run('no.report')
         for name in 'a.toml', 'a.txt':
             with self.assertRaisesRegex(Fault, '%s is a scenario itself' % name):
-                read_run(self.write(name, EXAMPLE), scenario)
+                read_run(self.put(name, EXAMPLE), scenario)
         for name, said in (('a.c', 'is a program in C'), ('a.mote', 'is the text of a program'),
                            ('a.plan.toml', 'is a plan, not a scenario'), ('a.csv', 'has results, not a report')):
             with self.assertRaisesRegex(Fault, '%s %s.*: tools/.*%s' % (name, said, name)):
-                read_run(self.write(name, 'x\n'))
+                read_run(self.put(name, 'x\n'))
         with self.assertRaisesRegex(ReportFault, 'b.report: line 1: expected'):
-            read_run(self.write('b.report', 'x\n'))
+            read_run(self.put('b.report', 'x\n'))

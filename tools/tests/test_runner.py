@@ -11,7 +11,7 @@ import unittest
 from collections.abc import Iterator
 from pathlib import Path
 
-from here import TOOLS, room_of
+from here import TOOLS, Room
 from motesim.faults import Fault
 from motesim.runner import LimitMet, Limits, NoReport, ProgramFault, Runner, Stopped, ending, run_each
 from motesim.runner.batch import each_part
@@ -25,18 +25,12 @@ programs = { a = "process a; code a { body { print 1; } }" }
 '''
 
 
-class Room(unittest.TestCase):
-    def setUp(self) -> None:
-        self.room = room_of(self)
-
+class Programs(Room):
     def program(self, text: str, shell: str = '/bin/sh') -> Path:
-        path = self.room / 'program'
-        path.write_text('#!%s\n%s\n' % (shell, text))
-        path.chmod(0o755)
-        return path
+        return self.put_program('program', text, shell)
 
 
-class Runs(Room):
+class Runs(Programs):
     def test_an_answer_has_status_report_and_fault(self) -> None:
         runner = Runner(self.program('cat; echo "$@" >&2; exit 3'))
         self.assertEqual(runner.answer(b'abc', '--workers', '2'), (3, b'abc', b'--workers 2\n'))
@@ -153,7 +147,7 @@ def squared(item: int) -> int:
     return item * item
 
 
-class Batches(Room):
+class Batches(Programs):
     def test_each_item_has_its_result(self) -> None:
         for workers in 0, 1, 3:
             found = list(run_each(squared, range(200), workers=workers))

@@ -1,7 +1,7 @@
 """The list of definitions on which the headline rests, in its order."""
 import unittest
 
-from here import TOP, room_of
+from here import TOP, Room
 from motesim.faults import Fault
 from project import spec_lists
 
@@ -54,19 +54,14 @@ All `specs/` together have 7 files.
 '''
 
 
-class Lists(unittest.TestCase):
+class Lists(Room):
     def setUp(self) -> None:
-        self.top = room_of(self)
+        super().setUp()
         for name, text in FILES.items():
             self.put(name, text)
 
-    def put(self, name: str, text: str) -> None:
-        path = self.top / name
-        path.parent.mkdir(parents=True, exist_ok=True)
-        path.write_text(text, 'utf-8')
-
     def test_what_is_imported_is_listed_from_the_top_down(self) -> None:
-        self.assertEqual(spec_lists.headline(self.top), LIST)
+        self.assertEqual(spec_lists.headline(self.room), LIST)
 
     def test_a_file_of_another_form_is_told(self) -> None:
         for text, said in (('-- What is near.\nuse Rattle.low.specs.Gone.{x}\n',
@@ -75,7 +70,7 @@ class Lists(unittest.TestCase):
                            ('abbrev near : Type 0\n', 'has to begin with a comment')):
             self.put('crates/low/specs/Near.antt', text)
             with self.assertRaisesRegex(Fault, said):
-                spec_lists.headline(self.top)
+                spec_lists.headline(self.room)
 
 
 class ThisTree(unittest.TestCase):

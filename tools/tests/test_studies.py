@@ -3,7 +3,7 @@ import csv
 import unittest
 from pathlib import Path
 
-from here import TOP, call, room_of
+from here import TOP, call, Room
 from motesim.analysis.command import table_path
 from motesim.analysis.of_plan import plots_of
 from motesim.plan.plan import Plan
@@ -23,24 +23,21 @@ class PageTest(unittest.TestCase):
 
 
 @long
-class StudiesTest(unittest.TestCase):
-    def setUp(self) -> None:
-        self.folder = room_of(self)
-
+class StudiesTest(Room):
     def study(self, name: str, *words: str) -> list[dict[str, str]]:
         """The rows of a study with fewer values. Its pictures are drawn too, or shown as tables."""
         need_program(self)
         interpreter_with(self, 'matplotlib')
         plan = STUDIES / (name + '.plan.toml')
-        done = call('sweep', str(plan), '--plot', '--seconds', '500', *words, cwd=self.folder)
+        done = call('sweep', str(plan), '--plot', '--seconds', '500', *words, cwd=self.room)
         self.assertEqual(done.returncode, 0, done)
         pictures = {it.file for it in plots_of(Plan.read(plan))}
-        made = {it.name for it in self.folder.iterdir()} - {name + '.csv'}
+        made = {it.name for it in self.room.iterdir()} - {name + '.csv'}
         self.assertEqual(made, pictures | {str(table_path(Path(it))) for it in pictures})
         return self.rows(name)
 
     def rows(self, name: str) -> list[dict[str, str]]:
-        with open(self.folder / (name + '.csv'), newline='') as file:
+        with open(self.room / (name + '.csv'), newline='') as file:
             file.readline()
             return list(csv.DictReader(file))
 
@@ -74,7 +71,7 @@ class StudiesTest(unittest.TestCase):
     def test_trickle_in_phase_collides_more(self) -> None:
         need_program(self)
         words = [it for name in ('phases=1,256', 'seed=1,2', 'enough=1', 'step=20') for it in ('--vary', name)]
-        done = call('sweep', str(STUDIES / 'trickle.plan.toml'), *words, cwd=self.folder)
+        done = call('sweep', str(STUDIES / 'trickle.plan.toml'), *words, cwd=self.room)
         self.assertEqual(done.returncode, 0, done)
         found = {(int(row['phases']), row['seed']): int(row['collided']) for row in self.rows('trickle')}
         for seed in '1', '2':

@@ -6,15 +6,13 @@ import signal
 import struct
 import subprocess
 import sys
-import tempfile
 import threading
 import time
 import unittest
-from pathlib import Path
 from typing import Any
 from unittest import mock
 
-from here import TOOLS, TOP, room_of
+from here import TOOLS, TOP, Room
 import skips
 import stand_in
 from motesim.faults import Fault
@@ -28,9 +26,9 @@ from motesim.studio.session import Session
 from test_studio_page import EXPECTED, NET
 
 
-class Files(unittest.TestCase):
+class Files(Room):
     def setUp(self) -> None:
-        self.room = room_of(self)
+        super().setUp()
         self.file = self.room / 'net.toml'
         self.file.write_text(NET)
         self.desk = Desk(self.file)
@@ -55,25 +53,6 @@ class Files(unittest.TestCase):
         self.assertEqual(self.desk.names('folder'), ['net.toml'])
         self.assertEqual(Desk(self.room / 'hidden.toml').names('folder'),
                          ['hidden.toml', 'net.toml', 'task1_solution.toml'])
-
-    def test_two_saves_at_once_both_end(self) -> None:
-        """Each has a scratch file of its own: the name of the process doesn't tell two threads apart."""
-        faults = []
-
-        def save(text: bytes) -> None:
-            for _ in range(30):
-                try:
-                    self.desk.write(self.file, text)
-                except Fault as fault:
-                    faults.append(str(fault))
-        texts = [b'# a\n' * 5_000, b'# b\n' * 5_000]
-        threads = [threading.Thread(target=save, args=(text,)) for text in texts]
-        for it in threads:
-            it.start()
-        for it in threads:
-            it.join()
-        self.assertEqual((faults, [it.name for it in self.room.iterdir()]), ([], ['net.toml']))
-        self.assertIn(self.file.read_bytes(), texts)
 
     def test_only_scenarios_of_the_folder_and_examples_are_read(self) -> None:
         (self.room / 'secret.txt').write_text('no')
@@ -170,9 +149,7 @@ class Files(unittest.TestCase):
 
 class Running(unittest.TestCase):
     def setUp(self) -> None:
-        program = stand_in.program()
-        program.__enter__()
-        self.addCleanup(program.__exit__, None, None, None)
+        self.enterContext(stand_in.program())
 
     def run_text(self, text: str, **limits: Any) -> Any:
         runs = Runs(LIMITS._replace(**limits))
@@ -223,16 +200,14 @@ class Running(unittest.TestCase):
             self.assertFalse(os.path.exists('/proc/%d' % pid))
 
 
-class Answering(unittest.TestCase):
+class Answering(Room):
     """The server over HTTP."""
 
     def setUp(self) -> None:
-        program = stand_in.program()
-        program.__enter__()
-        self.addCleanup(program.__exit__, None, None, None)
-        self.file = room_of(self) / 'net.toml'
-        self.file.write_text(NET)
-        self.file.with_suffix('.expect.toml').write_text(EXPECTED)
+        super().setUp()
+        self.enterContext(stand_in.program())
+        self.file = self.put('net.toml', NET)
+        self.put('net.expect.toml', EXPECTED)
         self.server = Server(Session(Desk(self.file), Runs()))
         threading.Thread(target=self.server.serve_forever, kwargs={'poll_interval': 0.05}, daemon=True).start()
         self.addCleanup(self.server.server_close)
@@ -370,13 +345,11 @@ class Searching(unittest.TestCase):
         self.assertEqual(going.shrunk(0, sentence)['text'].count('[[mote]]'), 2)
 
 
-class Command(unittest.TestCase):
+class Command(Room):
     def test_a_plan_is_refused_as_the_other_scenario(self) -> None:
-        with tempfile.TemporaryDirectory() as room:
-            plan = Path(room, 'net.plan.toml')
-            plan.write_text('end = 20\n[places]\nrule = "line"\ncount = 3\nstep = 10\n')
-            with self.assertRaisesRegex(Fault, 'is a plan, not a scenario: tools/scenario .* makes a scenario of it'):
-                pinned(str(plan))
+        plan = self.put('net.plan.toml', 'end = 20\n[places]\nrule = "line"\ncount = 3\nstep = 10\n')
+        with self.assertRaisesRegex(Fault, 'is a plan, not a scenario: tools/scenario .* makes a scenario of it'):
+            pinned(str(plan))
 
     def start(self, *words: str, **variables: str) -> Any:
         return subprocess.Popen([sys.executable, '-B', str(TOOLS / 'studio'), '--no-open', *words], text=True,

@@ -11,11 +11,11 @@ import unittest
 from pathlib import Path
 from unittest import mock
 
-from here import TOOLS, call, room_of
+from here import TOOLS, Room
 from motesim.faults import Fault
 from motesim.experiments.doubts import QUEUE_FULL, RECEIVER_FULL, of_full
 from motesim.experiments.measures import Bench, MeasureFault, imports_of, read_measure
-from motesim.experiments.one_run import digest, run_job
+from motesim.experiments.one_run import Result, digest, run_job
 from motesim.plan.plan import Plan
 from motesim.report import Report
 from motesim.cells import Cell
@@ -122,23 +122,21 @@ class MeasuresTest(unittest.TestCase):
             measure = read_measure(words, self.names, {'mine.py': MINE})
             self.assertEqual((measure.name, measure.of(bench())), (name, value), words)
 
-    def test_a_mote_that_has_to_receive_its_own_messages_is_a_warning(self) -> None:
-        for words, is_warned in [('delivery: mote 1 prints a -> every mote prints a', True),
-                                 ('delivery: motes 1 and 2 print a 8 -> motes 1 and 2 print a', True),
-                                 ('delivery: mote 1 prints a -> every mote but 1 prints a', False),
-                                 ('delivery: mote 1 prints a -> some mote prints a', False),
-                                 ('delivery: mote 1 prints a -> mote 1 prints a', False),
-                                 ('delivery: mote 1 prints a 9 -> every mote prints a', False)]:
+    def test_messages_that_count_wrongly_have_a_warning(self) -> None:
+        """A mote that has to receive its own message, and sources of the same value in two motes."""
+        for words, code in [('delivery: mote 1 prints a -> every mote prints a', 'own-message'),
+                            ('delivery: motes 1 and 2 print a 8 -> motes 1 and 2 print a', 'own-message'),
+                            ('delivery: mote 1 prints a -> every mote but 1 prints a', ''),
+                            ('delivery: mote 1 prints a -> some mote prints a', ''),
+                            ('delivery: mote 1 prints a -> mote 1 prints a', ''),
+                            ('delivery: mote 1 prints a 9 -> every mote prints a', ''),
+                            ('delivery: every mote prints a -> mote 2 prints a', 'same-value'),
+                            ('flow ratio: print a -> print a', 'same-value'), ('flow ratio: print a', ''),
+                            ('delivery: mote 1 prints a -> mote 2 prints a', ''),
+                            ('delivery: every mote sends -> mote 2 prints a', '')]:
             found = read_measure(words, self.names).warning(bench())
-            self.assertEqual(found == 'own-message', is_warned, words)
-
-    def test_sources_of_the_same_value_in_two_motes_are_a_warning(self) -> None:
-        for words, is_warned in [('delivery: every mote prints a -> mote 2 prints a', True),
-                                 ('flow ratio: print a -> print a', True), ('flow ratio: print a', False),
-                                 ('delivery: mote 1 prints a -> mote 2 prints a', False),
-                                 ('delivery: every mote sends -> mote 2 prints a', False)]:
-            found = read_measure(words, self.names).warning(bench())
-            self.assertEqual(found == 'same-value', is_warned, words)
+            self.assertEqual([found == it for it in ('own-message', 'same-value')],
+                             [code == it for it in ('own-message', 'same-value')], words)
 
     def test_words_that_are_no_measure(self) -> None:
         for words in WRONG:
@@ -146,19 +144,15 @@ class MeasuresTest(unittest.TestCase):
                 read_measure(words, self.names, {'mine.py': MINE})
 
     def test_a_function_that_fails_is_told_with_its_line(self) -> None:
-        with self.assertRaisesRegex(MeasureFault, 'wrong of mine.py: line 8: ZeroDivisionError: division by zero'):
-            read_measure('python: mine.py:wrong', self.names, {'mine.py': MINE}).of(bench())
-        with self.assertRaisesRegex(MeasureFault, 'must return a number'):
-            read_measure('python: mine.py:listed', self.names, {'mine.py': MINE}).of(bench())
-        with self.assertRaisesRegex(MeasureFault, 'mine.py: line 1: SyntaxError'):
-            read_measure('python: mine.py:x', self.names, {'mine.py': 'def :'})
-
-    def test_a_number_that_is_none_is_not_kept(self) -> None:
-        source = {'m.py': 'def f(run):\n    return %s\n'}
-        for value in 'float("nan")', 'float("inf")', '-1e999':
-            text = {'m.py': source['m.py'] % value}
-            with self.assertRaisesRegex(MeasureFault, 'f returns -?(nan|inf), which a cell can.t have: return None'):
-                read_measure('python: m.py:f', self.names, text).of(bench())
+        more = {'m.py': ''.join('def %s(run):\n    return %s\n' % it for it in (
+            ('a', 'float("nan")'), ('b', 'float("inf")'), ('c', '-1e999')))}
+        for words, sources, said in (
+                ('mine.py:wrong', {'mine.py': MINE}, 'wrong of mine.py: line 8: ZeroDivisionError: division by zero'),
+                ('mine.py:listed', {'mine.py': MINE}, 'must return a number'),
+                ('mine.py:x', {'mine.py': 'def :'}, 'mine.py: line 1: SyntaxError'),
+                *(('m.py:' + it, more, it + ' returns -?(nan|inf), which a cell can.t have: return None') for it in 'abc')):
+            with self.assertRaisesRegex(MeasureFault, said):
+                read_measure('python: ' + words, self.names, sources).of(bench())
 
     def test_the_measure_that_was_meant_is_named(self) -> None:
         for words, seen in ('rato', 'did you mean ratio?'), (
@@ -203,31 +197,25 @@ class ValuesTest(unittest.TestCase):
             self.assertEqual(cell(text), value)
 
 
-class Bed(unittest.TestCase):
+class Bed(Room):
     """A folder with a plan and a program that answers short reports."""
 
     def setUp(self) -> None:
-        self.folder = room_of(self)
-        self.stub = write_stub(self.folder)
-        (self.folder / 'net.plan.toml').write_text(PLAN)
-        (self.folder / 'a.mote').write_text(MOTE)
-        (self.folder / 'mine.py').write_text(MINE)
+        super().setUp()
+        self.stub = write_stub(self.room)
+        (self.room / 'net.plan.toml').write_text(PLAN)
+        (self.room / 'a.mote').write_text(MOTE)
+        (self.room / 'mine.py').write_text(MINE)
 
-    def command(self, *words: str, interpreter: str = sys.executable) -> list[str]:
-        return [interpreter, '-B', str(TOOLS / 'sweep'), 'net.plan.toml', *words]
-
-    def here(self) -> dict[str, str]:
-        return {**os.environ, 'MOTESIM': str(self.stub)}
-
-    def sweep(self, *words: str) -> subprocess.CompletedProcess[str]:
-        return call('sweep', 'net.plan.toml', *words, cwd=self.folder, env=self.here())
+    def sweep(self, *words: str, **more: str) -> subprocess.CompletedProcess[str]:
+        return self.tool('sweep', 'net.plan.toml', *words, MOTESIM=str(self.stub), **more)
 
     def run_it(self, *words: str) -> subprocess.CompletedProcess[str]:
         """A sweep with the built program."""
-        return call('sweep', 'net.plan.toml', *words, cwd=self.folder)
+        return self.tool('sweep', 'net.plan.toml', *words)
 
     def rows(self, name: str = 'net.csv') -> list[dict[str, str]]:
-        with open(self.folder / name, newline='') as file:
+        with open(self.room / name, newline='') as file:
             file.readline()
             return list(csv.DictReader(file))
 
@@ -243,7 +231,7 @@ class SweepTest(Bed):
         found = [(row['period'], row['motes'], row['name'], row['end'], row['prints'], row['error']) for row in rows]
         self.assertEqual(found[:3], [('1', '2', 'a', '2', '2', ''), ('1', '3', 'a', '3', '3', ''),
                                      ('2', '2', 'a', '4', '2', '')])
-        head = read_results(self.folder / 'net.csv')[0]
+        head = read_results(self.room / 'net.csv')[0]
         self.assertEqual((head.plan, head.kit, head.motesim_sha256), (
             'net.plan.toml', '', digest(self.stub.read_bytes())))
         self.assertEqual(head.measures, {'end': 'last: every mote prints a', 'prints': 'prints'})
@@ -251,21 +239,19 @@ class SweepTest(Bed):
         self.assertEqual(len({row['scenario_sha256'] for row in rows}), 6)
 
     def test_a_measure_reads_the_parameters_of_its_run(self) -> None:
-        (self.folder / 'm.py').write_text('def f(run, parameters):\n    return "%r" % parameters\n')
+        (self.room / 'm.py').write_text('def f(run, parameters):\n    return "%r" % parameters\n')
         self.assertEqual(self.sweep('--measure', 'python: m.py:f', '--vary', 'period=1,2').returncode, 0)
         self.assertEqual([row['f'] for row in self.rows()],
                          ["{'period': %d, 'motes': 3, 'name': 'a'}" % it for it in (1, 2)])
 
     def test_the_digests_of_all_files_of_a_measure_are_in_the_first_line(self) -> None:
-        (self.folder / 'm.py').write_text('import mine, math\ndef f(run):\n    return mine.lines(run)\n')
+        (self.room / 'm.py').write_text('import mine, math\ndef f(run):\n    return mine.lines(run)\n')
         self.assertEqual(self.sweep('--measure', 'python: m.py:f').returncode, 0)
-        files = {name: digest((self.folder / name).read_bytes()) for name in ('m.py', 'mine.py')}
-        self.assertEqual(read_results(self.folder / 'net.csv')[0].files, files)
-        (self.folder / 'mine.py').write_text(MINE + '# changed\n')
-        self.assertIn('from before a change of a measure', self.sweep('--measure', 'python: m.py:f').stderr)
+        files = {name: digest((self.room / name).read_bytes()) for name in ('m.py', 'mine.py')}
+        self.assertEqual(read_results(self.room / 'net.csv')[0].files, files)
 
     def test_a_parameter_that_nothing_uses_and_an_error_in_a_picture_are_known_before_the_runs(self) -> None:
-        plan = self.folder / 'net.plan.toml'
+        plan = self.room / 'net.plan.toml'
         plan.write_text(plan.read_text().replace('[parameters]\n', '[parameters]\nunused = 1\n'))
         said = 'sweep: warning: nothing uses the parameter unused, '
         for vary, is_warned in ('unused=1,2', True), ('unused=1', False), ('period=1,2', False):
@@ -274,35 +260,37 @@ class SweepTest(Bed):
         picture = '[[plot]]\nfile = "a.svg"\nmeasure = "sent"\nagainst = "period"\nbye = "x"\n'
         plan.write_text(plan.read_text() + picture)
         done = self.sweep('--vary', 'period=1,2', '--measure', 'sent', '-o', 'none.csv', '--plot')
-        self.assertEqual((done.returncode, done.stdout, (self.folder / 'none.csv').exists()), (2, '', False))
+        self.assertEqual((done.returncode, done.stdout, (self.room / 'none.csv').exists()), (2, '', False))
         self.assertIn('A plot has no key of this name.', done.stderr)
 
     def test_only_what_is_missing_is_run(self) -> None:
         self.sweep(*self.words)
-        before = (self.folder / 'net.csv').read_bytes()
+        before = (self.room / 'net.csv').read_bytes()
         again = self.sweep(*self.words)
         self.assertEqual(again.stdout, 'net.csv: 6 runs, 0 of them now, 0 with an error\n')
-        self.assertEqual((self.folder / 'net.csv').read_bytes(), before)
+        self.assertEqual((self.room / 'net.csv').read_bytes(), before)
         # (half a row, as of a machine that lost its power)
         rows = before.split(b'\n')
-        (self.folder / 'net.csv').write_bytes(b'\n'.join(rows[:4]) + b'\n' + rows[4][:9])
+        (self.room / 'net.csv').write_bytes(b'\n'.join(rows[:4]) + b'\n' + rows[4][:9])
         again = self.sweep(*self.words, '--jobs', '1')
         self.assertEqual(again.stdout, 'net.csv: 6 runs, 4 of them now, 0 with an error\n')
-        self.assertEqual((self.folder / 'net.csv').read_bytes(), before)
+        self.assertEqual((self.room / 'net.csv').read_bytes(), before)
         more = self.sweep('--vary', 'period=0..4', *self.words[2:])
         self.assertEqual(more.stdout, 'net.csv: 10 runs, 4 of them now, 0 with an error\n')
 
-    def test_rows_that_others_made_are_in_the_way(self) -> None:
-        self.sweep(*self.words)
-        (self.folder / 'a.mote').write_text(MOTE + '// another\n')
-        again = self.sweep(*self.words)
-        self.assertEqual(again.returncode, 2)
-        self.assertIn('net.csv has rows from before a change of the plan or a file next to it: --renew', again.stderr)
-        anew = self.sweep(*self.words, '--renew')
-        self.assertEqual(anew.stdout, 'net.csv: 6 runs, 6 of them now, 0 with an error\n')
-        other = self.sweep(*self.words, '--measure', 'sent')
+    def test_rows_from_before_a_change_are_in_the_way(self) -> None:
+        words = '--vary', 'motes=2,3', '--measure', 'python: mine.py:lines'
+        for name, what in (('a.mote', 'the plan or a file next to it'), ('mine.py', 'a measure'), ('stub', 'motesim')):
+            self.sweep(*words, '--renew')
+            (self.room / name).write_text((self.room / name).read_text() + '%s another\n' % (
+                '//' if name == 'a.mote' else '#'))
+            again = self.sweep(*words)
+            self.assertEqual(again.returncode, 2)
+            self.assertIn('net.csv has rows from before a change of %s: --renew' % what, again.stderr)
+        self.assertEqual(self.sweep(*words, '--renew').stdout, 'net.csv: 2 runs, 2 of them now, 0 with an error\n')
+        other = self.sweep(*words, '--measure', 'sent')
         self.assertEqual(other.returncode, 2)
-        self.assertIn('name, end, prints, and this sweep makes ', other.stderr)
+        self.assertIn('name, lines, and this sweep makes ', other.stderr)
 
     def test_rows_that_a_command_does_not_run_again_are_not_removed(self) -> None:
         words = '--measure', 'prints', '--measure', 'python: mine.py:wrong'
@@ -312,7 +300,7 @@ class SweepTest(Bed):
         self.assertIn('3 runs, 3 of them now', self.sweep('--vary', 'period=1..3', '--vary', 'motes=2', *words,
                                                           '--retry').stdout)
         self.assertEqual(len(self.rows()), 6)
-        (self.folder / 'mine.py').write_text(MINE + '# more\n')
+        (self.room / 'mine.py').write_text(MINE + '# more\n')
         done = self.sweep('--vary', 'period=1..3', '--vary', 'motes=2', *words, '--renew')
         self.assertEqual(done.returncode, 2)
         self.assertIn('net.csv has rows from before a change of a measure: name another file with -o, or vary all '
@@ -324,26 +312,19 @@ class SweepTest(Bed):
     def test_pictures_values_and_comments_of_the_plan_do_not_make_other_rows(self) -> None:
         words = '\n[sweep]\nvary = { period = "%s" }\nmeasure = ["prints"]\n[[plot]]\nfile = "a.svg"\n' \
                 'measure = "prints"\nagainst = "period"\ntitle = "%s"\n'
-        (self.folder / 'net.plan.toml').write_text(PLAN + words % ('1..3', 'One'))
+        (self.room / 'net.plan.toml').write_text(PLAN + words % ('1..3', 'One'))
         self.sweep()
         before = self.rows()
         other = PLAN.replace('period = 4', 'period = 5  # moments') + words % ('1..5', 'Another')
-        (self.folder / 'net.plan.toml').write_text(other)
+        (self.room / 'net.plan.toml').write_text(other)
         done = self.sweep()
         self.assertEqual(done.stdout, 'net.csv: 5 runs, 2 of them now, 0 with an error\n', done)
         self.assertEqual(self.rows()[:3], before)
-        (self.folder / 'net.plan.toml').write_text(other.replace('step = 10', 'step = 9'))
+        (self.room / 'net.plan.toml').write_text(other.replace('step = 10', 'step = 9'))
         self.assertIn('a change of the plan or a file next to it:', self.sweep().stderr)
 
-    def test_what_has_changed_is_named(self) -> None:
-        self.sweep('--vary', 'motes=2,3', '--measure', 'python: mine.py:lines')
-        (self.folder / 'mine.py').write_text(MINE + '# more\n')
-        self.stub.write_text(self.stub.read_text() + '# more\n')
-        again = self.sweep('--vary', 'motes=2,3', '--measure', 'python: mine.py:lines')
-        self.assertIn('rows from before a change of motesim:', again.stderr)
-
     def test_places_and_rejected_nets_are_in_the_rows(self) -> None:
-        (self.folder / 'net.plan.toml').write_text(PLAN.replace('rule = "line"', 'rule = "random"').replace(
+        (self.room / 'net.plan.toml').write_text(PLAN.replace('rule = "line"', 'rule = "random"').replace(
             'step = 10', 'width = 40\nheight = 0\nconnected = "${connected}"\nseed = 7').replace(
             'period = 4', 'period = 4\nconnected = true'))
         self.sweep('--vary', 'period=1,2', '--vary', 'connected=true,false', '--measure', 'reachable')
@@ -353,26 +334,18 @@ class SweepTest(Bed):
         self.assertEqual((places[0], places[1]), (places[2], places[3]))
         self.assertNotEqual(places[0], places[1])
 
-    def test_sources_of_the_same_value_are_reported_once_with_the_number_of_runs(self) -> None:
+    def test_a_warning_is_reported_once_with_the_number_of_runs(self) -> None:
         need_program(self)
-        (self.folder / 'net.plan.toml').write_text(PLAN)
-        (self.folder / 'a.mote').write_text('process a; autostart a; code a { body { print ${period}; } }')
-        done = self.run_it('--vary', 'period=1..3', '--measure', 'delivery: every mote prints a -> mote 0 prints a',
-                           '--measure', 'flow ratio: print a -> print a')
-        self.assertEqual(done.stderr, 'sweep: warning: same-value, in 3 of 3 runs: two messages have the same value, so '
-                                      'a measure can\'t tell them apart\n')
-
-    def test_a_line_that_is_the_delivery_of_its_own_message_is_reported(self) -> None:
-        need_program(self)
-        (self.folder / 'net.plan.toml').write_text(PLAN)
-        (self.folder / 'a.mote').write_text('process a; autostart a; code a { body { print (self + ${period}); } }')
-        for words, counts in (('mote 0 prints a -> mote 0 prints a', 1), ('mote 0 prints a -> some mote prints a', 1),
-                              ('mote 0 prints a -> mote 1 prints a', 0)):
-            (self.folder / 'net.csv').unlink(missing_ok=True)
-            done = self.run_it('--vary', 'period=1..3', '--measure', 'delivery: ' + words)
-            self.assertEqual(done.stderr.count('sweep: warning: own-line, in 3 of 3 runs: '), counts, (words, done))
-        done = self.run_it('--vary', 'period=1', '--measure', 'delay: mote 0 prints a -> mote 0 prints a')
-        self.assertIn('both expectations are the same, so they are fulfilled at the same moment', done.stderr)
+        value, own = 'print ${period}', 'print (self + ${period})'
+        for prints, words, codes in (
+                (value, 'delivery: every mote prints a -> mote 0 prints a', ['same-value']),
+                (own, 'delivery: mote 0 prints a -> mote 0 prints a', ['own-line']),
+                (own, 'delivery: mote 0 prints a -> some mote prints a', ['own-line']),
+                (own, 'delivery: mote 0 prints a -> mote 1 prints a', [])):
+            (self.room / 'a.mote').write_text('process a; autostart a; code a { body { %s; } }' % prints)
+            done = self.run_it('--vary', 'period=1..3', '--measure', words, '--renew', '-o', 'its.csv')
+            self.assertEqual(re.findall(r'^sweep: warning: ([\w-]+), in 3 of 3 runs: ', done.stderr, re.M), codes, done)
+            (self.room / 'its.csv').unlink()
 
     def test_copies_and_packets_without_room_are_reported(self) -> None:
         for ring, refused, event, codes in (0, 0, 'packet 5', []), (1, 0, 'packet 5', [RECEIVER_FULL]), (
@@ -382,7 +355,7 @@ class SweepTest(Bed):
 
     def test_faults_are_rows(self) -> None:
         for name, line in ('long', '// long'), ('refuse', '// refuse'), ('text', 'code a'):
-            (self.folder / (name + '.mote')).write_text(MOTE + line + '\n')
+            (self.room / (name + '.mote')).write_text(MOTE + line + '\n')
         done = self.sweep('--vary', 'name=a,refuse,text,no', '--measure', 'prints')
         self.assertEqual(done.returncode, 1, done)
         faults = {row['name']: row['error'] for row in self.rows()}
@@ -394,28 +367,27 @@ class SweepTest(Bed):
         self.assertEqual(self.sweep('--vary', 'name=a,refuse', '--measure', 'prints', '--retry').stdout.split('\n')[0],
                          'net.csv: 2 runs, 1 of them now, 1 with an error')
 
-    def fault_of_one(self, name: str, seconds: float, busy: float) -> str:
-        """The fault of the run of a program, which this process makes with so much time on the clock."""
-        (self.folder / (name + '.mote')).write_text('%s// %s\n' % (MOTE, name))
-        with mock.patch.dict(os.environ, MOTESIM=str(self.stub)), mock.patch('motesim.experiments.one_run.BUSY', busy):
-            plan = Plan.read(self.folder / 'net.plan.toml')
-            sweeper = Sweeper(sweep_of(plan, ['name=a,' + name], ['prints'], seconds), self.folder / (name + '.csv'))
-            return run_job(sweeper.work(), next(sweeper.jobs([1]))).fault
+    def result_of_one(self, vary: str, measure: str, number: int = 0, seconds: float | None = None) -> Result:
+        """The result of one of a sweep's runs, which this process makes without the files of the plan."""
+        with mock.patch.dict(os.environ, MOTESIM=str(self.stub)), mock.patch('motesim.experiments.one_run.BUSY', 10_000):
+            plan = Plan.read(self.room / 'net.plan.toml')
+            sweeper = Sweeper(sweep_of(plan, [vary], [measure], seconds), self.room / 'a.csv')
+            return run_job(sweeper.work()._replace(folder='/nowhere'), next(sweeper.jobs([number])))
 
     def test_the_limit_of_a_run_is_processor_time(self) -> None:
-        self.assertEqual(self.fault_of_one('burn', 0.5, 10_000), 'no answer in 0.5 seconds of processor time')
+        self.put('burn.mote', MOTE + '// burn\n')
+        self.assertEqual(self.result_of_one('name=a,burn', 'prints', 1, 0.5).fault,
+                         'no answer in 0.5 seconds of processor time')
 
     def test_a_report_without_end_is_stopped(self) -> None:
-        (self.folder / 'long.mote').write_text(MOTE + '// long\n')
+        (self.room / 'long.mote').write_text(MOTE + '// long\n')
         self.sweep('--vary', 'name=long', '--measure', 'prints', '--bytes', '1000000')
         self.assertEqual(self.rows()[0]['error'], 'the report is longer than 1,000,000 bytes')
 
-    def test_a_job_takes_the_files_along(self) -> None:
-        with mock.patch.dict(os.environ, MOTESIM=str(self.stub)):
-            plan = Plan.read(self.folder / 'net.plan.toml')
-            sweeper = Sweeper(sweep_of(plan, ['period=3'], ['python: mine.py:lines'], None), self.folder / 'a.csv')
-            result = run_job(sweeper.work()._replace(folder='/nowhere'), next(sweeper.jobs([0])))
-        self.assertEqual((result.measures, result.fault), ({'lines': 15}, ''))
+    def test_a_job_takes_the_files_along_and_leaves_the_search_for_cycles_as_it_was(self) -> None:
+        gc.enable()
+        result = self.result_of_one('period=3', 'python: mine.py:lines')
+        self.assertEqual((result.measures, result.fault, gc.isenabled()), ({'lines': 15}, '', True))
 
     def test_a_measure_that_fails_is_an_empty_cell_with_a_note(self) -> None:
         words = '--vary', 'motes=2,3', '--measure', 'python: mine.py:wrong', '--measure', 'prints'
@@ -429,6 +401,7 @@ class SweepTest(Bed):
         self.assertIn('2 of them now', self.sweep(*words, '--retry').stdout)
 
     def test_what_is_told_before_anything_is_run(self) -> None:
+        (self.room / 'bee.mote').write_text(MOTE.replace(' a', ' bee'))
         for words, seen in [
             (('--measure', 'speed'), "'speed' is not a measure"),
             (('--measure', 'ratoi'), "'ratoi' is not a measure; did you mean ratio? A measure is one of sent,"),
@@ -443,26 +416,29 @@ class SweepTest(Bed):
             (('--measure', 'python: no.py:x'), 'no.py: No such file'),
             (('--measure', 'sent of mote 4', '--vary', 'motes=2,4'),
              'the largest net has the motes 0 to 3'),
+            (('--vary', 'motes=2,3', '--measure', 'flow reached: print aa'),
+             "measure 'flow reached: print aa': no program has a process aa"),
+            (('--vary', 'motes=3,5,4', '--vary', 'name=a,bee', '--measure', 'count: mote 5 prints a'),
+             'Allowed here: a mote, 0 to 4'),
+            (('--vary', 'name=a,bee', '--measure', 'count: every mote prints cat'), 'a, bee'),
+            (('--measure', 'delay: mote 0 prints a -> mote 0 prints a'), 'both expectations are the same, so they are '
+             'fulfilled at the same moment'),
         ]:
             done = self.sweep(*words)
             self.assertEqual((done.returncode, done.stdout), (2, ''), words)
             self.assertIn(seen, done.stderr)
-            self.assertFalse((self.folder / 'net.csv').exists())
-
-    def test_a_flow_of_a_process_that_no_program_has_is_refused_before_any_run(self) -> None:
-        done = self.sweep('--vary', 'motes=2,3', '--measure', 'flow reached: print aa')
-        self.assertEqual(done.returncode, 2, done.stdout)
-        self.assertIn("measure 'flow reached: print aa': no program has a process aa", done.stderr)
-        self.assertFalse((self.folder / 'net.csv').exists())
+            self.assertFalse((self.room / 'net.csv').exists())
         # (the programs may vary too: one of them has the process)
-        (self.folder / 'bee.mote').write_text(MOTE.replace(' a', ' bee'))
         done = self.sweep('--vary', 'name=a,bee', '--measure', 'flow reached: print bee')
         self.assertEqual((done.returncode != 2, len(self.rows())), (True, 2), done.stderr)
+        # (a measure of the plan is refused as others are)
+        (self.room / 'net.plan.toml').write_text(PLAN + '[sweep]\nmeasure = ["count: mote 5 prints a"]\n')
+        self.assertIn('Allowed here: a mote, 0 to 4', self.sweep('--vary', 'motes=3,5,4').stderr)
 
     def test_the_order_of_the_values_does_not_decide_which_measures_are_refused(self) -> None:
-        (self.folder / 'bee.mote').write_text(MOTE.replace(' a', ' bee'))
-        (self.folder / 'net.plan.toml').write_text(PLAN.replace('[places]', 'seed = 1\n[places]'))
-        plan = Plan.read(self.folder / 'net.plan.toml')
+        (self.room / 'bee.mote').write_text(MOTE.replace(' a', ' bee'))
+        (self.room / 'net.plan.toml').write_text(PLAN.replace('[places]', 'seed = 1\n[places]'))
+        plan = Plan.read(self.room / 'net.plan.toml')
         # (the last sweep has more runs than are tried)
         for parameter, values, measure, more in [
             ('motes', '3,5', 'x = count: mote 4 prints a', 'seed=1'), ('motes', '3,5', 'x = prints of mote 4', 'seed=1'),
@@ -474,19 +450,6 @@ class SweepTest(Bed):
                 sweep = sweep_of(plan, ['%s=%s' % (parameter, listed), more], [measure], None)
                 self.assertEqual(list(measures_of(sweep, known_names(sweep), {})), ['x'])
 
-    def test_a_measure_that_no_run_can_have_is_refused_with_the_names_of_all_runs(self) -> None:
-        (self.folder / 'bee.mote').write_text(MOTE.replace(' a', ' bee'))
-        for own in '', '[sweep]\nmeasure = ["count: mote 5 prints a"]\n':
-            (self.folder / 'net.plan.toml').write_text(PLAN + own)
-            words = () if own else ('--measure', 'count: mote 5 prints a')
-            done = self.sweep('--vary', 'motes=3,5,4', '--vary', 'name=a,bee', *words)
-            self.assertEqual((done.returncode, done.stdout), (2, ''))
-            self.assertIn('Allowed here: a mote, 0 to 4', done.stderr)
-        (self.folder / 'net.plan.toml').write_text(PLAN)
-        done = self.sweep('--vary', 'name=a,bee', '--measure', 'count: every mote prints cat')
-        self.assertEqual((done.returncode, done.stdout), (2, ''))
-        self.assertRegex(done.stderr, r'a, bee\b')
-
     def test_runs_that_make_no_scenario_are_rows_wherever_they_are(self) -> None:
         done = self.sweep('--vary', 'motes=0,3,5000', '--measure', 'motes: every mote prints a', '-o', 'odd.csv')
         self.assertEqual(done.returncode, 1, done.stderr)
@@ -495,21 +458,22 @@ class SweepTest(Bed):
 
     def test_what_the_plan_says_itself(self) -> None:
         sweep = '[sweep]\nvary = { period = "1..2", motes = [2, 3] }\nmeasure = ["prints"]\n'
-        (self.folder / 'net.plan.toml').write_text(PLAN + sweep)
+        (self.room / 'net.plan.toml').write_text(PLAN + sweep)
         self.assertEqual(self.sweep().stdout, 'net.csv: 4 runs, 4 of them now, 0 with an error\n')
         self.sweep('--vary', 'period=3', '--measure', 'sent', '-o', 'more.csv')
         self.assertEqual([(row['period'], row['motes'], row['prints'], 'sent' in row) for row in self.rows('more.csv')],
                          [('3', '2', '2', True), ('3', '3', '3', True)])
-        (self.folder / 'net.plan.toml').write_text(PLAN + sweep.replace('motes =', 'mote ='))
+        (self.room / 'net.plan.toml').write_text(PLAN + sweep.replace('motes =', 'mote ='))
         self.assertIn('net.plan.toml, line 16:', self.sweep('-o', 'other.csv').stderr)
 
     def test_ctrl_c_keeps_what_is_finished(self) -> None:
-        (self.folder / 'burn.mote').write_text(MOTE + '// burn\n')
+        (self.room / 'burn.mote').write_text(MOTE + '// burn\n')
         words = '--vary', 'name=a,burn', '--vary', 'motes=1..4', '--measure', 'prints', '--jobs', '2', '--seconds', '3'
-        run = subprocess.Popen(self.command(*words), cwd=self.folder, env=self.here(), stdout=subprocess.PIPE,
+        run = subprocess.Popen([sys.executable, '-B', TOOLS / 'sweep', 'net.plan.toml', *words], cwd=self.room,
+                               env={**os.environ, 'MOTESIM': str(self.stub)}, stdout=subprocess.PIPE,
                                stderr=subprocess.PIPE, text=True, start_new_session=True)
         end = time.monotonic() + 30
-        while time.monotonic() < end and (not (self.folder / 'net.csv').exists() or len(self.rows()) < 4):
+        while time.monotonic() < end and (not (self.room / 'net.csv').exists() or len(self.rows()) < 4):
             time.sleep(0.05)
         os.killpg(run.pid, signal.SIGINT)
         out, seen = run.communicate(timeout=60)
@@ -523,26 +487,18 @@ class SweepTest(Bed):
 
     def test_results_that_cannot_be_written_are_named(self) -> None:
         head = Head('a', ['x'], {'sent': 'sent'}, {}, '1', 'a', '')
-        results = Results(self.folder / 'x.csv', head)
+        results = Results(self.room / 'x.csv', head)
         self.addCleanup(results.close)
         with mock.patch.object(results, 'file', mock.Mock(write=mock.Mock(side_effect=OSError(28, 'no space')))):
             with self.assertRaisesRegex(Fault, '/x.csv: no space$'):
                 results.add({'x': 1})
         for name, text in ('mine.txt', 'a diary'), ('old.csv', 'period,sent,error,note,plan\n'):
-            (self.folder / name).write_text(text)
+            (self.room / name).write_text(text)
             with self.assertRaisesRegex(Fault, 'isn.t a file that this version of tools/sweep wrote'):
-                Results(self.folder / name, head)
-            self.assertEqual((self.folder / name).read_text(), text)
+                Results(self.room / name, head)
+            self.assertEqual((self.room / name).read_text(), text)
         with self.assertRaisesRegex(Fault, 'isn.t a file'):
             Results(Path('/dev/null'), head)
-
-    def test_a_run_leaves_the_search_for_cycles_as_it_was(self) -> None:
-        with mock.patch.dict(os.environ, MOTESIM=str(self.stub)):
-            plan = Plan.read(self.folder / 'net.plan.toml')
-            sweeper = Sweeper(sweep_of(plan, ['period=3'], ['prints'], None), self.folder / 'b.csv')
-            gc.enable()
-            run_job(sweeper.work(), next(sweeper.jobs([0])))
-        self.assertTrue(gc.isenabled())
 
     def test_rows_of_other_values_stay_behind_those_of_the_sweep(self) -> None:
         words = '--vary', 'motes=2', '--measure', 'prints'
@@ -553,13 +509,13 @@ class SweepTest(Bed):
 
     def test_two_sweeps_do_not_write_one_file(self) -> None:
         head = Head('a', ['x'], {'sent': 'sent'}, {}, '1', 'a', '')
-        file = Results(self.folder / 'both.csv', head)
+        file = Results(self.room / 'both.csv', head)
         for _ in range(2):
             with self.assertRaisesRegex(Fault, 'another sweep'):
-                Results(self.folder / 'both.csv', head)
+                Results(self.room / 'both.csv', head)
             file.write([{'x': 1, 'sent': 2}])
         file.close()
-        again = Results(self.folder / 'both.csv', head)
+        again = Results(self.room / 'both.csv', head)
         self.assertEqual([(row['x'], row['sent']) for row in again.rows], [(1, 2)])
         again.close()
 
@@ -569,7 +525,7 @@ class SweepTest(Bed):
         self.assertEqual(self.rows()[0]['note'], 'prints of mote 3: there is no mote 3')
 
     def test_a_measure_that_asks_python_to_exit_is_a_note_of_its_run(self) -> None:
-        (self.folder / 'mine.py').write_text('import sys\ndef lines(run):\n    if len(run.report.motes) == 2:\n'
+        (self.room / 'mine.py').write_text('import sys\ndef lines(run):\n    if len(run.report.motes) == 2:\n'
                                              '        sys.exit(3)\n    return 1\n')
         done = self.sweep('--vary', 'motes=1..3', '--measure', 'python: mine.py:lines')
         self.assertEqual((done.returncode, done.stderr), (1, ''))

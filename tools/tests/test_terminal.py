@@ -3,7 +3,7 @@ import io
 import unittest
 from unittest import mock
 
-from here import call, room_of
+from here import call, Room
 from motesim.progress import Progress
 from motesim.terminal import CLEAR, one_line, plain
 from skips import need_program
@@ -28,13 +28,10 @@ class ProgressTest(unittest.TestCase):
         self.assertEqual((self.shown(False), self.shown(False, 60)), ('1 of 2\n', ''))
 
 
-class Terminal(unittest.TestCase):
-    def setUp(self) -> None:
-        self.top = room_of(self)
-
+class Terminal(Room):
     def printed(self, tool: str, *words: str) -> str:
         """The output and the errors of a tool."""
-        done = call(tool, *words, cwd=self.top)
+        done = call(tool, *words, cwd=self.room)
         return done.stdout + done.stderr
 
     def test_signs_that_a_terminal_obeys(self) -> None:
@@ -44,7 +41,7 @@ class Terminal(unittest.TestCase):
     def test_each_tool_shows_them_by_their_numbers(self) -> None:
         need_program(self)
         name = 'x%sy.toml' % ERASE
-        (self.top / name).write_text('end = 1\n[programs]\n"a%sb" = 1\n' % '\\r\\u001b[2K')
+        (self.room / name).write_text('end = 1\n[programs]\n"a%sb" = 1\n' % '\\r\\u001b[2K')
         for tool, *words in ('explain', name), ('expect', name), ('why', name, 'mote 0 sends'), ('summary', name):
             with self.subTest(tool):
                 printed = self.printed(tool, *words)

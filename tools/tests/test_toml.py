@@ -4,7 +4,7 @@ import os
 import time
 import unittest
 
-from here import call, room_of
+from here import call, Room
 from motesim.toml import NoToml, pieces, read_toml
 from stub import write_stub
 
@@ -77,15 +77,15 @@ class Reader(unittest.TestCase):
             self.assertLess(time.process_time() - begin, 10)
 
 
-class Tools(unittest.TestCase):
+class Tools(Room):
     """Each tool on each text: one line on standard error or an explanation, and never a traceback."""
 
     def setUp(self) -> None:
-        self.folder = room_of(self)
-        self.stub = write_stub(self.folder)
-        (self.folder / 'plain.expect.toml').write_text(PLAIN)
+        super().setUp()
+        self.stub = write_stub(self.room)
+        (self.room / 'plain.expect.toml').write_text(PLAIN)
         for name, text in TEXTS.items():
-            (self.folder / (name + '.toml')).write_text(text)
+            (self.room / (name + '.toml')).write_text(text)
 
     def test_no_traceback(self) -> None:
         for tool, *more in (['expect', 'plain.expect.toml'], ['summary'], ['timeline', '-o', 'page.html'],
@@ -93,15 +93,15 @@ class Tools(unittest.TestCase):
                             ['sweep', '--measure', 'sent']):
             for name in TEXTS:
                 with self.subTest(tool=tool, name=name):
-                    done = call(tool, name + '.toml', *more, cwd=self.folder,
+                    done = call(tool, name + '.toml', *more, cwd=self.room,
                                 env={**os.environ, 'MOTESIM': str(self.stub)})
                     self.assertNotIn('Traceback', done.stderr.replace('Traceback (most recent call last):\n  File "%s'
                                                                       % self.stub, ''))
                     self.assertIn(done.returncode, (1, 2))
 
     def test_a_file_of_expectations(self) -> None:
-        (self.folder / 'net.toml').write_text('x = 1\n')
-        done = call('expect', 'net.toml', 'deep.toml', cwd=self.folder, env={**os.environ, 'MOTESIM': str(self.stub)})
+        (self.room / 'net.toml').write_text('x = 1\n')
+        done = call('expect', 'net.toml', 'deep.toml', cwd=self.room, env={**os.environ, 'MOTESIM': str(self.stub)})
         self.assertEqual((done.returncode, done.stdout), (2, ''))
         self.assertIn('deep.toml is not TOML: Arrays or tables are nested too deeply', done.stderr)
         self.assertEqual(done.stderr.count('\n'), 1)

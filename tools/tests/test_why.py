@@ -1,8 +1,6 @@
 """The causes of lines that tools/why reports. The chains are worked out by hand from the scenarios."""
 import json
-import os
 import subprocess
-import tempfile
 import time
 import unittest
 from contextlib import redirect_stdout
@@ -10,7 +8,7 @@ from io import StringIO
 from pathlib import Path
 from typing import cast
 
-from here import TOP, call
+from here import TOP, call, room_of
 import skips
 from motesim.contiki.random_scenario import random_scenario
 from motesim.faults import Fault
@@ -198,22 +196,6 @@ code worker {
 code late { body { print 7; } }
 '''
 """
-REPORT_OF_CALLED = '''mote 0 p
-0 start etimer
-0 start ctimer
-0 start radio
-0 start boss
-0 start worker
-10 post 0 boss timer 0
-10 take 0 boss
-20 post 1 boss timer 0
-20 take 1 boss
-30 post 2 boss timer 0
-30 take 2 boss
-30 leave boss
-medium
-left 0
-'''
 
 # Mote 0 makes the value 7, mote 1 stores it and sends it later, mote 2 prints it.
 STORED = """version = 2
@@ -238,46 +220,15 @@ code node {
 }
 '''
 """
-REPORT_OF_STORED = '''mote 0 node
-0 start etimer
-0 start ctimer
-0 start radio
-0 start node
-10 post 0 node timer 0
-10 take 0 node
-10 send 0 7
-22 recv 1 0 7
-22 post 1 node packet 7
-22 take 1 node
-mote 1 node
-0 start etimer
-0 start ctimer
-0 start radio
-0 start node
-12 recv 0 0 7
-12 post 0 node packet 7
-12 take 0 node
-20 post 1 node timer 0
-20 take 1 node
-20 send 0 7
-mote 2 node
-0 start etimer
-0 start ctimer
-0 start radio
-0 start node
-22 recv 1 0 7
-22 post 0 node packet 7
-22 take 0 node
-22 print node 7
-medium
-10 0 0 7 1@12
-20 1 0 7 0@22 2@22
-left 0
-'''
 
 
 def source(scenario: str = SCENARIO, report: str = REPORT) -> Source:
     return Source('test', report.encode(), Scenario.parse(scenario))
+
+
+def run_of(scenario: str) -> Source:
+    """The run of a scenario by the built program."""
+    return Source('test', answer(scenario.encode()).report, Scenario.parse(scenario))
 
 
 def because(source: Source, where: At) -> str:
@@ -326,7 +277,8 @@ class Causes(unittest.TestCase):
 
     def test_the_packet_of_a_value_that_was_stored(self) -> None:
         """Mote 1 stores a value, and sends it when a timer from its start is due."""
-        run = source(STORED, REPORT_OF_STORED)
+        skips.need_program(self)
+        run = run_of(STORED)
         remark = ('Mote 1 had received the value 7 before, in packet 0 of mote 0 at 12. The chain follows events, not '
                   'values: to follow that packet, ask about line 17.')
         printed, sent, received = At(2, 7), At(1, 9), At(2, 4)
@@ -341,16 +293,10 @@ class Causes(unittest.TestCase):
 
     def test_a_packet_that_no_process_took_or_with_another_value_is_not_named(self) -> None:
         """Mote 1 has no receiver, and makes the value itself; or it adds its number to the value 6."""
-        deaf = [line.replace('12 post 0 node packet 7', '12 deaf 0 0') for line in REPORT_OF_STORED.split('\n')
-                if not line.startswith(('12 take', '22 post', '22 take', '22 print'))]
-        deaf = [line.replace('22 recv 1 0 7', '22 recv 1 0 7\n22 deaf 1 0').replace('1 node timer', '0 node timer')
-                .replace('take 1', 'take 0') for line in deaf]
-        added = REPORT_OF_STORED.replace('10 send 0 7', '10 send 0 6').replace('12 recv 0 0 7', '12 recv 0 0 6')
-        added = added.replace('12 post 0 node packet 7', '12 post 0 node packet 6').replace('10 0 0 7', '10 0 0 6')
-        for scenario, report in (
-                (STORED.replace(' receiver node;', '').replace('set t 20', 'last = 7; set t 20'), '\n'.join(deaf)),
-                (STORED.replace('last = 7', 'last = 6').replace('send last', 'send (last + self)'), added)):
-            run = source(scenario, report)
+        skips.need_program(self)
+        for scenario in (STORED.replace(' receiver node;', '').replace('set t 20', 'last = 7; set t 20'),
+                         STORED.replace('last = 7', 'last = 6').replace('send last', 'send (last + self)')):
+            run = run_of(scenario)
             sent = At(1, run.traces.lines(1).index('20 send 0 7'))
             self.assertEqual(on_values(run, chain(run, sent)), '')
 
@@ -358,17 +304,14 @@ class Causes(unittest.TestCase):
 class LinesOfTheFile(unittest.TestCase):
     """Next to the line of a program is the line of the scenario's file."""
 
-    def place(self, rows: str, program: str) -> int | None:
-        found = ScenarioFile('a.toml', '[programs]\n' + rows).place('p', program)
-        return found.above if found else None
-
     def test_where_the_text_of_a_program_begins(self) -> None:
-        self.assertEqual(self.place('p = "process a;"\n', 'process a;'), 1)
-        self.assertEqual(self.place("p = '''process a;\ncode a {}'''\n", 'process a;\ncode a {}'), 1)
-        self.assertEqual(self.place("o = '''\nx'''\np = '''\nprocess a;\n'''\n", 'process a;\n'), 4)
-
-    def test_a_text_that_is_not_in_the_file_line_by_line(self) -> None:
-        self.assertIsNone(self.place('p = "process a;\\ncode a {}"\n', 'process a;\ncode a {}'))
+        """None: it isn't in the file line by line."""
+        two = 'process a;\ncode a {}'
+        for rows, program, above in (('p = "process a;"\n', 'process a;', 1), ("p = '''%s'''\n" % two, two, 1),
+                                     ("o = '''\nx'''\np = '''\nprocess a;\n'''\n", 'process a;\n', 4),
+                                     ('p = "process a;\\ncode a {}"\n', two, None)):
+            found = ScenarioFile('a.toml', '[programs]\n' + rows).place('p', program)
+            self.assertEqual(found and found.above, above, rows)
 
     def test_reasons_and_json_have_both_lines(self) -> None:
         """The program begins on line 9 of the file, so its line 8 is line 16 of the file."""
@@ -497,8 +440,8 @@ class Misses(unittest.TestCase):
     def test_kinds_and_rows(self) -> None:
         """Each question with the kinds of its near misses, the nearest first, and with the row of the first one."""
         skips.need_program(self)
-        late, halting, flooding = (Source('test', answer(it.encode()).report, Scenario.parse(it)) for it in (
-            LATE, HALTING, (TOP / 'examples/flooding.toml').read_text('utf-8')))
+        late, halting, called, flooding = map(run_of, (LATE, HALTING, CALLED,
+                                                       (TOP / 'examples/flooding.toml').read_text('utf-8')))
         for run, question, kinds, row in (
                 (source(), 'mote 1 prints h 8 by 6', 'late reached waits', 28),
                 (source(), 'mote 1 prints h 8 after 9', 'early process reached', 28),
@@ -507,8 +450,8 @@ class Misses(unittest.TestCase):
                 (source(), 'mote 0 prints a 9', 'statement', 0),
                 (source(), 'mote 1 sends', 'statement', 0),
                 (source(), 'mote 1 prints b 9', 'process', 0),
-                (source(CALLED, REPORT_OF_CALLED), 'mote 0 prints worker 1', 'reached waits', 0),
-                (source(CALLED, REPORT_OF_CALLED), 'mote 0 prints late 7', 'process reached', 0),
+                (called, 'mote 0 prints worker 1', 'reached waits', 0),
+                (called, 'mote 0 prints late 7', 'process reached', 0),
                 (late, 'mote 0 prints late 1 by 20', 'late process reached reached', 14),
                 (late, 'mote 0 prints late 2 by 35', 'reached reached waits', 0),
                 (late, 'mote 0 prints late 2 from 45 on', 'process reached reached', 17),
@@ -537,9 +480,10 @@ class Misses(unittest.TestCase):
         self.assertIn('line 9: `print data` was never reached; line 8: `if (data > 8)` was tested once, and was never '
                       'true, the last time, at 7', [it.words for it in self.misses('mote 1 prints h 9', source(
                           scenario, report))])
+        skips.need_program(self)
         self.assertIn('worker has waited at line 28: `yield_until is(go)` from 0; its condition was tested once in '
-                      'this time, and was never true', [it.words for it in self.misses(
-                          'mote 0 prints worker 1', source(CALLED, REPORT_OF_CALLED))])
+                      'this time, and was never true', [it.words for it in self.misses('mote 0 prints worker 1',
+                                                                                       run_of(CALLED))])
 
     def test_many_collisions(self) -> None:
         """Six thousand packets that meet at one mote are looked up in linear work: square work would need 20 s."""
@@ -600,8 +544,7 @@ class Runs(unittest.TestCase):
         skips.need_program(self)
 
     def run_of(self, name: str) -> Source:
-        data = (TOP / 'examples' / name).read_bytes()
-        return Source(name, answer(data).report, Scenario.parse(data))
+        return run_of((TOP / 'examples' / name).read_text('utf-8'))
 
     def test_each_line_has_one_cause_that_is_earlier(self) -> None:
         """On all examples and cases, and on random scenarios, back to the start of a mote."""
@@ -678,94 +621,74 @@ class Runs(unittest.TestCase):
                          'its event was dropped at 7, because h was not on the process list')
 
     def why(self, *arguments: str) -> subprocess.CompletedProcess[str]:
-        return call('why', *arguments, cwd=TOP, env=dict(os.environ))
+        return call('why', *arguments, cwd=TOP)
 
-    def test_a_question_without_quotes(self) -> None:
-        shown = self.why('examples/flooding.toml', 'mote', '3', 'prints', 'flood', '2', '--short')
-        self.assertEqual((shown.returncode, shown.stderr), (2, (
-            "why: the question has to be in quotes: tools/why examples/flooding.toml 'mote 3 prints flood 2'\n")))
-        shown = self.why('examples/flooding.toml', '--foo')
-        self.assertIn('unrecognized arguments: --foo', shown.stderr)
+    def said_of_both(self, one: str, question: str, other: str) -> str:
+        """What is said of a question about a run, compared with another one."""
+        room = room_of(self)
+        for name, text in ('one.toml', one), ('other.toml', other):
+            (room / name).write_text(text)
+        return call('why', 'one.toml', question, '--other', 'other.toml', cwd=room).stdout
 
     def test_the_command(self) -> None:
-        shown = self.why('examples/flooding.toml', 'mote 6 prints flood 1', '--short')
-        self.assertEqual(shown.returncode, 0)
-        self.assertIn('46 moments: 40 waiting for 1 timer, 6 on the way, over 2 hops', shown.stdout)
-        self.assertEqual(self.why('examples/flooding.toml', '--short', 'mote 6 prints flood 1').stdout, shown.stdout)
-        near = self.why('examples/flooding.toml', 'mote 1 prints flood 2 by 85').stdout
-        self.assertIn('line 22 (flooding.toml:35): `print newest`', near)
-        self.assertIn('4 moments too late, because the expectation allows up to 85 (line 52 of the report)\n', near)
-        got = json.loads(self.why('examples/flooding.toml', 'mote 6 prints flood 1', '--json').stdout)
+        """Its arguments, its status, and a part of what it says."""
+        flooding, question = 'examples/flooding.toml', 'mote 6 prints flood 1'
+        for words, status, said in (
+                ((flooding, *question.split(), '--short'), 2, 'the question has to be in quotes: tools/why %s %r\n' % (
+                    flooding, question)),
+                ((flooding, '--foo'), 2, 'unrecognized arguments: --foo'),
+                ((flooding, question, '--short'), 0, '46 moments: 40 waiting for 1 timer, 6 on the way, over 2 hops'),
+                ((flooding, '--short', question), 0, '46 moments: 40 waiting for 1 timer, 6 on the way, over 2 hops'),
+                ((flooding, 'mote 1 prints flood 2 by 85'), 1, '4 moments too late, because the expectation allows up to 85 '
+                 '(line 52 of the report)\n'),
+                ((flooding, 'mote 1 prints flood 2 by 85'), 1, 'line 22 (flooding.toml:35): `print newest`'),
+                ((flooding,), 2, 'all of examples/flooding.expect.toml hold, so a question'),
+                ((flooding, 'mote 99 prints', '--other', 'examples/drift.toml'), 2, 'why: examples/flooding.toml: '),
+                ((flooding, 'mote 3 prints flood 99', '--other', 'examples/drift.toml'), 2, 'why: examples/drift.toml: '),
+                ((flooding, 'mote 6 prints flod 1'), 2, 'a process'), (('examples/none.toml', '3'), 2, 'No such file'),
+                ((flooding, 'no mote halts'), 2, 'no line of a trace shows it')):
+            with self.subTest(words):
+                shown = self.why(*words)
+                self.assertEqual(shown.returncode, status, shown.stderr)
+                self.assertTrue(status != 2 or '--other' in words or not shown.stdout)
+                self.assertIn(said, shown.stdout + shown.stderr)
+        got = json.loads(self.why(flooding, question, '--json').stdout)
         self.assertEqual([it['at'] for it in got['chain']], [46] * 4 + [43] * 4 + [40] * 3 + [0, 0])
         self.assertEqual(got['path']['medium'], {'moments': 6, 'times': 2})
-        self.assertIn('all of examples/flooding.expect.toml hold, so a question', self.why('examples/flooding.toml').stderr)
-
-    def test_an_error_names_the_file_if_there_are_two(self) -> None:
-        shown = self.why('examples/flooding.toml', 'mote 99 prints', '--other', 'examples/drift.toml')
-        self.assertIn('why: examples/flooding.toml: ', shown.stderr)
-        shown = self.why('examples/flooding.toml', 'mote 3 prints flood 99', '--other', 'examples/drift.toml')
-        self.assertIn('why: examples/drift.toml: ', shown.stderr)
 
     def test_the_first_mote_without_the_line_is_the_one_of_the_second_run(self) -> None:
         """Mote 0 never prints. Motes 1 and 3 lack the line if the links from mote 0 are lost."""
-        with tempfile.TemporaryDirectory() as room:
-            good, bad = (Path(room, name) for name in ('good.toml', 'bad.toml'))
-            good.write_text(RELAYED)
-            bad.write_text(RELAYED + ''.join('[[loss]]\nfrom = 0\nto = %d\nevery = 1\n' % it for it in (1, 3)))
-            for motes in ('every mote but 0 prints', 'motes 1 to 3 print', 'each of motes 1 to 3 prints',
-                          'at least 90 % of motes but 0 print', 'at least 3 motes print'):
-                for question in (motes + ' p 7', motes + ' p 7 by 30'):
-                    with self.subTest(question=question):
-                        shown = self.why(str(bad), question, '--other', str(good))
-                        said = shown.stdout
-                        self.assertEqual(shown.returncode, 1)
-                        self.assertIn('good.toml has the line: mote 1, line 28: 18 print p 7\n', said)
-                        self.assertIn('bad.toml: the medium lost it, because it loses all packets from 0 to 1\n', said)
-                        self.assertEqual('good.toml does not have the line of mote 0 either.\n' in said,
-                                         motes.startswith('at least 3'))
-            said = self.why(str(bad), 'motes 1 and 2 print p 8', '--other', str(good)).stdout
-            self.assertIn('good.toml does not have the line either: mote 1 has 0 such lines', said)
+        lossy = RELAYED + ''.join('[[loss]]\nfrom = 0\nto = %d\nevery = 1\n' % it for it in (1, 3))
+        for motes in ('every mote but 0 prints', 'motes 1 to 3 print', 'each of motes 1 to 3 prints',
+                      'at least 90 % of motes but 0 print', 'at least 3 motes print'):
+            for question in (motes + ' p 7', motes + ' p 7 by 30'):
+                with self.subTest(question=question):
+                    said = self.said_of_both(lossy, question, RELAYED)
+                    self.assertIn('other.toml has the line: mote 1, line 28: 18 print p 7\n', said)
+                    self.assertIn('one.toml: the medium lost it, because it loses all packets from 0 to 1\n', said)
+                    self.assertEqual('other.toml does not have the line of mote 0 either.\n' in said,
+                                     motes.startswith('at least 3'))
+        self.assertIn('other.toml does not have the line either: mote 1 has 0 such lines',
+                      self.said_of_both(lossy, 'motes 1 and 2 print p 8', RELAYED))
 
     def test_a_second_run_without_the_mote_at_which_the_chain_begins(self) -> None:
-        head, *motes = (TOP / 'examples/flooding.toml').read_text().split('[[mote]]')
-        with tempfile.TemporaryDirectory() as room:
-            path = Path(room, 'small.toml')
-            path.write_text('[[mote]]'.join([head, *motes[:3]]))
-            shown = self.why('examples/flooding.toml', '24:971', '--other', str(path))
-        self.assertEqual((shown.returncode, shown.stderr), (0, ''))
-        self.assertEqual(shown.stdout.replace(str(path), 'small.toml'), (
+        text = (TOP / 'examples/flooding.toml').read_text()
+        self.assertEqual(self.said_of_both(text, '24:971', '[[mote]]'.join(text.split('[[mote]]')[:4])), (
             'The two runs have no line of this chain in common:\n'
-            '  examples/flooding.toml, line 967: mote 24 flood, at which the chain begins\n'
-            '  small.toml: there is no mote 24: the motes are 0 to 2\n'))
+            '  one.toml, line 967: mote 24 flood, at which the chain begins\n'
+            '  other.toml: there is no mote 24: the motes are 0 to 2\n'))
 
     def test_names_of_programs_do_not_part_two_runs(self) -> None:
         text = (TOP / 'examples/flooding.toml').read_text()
         renamed = text.replace('\nflood = ', '\nflood2 = ').replace('program = "flood"', 'program = "flood2"')
-        with tempfile.TemporaryDirectory() as room:
-            paths = [Path(room, name) for name in ('renamed.toml', 'lossy.toml')]
-            for path, its in zip(paths, (renamed, renamed.replace('every = 2', 'every = 1'))):
-                path.write_text(its)
-            both, lossy = (self.why('examples/flooding.toml', 'mote 1 prints flood 1', '--other', str(it)).stdout
-                           for it in paths)
-        self.assertIn('renamed.toml has all of this chain too.', both)
+        both, lossy = (self.said_of_both(text, 'mote 1 prints flood 1', it)
+                       for it in (renamed, renamed.replace('every = 2', 'every = 1')))
+        self.assertIn('other.toml has all of this chain too.', both)
         self.assertRegex(lossy, r'mote 0: 40 send 0 1 \(line 8 in .*\)\nThen they diverge:')
-        self.assertIn('lossy.toml: the medium lost it, because it loses all packets from 0 to 1', lossy)
+        self.assertIn('other.toml: the medium lost it, because it loses all packets from 0 to 1', lossy)
 
     def test_the_test_that_led_the_other_run_elsewhere_is_named(self) -> None:
         text = ('version = 2\nend = 9\nmedium = { range = 10, base = 2, per = 100, collide = false }\n'
                 'mote = [{ x = 0, y = 0, program = "p" }]\n[programs]\np = "process p; autostart p; code p { var dice = 5; body { if (dice > 4) { print 1; } } }"\n')
-        with tempfile.TemporaryDirectory() as room:
-            paths = [Path(room, name) for name in ('one.toml', 'other.toml')]
-            for path, its in zip(paths, (text, text.replace('= 5', '= 3'))):
-                path.write_text(its)
-            said = self.why(str(paths[0]), 'mote 0 prints p 1', '--other', str(paths[1])).stdout
+        said = self.said_of_both(text, 'mote 0 prints p 1', text.replace('= 5', '= 3'))
         self.assertIn('`0 leave p`; line 1 (other.toml:6): `if (dice > 4)` was not true\n', said)
-
-    def test_what_the_command_refuses(self) -> None:
-        for arguments, said in (
-                (('examples/flooding.toml', 'mote 6 prints flod 1'), 'a process'),
-                (('examples/none.toml', '3'), 'No such file'),
-                (('examples/flooding.toml', 'no mote halts'), 'no line of a trace shows it')):
-            refused = self.why(*arguments)
-            self.assertEqual((refused.returncode, refused.stdout), (2, ''))
-            self.assertIn(said, refused.stderr)

@@ -1,9 +1,8 @@
 """Runs of tools/explain and tools/expect that reach a limit: the message names the process that prints, pauses or
 posts most."""
 import os
-import unittest
 
-from here import call, room_of
+from here import call, Room
 from motesim.explain.within import answer_within, most_done
 from motesim.runner import Limits, ProgramFault
 from skips import need_program
@@ -65,15 +64,15 @@ program = "p"
 """
 
 
-class Endless(unittest.TestCase):
+class Endless(Room):
     def setUp(self) -> None:
         need_program(self)
-        self.folder = room_of(self)
-        (self.folder / 'net.expect.toml').write_text('expect = ["no mote halts"]\n')
+        super().setUp()
+        (self.room / 'net.expect.toml').write_text('expect = ["no mote halts"]\n')
 
     def said(self, tool: str, word: str, *words: str) -> str:
-        (self.folder / 'net.toml').write_text(NET % PROGRAM % word)
-        done = call(tool, 'net.toml', *words, cwd=self.folder, env=dict(os.environ), timeout=120)
+        (self.room / 'net.toml').write_text(NET % PROGRAM % word)
+        done = call(tool, 'net.toml', *words, cwd=self.room, env=dict(os.environ), timeout=120)
         self.assertEqual((done.returncode, done.stdout), (2, ''), done)
         return done.stderr
 

@@ -166,6 +166,12 @@ class Trace:
         return self._of_field('H', 'event', NONE)
 
     @cached_property
+    def mote(self) -> array[int]:
+        """The mote of each line."""
+        return array('I', chain.from_iterable(repeat(mote, end - begin) for mote, (begin, end) in enumerate(
+            zip(self.starts, self.starts[1:]))))
+
+    @cached_property
     def number(self) -> array[int]:
         """The serial, or the number of the packet, of each line, or 0."""
         return self._of_field('Q', 'serial number')

@@ -7,66 +7,71 @@ import re
 import sys
 from collections import Counter
 from collections.abc import Iterable, Iterator, Sequence
-from heapq import merge
-from itertools import count, repeat
+from itertools import chain
 from typing import NamedTuple
 
 from motesim.cells import aligned
 from motesim.faults import Fault
 from motesim.judge.judge import Span, within
-from motesim.report import FIELDS, Line, Mote, Report
+from motesim.report import FIELDS, Report
+from motesim.report.columns import CODES, KINDS
 from motesim.scenario.fields import Field, of_line
 from motesim.why.question import Asker
 from motesim.why.source import Source, read_traces
 
-# A line, with its moment, its mote, and its number in the report before it: so rows are in the order of the log.
-Row = tuple[int, int, int, Line]
+# The kinds of lines with a value, or with an event's word.
+VALUED = {CODES[kind] for kind, fields in FIELDS.items() if {'value', 'word'} & {*fields.split()}}
+# A line of the log: its moment, its mote, its number in the report, and its words after the moment.
+Row = tuple[int, int, int, str]
 
 
 class Filter(NamedTuple):
     """The conditions that a line has to meet to be shown."""
-    motes: frozenset[int] | None
-    kinds: tuple[str, ...]
-    process: str | None
-    value: int | None
-    span: Span
+    motes: frozenset[int] | None = None
+    kinds: tuple[str, ...] = KINDS
+    process: str | None = None
+    value: int | None = None
+    span: Span = (0, None)
 
-    def has(self, line: Line) -> bool:
-        value = line.word if line.value is None else line.value
-        return (line.kind in self.kinds and self.process in (None, line.process) and self.value in (None, value)
-                and within(line.at, self.span))
+    def lines(self, report: Report) -> list[int]:
+        """The lines that it leaves, by their indices, in the order of moments, and at a moment mote after mote."""
+        trace = report.trace
+        found: Iterable[int] = range(len(trace))
+        if self.motes is not None:
+            found = chain.from_iterable(range(*trace.starts[it:it + 2]) for it in sorted(self.motes))
+        if self.kinds != KINDS:
+            codes = {CODES[it] for it in self.kinds}
+            found = [it for it in found if trace.kind[it] in codes]
+        if self.process is not None:
+            places = trace.numbers_of('process', [self.process])
+            found = [it for it in found if trace.process[it] in places]
+        if self.value is not None:
+            found = [it for it in found if trace.value[it] == self.value and trace.kind[it] in VALUED]
+        if self.span != (0, None):
+            found = [it for it in found if within(trace.at[it], self.span)]
+        return sorted(found, key=trace.at.__getitem__)
 
-    def rows(self, report: Report, mote: Mote) -> Iterable[Row]:
-        """The lines of a mote that meet the conditions."""
-        starts = report.trace.starts[mote.number:mote.number + 2]
-        rows = zip(report.trace.at[slice(*starts)], repeat(mote.number), count(mote.row + 1), mote.lines)
-        is_all = (len(self.kinds), self.process, self.value, self.span) == (len(FIELDS), None, None, (0, None))
-        return rows if is_all else (it for it in rows if self.has(it[3]))
+
+def rows_of(data: bytes, report: Report, lines: Sequence[int]) -> Iterator[Row]:
+    """Lines of a report, whose text is `data`, by their indices."""
+    texts = re.sub('(?m)^[0-9]+ ', '', data.decode('ascii')).split('\n')
+    motes = list(map(report.trace.mote.__getitem__, lines))
+    # (a line has the heads of its own mote and of all earlier ones before it)
+    rows = [line + mote + 2 for line, mote in zip(lines, motes)]
+    return zip(map(report.trace.at.__getitem__, lines), motes, rows, (texts[it - 1] for it in rows))
 
 
-def filtered(report: Report, it: Filter) -> Iterator[Row]:
-    """The lines that a filter leaves, in the order of moments, and at a moment mote after mote."""
-    return iter(merge(*(it.rows(report, mote) for mote in report.motes
-                        if it.motes is None or mote.number in it.motes)))
-
-
-def of_sentence(source: Source, sentence: str, it: Filter) -> Iterator[Row]:
+def of_sentence(source: Source, sentence: str, it: Filter) -> list[int]:
     """Those lines of a filter's result that a sentence is about."""
-    asker = Asker(source)
+    asker, report = Asker(source), source.traces.report
     wanted = set(asker.lines(asker.read(sentence)))
-    return (row for row in filtered(source.traces.report, it) if row[2] in wanted)
+    return [line for line in it.lines(report) if line + report.trace.mote[line] + 2 in wanted]
 
 
-def words_of(line: Line) -> str:
-    """The words after the moment in a line."""
-    return ' '.join([line.kind, *map(str, line[2:-1])])
-
-
-def counted(rows: Iterable[Row], counts: Counter[tuple[int, str]]) -> Iterator[Row]:
-    """The same lines, counted by mote and kind."""
-    for row in rows:
-        counts[row[1], row[3].kind] += 1
-        yield row
+def counts_of(report: Report, lines: Sequence[int]) -> Counter[tuple[int, str]]:
+    """The number of lines by mote and kind."""
+    counts = Counter(zip(map(report.trace.mote.__getitem__, lines), map(report.trace.kind.__getitem__, lines)))
+    return Counter({(mote, KINDS[code]): count for (mote, code), count in counts.items()})
 
 
 def sums(counts: Counter[tuple[int, str]], report: Report) -> str:
@@ -91,17 +96,16 @@ def shown(rows: Iterable[Row], report: Report, form: str, fields: Sequence[Field
     """Lines as text, with the fields of values, for a spreadsheet, or for programs."""
     if form == 'csv':
         yield 'moment,mote,line,what\n'
-        for at, mote, row, line in rows:
-            yield '%d,%d,%d,%s\n' % (at, mote, row, words_of(line))
+        yield from map('%d,%d,%d,%s\n'.__mod__, rows)
     elif form == 'json':
-        for at, mote, row, line in rows:
-            yield json.dumps({'at': at, 'mote': mote, 'line': row, 'words': words_of(line)}) + '\n'
+        for row in rows:
+            yield json.dumps(dict(zip(('at', 'mote', 'line', 'words'), row))) + '\n'
     else:
         width = max(4, len(str(report.medium_row)))
         yield 'moment mote %s\n' % 'line'.rjust(width)
-        for at, mote, row, line in rows:
-            words = words_of(line)
-            yield '%6d %4d %*d  %s%s\n' % (at, mote, width, row, words, of_line(fields, words) if fields else '')
+        if fields:
+            rows = ((at, mote, row, words + of_line(fields, words)) for at, mote, row, words in rows)
+        yield from map(('%%6d %%4d %%%dd  %%s\n' % width).__mod__, rows)
 
 
 def numbers_of(text: str, most: int, what: str) -> frozenset[int]:
@@ -117,7 +121,7 @@ def numbers_of(text: str, most: int, what: str) -> frozenset[int]:
 
 def kinds_of(text: str | None) -> tuple[str, ...]:
     if text is None:
-        return tuple(FIELDS)
+        return KINDS
     kinds = tuple(it.strip() for it in text.split(','))
     for kind in kinds:
         if kind not in FIELDS:
@@ -137,17 +141,16 @@ def status_of(asked: argparse.Namespace) -> int:
     wanted = Filter(motes, kinds, asked.process, asked.value, (asked.first, asked.last))
     if asked.sentence is not None and scenario is None:
         raise Fault('an expectation needs the scenario of the report: --scenario FILE')
-    counts: Counter[tuple[int, str]] = Counter()
-    rows: Iterable[Row] = counted(filtered(report, wanted) if asked.sentence is None or scenario is None else
-                                  of_sentence(Source(asked.file, data, scenario), asked.sentence, wanted), counts)
-    if asked.counts or (asked.first_lines, asked.last_lines) != (None, None):
-        rows = list(rows)[:asked.first_lines and max(0, asked.first_lines)]
-        rows = rows[len(rows) - min(len(rows), max(0, asked.last_lines)):] if asked.last_lines is not None else rows
+    lines = (wanted.lines(report) if asked.sentence is None or scenario is None else
+             of_sentence(Source(asked.file, data, scenario), asked.sentence, wanted))
+    lines = lines[:asked.first_lines and max(0, asked.first_lines)]
+    if asked.last_lines is not None:
+        lines = lines[len(lines) - min(len(lines), max(0, asked.last_lines)):]
     if asked.counts:
-        print('\n'.join(table(counts)))
+        print('\n'.join(table(counts_of(report, lines))))
         return 0
     form = 'csv' if asked.csv else 'json' if asked.json else 'text'
-    sys.stdout.writelines(shown(rows, report, form, scenario.fields if scenario else ()))
+    sys.stdout.writelines(shown(rows_of(data, report, lines), report, form, scenario.fields if scenario else ()))
     if form == 'text':
-        print(sums(counts, report))
+        print(sums(counts_of(report, lines), report))
     return 0

@@ -7,7 +7,6 @@ from collections import OrderedDict
 from typing import Any
 
 from motesim.faults import Fault
-from motesim.report import FIELDS
 from motesim.report.run import Run
 from motesim.why.chain import as_json as chain_as_json
 from motesim.why.chain import chain
@@ -103,5 +102,5 @@ class Causes:
 
     def lines(self, source: Source, asked: Said) -> Said:
         """The lines that a sentence is about, in chronological order."""
-        wanted = Filter(None, tuple(FIELDS), None, None, (0, None))
-        return {'rows': [row for _, _, row, _ in of_sentence(source, str(asked.get('sentence', '')), wanted)]}
+        its = of_sentence(source, str(asked.get('sentence', '')), Filter())
+        return {'rows': [it + source.traces.report.trace.mote[it] + 2 for it in its]}
