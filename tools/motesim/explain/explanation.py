@@ -21,7 +21,8 @@ from motesim.report import Report
 from motesim.report.run import Answer, answer, is_report, read_file
 from motesim.scenario import Scenario, encodings
 from motesim.scenario import faults as scenario_faults
-from motesim.scenario.faults import Place, ScenarioError
+from motesim.scenario.faults import ScenarioError
+from motesim.scenario.places import Place, place_of
 from motesim.scenario.in_programs import offset_of, place_of_token, source_of
 from motesim.scenario.kinds import has_plan, is_c_file, is_program_file, is_program_in_c
 from motesim.terminal import one_line
@@ -57,7 +58,7 @@ def place_of_scenario(text: str, fault: ScenarioError) -> Place | None:
     if fault.lacks is None:
         return fault.place(text)
     like = synonyms.like_of_missing(tables_or_none(text), fault)
-    return scenario_faults.place_of(text, (like,)) if like else None
+    return place_of(text, (like,)) if like else None
 
 
 def place_of_fault(data: bytes, line: str) -> Place | None:
@@ -68,7 +69,7 @@ def place_of_fault(data: bytes, line: str) -> Place | None:
     if not fault.program:
         return place_of_scenario(text, fault)
     found = place_of_token(text, str(fault.path[1]), fault.program.token)
-    return found or scenario_faults.place_of(text, fault.path)
+    return found or place_of(text, fault.path)
 
 
 def correction_of(text: str) -> Correction | None:
@@ -195,7 +196,7 @@ def warned(name: str, text: str, warning: Warned) -> list[str]:
     lines = wrapped(with_name(warning) + '.')
     if warning.program is not None and warning.token is not None:
         return lines + shown_program(name, text, warning.program, warning.token)
-    return lines + (shown_place(name, text, scenario_faults.place_of(text, warning.path)) if warning.path else [])
+    return lines + (shown_place(name, text, place_of(text, warning.path)) if warning.path else [])
 
 
 def all_warnings(name: str, data: bytes, report: bytes, silent: Collection[str]) -> list[str]:

@@ -10,7 +10,8 @@ from typing import Any
 
 from motesim.explain import synonyms
 from motesim.explain.edits import Correction, Edit, hint, replaced
-from motesim.scenario.faults import LOSS, MEDIUM, MOTE, TOP, Place, Rule, ScenarioError, find_fault, place_of, value_of
+from motesim.scenario.faults import LOSS, MEDIUM, MOTE, TOP, Rule, ScenarioError, find_fault
+from motesim.scenario.places import Place, place_of, value_of
 from motesim.text import nearest
 from motesim.toml import NoToml, read_toml
 

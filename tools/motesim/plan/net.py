@@ -22,7 +22,7 @@ from motesim.plan.tables import Key, NoParameter, PlanFault, Tables, filled, nee
 from motesim.plan.text import Mote, Net, scenario_text, tables_of
 from motesim.scenario import Scenario
 from motesim.scenario.encodings import decoded
-from motesim.scenario.faults import Path, Place
+from motesim.scenario.places import Path, Place
 from motesim.toml import MARK
 
 # What no rule for losses does.

@@ -15,7 +15,7 @@ from typing import Any, NoReturn
 from motesim.text import shown_place, wrapped
 from motesim.faults import Fault
 from motesim.notation.grammar import PARAMETER
-from motesim.scenario.faults import Path, Place, place_of, value_of
+from motesim.scenario.places import Path, Place, place_of, value_of
 from motesim.toml import NoToml, read_toml
 
 NAME = re.compile('[a-z][a-z0-9_]{0,31}')

@@ -4,12 +4,10 @@
 """
 from __future__ import annotations
 
-from functools import cached_property
 from typing import Any, NamedTuple
 
 from motesim.faults import Fault
-from motesim.scenario.faults import Path, Place, places
-from motesim.scenario.inline import Span, inline_values
+from motesim.scenario.places import Place, places
 from motesim.toml import NoToml, read_toml
 
 
@@ -37,7 +35,9 @@ class Text:
         except NoToml:
             raise Fault('The text is not TOML.') from None
         self.rows = text.split('\n')
-        self.places = places(text)
+        found = places(text)
+        self.inline = found.values
+        self.places = {path: found.at(span) for path, span in found.own.items()}
         self.begins = [0]
         for row in self.rows:
             self.begins.append(self.begins[-1] + len(row) + 1)
@@ -46,11 +46,6 @@ class Text:
 
     def offset(self, place: Place) -> int:
         return self.begins[place.line - 1] + place.column
-
-    @cached_property
-    def inline(self) -> dict[Path, Span]:
-        """The places of the values in inline arrays and tables."""
-        return inline_values(self.text, {path: self.offset(it) + it.length for path, it in self.places.items()})
 
     def members(self, name: str) -> list[Any]:
         members = self.tables.get(name, [])

@@ -1,7 +1,7 @@
 """Faults of scenarios: the place of the fault, the rule in plain words, and the allowed values.
 
 `find_fault(bytes)` checks a scenario by the rules of docs/use/SCENARIO.md, in their order, and returns the first
-`ScenarioError`, or None; `motesim` reports the same line. `place_of(text, path)` finds a table or a key in the text.
+`ScenarioError`, or None; `motesim` reports the same line.
 """
 from __future__ import annotations
 
@@ -12,8 +12,7 @@ from typing import Any
 
 from motesim.notation.faults import ProgramError
 from motesim.notation.reader import find_fault as find_program_fault
-from motesim.scenario.inline import Path as Path
-from motesim.scenario.inline import inline_keys, inline_values
+from motesim.scenario.places import Path, Place, place_of, value_of
 from motesim.toml import NoToml, read_toml
 
 LONGEST_TEXT = 1_048_576
@@ -263,98 +262,3 @@ def find_fault(data: bytes) -> ScenarioError | None:
     except ScenarioError as fault:
         return fault
     return None
-
-
-KEY = r'(?:[A-Za-z0-9_-]+|"[^"\n]*"|\'[^\'\n]*\')'
-DOTTED = r'%s(?:\s*\.\s*%s)*' % (KEY, KEY)
-HEADER = re.compile(r'\s*(\[\[?)\s*(%s)\s*\]\]?' % DOTTED)
-ENTRY = re.compile(r'\s*(%s)\s*=' % DOTTED)
-VALUE = re.compile(r'["\']?\s*=\s*("(?:[^"\\]|\\.)*"|\'[^\']*\'|\[[^][]*\]|[^\s,}#\'"]+)')
-LONG_QUOTES = ("'''", '"""')
-OPENED = re.compile('|'.join([*LONG_QUOTES, r'"(?:[^"\\]|\\.)*"', "'[^']*'", '#']))
-
-
-@dataclass(frozen=True)
-class Place:
-    """A place in a text: the line from 1, the column from 0, and the number of characters."""
-    line: int
-    column: int
-    length: int
-
-
-def _lines(text: str) -> Iterator[tuple[int, str]]:
-    """The lines that begin outside any text of several lines, with their numbers."""
-    quotes = ''
-    for number, line in enumerate(text.split('\n'), 1):
-        if not quotes:
-            yield number, line
-        rest = line
-        while rest:
-            if quotes:
-                _, found, rest = rest.partition(quotes)
-                quotes = '' if found else quotes
-                continue
-            opened = OPENED.search(rest)
-            if not opened or opened[0] == '#':
-                break
-            quotes = opened[0] if opened[0] in LONG_QUOTES else ''
-            rest = rest[opened.end():]
-
-
-def _names(dotted: str) -> tuple[str, ...]:
-    return tuple(it.strip('"\'') for it in re.findall(KEY, dotted))
-
-
-def places(text: str) -> dict[Path, Place]:
-    """The places of the tables and keys of a scenario, as far as these are on lines of their own."""
-    found: dict[Path, Place] = {}
-    counts: dict[tuple[str, ...], int] = {}
-    table: Path = ()
-    for number, line in _lines(text):
-        header, entry = HEADER.match(line), ENTRY.match(line)
-        if header:
-            table = names = _names(header[2])
-            if header[1] == '[[':
-                table = names + (counts.get(names, 0),)
-                counts[names] = counts.get(names, 0) + 1
-            place = Place(number, header.start(1), header.end() - header.start(1))
-            found.setdefault(table, place)
-            found.setdefault(names, place)
-        elif entry:
-            names = _names(entry[1])
-            for length in range(1, len(names) + 1):
-                found.setdefault(table + names[:length], Place(number, entry.start(1), len(entry[1])))
-    return found
-
-
-def place_of(text: str, path: Path) -> Place:
-    """The place of a table or a key, or of the nearest table above it; the place of the text is its first line."""
-    found = places(text)
-    for length in range(len(path), 0, -1):
-        if path[:length] in found:
-            place = found[path[:length]]
-            return place if length == len(path) else _within(text, place, path, length)
-    return Place(1, 0, len(text.split('\n')[0]))
-
-
-def value_of(text: str, place: Place) -> Place:
-    """The place of the value after a key, if it is on the same line; otherwise that of the key."""
-    line = text.split('\n')[place.line - 1]
-    found = VALUE.match(line, place.column + place.length)
-    return Place(place.line, found.start(1), len(found[1])) if found else place
-
-
-def _within(text: str, place: Place, path: Path, length: int) -> Place:
-    """The place of the table or key with this path inside an inline value. The first `length` parts of the path name
-    the key of this value, and `place` is the place of this key. If the path isn't in the value, the place of the
-    nearest inline table around it, or else `place`."""
-    rows = text.split('\n')
-    begin = sum(len(it) + 1 for it in rows[:place.line - 1])
-    ends = {path[:length]: begin + place.column + place.length}
-    found = {**inline_values(text, ends), **inline_keys(text, ends)}
-    span = next((found[path[:it]] for it in range(len(path), length, -1) if path[:it] in found), None)
-    if span is None:
-        return place
-    line = text.count('\n', 0, span[0])
-    end = min(span[1], text.find('\n', span[0]) % (len(text) + 1))
-    return Place(line + 1, span[0] - text.rfind('\n', 0, span[0]) - 1, end - span[0])

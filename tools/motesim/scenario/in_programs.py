@@ -5,7 +5,7 @@ from collections.abc import Sequence
 from typing import NamedTuple
 
 from motesim.notation.tokens import Token
-from motesim.scenario.faults import Place, place_of
+from motesim.scenario.places import Place, place_of
 from motesim.toml import NoToml, read_toml
 
 

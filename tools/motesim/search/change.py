@@ -16,7 +16,8 @@ from motesim.plan.plan import Plan
 from motesim.plan.tables import Value
 from motesim.report.run import refuse_others
 from motesim.scenario.scenario import MotePlace, Scenario
-from motesim.scenario.faults import find_fault, place_of, value_of
+from motesim.scenario.faults import find_fault
+from motesim.scenario.places import place_of, value_of
 from motesim.search.added import DIES, changed_program
 from motesim.scenario.edits import Change as Edit
 from motesim.scenario.edits import Text, applied

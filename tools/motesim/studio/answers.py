@@ -15,7 +15,7 @@ from motesim.judge.sentences import names_of
 from motesim.report import Report
 from motesim.report.run import Run
 from motesim.scenario import Scenario
-from motesim.scenario.faults import Place, place_of
+from motesim.scenario.places import Place, place_of
 from motesim.scenario.in_programs import place_of_token
 
 MOST_WARNINGS = 20
