@@ -230,7 +230,7 @@ every = 2
             self.assertIn(wanted, next(of_text('p', a, b)))
 
     def test_each_part_is_told(self) -> None:
-        for changes, lines in (
+        tried: list[tuple[list[tuple[str, str]], list[str]]] = [
                 ([], []), ([('end = 20', 'end = 30'), ('collide = true', 'collide = false')], [
                     'end is 20 in A and 30 in B', 'collide of medium is true in A and false in B']),
                 ([('x = 3', 'x = 4')], ['the place of mote 1 is (3, 4) in A and (4, 4) in B']),
@@ -244,7 +244,8 @@ every = 2
                 ([('"p"', '"q"'), ('\np = ', '\nq = '), ('print 1;', 'print 2;')], [
                     'the program of motes 0 to 1 is p in A and q in B', 'only A has a program p', 'only B has a program q',
                     'program p (q in B) differs in its line 2', '  A: code a { body { print 1; } }',
-                    '  B: code a { body { print 2; } }'])):
+                    '  B: code a { body { print 2; } }'])]
+        for changes, lines in tried:
             self.assertEqual(self.seen(*changes), lines)
 
     def test_only_so_many_are_shown(self) -> None:
@@ -260,7 +261,7 @@ class Command(Room):
         for name, text in ('a', A), ('b', B), ('c', 'no report\n'):
             self.put(name, text)
         for one, other, status in ('a', 'a', 0), ('a', 'b', 1), ('a', 'c', 2), ('c', 'a', 2):
-            done = self.tool('compare', one, other, *('--html', 'page.html') * (status == 1))
+            done = self.tool('compare', one, other, *['--html', 'page.html'] * (status == 1))
             self.assertEqual((done.returncode, done.stderr.count('\n'), bool(done.stdout)),
                              (status, int(status == 2), status != 2))
         self.assertIn('<title>', (self.room / 'page.html').read_text('utf-8'))
