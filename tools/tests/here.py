@@ -97,6 +97,14 @@ def room_of(test: unittest.TestCase) -> Path:
     return Path(room.name).resolve()
 
 
+def scenario_of(program: str, *places: tuple[int, int], end: int = 60, more: str = '') -> str:
+    """A scenario of version 2 whose motes, at these places, all run a program p: its text begins on line 7, or after
+    further lines of `more`."""
+    motes = ', '.join('{ x = %d, y = %d, program = "p" }' % it for it in places or [(0, 0)])
+    return ('version = 2\nend = %d\nmedium = { range = 10, base = 2, per = 100, collide = false }\nmote = [%s]\n%s'
+            "[programs]\np = '''\n%s'''\n" % (end, motes, more, program))
+
+
 class Room(unittest.TestCase):
     """Tests in a folder of their own."""
 

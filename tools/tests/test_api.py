@@ -7,18 +7,13 @@ import unittest
 from pathlib import Path
 from unittest import mock
 
-from here import TOOLS, Room
+from here import TOOLS, Room, scenario_of
 import motesim
 from motesim import packages
 from stub import write_stub
 from skips import long
 
-SCENARIO = '''version = 2
-end = 100
-medium = { range = 10, base = 2, per = 100, collide = false }
-[programs]
-p = "process a; autostart a; code a { body { print 7; } }"
-''' + ''.join('[[mote]]\nx = %d\ny = 0\nprogram = "p"\n' % (10 * number) for number in range(3))
+SCENARIO = scenario_of('process a; autostart a; code a { body { print 7; } }', (0, 0), (10, 0), (20, 0))
 PLAN = '''end = 160
 [medium]
 range = 10
@@ -80,7 +75,7 @@ class Calls(Room):
 
     def test_limits_and_faults(self) -> None:
         with self.assertRaisesRegex(motesim.Fault, 'no answer in 0.2 seconds'):
-            motesim.run(SCENARIO.replace('{ body', '{ // wait\\nbody').encode(), limits=motesim.Limits(0.2))
+            motesim.run(SCENARIO.replace('{ body', '{ // wait\nbody').encode(), limits=motesim.Limits(0.2))
         with self.assertRaisesRegex(motesim.Fault, 'not TOML'):
             motesim.run(b'[')
         with self.assertRaises(AttributeError):

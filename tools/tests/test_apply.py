@@ -1,13 +1,8 @@
 """tools/explain --apply: the corrected lines of all messages, written to another file."""
-import contextlib
-import io
-import sys
 import unittest
 from pathlib import Path
-from unittest import mock
 
 from here import Room  # (it puts tools/ on the path)
-from motesim.commands import explain as command
 from motesim.explain.applied import changes, in_net
 from motesim.scenario.faults import find_fault
 from skips import need_program
@@ -44,19 +39,11 @@ class Command(Room):
         super().setUp()
 
     def run_on(self, *words: str) -> tuple[int, str, str]:
-        out, err = io.StringIO(), io.StringIO()
-        status = 0
-        with mock.patch.object(sys, 'argv', ['explain', *words]), contextlib.redirect_stdout(out):
-            with contextlib.redirect_stderr(err):
-                try:
-                    command.main()
-                except SystemExit as ended:
-                    status = int(ended.code or 0)
-        return status, out.getvalue(), err.getvalue()
+        done = self.tool('explain', *words)
+        return done.returncode, done.stdout, done.stderr
 
     def written(self, name: str, text: str) -> str:
-        (self.room / name).write_text(text)
-        return str(self.room / name)
+        return str(self.put(name, text))
 
     def test_a_file_in_c_is_of_another_kind(self) -> None:
         name, output = self.written('blink.c', C), self.room / 'blink.toml'

@@ -8,7 +8,7 @@ import unittest
 from collections.abc import Iterator, Sequence
 from unittest import mock
 
-from here import TOP, Room
+from here import TOP, Room, scenario_of
 from motesim.explain import explanation as explain
 from motesim.explain.applied import changes
 from motesim.notation import faults as program_faults
@@ -133,8 +133,7 @@ class Programs(unittest.TestCase):
 
     def shown_of(self, source: str, quotes: str = "'''") -> str:
         """What is shown of the first fault of a program, which begins on line 7 of a scenario."""
-        text = 'version = 2\nend = 9\nmedium = { range = 10, base = 2, per = 100, collide = false }\n' \
-               'mote = [{ x = 0, y = 0, program = "p" }]\n[programs]\np = %s\n%s%s\n' % (quotes, source, quotes)
+        text = scenario_of(source).replace("'''", quotes)
         fault = reader.find_fault(source)
         assert fault
         return ' '.join(' '.join(explain.of_program('a.toml', text, 'p', fault)).split())

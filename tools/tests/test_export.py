@@ -9,59 +9,13 @@ from here import TOOLS, TOP, call, Room
 from motesim.export import pcapng, perfetto, times, vcd
 from motesim.report import Report
 from skips import interpreter_with, need_command
+from test_report import EXAMPLE_REPORT
 
 LUA = TOOLS / 'motesim/export/motesim.lua'
-# The report of examples/small_network.toml, with a mote that halts.
-REPORT = '''mote 0 sender
-0 start etimer
-0 start ctimer
-0 start radio
-0 start sender
-0 send 0 10
-4 post 0 sender timer 0
-4 take 0 sender
-4 send 1 20
-8 post 1 sender timer 0
-8 take 1 sender
-8 send 2 30
-8 leave sender
-mote 1 listener
-0 start etimer
-0 start ctimer
-0 start radio
-0 start echo
-0 start listener
-2 collide 0 0
-2 collide 2 0
-10 recv 0 2 30
-10 post 0 listener packet 30
-10 take 0 listener
-10 post 1 echo msg 30
-10 full echo msg 31
-10 print listener 1
-10 take 1 echo
-10 print echo 30
-11 halt
-mote 2 sender
-0 start etimer
-0 start ctimer
-0 start radio
-0 start sender
-0 send 0 12
-9 send 1 70
-19 post 0 sender timer 0
-19 take 0 sender
-19 send 2 40
-19 leave sender
-medium
-0 0 0 10 1@2
-0 2 0 12 1@2
-4 0 1 20 1@lost
-8 0 2 30 1@10
-9 2 1 70 1@12
-19 2 2 40 1@21
-left 1
-'''
+# The report of examples/small_network.toml, with a mote that halts, and one packet more.
+REPORT = EXAMPLE_REPORT.replace('10 print echo 30\n', '10 print echo 30\n11 halt\n').replace(
+    '19 post', '9 send 1 70\n19 post').replace('19 send 1', '19 send 2').replace(
+    '19 2 1 40', '9 2 1 70 1@12\n19 2 2 40')
 # The columns of tshark: time, interface, kind, sender, receiver, number, value, moments of sending and of arrival.
 PACKETS = '''0.000004000,mote 0,0,0,,0,10,0,
 0.000004000,mote 2,0,2,,0,12,0,

@@ -9,7 +9,7 @@ from collections.abc import Iterator
 from pathlib import Path
 from unittest import mock
 
-from here import TOOLS, Room
+from here import TOOLS, Room, scenario_of
 from motesim.faults import Fault
 from motesim.files import NotWritten, write_whole
 from motesim.report import Report
@@ -18,13 +18,7 @@ from motesim.timeline.html import write_page
 from stub import write_stub
 
 REPORT = 'mote 0 p\n0 start etimer\n0 start ctimer\n0 start radio\n0 start a\nmedium\nleft 0\n'
-SCENARIO = '''version = 1
-end = 9
-medium = { range = 10, base = 2, per = 100 }
-mote = [{ x = 0, y = 0, program = "p" }]
-[programs]
-p = "process a; autostart a; code a { body { print 7; } }"
-'''
+SCENARIO = scenario_of('process a; autostart a; code a { body { print 7; } }')
 
 
 class Whole(Room):

@@ -55,7 +55,9 @@ class Inline(unittest.TestCase):
         place = fault.place(text)
         row = text.split('\n')[place.line - 1]
         with self.subTest(element, row=row):
-            self.assertEqual(row[place.column:place.column + place.length], marked or element)
+            shown = marked or element
+            self.assertEqual(row[place.column:place.column + place.length], shown)
+            self.assertEqual(place.length, len(shown))
             found = repair(text, fault)
             if wanted is None:
                 self.assertFalse(found and found.edits)

@@ -2,18 +2,13 @@
 import os
 import subprocess
 
-from here import TOOLS, call, Room
+from here import TOOLS, Room, call, scenario_of
 from motesim.faults import Fault
 from motesim.files import refuse_inputs
 from skips import interpreter_with, need_program
 
-SCENARIO = '''version = 1
-end = 50
-medium = { range = 10, base = 2, per = 100 }
-mote = [{ x = 0, y = 0, program = "p" }, { x = 5, y = 0, program = "p" }]
-[programs]
-p = "process a; autostart a; receiver a; code a { body { if (self == 0) { send 1; } yield; print data; } }"
-'''
+SCENARIO = scenario_of('process a; autostart a; receiver a; code a { body { if (self == 0) { send 1; } yield; print '
+                       'data; } }', (0, 0), (5, 0))
 PLAN = '''end = 50
 [medium]
 range = 10

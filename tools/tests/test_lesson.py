@@ -1,10 +1,7 @@
 """The lesson's sentences: the solutions meet them in all nets, and programs that don't solve a task earn nothing."""
 import re
-import unittest
-from pathlib import Path
-from tempfile import TemporaryDirectory
 
-from here import TOP
+from here import TOP, Room
 from motesim.grading.entries import Entry
 from motesim.grading.marking import Task
 from motesim.grading.marks import Marks
@@ -100,8 +97,9 @@ code hops {
 '''
 
 
-class Lesson(unittest.TestCase):
+class Lesson(Room):
     def setUp(self) -> None:
+        super().setUp()
         need_program(self)
 
     def marks(self, task: int, program: str, *hidden: str) -> Marks:
@@ -114,16 +112,10 @@ class Lesson(unittest.TestCase):
         its = Task(parts_of(sentences, 'task')[0], tuple(nets), Limits())
         path = LESSON / 'solutions' / program
         if not program.endswith('.toml'):
-            path = self.file('a.mote', program)
+            path = self.put('a.mote', program)
         found = its.of((1, Entry('a', path)))
         self.assertEqual(found.why, '')
         return found
-
-    def file(self, name: str, text: str) -> Path:
-        """A file with a text, in a folder of its own."""
-        path = Path(self.enterContext(TemporaryDirectory())) / name
-        path.write_text(text)
-        return path
 
     def test_the_solutions_meet_all_sentences(self) -> None:
         for task in NETS:
@@ -174,8 +166,8 @@ class Lesson(unittest.TestCase):
                 self.assertEqual(self.marks(task, program, HIDDEN[task]).held, 0)
 
     def test_in_the_nets_of_the_pages_plan_a_clock_earns_nothing(self) -> None:
-        plan = self.file('wave.plan.toml', PAGE.split("cat >wave.plan.toml <<'END'\n")[1].split('END\n')[0])
-        (plan.parent / 'wave.mote').write_text(EVE)
+        plan = self.put('wave.plan.toml', PAGE.split("cat >wave.plan.toml <<'END'\n")[1].split('END\n')[0])
+        self.put('wave.mote', EVE)
         sentences = (LESSON / 'task2.expect.toml').read_text()
         shown, hidden = (nets_of([plan], ['seed=' + it], None) for it in re.findall(r'--vary\S* seed=(\S+)', PAGE))
         for nets in shown, nets_of([plan], ['seed=1..30'], None):
@@ -195,6 +187,6 @@ class Lesson(unittest.TestCase):
                 self.assertIn('`%s`' % sentence, PAGE)
                 for reading, program, held in (
                         (value, FORWARDS, 1), (value, SPEAKS_FOR_ALL, 0), (8, FORWARDS, 1)):
-                    nets = nets_of([self.file('lab.toml', LAB % reading)], [], 'sensor')
+                    nets = nets_of([self.put('lab.toml', LAB % reading)], [], 'sensor')
                     found = self.marks_in(nets, 'expect = ["%s"]' % sentence, program)
                     self.assertEqual((reading, program, found.held), (reading, program, held))

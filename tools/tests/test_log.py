@@ -2,11 +2,9 @@
 import csv
 import io
 import json
-import tempfile
 import unittest
-from pathlib import Path
 
-from here import TOP, call
+from here import TOP, Room, call, scenario_of
 import skips
 from motesim.faults import Fault
 from motesim.report import Report
@@ -59,26 +57,9 @@ class Logs(unittest.TestCase):
             kinds_of('sends')
 
 
-SCENARIO_OF_ONE = """version = 1
-end = 9
-medium = { range = 10, base = 1, per = 100 }
-mote = [{ x = 0, y = 0, program = "a" }]
-[programs]
-a = '''
-process a;
-autostart a;
-code a {
-  var n = 0;
-  body {
-    n = n + 1;
-  }
-}
-'''
-"""
-
-
-class Runs(unittest.TestCase):
+class Runs(Room):
     def setUp(self) -> None:
+        super().setUp()
         skips.need_program(self)
 
     def of_sentence(self, sentence: str) -> list[tuple[int, int]]:
@@ -103,13 +84,10 @@ class Runs(unittest.TestCase):
         return call('log', 'examples/flooding.toml', *arguments, cwd=TOP, check=True).stdout
 
     def test_a_scenario_with_an_error(self) -> None:
-        hint = 'motesim: program a fault 2 line 6 (tools/explain %s says more)'
-        with tempfile.TemporaryDirectory() as folder:
-            path = Path(folder, 'a.toml')
-            path.write_text(SCENARIO_OF_ONE)
-            with self.assertRaises(Fault) as seen:
-                read_traces(path)
-            self.assertIn(hint % path, str(seen.exception))
+        path = self.put('a.toml', scenario_of('process a;\ncode a { var n = 0; body { n = n + 1; } }'))
+        with self.assertRaises(Fault) as seen:
+            read_traces(path)
+        self.assertIn('motesim: program p fault 2 line 2 (tools/explain %s says more)' % path, str(seen.exception))
 
     def test_the_command(self) -> None:
         shown = self.log('--kind', 'send', '--mote', '0').split('\n')

@@ -2,7 +2,7 @@
 import re
 import unittest
 
-from here import TOP
+from here import TOP, scenario_of
 from motesim.notation.reader import find_fault
 from motesim.report.run import answer
 from skips import need_program
@@ -26,13 +26,7 @@ code p {
 code q { body { } }
 """
 # Both timers are due at 10, and the process takes the event of u first.
-TWO_DUE = """version = 2
-end = 60
-medium = { range = 10, base = 2, per = 100, collide = false }
-mote = [{ x = 0, y = 0, program = "p" }]
-[programs]
-p = '''
-process p;
+TWO_DUE = scenario_of('''process p;
 autostart p;
 code p { var wanted = 1; etimer t; etimer u; body {
   set t 10;
@@ -44,8 +38,7 @@ code p { var wanted = 1; etimer t; etimer u; body {
     print now;
   }
 } }
-'''
-"""
+''')
 # The meanings of a table's letters in a program: an expression, and names.
 LETTERS = {'e': '(x + 1)', 'E': 'e', 'P': 'q', 'T': 't', 'S': 's', 'THREAD': 'f', 'a': 'x', 'b': 'y'}
 

@@ -9,25 +9,18 @@ import shutil
 import subprocess
 import sys
 import tarfile
-import tempfile
 import unittest
 from pathlib import Path
 from unittest import mock
 
-from here import TOP, room_of
+from here import TOP, Room, scenario_of
 from motesim.experiments.results import Head
 from motesim.faults import Fault
 from motesim.version import VERSION
 from project import pack
 from stub import write_stub
 
-SCENARIO = '''version = 1
-end = 9
-medium = { range = 1, base = 1, per = 1 }
-mote = [{ x = 0, y = 0, program = "p" }]
-[programs]
-p = "process a; autostart a; code a { body { print 3; } }"
-'''
+SCENARIO = scenario_of('process a; autostart a; code a { body { print 3; } }')
 
 
 def first_lines(motesim: str = '2.0') -> str:
@@ -35,52 +28,49 @@ def first_lines(motesim: str = '2.0') -> str:
     return Head('net.plan.toml', ['seed'], {'sent': 'sent'}, {}, motesim, '0123456789abcdef', '').text()
 
 
-class Pack(unittest.TestCase):
+class Pack(Room):
     def setUp(self) -> None:
         """Without a program that the environment names, unless a test names one."""
+        super().setUp()
         here = mock.patch.dict(os.environ)
         here.start()
         self.addCleanup(here.stop)
         os.environ.pop('MOTESIM', None)
 
     def test_an_archive_runs_by_itself(self) -> None:
-        with tempfile.TemporaryDirectory() as room:
-            program = write_stub(Path(room))
-            with mock.patch.object(pack, 'is_proved', lambda it: True), mock.patch.object(pack, 'licenses', dict):
-                data = pack.archive('motesim', program)
-                self.assertEqual(data, pack.archive('motesim', program))
-            with tarfile.open(fileobj=io.BytesIO(data)) as tar:
-                tar.extractall(room)
-            top = Path(room) / 'motesim'
-            page = (top / 'PROVED.md').read_text('utf-8')
-            self.assertIn(hashlib.sha256(program.read_bytes()).hexdigest(), page)
-            self.assertIn(VERSION, page)
-            (Path(room) / 's.toml').write_text(SCENARIO)
-            for words in [str(top / 'run')], [sys.executable, str(top / 'tools/summary'), str(Path(room) / 's.toml')]:
-                done = subprocess.run(words, input=SCENARIO, cwd=room, capture_output=True, text=True,
-                                      env={'PATH': '/usr/bin:/bin', 'MOTESIM_SEEN': '/dev/null/none'})
-                self.assertEqual((done.returncode, done.stderr), (0, ''))
-            done = subprocess.run([str(top / 'run'), '--version'], capture_output=True, text=True)
-            self.assertIn('motesim %s, proved with' % VERSION, done.stdout)
-            self.assertEqual((top / 'web/motesim.html').read_bytes(), (TOP / 'web/motesim.html').read_bytes())
-            if shutil.which('node'):
-                done = subprocess.run([str(top / 'web/motesim')], input=SCENARIO, capture_output=True, text=True)
-                self.assertIn('print a 3', done.stdout)
-            self.assertIn('`tools/summary`: Counts what happened in a run', (top / 'README.md').read_text('utf-8'))
-            loads = 'import sys\nfor it in sys.argv[1:]: exec(open(it).read().replace("\\nmain()", ""))'
-            subprocess.run([sys.executable, '-c', loads, *(str(top / 'tools' / it) for it in pack.user_commands())],
-                           cwd='/', env={'PYTHONPATH': str(top / 'tools')}, check=True)
+        program = write_stub(self.room)
+        with mock.patch.object(pack, 'is_proved', lambda it: True):
+            top = self.unpacked(program)
+            with mock.patch.object(pack, 'licenses', dict):
+                self.assertEqual(pack.archive('motesim', program), pack.archive('motesim', program))
+        page = (top / 'PROVED.md').read_text('utf-8')
+        self.assertIn(hashlib.sha256(program.read_bytes()).hexdigest(), page)
+        self.assertIn(VERSION, page)
+        self.put('s.toml', SCENARIO)
+        for words in [str(top / 'run')], [sys.executable, str(top / 'tools/summary'), 's.toml']:
+            done = subprocess.run(words, input=SCENARIO, cwd=self.room, capture_output=True, text=True,
+                                  env={'PATH': '/usr/bin:/bin', 'MOTESIM_SEEN': '/dev/null/none'})
+            self.assertEqual((done.returncode, done.stderr), (0, ''))
+        done = subprocess.run([str(top / 'run'), '--version'], capture_output=True, text=True)
+        self.assertIn('motesim %s, proved with' % VERSION, done.stdout)
+        self.assertEqual((top / 'web/motesim.html').read_bytes(), (TOP / 'web/motesim.html').read_bytes())
+        if shutil.which('node'):
+            done = subprocess.run([str(top / 'web/motesim')], input=SCENARIO, capture_output=True, text=True)
+            self.assertIn('print a 3', done.stdout)
+        self.assertIn('`tools/summary`: Counts what happened in a run', (top / 'README.md').read_text('utf-8'))
+        loads = 'import sys\nfor it in sys.argv[1:]: exec(open(it).read().replace("\\nmain()", ""))'
+        subprocess.run([sys.executable, '-c', loads, *(str(top / 'tools' / it) for it in pack.user_commands())],
+                       cwd='/', env={'PYTHONPATH': str(top / 'tools')}, check=True)
 
-    def unpacked(self) -> Path:
-        """An archive in which the program refuses all but an empty scenario, and its proof isn't known."""
-        room = room_of(self)
-        program = room / 'program'
-        program.write_text('#!/bin/sh\n[ -r "$1" ] && [ ! -s "$1" ] && exit\necho "motesim: a fault" >&2\nexit 1\n')
-        program.chmod(0o755)
+    def unpacked(self, program: Path | None = None) -> Path:
+        """An archive in which, without this program, one refuses all but an empty scenario, and its proof isn't
+        known."""
+        packed = program or self.put_program('program', '[ -r "$1" ] && [ ! -s "$1" ] && exit\n'
+                                             'echo "motesim: a fault" >&2\nexit 1')
         with mock.patch.object(pack, 'licenses', dict), tarfile.open(
-                fileobj=io.BytesIO(pack.archive('motesim', program))) as tar:
-            tar.extractall(room)
-        return room / 'motesim'
+                fileobj=io.BytesIO(pack.archive('motesim', packed))) as tar:
+            tar.extractall(self.room)
+        return self.room / 'motesim'
 
     def on_terminal(self, top: Path, *words: str) -> tuple[int, list[str]]:
         """The status of an archive's ./run, and the lines on its terminal."""
@@ -129,30 +119,27 @@ class Pack(unittest.TestCase):
                 self.assertEqual((pack.program(), compiled.call_count), (packed, times))
 
     def test_the_program_that_the_environment_names_is_packed(self) -> None:
-        with tempfile.TemporaryDirectory() as room:
-            program = write_stub(Path(room))
-            with mock.patch.dict(os.environ, {'MOTESIM': str(program)}):
-                self.assertEqual(pack.program(), program)
-                with mock.patch.object(pack, 'licenses', dict):
-                    readme = pack.files(program)['README.md'][0].decode()
-                self.assertIn('no proof of it is known', readme)
-            with mock.patch.dict(os.environ, {'MOTESIM': str(program) + '.gone'}), self.assertRaisesRegex(
-                    Fault, 'there is no program .* MOTESIM names it'):
-                pack.program()
+        program = write_stub(self.room)
+        with mock.patch.dict(os.environ, {'MOTESIM': str(program)}):
+            self.assertEqual(pack.program(), program)
+            with mock.patch.object(pack, 'licenses', dict):
+                readme = pack.files(program)['README.md'][0].decode()
+            self.assertIn('no proof of it is known', readme)
+        with mock.patch.dict(os.environ, {'MOTESIM': str(program) + '.gone'}), self.assertRaisesRegex(
+                Fault, 'there is no program .* MOTESIM names it'):
+            pack.program()
 
     def test_it_has_what_students_need_and_no_solution(self) -> None:
-        with tempfile.TemporaryDirectory() as room:
-            names = set(pack.files(write_stub(Path(room))))
+        names = set(pack.files(write_stub(self.room)))
         self.assertTrue({'examples/lesson/start.toml', 'examples/lesson/task3.expect.toml',
                          'examples/lesson/WORKSHEET.md'} <= names)
         self.assertEqual([name for name in names if 'solutions' in name or 'TEACHING' in name], [])
 
     def tree(self, known: str, others: str) -> Path:
         """A clone with files that git knows, and others."""
-        top = room_of(self) / 'tree'
+        top = self.room / 'tree'
         for name in (*known.split(), *others.split()):
-            (top / name).parent.mkdir(parents=True, exist_ok=True)
-            (top / name).write_text('')
+            self.put('tree/' + name)
         for words in ['init', '-q'], ['add', *known.split()], ['-c', 'user.name=a', '-c', 'user.email=a@b', 'commit',
                                                                '-q', '-m', 'a']:
             subprocess.run(['git', *words], cwd=top, check=True)

@@ -2,19 +2,14 @@
 import time
 import unittest
 
-import here  # noqa: F401
+from here import scenario_of
 from motesim.judge.judge import Judge
 from motesim.judge.sentences import SentenceFault, names_of, read_sentence
 from motesim.report import Report
 from motesim.scenario import Scenario
 
-SCENARIO = """
-version = 2
-end = 100
-medium = { range = 10, base = 3, per = 1000, collide = false }
-[programs]
-p = 'process a, b;'
-""" + ''.join('[[mote]]\nx = %d\ny = 0\nprogram = "p"\n' % (10 * number) for number in range(4))
+SCENARIO = scenario_of('process a, b;', (0, 0), (10, 0), (20, 0), (30, 0), end=100).replace(
+    'base = 2, per = 100', 'base = 3, per = 1000')
 # Lines 1 to 27. Mote 0 sends 1 at 10 and 60, and 2 at 99; mote 1 passes 1 on at 13 and at 80 (17 late); mote 2 prints
 # at boot and again at 16; mote 3 prints nothing.
 REPORT = """mote 0 p

@@ -11,19 +11,11 @@ import unittest
 from collections.abc import Iterator
 from pathlib import Path
 
-from here import TOOLS, Room
+from here import TOOLS, Room, scenario_of
 from motesim.faults import Fault
 from motesim.runner import LimitMet, Limits, NoReport, ProgramFault, Runner, Stopped, ending, run_each
 from motesim.runner.batch import each_part
 from unbuilt_tree import is_alive, until
-
-SCENARIO = '''version = 2
-end = 10
-medium = { range = 10, base = 2, per = 100, collide = false }
-mote = [{ x = 0, y = 0, program = "a" }]
-programs = { a = "process a; code a { body { print 1; } }" }
-'''
-
 
 class Programs(Room):
     def program(self, text: str, shell: str = '/bin/sh') -> Path:
@@ -100,7 +92,7 @@ class Runs(Programs):
     def test_a_signal_that_ends_a_tool_ends_its_run(self) -> None:
         program = self.program('echo $$ > "$0.pid"; exec sleep 60')
         noted, words = self.room / 'program.pid', [sys.executable, '-B', str(TOOLS / 'summary'), 'a.toml']
-        (self.room / 'a.toml').write_text(SCENARIO)
+        (self.room / 'a.toml').write_text(scenario_of('process a; code a { body { print 1; } }'))
         for number, status in (signal.SIGTERM, -signal.SIGTERM), (signal.SIGHUP, -signal.SIGHUP), (signal.SIGINT, 130):
             with self.subTest(number), subprocess.Popen(
                     words, cwd=self.room, env={**os.environ, 'MOTESIM': str(program)}, stdout=subprocess.DEVNULL,

@@ -3,11 +3,9 @@ import math
 import os
 import random
 import subprocess
-import tempfile
 import unittest
-from pathlib import Path
 
-from here import TOOLS
+from here import TOOLS, Room
 from motesim.analysis.estimates import mean_by_t, median_with_quartiles, share_by_wilson, student_t
 from motesim.cells import line_of
 from motesim.experiments.results import Head
@@ -62,7 +60,7 @@ class Estimates(unittest.TestCase):
             self.assertEqual((found.low, found.middle, found.high), quartiles)
 
 
-class Frames(unittest.TestCase):
+class Frames(Room):
     def test_a_frame_has_whole_numbers_with_gaps_and_digests_and_leaves_out_faults(self) -> None:
         interpreter = interpreter_with(self, 'pandas')
         head = Head('a', ['seed'], {'sent': 'sent', 'ratio': 'ratio'}, {}, '1', 'a', '')
@@ -71,10 +69,8 @@ class Frames(unittest.TestCase):
         script = ('from motesim.analysis import frame\nruns = frame("net.csv")\n'
                   'print(len(runs), runs.ratio.mean(), runs.sent.dtype, runs.plan_sha256[0] + "")\n'
                   'print(len(frame("net.csv", with_errors=True)))')
-        with tempfile.TemporaryDirectory() as folder:
-            (Path(folder) / 'net.csv').write_text(head.text() + ''.join(
-                line_of([*row, None, None, None]) for row in rows))
-            done = subprocess.run([interpreter, '-B', '-c', script], cwd=folder, capture_output=True, text=True,
-                                  env={**os.environ, 'PYTHONPATH': str(TOOLS)})
+        self.put('net.csv', head.text() + ''.join(line_of([*row, None, None, None]) for row in rows))
+        done = subprocess.run([interpreter, '-B', '-c', script], cwd=self.room, capture_output=True, text=True,
+                              env={**os.environ, 'PYTHONPATH': str(TOOLS)})
         self.assertEqual(done.stdout, '2 0.375 Int64 1234567890123456\n3\n', done.stderr)
         self.assertIn('frame: net.csv: left out: 1 of 3 runs, which have an error', done.stderr)

@@ -11,9 +11,9 @@ import unittest
 from pathlib import Path
 from unittest import mock
 
-from here import TOOLS, Room
+from here import TOOLS, Room, scenario_of
 from motesim.faults import Fault
-from motesim.experiments.doubts import QUEUE_FULL, RECEIVER_FULL, of_full
+from motesim.experiments.doubts import of_full
 from motesim.experiments.measures import Bench, MeasureFault, imports_of, read_measure
 from motesim.experiments.one_run import Result, digest, run_job
 from motesim.plan.plan import Plan
@@ -46,12 +46,7 @@ program = "${name}.mote"
 '''
 MOTE = 'process a;\nautostart a;\ncode a { body { print ${period}; } }\n'
 
-SCENARIO = '''version = 2
-end = 20
-medium = { range = 10, base = 2, per = 100, collide = false }
-[programs]
-p = "process a; code a { body { print 1; } }"
-''' + ''.join('[[mote]]\nx = %d\ny = 0\nprogram = "p"\n' % (10 * number) for number in range(3))
+SCENARIO = scenario_of('process a; code a { body { print 1; } }', (0, 0), (10, 0), (20, 0), end=20)
 REPORT = '''mote 0 p
 0 start a
 0 send 0 7
@@ -348,8 +343,8 @@ class SweepTest(Bed):
             (self.room / 'its.csv').unlink()
 
     def test_copies_and_packets_without_room_are_reported(self) -> None:
-        for ring, refused, event, codes in (0, 0, 'packet 5', []), (1, 0, 'packet 5', [RECEIVER_FULL]), (
-                1, 1, 'packet 5', [RECEIVER_FULL, QUEUE_FULL]), (0, 1, 'msg 5', []):
+        for ring, refused, event, codes in (0, 0, 'packet 5', []), (1, 0, 'packet 5', ['receiver-full']), (
+                1, 1, 'packet 5', ['receiver-full', 'queue-full']), (0, 1, 'msg 5', []):
             report = Report.parse('mote 0 p\n0 start a\n2 full a %s\nmedium\nleft 0\n' % event)
             self.assertEqual(list(of_full({'overflowed': ring, 'refused': refused}, report)), codes, event)
 

@@ -1,13 +1,9 @@
 """Warnings: each has a name, a mistake that gets it at its place, and a program without this mistake that doesn't."""
-import contextlib
-import io
 import re
-import tempfile
 import unittest
 from pathlib import Path
 
-from here import TOP
-from motesim.explain.explanation import explain
+from here import TOP, Room
 from motesim.explain.say import ABOUT_ZERO, NAMES, in_words
 from motesim.explain.warned import Warned
 from motesim.explain.warnings import of_program, warnings
@@ -121,14 +117,10 @@ class Nets(unittest.TestCase):
         self.assertEqual(found(net([(0, 'p')], head='# Parameters: k = 0\n', p=zero)), [])
 
 
-class Silence(unittest.TestCase):
+class Silence(Room):
     def test_a_warning_is_silenced_by_the_name_that_it_shows(self) -> None:
         need_program(self)
-        with tempfile.TemporaryDirectory() as folder:
-            path = Path(folder) / 'net.toml'
-            path.write_text(net([(0, 'p')], p='process a; code a { body { print 1; } }'))
-            for silent, is_shown in ((), True), (('no-autostart',), False):
-                out = io.StringIO()
-                with contextlib.redirect_stdout(out):
-                    self.assertEqual(explain(str(path), silent=silent), 0)
-                self.assertEqual('Warning (no-autostart): ' in out.getvalue(), is_shown)
+        self.put('net.toml', net([(0, 'p')], p='process a; code a { body { print 1; } }'))
+        for silent, is_shown in ((), True), (('--silence', 'no-autostart'), False):
+            done = self.tool('explain', 'net.toml', *silent)
+            self.assertEqual((done.returncode, 'Warning (no-autostart): ' in done.stdout), (0, is_shown))

@@ -1,13 +1,11 @@
 """The edits of intermediate code for WebAssembly, what they refuse, and what web/motesim.json says of a module."""
 import os
-import tempfile
 import time
 import types
 import unittest
-from pathlib import Path
 from unittest import mock
 
-import here  # (it puts tools/ on the path)
+from here import Room  # (it puts tools/ on the path)
 from motesim.runner.module import About
 from project import kit
 from project.web import Unknown, difference, retargeted, with_narrow_table
@@ -64,21 +62,17 @@ class Edits(unittest.TestCase):
             with_narrow_table(head + table + element)
 
 
-class Libraries(unittest.TestCase):
+class Libraries(Room):
     def test_they_count_as_proved_until_a_source_changes(self) -> None:
-        with tempfile.TemporaryDirectory() as room:
-            top = Path(room)
-            source, built = top / 'crates/low/src/lib.rt', top / 'crates/low/out/rlib/low.rlib'
-            source.parent.mkdir(parents=True)
-            source.write_text('')
-            (top / 'crates.txt').write_text('low:\n')
-            program = types.SimpleNamespace(below=lambda: [types.SimpleNamespace(rlib=str(built))])
-            with mock.patch.object(kit, 'crate_named', lambda name, top: program):
-                self.assertFalse(kit.are_libraries_built('program', top))
-                built.mkdir(parents=True)
-                self.assertTrue(kit.are_libraries_built('program', top))
-                os.utime(source, (time.time() + 1,) * 2)
-                self.assertFalse(kit.are_libraries_built('program', top))
+        source, built = self.put('crates/low/src/lib.rt'), self.room / 'crates/low/out/rlib/low.rlib'
+        self.put('crates.txt', 'low:\n')
+        program = types.SimpleNamespace(below=lambda: [types.SimpleNamespace(rlib=str(built))])
+        with mock.patch.object(kit, 'crate_named', lambda name, top: program):
+            self.assertFalse(kit.are_libraries_built('program', self.room))
+            built.mkdir(parents=True)
+            self.assertTrue(kit.are_libraries_built('program', self.room))
+            os.utime(source, (time.time() + 1,) * 2)
+            self.assertFalse(kit.are_libraries_built('program', self.room))
 
 
 class Differences(unittest.TestCase):

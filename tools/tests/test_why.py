@@ -8,7 +8,7 @@ from io import StringIO
 from pathlib import Path
 from typing import cast
 
-from here import TOP, call, room_of
+from here import TOP, call, room_of, scenario_of
 import skips
 from motesim.contiki.random_scenario import random_scenario
 from motesim.faults import Fault
@@ -25,14 +25,7 @@ from motesim.why.source import At, Source
 from motesim.replay.translate import translated
 
 # Mote 0 sends 7 at 10. Each other mote prints and sends 7 once, 5 moments for each mote of its number later.
-RELAYED = """version = 2
-end = 60
-medium = { range = 10, base = 2, per = 100, collide = false }
-mote = [{ x = 0, y = 0, program = "p" }, { x = -10, y = 0, program = "p" }, { x = 6, y = 0, program = "p" },
-        { x = 5, y = 5, program = "p" }]
-[programs]
-p = '''
-process p; autostart p; receiver p;
+RELAYED = scenario_of('''process p; autostart p; receiver p;
 code p {
   var known = 0;
   etimer t;
@@ -44,8 +37,7 @@ code p {
     }
   }
 }
-'''
-"""
+''', (0, 0), (-10, 0), (6, 0), (5, 5))
 
 # Mote 0 boots a, which posts to b, calls c at once, and polls b; b sends when it is polled. Mote 1 hears it.
 SCENARIO = '''version = 1
@@ -156,13 +148,7 @@ left 0
 '''
 HEAD = -1
 # A process that only the `if` of another one would call, a process that only it would start, and a thread.
-CALLED = """version = 2
-end = 40
-medium = { range = 10, base = 2, per = 100, collide = false }
-mote = [{ x = 0, y = 0, program = "p" }]
-[programs]
-p = '''
-event go;
+CALLED = scenario_of('''event go;
 process boss, worker, late;
 autostart boss, worker;
 code boss {
@@ -194,17 +180,10 @@ code worker {
   }
 }
 code late { body { print 7; } }
-'''
-"""
+''', end=40)
 
 # Mote 0 makes the value 7, mote 1 stores it and sends it later, mote 2 prints it.
-STORED = """version = 2
-end = 60
-medium = { range = 10, base = 2, per = 100, collide = false }
-mote = [{ x = 0, y = 0, program = "node" }, { x = 8, y = 0, program = "node" }, { x = 16, y = 0, program = "node" }]
-[programs]
-node = '''
-process node; autostart node; receiver node;
+STORED = scenario_of('''process node; autostart node; receiver node;
 code node {
   var last = 0;
   etimer t;
@@ -218,8 +197,7 @@ code node {
     }
   }
 }
-'''
-"""
+''', (0, 0), (8, 0), (16, 0))
 
 
 def source(scenario: str = SCENARIO, report: str = REPORT) -> Source:
@@ -397,14 +375,7 @@ class Questions(unittest.TestCase):
 
 
 # Process `late` starts at 30; it left the list of processes at 40. Mote 1 sends 5 at 20; mote 2 never sends.
-LATE = """version = 2
-end = 60
-medium = { range = 10, base = 2, per = 100, collide = false }
-loss = [{ from = 1, to = 2, every = 1 }]
-mote = [{ x = 0, y = 0, program = "p" }, { x = 10, y = 0, program = "p" }, { x = 20, y = 0, program = "p" }]
-[programs]
-p = '''
-process p, late; autostart p; receiver p;
+LATE = scenario_of('''process p, late; autostart p; receiver p;
 code p {
   etimer t;
   body {
@@ -416,16 +387,10 @@ code p {
   }
 }
 code late { body { print 1; yield_until is(msg); print 2; } }
-'''
-"""
+''', (0, 0), (10, 0), (20, 0), more='loss = [{ from = 1, to = 2, every = 1 }]\n')
 # Mote 0 uses up its work at 5.
-HALTING = """version = 2
-end = 30
-medium = { range = 10, base = 2, per = 100, collide = false }
-mote = [{ x = 0, y = 0, program = "p" }]
-[programs]
-p = "process p; autostart p; code p { etimer t; body { set t 5; yield_until fired(t); while 1 { } print 1; } }"
-"""
+HALTING = scenario_of('process p; autostart p; code p { etimer t; body { set t 5; yield_until fired(t); while 1 { } print 1; } }\n',
+                      end=30)
 
 
 class Misses(unittest.TestCase):
@@ -688,7 +653,6 @@ class Runs(unittest.TestCase):
         self.assertIn('other.toml: the medium lost it, because it loses all packets from 0 to 1', lossy)
 
     def test_the_test_that_led_the_other_run_elsewhere_is_named(self) -> None:
-        text = ('version = 2\nend = 9\nmedium = { range = 10, base = 2, per = 100, collide = false }\n'
-                'mote = [{ x = 0, y = 0, program = "p" }]\n[programs]\np = "process p; autostart p; code p { var dice = 5; body { if (dice > 4) { print 1; } } }"\n')
+        text = scenario_of('process p; autostart p; code p { var dice = 5; body { if (dice > 4) { print 1; } } }')
         said = self.said_of_both(text, 'mote 0 prints p 1', text.replace('= 5', '= 3'))
-        self.assertIn('`0 leave p`; line 1 (other.toml:6): `if (dice > 4)` was not true\n', said)
+        self.assertIn('`0 leave p`; line 1 (other.toml:7): `if (dice > 4)` was not true\n', said)

@@ -38,11 +38,12 @@ class Data(unittest.TestCase):
 class Notes(unittest.TestCase):
     """A page with sentences that don't hold."""
 
-    def note(self, sentence: str) -> Note:
-        run = small_run()
+    def note(self, sentence: str, example: str = '', has_row: bool = True) -> Note:
+        """The note on a sentence about the small run, or about that of an example."""
+        run = read_run(str(TOP / 'examples' / example)) if example else small_run()
         assert run.scenario
         broken = Judge(run.report, run.scenario).broken(read_sentence(sentence, names_of(run.scenario)))
-        return note_of(run, sentence, broken)
+        return note_of(run, sentence, broken if has_row else broken and broken._replace(row=None))
 
     def test_the_line_that_breaks_a_sentence(self) -> None:
         note = self.note('mote 1 prints h at most 0 times')
@@ -62,33 +63,23 @@ class Notes(unittest.TestCase):
         self.assertEqual((note.why, note.mote), ('mote 1 never prints 9. The nearest:', 1))
 
     def test_a_page_on_values_opens_at_no_lost_copy_with_another_value(self) -> None:
-        run = read_run(str(TOP / 'examples/small_network.toml'))
-        assert run.scenario
-        rest = 'the medium lost it'
         for sentence, is_shown in (('mote 1 prints echo 99', False), ('mote 1 prints just echo 30, 99', False),
                                    ('mote 1 prints echo more than 9 times', True),
                                    ('mote 1 prints just echo 99, 30 in any order', False)):
-            broken = Judge(run.report, run.scenario).broken(read_sentence(sentence, names_of(run.scenario)))
-            lines = [it for it in note_of(run, sentence, broken and broken._replace(row=None)).lines if rest in it.text]
+            note = self.note(sentence, 'small_network.toml', has_row=False)
+            lines = [it for it in note.lines if 'the medium lost it' in it.text]
             self.assertEqual([bool(it.row) for it in lines], [is_shown], sentence)
 
     def test_a_page_on_an_order_opens_at_the_first_mote_that_misses_it(self) -> None:
-        run = read_run(str(TOP / 'examples/lesson/start.toml'))
-        assert run.scenario
-        sentence = 'every mote but 0 prints hops within 0 of receiving'
-        broken = Judge(run.report, run.scenario).broken(read_sentence(sentence, names_of(run.scenario)))
-        note = note_of(run, sentence, broken)
+        note = self.note('every mote but 0 prints hops within 0 of receiving', 'lesson/start.toml')
         self.assertEqual((note.mote, note.at), (3, 40))
         self.assertTrue(note.lines)
 
     def test_a_page_opens_at_the_packet_that_is_wanted(self) -> None:
         """And not at another one that was received."""
-        run = read_run(str(TOP / 'examples/small_network.toml'))
-        assert run.scenario
         for sentence, row, seen in (('mote 1 receives 12', 21, 'packet 0 of mote 2, with the value 12'),
                                     ('mote 1 receives 40', 45, 'packet 1 of mote 2, with the value 40')):
-            broken = Judge(run.report, run.scenario).broken(read_sentence(sentence, names_of(run.scenario)))
-            first = next(it for it in note_of(run, sentence, broken).lines if it.row)
+            first = next(it for it in self.note(sentence, 'small_network.toml').lines if it.row)
             self.assertEqual(first.row, row)
             self.assertIn(seen, first.text)
 

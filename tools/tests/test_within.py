@@ -2,7 +2,7 @@
 posts most."""
 import os
 
-from here import call, Room
+from here import Room, call, scenario_of
 from motesim.explain.within import answer_within, most_done
 from motesim.runner import Limits, ProgramFault
 from skips import need_program
@@ -23,7 +23,7 @@ code loud {
   }
 }
 """
-# (line 6 of the program, which is line 15 of the scenario)
+# (line 6 of the program, which is line 12 of the scenario)
 PAUSES = """process idle;
 autostart idle;
 code idle {
@@ -46,23 +46,6 @@ autostart p;
 receiver p;
 code p { etimer t; body { send 1; while 1 { yield; send 1; } } }
 '''
-MOTES = ''.join('[[mote]]\nx = %d\ny = 0\nprogram = "p"\n' % x for x in range(1, 10))
-NET = """version = 2
-end = 1000000
-[medium]
-range = 10
-base = 2
-per = 100
-collide = false
-[programs]
-p = '''
-%s'''
-[[mote]]
-x = 0
-y = 0
-program = "p"
-"""
-
 
 class Endless(Room):
     def setUp(self) -> None:
@@ -71,7 +54,7 @@ class Endless(Room):
         (self.room / 'net.expect.toml').write_text('expect = ["no mote halts"]\n')
 
     def said(self, tool: str, word: str, *words: str) -> str:
-        (self.room / 'net.toml').write_text(NET % PROGRAM % word)
+        self.put('net.toml', scenario_of(PROGRAM % word, end=1_000_000))
         done = call(tool, 'net.toml', *words, cwd=self.room, env=dict(os.environ), timeout=120)
         self.assertEqual((done.returncode, done.stdout), (2, ''), done)
         return done.stderr
@@ -81,8 +64,8 @@ class Endless(Room):
             with self.subTest(tool):
                 self.assertRegex(self.said(tool, 'print', '--memory', '60'), (
                     r'^%s: net\.toml: the run was ended: the run needs more than 60 megabytes of memory\. Up to moment '
-                    r'\d+, process loud of mote 0 prints [\d,]+ times \(line 18\), in each turn of `while \(i < 500\)` '
-                    r'\(line 17\) within `while 1` \(line 15\)\. A `pause` lets no time pass, so this loop repeats '
+                    r'\d+, process loud of mote 0 prints [\d,]+ times \(line 15\), in each turn of `while \(i < 500\)` '
+                    r'\(line 14\) within `while 1` \(line 12\)\. A `pause` lets no time pass, so this loop repeats '
                     r'many times in each moment\. Let it wait for a timer instead, such as `set t 10; yield_until '
                     r'fired\(t\);`\. A larger --memory raises the limit\n$' % tool))
 
@@ -105,10 +88,10 @@ class Endless(Room):
                 (STORM.replace('while 1', 'if 1'), None, '', (), (), False),
                 (late.replace('while 1', 'if 1'), None, '', (), (), False),
                 (POSTS.replace('while 1', 'if 1'), None, '', (), (), False)):
-            data = NET % text
-            if 'receiver' in text:
-                data = (data + MOTES).replace('per = 100', 'per = 40')
-            data = data.replace('1000000', '60' if text == STORM else '5000')
+            motes = [(x, 0) for x in range(10 if 'receiver' in text else 1)]
+            data = scenario_of(text, *motes, end=60 if text == STORM else 5000)
+            if len(motes) > 1:
+                data = data.replace('per = 100', 'per = 40')
             with self.subTest(text):
                 found = most_done(data.encode(), False)
                 self.assertEqual(found and (found.kind, found.process, found.lines, found.loops, found.only_pauses),
@@ -118,11 +101,11 @@ class Endless(Room):
                     self.assertTrue(found.end > 1000 or text != late)
                 if text == PAUSES:
                     in_file = most_done(data.encode())
-                    self.assertEqual(in_file and in_file.lines, (15,))
+                    self.assertEqual(in_file and in_file.lines, (12,))
 
     def test_the_report_has_a_limit(self) -> None:
         with self.assertRaises(ProgramFault) as caught:
-            answer_within('net.toml', (NET % PAUSES).replace('1000000', '20000').encode(), Limits(60, 1 << 30, 1 << 20))
+            answer_within('net.toml', scenario_of(PAUSES, end=20_000).encode(), Limits(60, 1 << 30, 1 << 20))
         self.assertRegex(str(caught.exception), (
             r'^net\.toml: the run was ended: the report is longer than 1,048,576 bytes\. Up to moment \d+, process '
             r'idle of mote 0 pauses .* A larger --report raises the limit$'))
