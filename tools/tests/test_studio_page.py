@@ -338,7 +338,7 @@ class Page(InStudio):
 
     def test_it_fits_narrow_windows_and_all_has_a_name(self) -> None:
         self.open()
-        for name in 'part-net', 'tab-why', 'tab-steps', 'tab-log', 'tab-faults':
+        for name in 'tab-why', 'tab-state', 'tab-log', 'tab-faults':
             self.press(name)
         for width in 1400, 1000, 700, 390:
             self.browser.size(width, 900)
@@ -367,7 +367,7 @@ class Causes(InStudio):
     def stop_at(self, line: str) -> None:
         """Goes on to a line, and looks at the state there."""
         self.value('m.find(%s)' % json.dumps(line))
-        self.press('tab-steps')
+        self.press('tab-state') if self.value('by("state").hidden') else None
 
     def test_why_and_why_not(self) -> None:
         self.open()
@@ -393,17 +393,17 @@ class Causes(InStudio):
         self.waits('why', 'was never reached')
         self.assertEqual(self.value('by("why-asked").value'), 'mote 0 prints flood 1')
 
-    def test_steps_show_the_state_of_a_mote(self) -> None:
+    def test_the_state_of_a_mote_is_shown_after_a_line(self) -> None:
         """Mote 3 takes message 1 at 49, in line 113; the step after it changes `newest`, which line 114 prints."""
         self.open()
         self.stop_at('mote 3 prints 1')
         self.waits('state-cards', 'newest = 1')
         self.assertEqual(self.value('document.querySelectorAll("#state-cards .changed").length'), 0)
-        self.press_in('steps', '‹ call')
+        self.stop_at('mote 3 takes at 49')
         self.waits('state-cards', 'newest = 1 (changed)')
-        self.waits('step-at', 'take 0 flood')
-        self.press_in('steps', 'moment »')
-        self.waits('step-at', 'at moment 52')
+        self.waits('state-at', 'take 0 flood')
+        self.press_in('log', 'line ›')
+        self.waits('state-at', 'Mote 3')
 
     def test_the_process_that_runs_after_a_poll_and_after_another_has_exited(self) -> None:
         """The report has no line for the call of a poll: the replay names the process that is called."""
@@ -416,15 +416,6 @@ class Causes(InStudio):
             self.open(text)
             for line, runs, state in lines:
                 self.stop_at(line)
-                self.waits('cards', 'Runs now\n%s\n' % runs)
+                self.waits('state-cards', 'Runs now\n%s\n' % runs)
                 self.waits('state-cards', state)
             self.stop()
-
-    def test_the_log_knows_expectations(self) -> None:
-        self.open()
-        self.press('tab-log')
-        self.waits('log', '970 of 970 lines')
-        self.write('log-asked', 'motes 3 to 7 print flood 2 by 90')
-        self.waits('log', '3 of 970 lines: print 3')
-        self.value('document.querySelector("#log-lines button").click()')
-        self.assertEqual(self.value('m.chosen.mote'), 5)

@@ -111,7 +111,7 @@ class Data(unittest.TestCase):
     def test_a_title_is_text_in_the_page(self) -> None:
         page = ''.join(page_of('<b> & @SCRIPT@', [Run('</script>', Report.parse(SILENT), None)]))
         self.assertIn('<h1>&lt;b&gt; &amp; @SCRIPT@</h1>', page)
-        self.assertEqual(page.count('</script>'), 6)
+        self.assertEqual(page.count('</script>'), 5)
         self.assertEqual(json.loads(re.findall('id="data" type="application/json">(.*)</script>', page)[0])['runs'][0]['name'],
             '</script>')
 
@@ -234,16 +234,10 @@ class Pages(InBrowser):
         for words in ('Packet 2 of mote 0, value 30', 'line 44', '8 0 2 30 1@10', 'line 22', '10 recv 0 2 30',
             'received and handed on'):
             self.assertIn(words, self.shown())
-        self.key('Enter', number=13)
-        self.assertEqual(self.selected(), '10 recv 0 2 30')
-        self.key('Enter', number=13)
-        self.assertEqual(self.selected(), '10 post 0 listener packet 30')
-        self.key('Enter', number=13)
-        self.assertEqual(self.selected(), '10 take 0 listener')
-        self.key('Enter', number=13)
-        self.assertEqual(self.selected(), '10 post 1 echo msg 30')
         self.key(']')
-        self.assertEqual(self.selected(), '10 full echo msg 31')
+        self.assertEqual(self.selected(), '8 leave sender')
+        self.key('}')
+        self.assertEqual(self.selected(), '10 recv 0 2 30')
         self.key('Escape', number=27)
         self.assertIsNone(self.selected())
 
@@ -284,7 +278,7 @@ class Pages(InBrowser):
             self.assertEqual(self.value('document.getElementById("log-counts").textContent'), said)
         self.value('(m.setNow(0), m.find("send"))')
         self.assertEqual(self.selected(), '0 send 0 10')
-        self.assertEqual(self.value('Array.from(m.logged.found[0], it => run.words(it)[0]).join("")'), 'sssss')
+        self.assertEqual(self.value('Array.from(m.logged.rings[0], it => run.words(it)[0]).join("")'), 'sssss')
         self.key('n')
         self.assertEqual(self.selected(), '0 send 0 12')
         self.key('p')
@@ -313,10 +307,9 @@ class Pages(InBrowser):
         self.assertEqual(self.selected(), '10 recv 0 2 30')
 
     def test_an_address_says_what_is_shown(self) -> None:
-        self.open(small_network(), fragment='#from=4&to=12&line=22&only=timeline')
+        self.open(small_network(), fragment='#from=4&to=12&line=22')
         self.assertEqual(self.selected(), '10 recv 0 2 30')
         self.assertAlmostEqual(self.value('pane.moment(pane.gutter)'), 4, places=6)
-        self.assertFalse(self.value('document.getElementById("place").offsetHeight'))
         self.open(small_network(), fragment='#mote=2')
         self.assertEqual(self.value('m.chosen.mote'), 2)
 

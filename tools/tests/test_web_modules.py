@@ -1,6 +1,5 @@
 """The modules of the page without a server, in node: they find the same columns, fates, sums and differences as the
 tools, for all examples and for random runs."""
-import itertools
 import json
 import re
 import tempfile
@@ -11,10 +10,9 @@ from typing import Any
 from here import TOOLS, TOP
 import skips
 from motesim.comparison.columns import MEDIUM
-from motesim.comparison.reports import Difference, compared, differences, lists_of, packet_of
+from motesim.comparison.reports import compared, differences, packet_of
 from motesim.contiki.random_scenario import random_scenario
 from motesim.judge import expectations
-from motesim.report import Report
 from motesim.report.run import Run
 from motesim.runner import Runner
 from motesim.studio import answers
@@ -91,23 +89,15 @@ def sums(run: Run) -> dict[str, Any]:
             'links': [LINK_NAMES, *(list(row.values()) for row in links)]}
 
 
-def text_at(report: Report, it: Difference) -> str | None:
-    lines = lists_of(report).get(it.mote)
-    return None if lines is None or it.place >= len(lines) else str(lines[it.place])
-
-
 def difference(before: Run, after: Run) -> dict[str, Any]:
     """What tools/compare finds."""
     _, first, is_same = compared(before, after, 12)
     reports = before.report, after.report
-    programs = [[mote.program for mote in report.motes] for report in reports]
-    found: dict[str, Any] = {'same': is_same, 'first': None, 'parts': [], 'motes': [
-        mote for mote, (ours, other) in enumerate(itertools.zip_longest(*programs)) if ours != other]}
+    found: dict[str, Any] = {'same': is_same, 'first': None, 'parts': []}
     if first:
         in_medium = first.mote == MEDIUM
         found['first'] = {'at': first.at, 'mote': packet_of(reports, first).sender if in_medium else first.mote,
-                          'index': -1 if in_medium else first.place, 'inMedium': in_medium,
-                          'sides': [text_at(report, first) for report in reports]}
+                          'index': -1 if in_medium else first.place, 'inMedium': in_medium}
         found['parts'] = [[it.mote, it.at] for it in differences(*reports) if it.mote != MEDIUM]
     return found
 

@@ -247,18 +247,16 @@ class Page(InBrowser):
         self.wait('run.rows === 1072')
         tab_to('part-program')
         self.browser.key('ArrowRight', 'ArrowRight', 39)
-        self.assertFalse(self.value('by("net").hidden'))
-        tab_to('net-mote')
-        self.browser.call('Input.dispatchKeyEvent', type='keyDown', key='a', code='KeyA', modifiers=2,
-                          windowsVirtualKeyCode=65, commands=['selectAll'])
-        self.browser.type('24')
-        tab_to('net-x')
-        self.browser.type('9')
-        self.browser.key('Tab', 'Tab', 9)
-        self.browser.key('Tab', 'Tab', 9)
-        self.browser.key('Enter', 'Enter', 13, '\r')
-        self.wait('run.places[24][0] === 9')
+        tab_to('text')
+        self.browser.type('# by keyboard\n')
+        self.assertEqual(self.value('text'), '# by keyboard\n' + FLOODING)
+        self.browser.key('Escape', 'Escape', 27)
         tab_to('tab-log')
+        self.browser.key('Enter', 'Enter', 13, '\r')
+        tab_to('log-asked')
+        self.browser.type('mote 24 prints')
+        self.browser.key('Enter', 'Enter', 13, '\r')
+        self.wait('by("log-counts").textContent.startsWith("3 of 970 lines")')
 
     def test_an_endless_run_is_stopped(self) -> None:
         self.open()
@@ -289,17 +287,17 @@ class Page(InBrowser):
             worker.postMessage({number: 1, text: %s});
           });
           worker.terminate();
-          return {...answer, buffer: Boolean(answer.buffer)};
+          return {...answer, columns: Boolean(answer.columns)};
         })()""" % json.dumps(text))
 
     def test_limits_of_the_stack_and_of_a_report_are_said(self) -> None:
         self.open()
-        self.assertTrue(self.answer_to('deepest_exits')['buffer'])
+        self.assertTrue(self.answer_to('deepest_exits')['columns'])
         self.assertEqual(self.answer_to('five_thousand_arrays_deep')['line'], 'motesim: scenario fault 1')
         long = FLOODING.replace('end = 160', 'end = 4000').replace('set next 40', 'set next 1').replace(
             'if (newest < 3) {', 'newest = 0; while (newest < 2000) { newest = (newest + 1); print newest; } if 1 {')
         self.assertEqual(self.in_worker(long), {
-            'number': 1, 'buffer': False, 'limit': 'The report is longer than 64 megabytes, so the run was stopped.'})
+            'number': 1, 'columns': False, 'limit': 'The report is longer than 64 megabytes, so the run was stopped.'})
 
     def test_lanes_are_as_high_as_their_box_after_each_edit(self) -> None:
         self.open()
@@ -413,27 +411,21 @@ class Page(InBrowser):
         self.open()
         self.drop('mine.toml', '\ufeff' + FLOODING.replace('end = 160', 'end = 50').replace('\n', '\r\n'))
         self.wait('run.end === 50 && web.document.name === "mine.toml"')
-        self.assertFalse(self.value('document.body.classList.contains("dropping")'))
         self.assertEqual(self.handed_out('download', 'mine.toml').read_text(),
                          FLOODING.replace('end = 160', 'end = 50'))
         self.drop('long.toml', '#' * 1_048_577)
         self.wait('by("said").textContent === "long.toml is longer than 1,048,576 bytes, the limit."')
         self.assertEqual(self.value('web.document.name'), 'mine.toml')
 
-    def test_a_page_is_saved_with_its_text_and_a_draft_is_kept(self) -> None:
+    def test_a_draft_is_kept(self) -> None:
         self.open()
         self.press('try')
         self.wait('m.differs.first')
         text = self.value('text')
-        saved = self.handed_out('save-page', 'flooding.html')
-        time.sleep(1.2)
+        self.wait('localStorage.getItem("motesim draft")')
         self.browser.open(self.page)
         self.assertEqual(self.value('text'), text)
         self.assertIn('of the last time', self.said())
-        self.browser.open(saved)
-        self.assertEqual(self.value('text'), text)
-        self.assertIn('saved with the page', self.said())
-        self.wait('run.packets === 6778')
 
     def test_a_file_is_opened(self) -> None:
         self.open()
@@ -449,8 +441,7 @@ class Page(InBrowser):
         self.put(FLOODING.replace('end = 160', 'end = 90'))
         self.wait('run.end === 90')
         time.sleep(1.2)
-        sign = self.value('[...text].reduce((sum, it) => (sum * 31 + it.codePointAt(0)) | 0, text.length)')
-        self.browser.run('localStorage.setItem("motesim started", "%d")' % sign)
+        self.browser.run('localStorage.setItem("motesim started", motesim.web.history.text)')
         self.open()
         self.assertEqual(self.value('[m.panes.length, by("about").textContent]'), [0, 'No run yet'])
         self.value('by("offers").firstChild.click()')
@@ -479,7 +470,7 @@ class Page(InBrowser):
 
     def test_all_has_a_name(self) -> None:
         self.open()
-        for name in 'part-net', 'tab-log', 'tab-steps', 'tab-sums', 'tab-legend':
+        for name in 'tab-log', 'tab-sums', 'tab-legend':
             self.press(name)
         self.press('examples')
         unnamed = self.value('Array.from(document.querySelectorAll("button, input, select, canvas, textarea")).filter('

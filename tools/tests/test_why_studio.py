@@ -31,6 +31,3 @@ class Answers(unittest.TestCase):
         for asked in {'mote': 0, 'row': 28}, {'mote': 7, 'at': 3}, {'mote': 0}, {'row': 9}:
             self.assertIn('said', self.ask('state', **asked))
 
-    def test_lines_of_a_sentence(self) -> None:
-        self.assertEqual(self.ask('lines', sentence='mote 0 prints'), {'rows': [11, 12, 16, 19]})
-        self.assertIn('said', self.ask('lines', sentence='mote 0 frobs'))

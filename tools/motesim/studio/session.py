@@ -74,7 +74,7 @@ class Session:
             'searched': self.searched, 'stop-search': self.stop_search, 'counter-example': self.counter_example,
             'shrink': self.shrink}
         self.causes = Causes()
-        for what in 'why', 'state', 'statement', 'lines':
+        for what in 'why', 'state', 'statement':
             self.does[what] = functools.partial(self.cause, what)
 
     def answer(self, what: str, asked: dict[str, Any]) -> Answered:

@@ -1,5 +1,4 @@
-"""The replies to the studio's questions about a run: the reason for a line, a mote's state, and the lines of a
-sentence."""
+"""The replies to the studio's questions about a run: the reason for a line, and a mote's state."""
 from __future__ import annotations
 
 import threading
@@ -10,7 +9,6 @@ from motesim.faults import Fault
 from motesim.report.run import Run
 from motesim.why.chain import as_json as chain_as_json
 from motesim.why.chain import chain
-from motesim.why.log import Filter, of_sentence
 from motesim.why.miss import as_json as misses_as_json
 from motesim.why.miss import misses
 from motesim.why.pages import source_of
@@ -46,7 +44,7 @@ class Causes:
 
     def answer(self, what: str, number: int, run: Run, asked: Said) -> Said:
         """Returns the answer to a question; if there is none, `said` has the reason."""
-        does = {'why': self.why, 'state': self.state, 'statement': self.statement, 'lines': self.lines}
+        does = {'why': self.why, 'state': self.state, 'statement': self.statement}
         with self.lock:
             try:
                 return does[what](self.source(number, run), asked)
@@ -99,8 +97,3 @@ class Causes:
         if not number or program.place is None:
             return {'statement': -1}
         return {'statement': program.place.above + program.statement(number).line - 1}
-
-    def lines(self, source: Source, asked: Said) -> Said:
-        """The lines that a sentence is about, in chronological order."""
-        its = of_sentence(source, str(asked.get('sentence', '')), Filter())
-        return {'rows': [it + source.traces.report.trace.mote[it] + 2 for it in its]}

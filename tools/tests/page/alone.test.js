@@ -13,7 +13,7 @@ import {readToml} from '../../motesim/web/page/toml.js';
 import {given, sameFates} from './data.js';
 
 async function runOf({name, report, scenario}) {
-  const {table, buffer} = columnsOf(report), run = new Run({name, ...table, ...scenarioOf(scenario)}, buffer);
+  const {table, columns} = columnsOf(report), run = new Run({name, ...table, ...scenarioOf(scenario)}, columns);
   run.end = Math.max(run.end, lastMoment(run));
   await indexRun(run);
   return run;
@@ -48,12 +48,9 @@ for (const it of given.alone.runs) {
 for (const {name, one, other, found} of given.alone.differences) {
   test(`the difference of ${name}`, async () => {
     const ours = difference(await runOf(one), await runOf(other));
-    assert.deepEqual([ours.same, ours.motes, ours.parts], [found.same, found.motes, found.parts]);
+    assert.deepEqual([ours.same, ours.parts], [found.same, found.parts]);
     if (!found.first) return assert.equal(ours.first, null);
-    const {at, mote, index, inMedium, sides} = ours.first;
-    assert.deepEqual({at, mote, index, inMedium}, {at: found.first.at, mote: found.first.mote, index: found.first.index,
-      inMedium: found.first.inMedium});
-    assert.deepEqual(sides.map(side => side.text), found.first.sides);
+    assert.deepEqual(ours.first, found.first);
   });
 }
 

@@ -1,7 +1,7 @@
 // The runs that test_page_modules.py writes for these tests, and words of the notation.
 import assert from 'node:assert/strict';
 import {readFileSync} from 'node:fs';
-import {Run, unpacked} from '../../motesim/timeline/page/data.js';
+import {Run, columnsIn, unpacked} from '../../motesim/timeline/page/data.js';
 import {indexRun} from '../../motesim/timeline/page/index.js';
 
 /** `runs` has for each run its table, its packed columns, and what the Python package knows of it. */
@@ -11,7 +11,7 @@ export const names = Object.keys(given.runs);
 /** A run as a page has it. */
 export async function runOf(name) {
   const {table, columns} = structuredClone(given.runs[name]);
-  const run = new Run(table, await unpacked(columns));
+  const run = new Run(table, columnsIn(table, await unpacked(columns)));
   await indexRun(run);
   return run;
 }

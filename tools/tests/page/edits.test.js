@@ -49,11 +49,6 @@ test('losses are set, changed and taken away', () => {
   assert.deepEqual(edit(NET, {what: 'lose', ...loss(0, 1, 0)}).changes, []);
 });
 
-test('numbers of the net are set', () => {
-  assert.equal(made(NET, 'set', {path: ['end'], value: 7}), NET.replace('end = 60', 'end = 7'));
-  assert.throws(() => edit(NET, {what: 'set', path: ['medium', 'range'], value: 7}), Refused);
-});
-
 for (const between of [', ', ',\n  ', ', # {x = 7, y = 7}\n', ' , ']) {
   test(`motes and losses in brackets, with ${JSON.stringify(between)} between them`, () => {
     const [first, second] = ['{ x = 1, y = -2, program = "p" }', '{"y" = 2,x=3 , program = \'p\'}'];

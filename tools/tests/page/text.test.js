@@ -26,9 +26,9 @@ test('the head of an island has its packets and silences', () => assert.deepEqua
 
 test('the effect of a change is one sentence', () => {
   const run = (...kind) => ({kind, rows: kind.length}), of = (found, ours, others) =>
-    effectInWords(ours || run(SEND), others || run(SEND, SEND), {same: false, first: null, motes: [], ...found});
+    effectInWords(ours || run(SEND), others || run(SEND, SEND), {same: false, first: null, ...found});
   assert.equal(of({same: true}), 'This change has no effect: the report is the same.');
-  assert.equal(of({motes: [4, 5]}), 'The motes run other programs, and write the same lines.');
+  assert.equal(of({}), 'The motes run other programs, and write the same lines.');
   const first = {at: 30, mote: 2, inMedium: false};
   assert.equal(of({first}), '1 packet instead of 2. First different at moment 30, at mote 2.');
   assert.equal(of({first: {...first, inMedium: true}}, run(SEND, PRINT)),

@@ -1,7 +1,7 @@
 // @ts-check
 // Warnings, and the sentences that hold or don't.
+import {chooseRow} from '../../timeline/page/details.js';
 import {byId, element, makeButton} from '../../timeline/page/dom.js';
-import {chooseRow} from '../../timeline/page/rows.js';
 import {page} from '../../timeline/page/stage.js';
 import {goTo} from '../../web/page/web.js';
 import {askQuestion} from './whys.js';
@@ -15,7 +15,7 @@ export function labelTab(id, words, className = '') {
 export function markEarlier(box) {
   if (!box.childNodes.length || box.classList.contains('earlier')) return;
   box.classList.add('earlier');
-  box.prepend(Object.assign(element('p', 'These results are of an earlier text.'), {className: 'of-earlier'}));
+  box.prepend(element('p', 'These results are of an earlier text.', [], {className: 'of-earlier'}));
 }
 
 /** Shows warnings about what is legal but probably not meant. A click leads to its place. */
@@ -48,14 +48,14 @@ function showChecks(checks) {
 
 /** A sentence. A click on a broken one shows the line that breaks it, or how near the run came. */
 function checkItem(it) {
-  const sign = Object.assign(element('span', it.holds ? '✓' : '✗'), {className: 'sign'});
-  sign.setAttribute('aria-label', it.holds ? 'holds' : 'broken');
+  const sign = element('span', it.holds ? '✓' : '✗', [], {className: 'sign',
+    'aria-label': it.holds ? 'holds' : 'broken'});
   const words = it.holds && !it.row ? element('span', it.sentence) :
     makeButton(it.sentence, () => it.row ? chooseRow(page.panes[0], it.row) : askQuestion(it.sentence));
   const inside = element('div', '', [words, it.required ? ' (required)' : '']);
   const why = [...(it.holds ? [] : it.more), ...(it.remark ? [it.remark] : [])].join('\n');
-  if (why) inside.append(Object.assign(element('span', why), {className: 'why'}));
-  return Object.assign(element('li', '', [sign, inside]), {className: it.holds ? 'holds' : 'broken'});
+  if (why) inside.append(element('span', why, [], {className: 'why'}));
+  return element('li', '', [sign, inside], {className: it.holds ? 'holds' : 'broken'});
 }
 
 /** Shows the results of runs from now on. */

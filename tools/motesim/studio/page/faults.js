@@ -1,7 +1,7 @@
 // @ts-check
 // The search for faults that break expectations: it runs while the reader works. A fault that it finds becomes a change
 // of the text, which can be undone.
-import {byId, element, makeButton, table} from '../../timeline/page/dom.js';
+import {byId, element, makeButton, onSubmit, table} from '../../timeline/page/dom.js';
 import {page} from '../../timeline/page/stage.js';
 import {count} from '../../timeline/page/words.js';
 import {attempt, change} from '../../web/page/web.js';
@@ -22,14 +22,10 @@ export function beginFaults(kinds) {
     markEarlier(byId('faults-found'));
   });
   byId('faults-kinds').append(...kinds.map(([kind, words]) => {
-    const input = Object.assign(element('input'), {type: 'checkbox', name: 'kind', value: kind,
-      checked: kind === 'links' || kind === 'motes'});
-    return Object.assign(element('label', '', [input, ` ${kind}`]), {title: words});
+    const input = element('input', '', [], {type: 'checkbox', value: kind, checked: ['links', 'motes'].includes(kind)});
+    return element('label', '', [input, ` ${kind}`], {title: words});
   }));
-  byId('faults-form').addEventListener('submit', event => {
-    event.preventDefault();
-    if (page.faults.isGoing) stopSearch('The search was stopped.'); else attempt(searchNow);
-  });
+  onSubmit('faults-form', () => page.faults.isGoing ? stopSearch('The search was stopped.') : attempt(searchNow));
 }
 
 /** Shows the state of the search, and the function of its button. */
@@ -92,8 +88,8 @@ function showFound({covered_lines: lines, covered, runs, notes, holds, broken, f
   if (broken.length) labelTab('faults', `Faults ${broken.length}`, 'bad');
   else if (isWhole) labelTab('faults', 'Faults ✓', 'good');
   if (!runs) return box.append(element('p', 'Nothing was searched: choose other kinds of faults.'));
-  const kept = holds.map(sentence => Object.assign(element('tr', '', [element('td', '✓ holds'),
-    element('td', sentence)]), {className: 'holds'}));
+  const kept = holds.map(sentence => element('tr', '', [element('td', '✓ holds'), element('td', sentence)],
+    {className: 'holds'}));
   box.append(table(['fault', 'expectation', ''], [...broken.flatMap(sentence => rowsOf(sentence, found)), ...kept]));
 }
 

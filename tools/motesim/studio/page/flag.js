@@ -3,7 +3,7 @@
 import {lowerBound} from '../../timeline/page/data.js';
 import {chooseLine, chooseMote} from '../../timeline/page/details.js';
 import {redraw} from '../../timeline/page/draw.js';
-import {colours, path, stroke} from '../../timeline/page/forms.js';
+import {colours, fill, path, setFont, stroke, write} from '../../timeline/page/forms.js';
 import {AXIS} from '../../timeline/page/layout.js';
 import {setNow} from '../../timeline/page/play.js';
 import {page} from '../../timeline/page/stage.js';
@@ -53,16 +53,12 @@ function drawFlag(pane, x, first) {
   const c = pane.context, words = 'first difference';
   // (below the head of its island)
   const y = Math.max(AXIS + 9, Math.min(pane.height - 10, pane.laneTop(first.mote) + 9));
-  c.font = 'bold 11px system-ui, "DejaVu Sans", sans-serif';
-  c.textBaseline = 'middle';
-  c.textAlign = 'left';
+  setFont(c, 11, 'left', 'middle', 'bold');
   const wide = c.measureText(words).width + 12, left = x + wide > pane.width ? x - wide : x;
-  c.fillStyle = colours.mark;
   c.beginPath();
   c.roundRect(left, y - 8, wide, 16, 3);
-  c.fill();
-  c.fillStyle = colours.paper;
-  c.fillText(words, left + 6, y);
+  fill(c, colours.mark);
+  write(c, words, left + 6, y, 'paper');
 }
 
 /** Draws differences from now on. */

@@ -101,10 +101,10 @@ function wayOf(run, s, r) {
 function drawWay(map) {
   const {way} = page.ground;
   if (!way || Math.max(...way) >= map.run.begins.length) return;
-  const [s, r] = way, c = map.context;
+  const c = map.context;
   c.save();
   c.globalAlpha = 0.55;
-  path(c, [map.x(s), map.y(s), map.x(r), map.y(r)]);
+  path(c, map.way(way[0], way[1]));
   stroke(c, colours.mark, 5);
   c.restore();
 }

@@ -1,6 +1,6 @@
 // @ts-check
 // What the studio's page asks, answered by its server.
-import {Run} from '../../timeline/page/data.js';
+import {Run, columnsIn} from '../../timeline/page/data.js';
 import {indexRun} from '../../timeline/page/index.js';
 import {Refused} from '../../timeline/page/stage.js';
 
@@ -10,7 +10,7 @@ const LOST = 'The studio doesn\'t answer. Start it again, and open its page: the
  * @typedef {import('../../timeline/page/stage.js').Answer} Answer
  * @typedef {import('../../timeline/page/stage.js').Backend} Backend */
 export class Server {
-  can = new Set(['files', 'checks', 'lines']);
+  can = new Set(['checks']);
   isStopped = false;
 
   /** Runs a text. @param {{text: string, name: string}} asked @returns {Promise<Answer>} */
@@ -20,7 +20,7 @@ export class Server {
     const {run: table, ...answer} = JSON.parse(new TextDecoder().decode(new Uint8Array(got, 4, length)));
     if (answer.superseded && this.isStopped) return {limit: 'You stopped the run.'};
     if (!table) return answer;
-    const run = new Run(table, got.slice(4 + length));
+    const run = new Run(table, columnsIn(table, got.slice(4 + length)));
     await indexRun(run);
     return {...answer, run};
   }

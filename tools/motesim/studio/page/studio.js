@@ -12,7 +12,7 @@ import {beginWhy} from './whys.js';
 
 async function start() {
   const server = new Server(), began = await server.ask('begin', {});
-  begin(server, began, [['why', 'Why'], ['checks', 'Checks'], ['faults', 'Faults']]);
+  begin(server, began);
   beginWhy();
   beginStates();
   beginChecks();

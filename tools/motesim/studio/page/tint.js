@@ -3,8 +3,8 @@
 import {element} from '../../timeline/page/dom.js';
 import {firstState, rowTokens} from './tokens.js';
 
-// Rows above and below those in view that are coloured too, and rows between two states that are kept.
-const MORE = 20, KEPT = 64;
+// Rows above and below those in view that are coloured too.
+const MORE = 20;
 
 export class Tint {
   /** @param {HTMLTextAreaElement} area @param {HTMLElement} box @param {any} words those of the notation */
@@ -12,12 +12,11 @@ export class Tint {
     this.area = area;
     this.box = box;
     this.tokens = rowTokens(words);
-    // (an error, and a piece that was changed, each as [row, begin, end])
+    // (an error, and a piece that was changed, each as [row, begin, end]; and the row of the selected statement)
     this.place = /** @type {number[]|null} */ (null);
     this.lit = /** @type {number[]|null} */ (null);
-    // (the row of the statement that is selected)
     this.row = -1;
-    // (the state before the first row: another one if the area has a program alone)
+    // (the state before the first row, which may be in a program; and those before the next ones, as far as known)
     this.first = firstState();
     this.rows = /** @type {string[]|null} */ (null);
     this.states = [this.first];
@@ -31,31 +30,10 @@ export class Tint {
     requestAnimationFrame(() => this.draw());
   }
 
-  /** Marks an error, at [row, begin, end]; null for none.
-   * @param {number[]|null} place */
-  mark(place) {
-    this.place = place;
+  /** Draws other marks. @param {{place?: number[]|null, lit?: number[]|null, row?: number}} marks */
+  mark(marks) {
+    Object.assign(this, marks);
     this.draw();
-  }
-
-  /** Marks a row whose statement is selected; -1 for none. @param {number} row */
-  light(row) {
-    this.row = row;
-    this.draw();
-  }
-
-  /** The state before a row, from the nearest one that is kept.
-   * @param {number} row */
-  stateBefore(row) {
-    const last = Math.floor(row / KEPT);
-    while (this.states.length <= last) {
-      const begin = (this.states.length - 1) * KEPT, state = {...this.states[this.states.length - 1]};
-      for (let at = begin; at < begin + KEPT; at++) this.tokens(this.rows[at] || '', state);
-      this.states.push(state);
-    }
-    const state = {...this.states[last]};
-    for (let at = last * KEPT; at < row; at++) this.tokens(this.rows[at], state);
-    return state;
   }
 
   draw() {
@@ -63,51 +41,34 @@ export class Tint {
       this.rows = this.area.value.split('\n');
       this.states = [this.first];
     }
-    const {area, rows, box} = this, high = parseFloat(getComputedStyle(area).lineHeight) || 19.5;
+    const {area, rows, box, states} = this, high = parseFloat(getComputedStyle(area).lineHeight) || 19.5, made = [];
     const first = Math.max(0, Math.floor(area.scrollTop / high) - MORE);
     const end = Math.min(rows.length, Math.ceil((area.scrollTop + area.clientHeight) / high) + MORE);
-    const state = this.stateBefore(first), made = [];
-    for (let row = first; row < end; row++) made.push(this.rowOf(row, state));
+    for (let row = Math.min(first, states.length - 1); row < end; row++) {
+      const state = {...states[row]}, pieces = this.tokens(rows[row], state);
+      states[row + 1] = state;
+      if (row >= first) made.push(this.rowOf(row, pieces));
+    }
     box.replaceChildren(...made);
     box.style.transform = `translate(${-area.scrollLeft}px, ${first * high - area.scrollTop}px)`;
   }
 
-  /** @param {number} row @param {any} state */
-  rowOf(row, state) {
-    const pieces = this.tokens(this.rows[row], state), place = [this.place, this.lit].find(it => it && it[0] === row);
-    if (!place) {
-      const plain = element('div', '', pieces.length ? pieces.map(coloured) : ['\n']);
-      if (row === this.row) plain.className = 'statement-line';
-      return plain;
-    }
-    const isFault = place === this.place, [, from, to] = place;
-    const made = element('div', '',
-      markedPieces(pieces, from, Math.max(from + 1, to), isFault ? 'fault-mark' : 'lit-mark'));
-    if (isFault) made.className = 'fault-line';
-    return made;
+  /** @param {number} row @param {[string, string|null][]} pieces */
+  rowOf(row, pieces) {
+    const isFault = this.place && this.place[0] === row;
+    return element('div', pieces.length ? '' : '\n', [...this.marksOf(row), ...pieces.map(([text, colour]) =>
+      colour ? element('span', text, [], {className: `cm-${colour}`}) : text)],
+    {className: isFault ? 'fault-line' : row === this.row ? 'statement-line' : ''});
   }
-}
 
-/** A piece of a row in its colour.
- * @param {[string, string|null]} piece */
-function coloured([text, colour]) {
-  return colour ? Object.assign(element('span', text), {className: `cm-${colour}`}) : text;
-}
-
-/** The pieces of a row, with a mark on its columns from one to another.
- * @param {[string, string|null][]} pieces @param {number} from @param {number} to @param {string} name */
-function markedPieces(pieces, from, to, name) {
-  const before = [], marked = element('span'), after = [];
-  marked.className = name;
-  let at = 0;
-  for (const [text, colour] of pieces) {
-    const cut = [from - at, to - at].map(it => Math.max(0, Math.min(text.length, it)));
-    /** @type {[number, number, any[]][]} */
-    const parts = [[0, cut[0], before], [cut[1], text.length, after]];
-    if (cut[1] > cut[0]) marked.append(coloured([text.slice(cut[0], cut[1]), colour]));
-    for (const [begin, end, list] of parts) if (end > begin) list.push(coloured([text.slice(begin, end), colour]));
-    at += text.length;
+  /** The marks of a row: its text once more, which can't be seen, behind the other. @param {number} row */
+  marksOf(row) {
+    const text = this.rows[row];
+    return [{place: this.place, name: 'fault-mark'}, {place: this.lit, name: 'lit-mark'}].flatMap(({place, name}) => {
+      if (!place || place[0] !== row) return [];
+      const [, from, to] = place, marked = text.slice(from, Math.max(from + 1, to)) || ' ';
+      return [element('span', text.slice(0, from), [element('span', marked, [], {className: name})],
+        {className: 'marks'})];
+    });
   }
-  if (!marked.childNodes.length) marked.append(' ');
-  return [...before, marked, ...after];
 }

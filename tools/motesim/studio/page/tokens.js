@@ -1,77 +1,73 @@
 // @ts-check
-// The tokens of a scenario's rows, with their colours: tables by their own rules, programs by those of the notation.
-import {notationTokens} from './notation.js';
-
-/** A row that is read token by token, as CodeMirror's streams are. */
-class Stream {
-  /** @param {string} row */
-  constructor(row) {
-    this.row = row;
-    this.at = 0;
-  }
-
-  eol() { return this.at >= this.row.length; }
-  peek() { return this.row[this.at]; }
-  next() { return this.row[this.at++]; }
-  skipToEnd() { this.at = this.row.length; }
-
-  /** Passes a text or a pattern that begins here.
-   * @param {string|RegExp} what */
-  match(what) {
-    const rest = this.row.slice(this.at);
-    const found = typeof what === 'string' ? (rest.startsWith(what) ? [what] : null) : rest.match(what);
-    if (found) this.at += found[0].length;
-    return found;
-  }
-
-  eatSpace() { return Boolean(this.match(/^\s+/)); }
-}
+// The colours of a scenario's rows: tables by their own rules, programs by those of the notation. A statement has the
+// colour of its marks on the lanes.
 
 /** @type {[RegExp, string|null][]} */
 const TABLE_TOKENS = [
-  [/^\s+/, null], [/^#.*/, 'comment'], [/^\[\[?[A-Za-z0-9_.\s"-]+\]\]?(?=\s*(#|$))/, 'header'],
-  [/^([A-Za-z0-9_-]+|"([^"\\]|\\.)*")(?=\s*[.=])/, 'property'], [/^("([^"\\]|\\.)*"?|'[^']*'?)/, 'string'],
-  [/^(true|false)\b/, 'atom'], [/^[+-]?[0-9][0-9_.eE+-]*/, 'number'], [/^./, null],
+  [/\s+/y, null], [/#.*/y, 'comment'], [/\[\[?[A-Za-z0-9_.\s"-]+\]\]?(?=\s*(#|$))/y, 'header'],
+  [/([A-Za-z0-9_-]+|"([^"\\]|\\.)*")(?=\s*[.=])/y, 'property'], [/"([^"\\]|\\.)*"?|'[^']*'?/y, 'string'],
+  [/(true|false)\b/y, 'atom'], [/[+-]?[0-9][0-9_.eE+-]*/y, 'number'], [/./y, null],
 ];
+const OPENING = /"""|'''|["'](?=\s*(event|semaphore|process)\b)/y;
+const PROGRAM_TOKEN = /\s+|\/\/.*|[A-Za-z0-9_]+|./y;
+const OPERATORS = '{}();,=!+-*/%<>&|';
 
-/** @param {Stream} stream */
-function tableToken(stream) {
-  for (const [pattern, colour] of TABLE_TOKENS) if (stream.match(pattern)) return colour;
-  return null;
+/** The text of a pattern at a place of a row, or ''. @param {RegExp} pattern @param {string} row @param {number} at */
+function found(pattern, row, at) {
+  pattern.lastIndex = at;
+  return (pattern.exec(row) || [''])[0];
 }
 
-/** The state before a row: the quote of the program that is open, the word before, and the depth of braces.
- * @typedef {{quote: string, before: string, depth: number}} State */
+/** The state before a row: the quote of the program that is open, and the word before.
+ * @typedef {{quote: string, before: string}} State */
 
-/** A function that returns the pieces of a row with their colours, and makes the state that after the row.
+/** A function that returns the pieces of a row with their colours, and makes the state that after the row. `colours`
+ * has the words of each colour, `naming` those in front of a name.
  * @param {{colours: Record<string, string[]>, naming: string[]}} words
  * @returns {(row: string, state: State) => [string, string|null][]} */
-export function rowTokens(words) {
-  const notationToken = notationTokens(words);
+export function rowTokens({colours, naming}) {
+  const colourOf = new Map(Object.entries(colours).flatMap(([colour, words]) => words.map(word => [word, colour])));
 
-  /** @param {Stream} stream @param {State} state */
-  const token = (stream, state) => {
-    if (state.quote) {
-      if (!stream.match(state.quote)) return notationToken(stream, state);
+  const colourIn = (text, before) => {
+    if (!text.trim()) return null;
+    if (text.startsWith('//')) return 'comment';
+    if (/^[0-9]/.test(text)) return /^(0|[1-9][0-9]*)$/.test(text) ? 'number' : 'error';
+    if (!/^\w/.test(text)) return OPERATORS.includes(text) ? 'operator' : 'error';
+    if (naming.includes(before)) return 'def';
+    return colourOf.get(text) || (/[A-Z]/.test(text) ? 'error' : 'variable');
+  };
+
+  /** @returns {[string, string|null]} */
+  const ofProgram = (row, at, state) => {
+    const {quote, before} = state;
+    if (row.startsWith(quote, at)) {
       state.quote = '';
-      return 'string';
+      return [quote, 'string'];
     }
-    const opens = stream.match(/^("""|''')/) || stream.match(/^["'](?=\s*(event|semaphore|process)\b)/);
-    if (!opens) return tableToken(stream);
-    Object.assign(state, {quote: opens[0], before: '', depth: 0});
-    return 'string';
+    let text = found(PROGRAM_TOKEN, row, at);
+    // (a program on one line of TOML ends with its quote)
+    if (quote.length === 1 && text.startsWith('//')) text = text.split(quote)[0];
+    if (text.trim()) state.before = text;
+    return [text, colourIn(text, before)];
+  };
+
+  /** @returns {[string, string|null]} */
+  const ofTable = (row, at, state) => {
+    const quote = found(OPENING, row, at);
+    if (quote) Object.assign(state, {quote, before: ''});
+    if (quote) return [quote, 'string'];
+    const [pattern, colour] = TABLE_TOKENS.find(([it]) => found(it, row, at));
+    return [found(pattern, row, at), colour];
   };
 
   return (row, state) => {
-    const stream = new Stream(row), pieces = /** @type {[string, string|null][]} */ ([]);
-    while (!stream.eol()) {
-      const from = stream.at, colour = token(stream, state);
-      pieces.push([row.slice(from, stream.at), colour]);
+    const pieces = [];
+    for (let at = 0; at < row.length; at += pieces[pieces.length - 1][0].length) {
+      pieces.push((state.quote ? ofProgram : ofTable)(row, at, state));
     }
     return pieces;
   };
 }
 
-/** The state before the first row.
- * @returns {State} */
-export const firstState = () => ({quote: '', before: '', depth: 0});
+/** The state before the first row, in the text of a program with a quote or in a table. @returns {State} */
+export const firstState = (quote = '') => ({quote, before: ''});

@@ -1,8 +1,7 @@
 // @ts-check
 // The tab *Why*: questions about the run, which the server answers.
-import {chooseLine} from '../../timeline/page/details.js';
-import {byId, element, lineButton, withPlaces} from '../../timeline/page/dom.js';
-import {chooseRow} from '../../timeline/page/rows.js';
+import {chooseLine, chooseRow} from '../../timeline/page/details.js';
+import {byId, element, lineButton, onSubmit, withPlaces} from '../../timeline/page/dom.js';
 import {page} from '../../timeline/page/stage.js';
 import {showTab} from '../../timeline/page/tabs.js';
 import {sayWhy, showChain} from '../../timeline/page/why.js';
@@ -49,15 +48,6 @@ function missButton(mote, {words, line: row}) {
 /** Lets the server find causes from now on. */
 export function beginWhy() {
   page.chainOf = chainOf;
-  const input = Object.assign(element('input'), {id: 'why-asked', type: 'text', spellcheck: false, autocomplete: 'off',
-    size: 44, placeholder: 'mote 24 prints flood 2, or a line of the report'});
-  const form = element('form', '', [Object.assign(element('label', 'Why, or why not:'), {htmlFor: 'why-asked'}), input,
-    element('button', 'Ask why')]);
-  form.className = 'bar';
-  form.addEventListener('submit', event => {
-    event.preventDefault();
-    askQuestion(input.value.trim());
-  });
-  byId('why').append(form, Object.assign(element('section', '', [element('p', 'Write an expectation, or the number ' +
-    'of a line. Or select a line on the lanes, and press W.')]), {id: 'why-chain'}));
+  onSubmit('why-form', () => askQuestion(byId('why-asked').value.trim()));
+  byId('why').append(byId('why-chain'));
 }

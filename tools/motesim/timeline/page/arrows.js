@@ -1,9 +1,9 @@
 // @ts-check
 // Packets: an arrow for each copy, from its sender's lane at the moment of sending to its receiver's at arrival.
 import {RECV, SEND, lowerBound} from './data.js';
-import {colours, drawArrow, head, path, stroke} from './forms.js';
+import {colours, drawArrow, path, ring, stroke} from './forms.js';
 import {arrivalOf} from './index.js';
-import {FULL_LANE, SMALL_LANE} from './layout.js';
+import {FULL_LANE, awayFrom} from './layout.js';
 import {page} from './stage.js';
 
 const FEW = 250, MANY = 2500, MOST_VISITED = 15000;
@@ -48,9 +48,9 @@ export function drawArrows(pane) {
   c.save();
   c.globalAlpha = pane.isPale ? 0.4 : 0.85;
   for (let i = 0; i < found.length; i += 2) {
-    const k = found[i], copy = found[i + 1], [x0, y0, x1, y1] = arrowEnds(pane, k, copy);
-    drawArrow(c, x0, y0, x1, y1, run.copyFate[copy], 1, size);
-    pane.arrows.push(x0, y0, x1, y1, k, copy);
+    const k = found[i], copy = found[i + 1], ends = arrowEnds(pane, k, copy);
+    drawArrow(c, ends, run.copyFate[copy], 1, size);
+    pane.arrows.push(...ends, k, copy);
   }
   c.restore();
   drawn.arrows = found.length / 2;
@@ -61,46 +61,30 @@ export function arrowNear(pane, x, y, reach) {
   let best = reach, found = null;
   const {arrows} = pane;
   for (let i = 0; i < arrows.length; i += 6) {
-    const dx = arrows[i + 2] - arrows[i], dy = arrows[i + 3] - arrows[i + 1], square = dx * dx + dy * dy || 1;
-    const share = Math.max(0, Math.min(1, ((x - arrows[i]) * dx + (y - arrows[i + 1]) * dy) / square));
-    const away = Math.hypot(x - arrows[i] - share * dx, y - arrows[i + 1] - share * dy);
-    if (away < best) {
-      best = away;
-      found = {k: arrows[i + 4], copy: arrows[i + 5]};
-    }
+    const away = awayFrom(x, y, arrows.slice(i, i + 4));
+    if (away >= best) continue;
+    best = away;
+    found = {k: arrows[i + 4], copy: arrows[i + 5]};
   }
   return found;
 }
 
-/** Draws the selection: a ring around its line, the arrows of its packet, bows from an event's post to its takes. */
+/** Draws the selection: a ring around its line, and the arrows of its packet. */
 export function drawChosen(pane) {
   if (page.chosen.pane !== pane) return;
-  const {run, context: c} = pane, low = pane.lane < SMALL_LANE;
-  const y = line => low ? pane.laneTop(run.moteOf(line)) + pane.lane / 2 :
-    pane.lineY(run.silent[line] ? SEND : run.kind[line], run.moteOf(line));
-  const x = line => pane.lineX(line, run.moteOf(line));
+  const {run, context: c} = pane, {line} = page.chosen;
   if (page.chosen.k >= 0) {
     for (let copy = run.copyStart[page.chosen.k]; copy < run.copyStart[page.chosen.k + 1]; copy++) {
-      const [x0, y0, x1, y1] = arrowEnds(pane, page.chosen.k, copy);
-      path(c, [x0, y0, x1, y1]);
+      const ends = arrowEnds(pane, page.chosen.k, copy), isChosen = copy === page.chosen.copy;
+      path(c, ends);
       c.save();
       c.globalAlpha = 0.6;
-      stroke(c, colours.halo, copy === page.chosen.copy ? 9 : 6);
+      stroke(c, colours.halo, isChosen ? 9 : 6);
       c.restore();
-      drawArrow(c, x0, y0, x1, y1, run.copyFate[copy], copy === page.chosen.copy ? 3 : 2, 5);
+      drawArrow(c, ends, run.copyFate[copy], isChosen ? 3 : 2, 5);
     }
   }
-  for (const [from, to] of page.chosen.bows) {
-    const x0 = x(from), y0 = y(from), x1 = x(to), y1 = y(to), lift = Math.max(8, Math.min(26, pane.lane * 0.5));
-    c.beginPath();
-    c.moveTo(x0, y0);
-    c.bezierCurveTo(x0, y0 - lift, x1, y1 - lift, x1, y1);
-    stroke(c, colours.mark, 2);
-    head(c, x1, y1 - lift, x1, y1 - 4, 7, colours.mark, true);
-  }
-  if (page.chosen.line >= 0) {
-    c.beginPath();
-    c.arc(x(page.chosen.line), y(page.chosen.line), Math.max(7, Math.min(11, pane.lane * 0.3)), 0, 7);
-    stroke(c, colours.mark, 2.5);
-  }
+  if (line < 0) return;
+  ring(c, ...pane.placeOf(line, page.chosen.mote), Math.max(7, Math.min(11, pane.lane * 0.3)));
+  stroke(c, colours.mark, 2.5);
 }

@@ -1,6 +1,6 @@
 // @ts-check
 // The frame of a pane's lanes: axis, grid, bands, the names of motes, and the moment that the map shows.
-import {colours, fill, path} from './forms.js';
+import {box, colours, fill, path, setFont, write} from './forms.js';
 import {AXIS, SMALL_LANE} from './layout.js';
 import {page} from './stage.js';
 import {niceStep} from './time.js';
@@ -9,41 +9,32 @@ import {niceStep} from './time.js';
 export function drawAxis(pane) {
   const {time} = page, c = pane.front, step = niceStep(76 / time.scale);
   const first = Math.max(0, Math.ceil(time.begin / step) * step), last = Math.min(time.end, pane.moment(pane.width));
-  c.fillStyle = colours.panel;
-  c.fillRect(0, 0, pane.width, AXIS);
-  c.font = '12px system-ui, "DejaVu Sans", sans-serif';
-  c.textAlign = 'center';
-  c.textBaseline = 'middle';
+  box(c, 'panel', 0, 0, pane.width, AXIS);
+  setFont(c, 12, 'center');
   const middle = page.time.scale > 26 ? 0.5 : 0;
   for (let moment = first; moment <= last; moment += step) {
     const x = pane.x(moment);
-    c.fillStyle = colours.edge;
-    if (x >= pane.gutter) c.fillRect(Math.round(x), AXIS - 5, 1, 5);
-    c.fillStyle = colours.quiet;
+    if (x < pane.gutter) continue;
+    box(c, 'edge', Math.round(x), AXIS - 5, 1, 5);
     const half = c.measureText(String(moment)).width / 2;
     const at = Math.max(pane.x(moment + middle), pane.gutter + half + 1);
-    if (x >= pane.gutter && at + half < pane.width - 2) c.fillText(String(moment), at, AXIS / 2);
+    if (at + half < pane.width - 2) write(c, String(moment), at, AXIS / 2, 'quiet');
   }
   c.textAlign = 'left';
-  c.fillStyle = colours.panel;
-  c.fillRect(0, 0, pane.gutter, AXIS);
-  c.fillStyle = colours.quiet;
-  c.fillText('moment', 6, AXIS / 2, pane.gutter - 9);
-  c.fillStyle = colours.edge;
-  c.fillRect(0, AXIS - 1, pane.width, 1);
+  box(c, 'panel', 0, 0, pane.gutter, AXIS);
+  write(c, 'moment', 6, AXIS / 2, 'quiet', pane.gutter - 9);
+  box(c, 'edge', 0, AXIS - 1, pane.width, 1);
 }
 
 /** The grid, and the areas before and after the run. */
 export function drawGrid(pane) {
   const {time} = page, c = pane.context, step = niceStep(76 / time.scale);
   const first = Math.max(0, Math.ceil(time.begin / step) * step), last = Math.min(time.end, pane.moment(pane.width));
-  c.fillStyle = colours.grid;
   for (let moment = first; moment <= last; moment += step)
-    c.fillRect(Math.round(pane.x(moment)), AXIS, 1, pane.height);
+    box(c, 'grid', Math.round(pane.x(moment)), AXIS, 1, pane.height);
   const before = pane.x(0), behind = pane.x(pane.run.end + 1);
-  c.fillStyle = colours.panel;
-  if (before > pane.gutter) c.fillRect(pane.gutter, AXIS, before - pane.gutter, pane.height);
-  if (behind < pane.width) c.fillRect(behind, AXIS, pane.width - behind, pane.height);
+  if (before > pane.gutter) box(c, 'panel', pane.gutter, AXIS, before - pane.gutter, pane.height);
+  if (behind < pane.width) box(c, 'panel', behind, AXIS, pane.width - behind, pane.height);
 }
 
 /** The bands behind the lanes, which tell neighbouring lanes apart. */
@@ -53,24 +44,15 @@ export function drawBands(pane, from, to) {
   const left = Math.max(pane.gutter, pane.x(0)), right = Math.min(pane.width, pane.x(pane.run.end + 1));
   for (let place = from; place < to; place++) {
     const y = pane.laneTopOfPlace(place);
-    if (place % 2) {
-      c.fillStyle = colours.band;
-      c.fillRect(left, y, right - left, pane.lane);
-    }
-    if (pane.lane >= SMALL_LANE) {
-      c.fillStyle = colours.grid;
-      c.fillRect(left, Math.round(y + pane.lane) - 1, right - left, 1);
-    }
+    if (place % 2) box(c, 'band', left, y, right - left, pane.lane);
+    if (pane.lane >= SMALL_LANE) box(c, 'grid', left, Math.round(y + pane.lane) - 1, right - left, 1);
   }
 }
 
 /** The column of the names of motes. */
-export function drawColumn(pane) {
-  const {front: c} = pane;
-  c.fillStyle = colours.panel;
-  c.fillRect(0, AXIS, pane.gutter - 1, pane.height);
-  c.fillStyle = colours.edge;
-  c.fillRect(pane.gutter - 1, AXIS, 1, pane.height);
+export function drawColumn({front: c, gutter, height}) {
+  box(c, 'panel', 0, AXIS, gutter - 1, height);
+  box(c, 'edge', gutter - 1, AXIS, 1, height);
 }
 
 /** The names of motes, in that column. */
@@ -78,25 +60,18 @@ export function drawNames(pane, from, to) {
   const {run, front: c} = pane;
   const step = pane.lane >= 11 ? 1 : niceStep(13 / pane.lane), several = run.programs.length > 1;
   const shown = page.chosen.pane === pane ? page.chosen.mote : -1;
-  c.textBaseline = 'middle';
   for (let place = from; place < to; place++) {
     const mote = pane.order[place], y = pane.laneTopOfPlace(place);
     const isChosen = mote === shown;
     // (the name of the chosen mote is there alone)
     if (!isChosen && (mote % step || shown >= 0 && Math.abs(pane.laneTop(shown) - y) < 11)) continue;
-    if (isChosen) {
-      c.fillStyle = colours.halo;
-      c.fillRect(0, y, pane.gutter - 1, Math.max(2, pane.lane));
-    }
-    c.fillStyle = colours.ink;
-    c.font = (isChosen ? 'bold ' : '') + '12px system-ui, "DejaVu Sans", sans-serif';
+    if (isChosen) box(c, 'halo', 0, y, pane.gutter - 1, Math.max(2, pane.lane));
+    setFont(c, 12, 'left', 'middle', isChosen ? 'bold' : '');
     const both = several && pane.lane >= 30, name = pane.lane >= 11 ? `mote ${mote}` : String(mote);
-    c.fillText(name, 6, y + pane.lane / 2 - (both ? 7 : 0), pane.gutter - 9);
-    if (both) {
-      c.font = '11px system-ui, "DejaVu Sans", sans-serif';
-      c.fillStyle = colours.quiet;
-      c.fillText(run.programs[run.begins[mote]], 6, y + pane.lane / 2 + 8, pane.gutter - 10);
-    }
+    write(c, name, 6, y + pane.lane / 2 - (both ? 7 : 0), 'ink', pane.gutter - 9);
+    if (!both) continue;
+    setFont(c, 11);
+    write(c, run.programs[run.begins[mote]], 6, y + pane.lane / 2 + 8, 'quiet', pane.gutter - 10);
   }
 }
 

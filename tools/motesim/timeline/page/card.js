@@ -36,8 +36,7 @@ export function beginCard() {
   });
   document.addEventListener('keydown', event => {
     if (event.key === 'Escape') hideCard();
-    const isChoosing = '[]{}wW'.includes(event.key) || event.key === 'Enter';
-    if (!isChoosing || !page.chosen.pane || document.activeElement !== page.panes[0].canvas) return;
+    if (!'[]{}wW'.includes(event.key) || !page.chosen.pane || document.activeElement !== page.panes[0].canvas) return;
     const box = page.panes[0].canvas.getBoundingClientRect();
     showCard(box.right - 420, box.top - 160);
   });

@@ -5,7 +5,7 @@ export const KINDS = ['start', 'leave', 'post', 'full', 'take', 'drop', 'print',
 export const [START, LEAVE, POST, FULL, TAKE, DROP, PRINT, BUSY, SEND, RECV, LOST, COLLIDE, DEAF, HALT] = KINDS.keys();
 /** The number of the process `all`. */
 export const ALL = 0xffff;
-const ARRAYS = {u8: Uint8Array, u16: Uint16Array, u32: Uint32Array};
+export const ARRAYS = {u8: Uint8Array, u16: Uint16Array, u32: Uint32Array};
 const NONE = new Uint32Array(0), NO_NAMES = /** @type {string[]} */ ([]);
 
 /** The bytes that were compressed by zlib and written in base64. */
@@ -25,6 +25,36 @@ export function lowerBound(array, value, low = 0, high = array.length) {
   return low;
 }
 
+/** @typedef {Uint8Array|Uint16Array|Uint32Array} Numbers */
+
+/** The columns in a buffer, in the order in which a table names them with their kinds of numbers. Numbers that are
+ * packed as differences are added up: moments, and serials and numbers against the expected ones.
+ * @param {any} table @param {ArrayBuffer} buffer */
+export function columnsIn(table, buffer) {
+  const columns = /** @type {Record<string, Numbers>} */ ({});
+  let place = 0;
+  for (const [name, type, count] of table.columns) {
+    columns[name] = new ARRAYS[type](buffer, place, count);
+    place += Math.ceil(columns[name].byteLength / 4) * 4;
+  }
+  const {at, x, kind, traceStart, begins, packetAt} = columns, last = new Int32Array(KINDS.length);
+  for (let mote = 0; mote < begins.length; mote++) {
+    let now = 0;
+    last.fill(-1);
+    for (let i = traceStart[mote]; i < traceStart[mote + 1]; i++) {
+      now += at[i];
+      at[i] = now;
+      const k = kind[i];
+      if (k === POST || k === TAKE || k === DROP || k >= SEND && k <= DEAF) {
+        last[k] += 1 + ((x[i] >>> 1) ^ -(x[i] & 1));
+        x[i] = last[k];
+      }
+    }
+  }
+  for (let k = 1; k < packetAt.length; k++) packetAt[k] += packetAt[k - 1];
+  return columns;
+}
+
 /** A run: for each line of a trace its moment (at), kind, process or sender (p), serial or number (x), event (e) and
     value (w); for each packet its moment, sender, number, value and copies. */
 export class Run {
@@ -39,46 +69,12 @@ export class Run {
   /** @type {Record<number, string>} the fields of values, if the format of packets is declared */
   fields = {};
 
-  /** @param {any} said the names and the columns, each with its kind of numbers @param {ArrayBuffer} buffer */
-  constructor(said, buffer) {
-    Object.assign(this, said);
-    let place = 0;
-    for (const [name, type, count] of said.columns) {
-      const Type = ARRAYS[type];
-      this[name] = new Type(buffer, place, count);
-      place += Math.ceil(count * Type.BYTES_PER_ELEMENT / 4) * 4;
-    }
+  /** @param {any} said the names @param {Record<string, Numbers>} columns */
+  constructor(said, columns) {
+    Object.assign(this, said, columns);
     this.count = this.x.length;
     this.packets = this.packetSender.length;
-    // (columns that were read from a report in the page are plain numbers)
-    if (!said.plain) {
-      this.restoreTraces();
-      this.restorePackets();
-    }
     this.numberPackets();
-  }
-
-  /** Adds up numbers that are packed as differences: moments, and serials and numbers against the expected ones. */
-  restoreTraces() {
-    const {at, x, kind, traceStart, begins} = this;
-    const last = new Int32Array(KINDS.length);
-    for (let mote = 0; mote < begins.length; mote++) {
-      let now = 0;
-      last.fill(-1);
-      for (let i = traceStart[mote]; i < traceStart[mote + 1]; i++) {
-        now += at[i];
-        at[i] = now;
-        const k = kind[i];
-        if (k === POST || k === TAKE || k === DROP || k >= SEND && k <= DEAF) {
-          last[k] += 1 + ((x[i] >>> 1) ^ -(x[i] & 1));
-          x[i] = last[k];
-        }
-      }
-    }
-  }
-
-  restorePackets() {
-    for (let k = 1; k < this.packets; k++) this.packetAt[k] += this.packetAt[k - 1];
   }
 
   /** Numbers the packets of each sender, and finds the copies of each. */

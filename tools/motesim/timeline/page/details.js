@@ -4,6 +4,7 @@ import {COLLIDE, DEAF, DROP, LOST, POST, RECV, SEND, TAKE, lowerBound} from './d
 import {byId, element, lineButton, list, makeButton} from './dom.js';
 import {redraw} from './draw.js';
 import {FATE_WORDS, MEDIUM, arrivalOf} from './index.js';
+import {SMALL_LANE} from './layout.js';
 import {setNow} from './play.js';
 import {choose, page} from './stage.js';
 import {revealMoment} from './time.js';
@@ -25,7 +26,7 @@ export function selectNothing() {
   box.replaceChildren(element('h2', 'Nothing is selected'),
     element('p',
       'Click a mark, an arrow, or a mote on the map. With the keyboard: go to the timeline with Tab, ' +
-      'choose with [ and ], and follow with Enter.'));
+      'and choose with [ and ].'));
   redraw();
 }
 
@@ -44,25 +45,16 @@ export function chooseLine(pane, line, show) {
 /** The selection, in a form that finds it in another run; or null. */
 export function chosenInWords() {
   if (!page.chosen.pane) return null;
-  const {pane: {run}, mote, line, k, copy} = page.chosen;
-  if (line >= 0) return {mote, at: run.at[line], words: run.words(line)};
-  if (k >= 0) return {mote, sender: run.packetSender[k], number: run.packetNumber[k], to: run.copyTo[copy]};
-  return {mote};
+  const {pane: {run}, mote, line} = page.chosen;
+  return line >= 0 ? {mote, at: run.at[line], words: run.words(line)} : {mote};
 }
 
 /** Selects the same in the run that a pane shows now; otherwise the mote, if that run has it. */
-export function chooseAgain(pane, kept) {
-  const {run} = pane, {mote, at, words, sender, number, to} = kept;
-  choose({});
+export function chooseAgain(pane, {mote, at = 0, words = ''}) {
+  const {run} = pane, end = run.traceStart[mote + 1];
   if (mote >= run.begins.length) return selectNothing();
-  if (words !== undefined) {
-    const from = lowerBound(run.at, at, run.traceStart[mote], run.traceStart[mote + 1]);
-    for (let i = from; i < run.traceStart[mote + 1] && run.at[i] === at; i++) {
-      if (run.words(i) === words) return chooseLine(pane, i, false);
-    }
-  } else if (sender !== undefined) {
-    const k = run.packetOf(sender, number), copy = k < 0 ? -1 : run.copyFor(k, to);
-    if (copy >= 0) return chooseCopy(pane, k, copy, false);
+  for (let i = lowerBound(run.at, at, run.traceStart[mote], end); words && i < end && run.at[i] === at; i++) {
+    if (run.words(i) === words) return chooseLine(pane, i, false);
   }
   chooseMote(pane, mote, false);
 }
@@ -71,7 +63,7 @@ export function chooseAgain(pane, kept) {
 export function chooseCopy(pane, k, copy, show) {
   const {run} = pane;
   if (run.copyLine[copy] >= 0) return chooseLine(pane, run.copyLine[copy], show);
-  choose({pane, mote: run.copyTo[copy], k, copy, next: run.sendLine[k] >= 0 ? [run.sendLine[k]] : []});
+  choose({pane, mote: run.copyTo[copy], k, copy});
   tell(pane, show);
 }
 
@@ -111,72 +103,49 @@ function speak(pane) {
 
 /** Adds a packet: the medium's line, the send, and each copy with its fate. */
 function tellPacket(box, pane) {
-  const {run} = pane, {k} = page.chosen, s = run.packetSender[k];
-  box.append(element('h2', `Packet ${run.packetNumber[k]} of mote ${s}, value ${run.packetValue[k]}`));
-  const items = [];
-  if (run.sendLine[k] >= 0) items.push(traceButton(pane, run.sendLine[k], `sent by mote ${s}`));
-  for (let copy = run.copyStart[k]; copy < run.copyStart[k + 1]; copy++) {
-    const to = run.copyTo[copy], fate = run.copyFate[copy], line = run.copyLine[copy], hand = run.handLine[copy];
-    const what = `mote ${to}: ${FATE_WORDS[fate]}`;
-    if (line >= 0) {
-      items.push(traceButton(pane, line, what));
-      if (page.chosen.line === line && hand >= 0) items.push(traceButton(pane, hand, 'handed on, in the same turn'));
-      if (page.chosen.line === run.sendLine[k]) page.chosen.next.push(line);
-      if (page.chosen.line === line) page.chosen.next = [hand >= 0 ? hand : run.sendLine[k]];
-    } else {
-      const arrives = arrivalOf(run, k, copy);
-      items.push(lineButton(`to ${to}`, fate === MEDIUM ? `${to}@lost` : `${to}@${arrives}`, what,
-        page.chosen.copy === copy,
-        () => chooseCopy(pane, k, copy, true)));
-    }
-    if (items.length > MOST_LISTED) {
-      items.push(element('span', `and ${run.copyStart[k + 1] - copy - 1} more copies`));
-      break;
-    }
-  }
-  box.append(list('ul', [lineButton(`line ${run.numberOfPacket(k)}`, run.packetText(k),
-    'in the log of the medium', false,
-    () => run.sendLine[k] >= 0 && chooseLine(pane, run.sendLine[k], true)), ...items]));
+  const {run} = pane, {k} = page.chosen, s = run.packetSender[k], send = run.sendLine[k], copies = run.copyCount[k];
+  const items = [lineButton(`line ${run.numberOfPacket(k)}`, run.packetText(k), 'in the log of the medium', false,
+    () => send >= 0 && chooseLine(pane, send, true))];
+  if (send >= 0) items.push(traceButton(pane, send, `sent by mote ${s}`));
+  for (let i = 0; i < Math.min(copies, MOST_LISTED); i++) items.push(copyButton(pane, k, run.copyStart[k] + i));
+  if (copies > MOST_LISTED) items.push(element('span', `and ${copies - MOST_LISTED} more copies`));
+  box.append(element('h2', `Packet ${run.packetNumber[k]} of mote ${s}, value ${run.packetValue[k]}`),
+    list('ul', items));
+}
+
+/** A copy as a button that selects it. */
+function copyButton(pane, k, copy) {
+  const {run} = pane, to = run.copyTo[copy], fate = run.copyFate[copy], what = `mote ${to}: ${FATE_WORDS[fate]}`;
+  if (run.copyLine[copy] >= 0) return traceButton(pane, run.copyLine[copy], what);
+  return lineButton(`to ${to}`, `${to}@${fate === MEDIUM ? 'lost' : arrivalOf(run, k, copy)}`, what,
+    page.chosen.copy === copy, () => chooseCopy(pane, k, copy, true));
 }
 
 /** Adds an event, from its post to its takes or drop. */
 function tellEvent(box, pane) {
-  const {run} = pane, {line, mote} = page.chosen, serial = run.x[line], post = run.postOf(mote, serial), items = [];
-  box.append(element('h2', `Event ${serial} of mote ${mote}: ${run.events[run.e[line]]} ${run.w[line]}`));
-  if (post >= 0) items.push(traceButton(pane, post,
-    run.at[post] < run.at[line] ? `${count(run.at[line] - run.at[post], 'moment')} before` : 'posted'));
-  const end = run.traceStart[mote + 1];
-  for (let i = post < 0 ? line : post + 1; i < end; i++) {
-    const isOf = (run.kind[i] === TAKE || run.kind[i] === DROP) && run.x[i] === serial;
-    if ((run.kind[i] === TAKE || run.kind[i] === DROP) && run.x[i] > serial) break;
-    if (!isOf) continue;
-    items.push(traceButton(pane, i, run.kind[i] === TAKE ? 'taken' : 'dropped: the process isn\'t started'));
-    if (post >= 0) page.chosen.bows.push([post, i]);
-    if (page.chosen.line === post && !page.chosen.next.length) page.chosen.next.push(i);
+  const {run} = pane, {line, mote} = page.chosen, serial = run.x[line], post = run.postOf(mote, serial);
+  if (post < 0) return;
+  const items = [traceButton(pane, post, 'posted')], end = run.traceStart[mote + 1];
+  for (let i = post + 1; i < end; i++) {
+    if (run.kind[i] !== TAKE && run.kind[i] !== DROP) continue;
+    if (run.x[i] > serial) break;
+    if (run.x[i] < serial) continue;
+    items.push(traceButton(pane, i, run.kind[i] === TAKE ? `taken ${count(run.at[i] - run.at[post], 'moment')} later` :
+      'dropped: the process isn\'t started'));
   }
-  if (items.length === (post >= 0 ? 1 : 0)) items.push(element('span', 'It is still waiting when the run ends.'));
-  if (page.chosen.line !== post) {
-    const [, to] = run.turn(line, mote);
-    for (let i = line + 1; i < to && run.kind[i] !== TAKE; i++) if (run.kind[i] === SEND || run.kind[i] === POST)
-      page.chosen.next.push(i);
-  }
-  if (run.silent[line]) items.push(element('span', 'This timer sends in other runs; in this run it doesn\'t.'));
-  const copy = post < 0 ? -1 : run.handLine.indexOf(post);
-  if (copy >= 0) items.unshift(traceButton(pane, run.copyLine[copy], 'the packet that it is about'));
-  box.append(list('ul', items));
+  if (items.length === 1) items.push(element('span', 'It is still waiting when the run ends.'));
+  box.append(element('h2', `Event ${serial} of mote ${mote}: ${run.events[run.e[line]]} ${run.w[line]}`),
+    list('ul', items));
 }
 
-/** Adds all lines that the mote wrote at this moment. */
+/** Adds the lines that the mote wrote at this moment. */
 function tellTurn(box, pane) {
-  const {run} = pane, {line, mote} = page.chosen, [from, to] = run.turn(line, mote), items = [];
-  box.append(element(box.children.length ? 'h3' : 'h2', `Mote ${mote} at moment ${run.at[line]}: its turn`));
-  const first = Math.max(from, Math.min(line - MOST_LISTED / 2, to - MOST_LISTED));
-  for (let i = first; i < Math.min(to, first + MOST_LISTED); i++) {
-    items.push(traceButton(pane, i, run.silent[i] ? 'a timer that sends in other runs, and not in this one' : ''));
-  }
-  box.append(list('ol', items));
-  if (to - from > MOST_LISTED) box.append(element('p',
-    `${to - from - MOST_LISTED} lines of this turn are not listed.`));
+  const {run} = pane, {line, mote} = page.chosen, [from, to] = run.turn(line, mote);
+  const first = Math.max(from, line - MOST_LISTED / 2), shown = Math.min(MOST_LISTED, to - first);
+  box.append(element(box.children.length ? 'h3' : 'h2', `Mote ${mote} at moment ${run.at[line]}: its turn`),
+    list('ol', Array.from({length: shown}, (_, i) => traceButton(pane, first + i,
+      run.silent[first + i] ? 'a timer that sends in other runs, and not in this one' : ''))));
+  if (to - from > shown) box.append(element('p', `${to - from - shown} lines of this turn are not listed.`));
   box.append(element('p', '', [makeButton(`All of mote ${mote}`, () => chooseMote(pane, mote, false))]));
 }
 
@@ -190,13 +159,6 @@ function tellMote(box, pane) {
       (hears.length <= 30 ? `: ${hears.join(', ')}.` : '.') : 'It hears nobody.')),
     element('h3', 'Its first lines'),
     list('ol', Array.from({length: end - first}, (_, i) => traceButton(pane, first + i, ''))));
-}
-
-/** Follows the selection: from a send to a copy, from a copy to its event, from a post to its take, from there to
-    the sent packets and posted events. */
-export function follow() {
-  const {pane, next} = page.chosen;
-  if (pane && next.length && next[0] >= 0) chooseLine(pane, next[0], true);
 }
 
 /** Selects the line before or after the selected one; if there is none, the first in view. */
@@ -222,4 +184,15 @@ export function walkLanes(pane, by) {
   const moment = page.chosen.line >= 0 ? run.at[page.chosen.line] : Math.floor(page.play.now);
   if (first === end) return chooseMote(pane, mote, true);
   chooseLine(pane, Math.min(end - 1, lowerBound(run.at, moment, first, end)), true);
+}
+
+/** Selects a row of the report: a line of a trace, a mote by its head, or the send of a packet. */
+export function chooseRow(pane, row) {
+  const {run} = pane, found = run.atRow(row);
+  if (!found) return;
+  const line = found.packet === undefined ? found.line : run.sendLine[found.packet];
+  if (line >= 0) {
+    if (pane.lane < SMALL_LANE) pane.zoomLanes(20 / pane.lane);
+    chooseLine(pane, line, true);
+  } else if (found.mote !== undefined) chooseMote(pane, found.mote, true);
 }

@@ -9,9 +9,12 @@ export const byId = id => document.getElementById(id);
  * @type {() => any} */
 export const focused = () => document.activeElement;
 
-/** A new element with a text and with others inside. */
-export function element(name, text, inside = []) {
+/** A new element with a text, with others inside, and with properties and attributes. @returns {any} */
+export function element(name, text = '', inside = [], its = {}) {
   const made = document.createElement(name);
+  for (const [key, value] of Object.entries(its)) {
+    if (key in made) made[key] = value; else made.setAttribute(key, value);
+  }
   if (text) made.textContent = text;
   made.append(...inside);
   return made;
@@ -33,13 +36,20 @@ export function makeButton(name, act) {
   return button;
 }
 
+/** Calls a function when a form is sent. */
+export function onSubmit(id, act) {
+  byId(id).addEventListener('submit', event => {
+    event.preventDefault();
+    act();
+  });
+}
+
 // A line of a program in its file, as in `line 24 (start (2).toml:34)`.
 const FILE_LINE = /(?<=line \d+ \()(.+?):(\d+)(?=\))/g;
 
 /** A place in the file of the programs, which a click shows. */
 function filePlace(text, line) {
-  const made = Object.assign(element('span', text), {className: 'place', tabIndex: 0, title: `Go to line ${line}`});
-  made.setAttribute('role', 'link');
+  const made = element('span', text, [], {className: 'place', tabIndex: 0, title: `Go to line ${line}`, role: 'link'});
   const go = event => {
     event.preventDefault();
     event.stopPropagation();
@@ -64,10 +74,9 @@ export function withPlaces(text) {
 
 /** A line of the report as a button: its place, its text, and a remark. */
 export function lineButton(where, text, remark, isCurrent, act) {
-  const button = makeButton('', act);
-  button.className = 'line';
-  button.append(Object.assign(element('span', where), {className: 'where'}), element('code', '', withPlaces(text)));
-  if (remark) button.append(Object.assign(element('span', '', withPlaces(remark)), {className: 'what'}));
+  const button = Object.assign(makeButton('', act), {className: 'line'});
+  button.append(element('span', where, [], {className: 'where'}), element('code', '', withPlaces(text)));
+  if (remark) button.append(element('span', '', withPlaces(remark), {className: 'what'}));
   if (isCurrent) button.setAttribute('aria-current', 'true');
   return button;
 }

@@ -1,7 +1,7 @@
 // @ts-check
 // The forms of lines and copies, each drawn around a point. No two differ only by colour.
 import {byId, element} from './dom.js';
-import {COLLIDED, GONE, HANDED, LEFT, MEDIUM, RECEIVED, REFUSED, RING, UNHEARD} from './index.js';
+import {COLLIDED, FATE_WORDS, GONE, HANDED, LEFT, MEDIUM, RECEIVED, REFUSED, RING, UNHEARD} from './index.js';
 
 /** The colours of the page by their names. */
 export const colours = {};
@@ -37,111 +37,84 @@ export function fill(c, colour) {
   c.fill();
 }
 
-export function cross(c, x, y, r, colour, width = 1.6) {
-  path(c, [x - r, y - r, x + r, y + r]);
-  stroke(c, colour, width);
-  path(c, [x - r, y + r, x + r, y - r]);
-  stroke(c, colour, width);
+/** Sets the font of texts, and where they are at a point. @param {any} c */
+export function setFont(c, size, align = 'left', baseline = 'middle', weight = '') {
+  Object.assign(c, {font: `${weight} ${size}px system-ui, "DejaVu Sans", sans-serif`, textAlign: align,
+    textBaseline: baseline});
 }
 
-function star(c, x, y, r, colour, width = 1.6) {
-  c.beginPath();
-  for (let i = 0; i < 3; i++) {
-    const a = Math.PI * (i / 3 + 0.5), dx = Math.cos(a) * r, dy = Math.sin(a) * r;
-    c.moveTo(x - dx, y - dy);
-    c.lineTo(x + dx, y + dy);
-  }
-  stroke(c, colour, width);
+/** Writes a text in a colour, at most so wide. @param {number=} most */
+export function write(c, text, x, y, colour, most) {
+  c.fillStyle = colours[colour];
+  c.fillText(text, x, y, most);
 }
 
-function ring(c, x, y, r, colour, filled) {
+/** Fills a rectangle with a colour. */
+export function box(c, colour, x, y, wide, tall) {
+  c.fillStyle = colours[colour];
+  c.fillRect(x, y, wide, tall);
+}
+
+/** A circle as the path. */
+export function ring(c, x, y, r) {
   c.beginPath();
   c.arc(x, y, r, 0, 7);
-  if (filled) fill(c, colour); else {
-    fill(c, colours.paper);
-    stroke(c, colour, 1.4);
+}
+
+const UP = [0, -1.1, 1, 0.8, -1, 0.8], DOWN = [0, 1.1, 1, -0.8, -1, -0.8], SQUARE = [-1, -1, 1, -1, 1, 1, -1, 1];
+const DIAMOND = [0, -1, 1, 0, 0, 1, -1, 0], HOURGLASS = [-1, -1, 1, -1, -1, 1, 1, 1, -1, -1];
+const BRACKET = [0.7, -1.3, 0, -1.3, 0, 1.3, 0.7, 1.3], END = [-0.7, -1.3, 0, -1.3, 0, 1.3, -0.7, 1.3];
+const OCTAGON = [0, 1, 2, 3, 4, 5, 6, 7].map(i => (i + 0.5) * Math.PI / 4).flatMap(a =>
+  [Math.cos(a) * 1.5, Math.sin(a) * 1.5]);
+const STAR = [0, 1, 2].map(i => (i / 3 + 0.5) * Math.PI).map(a => [Math.cos(a) * 1.2, Math.sin(a) * 1.2]).map(
+  ([x, y]) => ({lines: [-x, -y, x, y], edge: 'trouble', wide: 1.8}));
+const CROSS = [[-1, -1, 1, 1], [-1, 1, 1, -1]].map(lines => ({lines, edge: 'trouble', wide: 1.6}));
+
+/** The parts of each form: lines or a circle, with the radius as the unit; filled, or with an edge.
+ * @type {Record<string, {lines?: number[], circle?: number, fill?: string, edge?: string, wide?: number}[]>} */
+const FORMS = {
+  send: [{lines: UP, fill: 'send'}],
+  silent: [{lines: UP, fill: 'paper', edge: 'quiet'}],
+  recv: [{lines: DOWN, fill: 'recv'}],
+  tick: [{lines: [0, -1, 0, 1], edge: 'recv', wide: 1}],
+  lost: [{lines: SQUARE, fill: 'paper', edge: 'trouble'}, ...CROSS],
+  collide: STAR,
+  deaf: [{circle: 1, fill: 'paper', edge: 'trouble'}, {lines: [-1, 1, 1, -1], edge: 'trouble'}],
+  post: [{circle: 0.75, fill: 'event'}],
+  full: [{circle: 0.75, fill: 'trouble'}, {lines: [-1.3, -1.3, 1.3, 1.3], edge: 'trouble', wide: 1.8}],
+  take: [{circle: 0.75, fill: 'paper', edge: 'event'}],
+  timer: [{circle: 1, fill: 'paper', edge: 'timer'}, {lines: [0, -0.7, 0, 0, 0.6, 0], edge: 'timer', wide: 1.2}],
+  drop: [{lines: DIAMOND.map(it => 1.2 * it), fill: 'paper', edge: 'trouble'},
+    {lines: [-0.5, 0, 0.5, 0], edge: 'trouble'}],
+  print: [{lines: DIAMOND, fill: 'print'}],
+  busy: [{lines: HOURGLASS, edge: 'trouble'}],
+  start: [{lines: BRACKET, edge: 'run-ink', wide: 1.8}],
+  leave: [{lines: END, edge: 'run-ink', wide: 1.8}],
+  halt: [{lines: OCTAGON, fill: 'trouble'}, {lines: [-0.8, 0, 0.8, 0], edge: 'paper', wide: 2}],
+  run: [{lines: [-1.8, -1, 1.8, -1, 1.8, 1, -1.8, 1], fill: 'run'}],
+  cross: CROSS,
+  bar: [{lines: [0, -1, 0, 1], edge: 'quiet', wide: 2}],
+};
+
+/** Draws a form around a point, with a radius. @param {string} name */
+export function drawForm(c, name, x, y, r) {
+  for (const {lines, circle, fill: inside, edge, wide = 1.4} of FORMS[name]) {
+    if (lines) path(c, lines.map((it, i) => (i % 2 ? y : x) + it * r), Boolean(inside));
+    else ring(c, x, y, circle * r);
+    if (inside) fill(c, colours[inside]);
+    if (edge) stroke(c, colours[edge], wide);
   }
 }
-
-function bracket(c, x, y, r, colour, side) {
-  path(c, [x + side * r * 0.7, y - r * 1.3, x, y - r * 1.3, x, y + r * 1.3, x + side * r * 0.7, y + r * 1.3]);
-  stroke(c, colour, 1.8);
-}
-
-/** Each form is drawn at x, y with a radius. */
-export const FORM = {
-  send(c, x, y, r) { path(c, [x, y - r * 1.1, x + r, y + r * 0.8, x - r, y + r * 0.8], true); fill(c, colours.send); },
-  silent(c, x, y, r) {
-    path(c, [x, y - r * 1.1, x + r, y + r * 0.8, x - r, y + r * 0.8], true);
-    fill(c, colours.paper);
-    stroke(c, colours.quiet, 1.3);
-  },
-  recv(c, x, y, r) { path(c, [x, y + r * 1.1, x + r, y - r * 0.8, x - r, y - r * 0.8], true); fill(c, colours.recv); },
-  tick(c, x, y, r) { path(c, [x, y - r, x, y + r]); stroke(c, colours.recv, 1); },
-  lost(c, x, y, r) {
-    path(c, [x - r, y - r, x + r, y - r, x + r, y + r, x - r, y + r], true);
-    fill(c, colours.paper);
-    stroke(c, colours.trouble, 1.4);
-    cross(c, x, y, r, colours.trouble, 1.2);
-  },
-  collide(c, x, y, r) { star(c, x, y, r * 1.2, colours.trouble, 1.8); },
-  deaf(c, x, y, r) {
-    ring(c, x, y, r, colours.trouble);
-    path(c, [x - r, y + r, x + r, y - r]);
-    stroke(c, colours.trouble, 1.3);
-  },
-  post(c, x, y, r) { ring(c, x, y, r * 0.75, colours.event, true); },
-  full(c, x, y, r) {
-    ring(c, x, y, r * 0.75, colours.trouble, true);
-    path(c, [x - r * 1.3, y - r * 1.3, x + r * 1.3, y - r * 1.3]);
-    stroke(c, colours.trouble, 1.8);
-  },
-  take(c, x, y, r) { ring(c, x, y, r * 0.75, colours.event); },
-  timer(c, x, y, r) {
-    ring(c, x, y, r, colours.timer);
-    path(c, [x, y - r * 0.7, x, y, x + r * 0.6, y]);
-    stroke(c, colours.timer, 1.2);
-  },
-  drop(c, x, y, r) {
-    path(c, [x, y - r * 1.2, x + r * 1.2, y, x, y + r * 1.2, x - r * 1.2, y], true);
-    fill(c, colours.paper);
-    stroke(c, colours.trouble, 1.4);
-    path(c, [x - r * 0.5, y, x + r * 0.5, y]);
-    stroke(c, colours.trouble, 1.4);
-  },
-  print(c, x, y, r) { path(c, [x, y - r, x + r, y, x, y + r, x - r, y], true); fill(c, colours.print); },
-  busy(c, x, y, r) {
-    path(c, [x - r, y - r, x + r, y - r, x - r, y + r, x + r, y + r], true);
-    stroke(c, colours.trouble, 1.4);
-  },
-  start(c, x, y, r) { bracket(c, x, y, r, colours['run-ink'], 1); },
-  leave(c, x, y, r) { bracket(c, x, y, r, colours['run-ink'], -1); },
-  halt(c, x, y, r) {
-    c.beginPath();
-    for (let i = 0; i < 8; i++) {
-      const a = (i + 0.5) * Math.PI / 4;
-      c.lineTo(x + Math.cos(a) * r * 1.5, y + Math.sin(a) * r * 1.5);
-    }
-    c.closePath();
-    fill(c, colours.trouble);
-    path(c, [x - r * 0.8, y, x + r * 0.8, y]);
-    stroke(c, colours.paper, 2);
-  },
-  run(c, x, y, r) {
-    c.fillStyle = colours.run;
-    c.fillRect(x - r * 1.8, y - r, r * 3.6, r * 2);
-  },
-};
 
 /** A form as a small picture of a square, made once for each size. `draw` draws it around a point.
  * @param {string} name @param {number} r @param {number} dots those of a pixel
- * @param {(c: any, x: number, y: number, r: number) => void} draw */
-export function stampOf(name, r, dots, draw = FORM[name]) {
+ * @param {(c: any, at: number) => void} draw */
+export function stampOf(name, r, dots, draw = (c, at) => drawForm(c, name, at, at, r)) {
   const key = `${name} ${r} ${dots}`;
   if (!stamps.has(key)) {
     const side = Math.ceil(r * 3.4 + 2) * dots, canvas = new OffscreenCanvas(side, side), c = canvas.getContext('2d');
     c.scale(dots, dots);
-    draw(c, side / dots / 2, side / dots / 2, r);
+    draw(c, side / dots / 2);
     stamps.set(key, canvas.transferToImageBitmap());
   }
   return stamps.get(key);
@@ -159,16 +132,19 @@ ARROW[MEDIUM] = {dash: [6, 4], end: 'cross', colour: 'trouble'};
 ARROW[GONE] = {dash: [1, 4], end: 'bar', colour: 'quiet'};
 ARROW[LEFT] = {dash: [10, 3], end: 'open', colour: 'quiet'};
 
-export function head(c, x0, y0, x1, y1, r, colour, filled) {
+/** The head of an arrow.
+ * @param {any} c @param {number[]} ends @param {number} r @param {string} colour @param {boolean} filled */
+export function head(c, [x0, y0, x1, y1], r, colour, filled) {
   const a = Math.atan2(y1 - y0, x1 - x0);
   path(c, [x1 - Math.cos(a - 0.45) * r, y1 - Math.sin(a - 0.45) * r, x1, y1, x1 - Math.cos(a + 0.45) * r,
     y1 - Math.sin(a + 0.45) * r], filled);
   if (filled) fill(c, colour); else stroke(c, colour, 1.4);
 }
 
-/** Draws an arrow. That of a copy lost on the way ends before it arrives, with a cross. */
-export function drawArrow(c, x0, y0, x1, y1, fate, width, size, grey) {
-  const form = ARROW[fate], colour = grey || colours[form.colour];
+/** Draws an arrow. That of a copy lost on the way ends before it arrives, with a cross.
+ * @param {any} c @param {number[]} ends @param {number} fate @param {number} width @param {number} size */
+export function drawArrow(c, [x0, y0, x1, y1], fate, width, size) {
+  const form = ARROW[fate], colour = colours[form.colour];
   if (fate === MEDIUM) {
     x1 = x0 + (x1 - x0) * 0.62;
     y1 = y0 + (y1 - y0) * 0.62;
@@ -177,15 +153,8 @@ export function drawArrow(c, x0, y0, x1, y1, fate, width, size, grey) {
   path(c, [x0, y0, x1, y1]);
   stroke(c, colour, width);
   c.setLineDash([]);
-  switch (form.end) {
-    case 'head': return head(c, x0, y0, x1, y1, size * 1.7, colour, true);
-    case 'open': return head(c, x0, y0, x1, y1, size * 1.7, colour, false);
-    case 'cross': return cross(c, x1, y1, size * 0.9, colour);
-    case 'bar':
-      path(c, [x1, y1 - size, x1, y1 + size]);
-      return stroke(c, colour, 2);
-    default: return FORM[form.end](c, x1, y1, size);
-  }
+  if (form.end === 'head' || form.end === 'open') head(c, [x0, y0, x1, y1], size * 1.7, colour, form.end === 'head');
+  else drawForm(c, form.end, x1, y1, form.end === 'cross' ? size * 0.9 : size);
 }
 
 /** The legend: each form with its meaning. */
@@ -207,30 +176,18 @@ const LEGEND = [
   ['drop', 'an event whose process isn\'t started'],
   ['busy', 'a process that was to start or end, but is busy'],
   ['halt', 'the mote halted'],
-  [HANDED, 'a copy that was received and handed on'],
-  [MEDIUM, 'a copy lost on the way: it doesn\'t arrive'],
-  [COLLIDED, 'a copy that collided at its receiver'],
-  [RING, 'a copy that found eight others waiting'],
-  [REFUSED, 'a copy received, refused by the full event queue'],
-  [UNHEARD, 'a copy received, without a receiver'],
-  [GONE, 'a copy that arrived at a mote that had halted'],
-  [LEFT, 'a copy due after the end'],
+  ...FATE_WORDS.map((words, fate) => [fate, `a copy: ${words}`]),
 ];
 
 export function drawLegend() {
   const box = byId('forms');
-  box.textContent = '';
+  box.replaceChildren();
   for (const [form, meaning] of LEGEND) {
-    const row = element('div'), canvas = element('canvas'), dots = window.devicePixelRatio || 1;
-    row.className = 'form';
-    canvas.width = 56 * dots;
-    canvas.height = 20 * dots;
-    canvas.setAttribute('role', 'img');
-    canvas.setAttribute('aria-label', typeof form === 'number' ? 'arrow' : form);
+    const dots = window.devicePixelRatio || 1, canvas = element('canvas', '', [], {width: 56 * dots, height: 20 * dots,
+      role: 'img', 'aria-label': typeof form === 'number' ? 'arrow' : form});
     const c = canvas.getContext('2d');
     c.scale(dots, dots);
-    if (typeof form === 'number') drawArrow(c, 5, 10, 47, 10, form, 1.4, 4.5); else FORM[form](c, 28, 10, 5);
-    row.append(canvas, element('span', meaning));
-    box.append(row);
+    if (typeof form === 'number') drawArrow(c, [5, 10, 47, 10], form, 1.4, 4.5); else drawForm(c, form, 28, 10, 5);
+    box.append(element('div', '', [canvas, element('span', String(meaning))], {className: 'form'}));
   }
 }

@@ -1,6 +1,6 @@
 // @ts-check
 // The heads of islands: how many packets each sent, and when.
-import {colours} from './forms.js';
+import {box, colours, setFont, write} from './forms.js';
 import {AXIS, HEAD} from './layout.js';
 import {page} from './stage.js';
 import {niceStep} from './time.js';
@@ -10,36 +10,26 @@ import {count, headInWords} from './words.js';
 function drawHead(pane, g, most, bin) {
   const {run, front: c} = pane, group = run.groups[g], y = pane.headTop(g);
   if (y > pane.height || y + HEAD < AXIS) return;
-  c.fillStyle = colours.panel;
-  c.fillRect(0, y, pane.width, HEAD);
-  c.fillStyle = colours.edge;
-  c.fillRect(0, y + HEAD - 1, pane.width, 1);
+  box(c, 'panel', 0, y, pane.width, HEAD);
+  box(c, 'edge', 0, y + HEAD - 1, pane.width, 1);
   const base = y + HEAD - 2, tall = HEAD - 22;
   sumsOf(pane, group, bin, (j, sent, quiet) => {
     const left = Math.max(pane.gutter, pane.x(j * bin * run.piece)),
       right = Math.min(pane.width, pane.x((j + 1) * bin * run.piece));
     if (right <= left) return;
     const h = sent / most * tall, more = quiet / most * tall;
-    c.fillStyle = colours.send;
-    c.fillRect(left + 0.5, base - h, Math.max(1, right - left - 1), h);
-    if (quiet) {
-      c.strokeStyle = colours.quiet;
-      c.lineWidth = 1;
-      c.strokeRect(left + 1, base - h - more + 0.5, Math.max(1, right - left - 2), Math.max(1, more - 1));
-    }
+    box(c, 'send', left + 0.5, base - h, Math.max(1, right - left - 1), h);
+    if (!quiet) return;
+    Object.assign(c, {strokeStyle: colours.quiet, lineWidth: 1});
+    c.strokeRect(left + 1, base - h - more + 0.5, Math.max(1, right - left - 2), Math.max(1, more - 1));
   });
-  c.font = 'bold 12.5px system-ui, "DejaVu Sans", sans-serif';
-  c.textBaseline = 'middle';
-  c.textAlign = 'left';
-  c.fillStyle = colours.ink;
-  c.fillText(group.name, 6, y + 10);
+  setFont(c, 12.5, 'left', 'middle', 'bold');
+  write(c, group.name, 6, y + 10, 'ink');
   const from = 6 + c.measureText(group.name).width + 10;
-  c.font = '12.5px system-ui, "DejaVu Sans", sans-serif';
-  c.fillStyle = colours.quiet;
+  setFont(c, 12.5);
   const words = headInWords(group.sent, group.quiet, run.groups.some(one => one.quiet));
-  const moments = Math.round(bin * run.piece), bars = ` (bars: in ${count(moments, 'moment')})`;
-  const room = pane.width - from - 6;
-  c.fillText(c.measureText(words + bars).width < room ? words + bars : words, from, y + 10, Math.max(10, room));
+  const bars = ` (bars: in ${count(Math.round(bin * run.piece), 'moment')})`, room = pane.width - from - 6;
+  write(c, c.measureText(words + bars).width < room ? words + bars : words, from, y + 10, 'quiet', Math.max(10, room));
 }
 
 /** Reports the sends and silences of a group for each bin in view. */

@@ -43,7 +43,6 @@ export async function indexRun(run) {
   findSilence(run);
   await breathe();
   makeOverview(run);
-  countByMote(run);
 }
 
 function indexPackets(run) {
@@ -212,48 +211,35 @@ function findSilence(run) {
   for (let m = 0; m < motes; m++) each(m, (i, sends) => { if (!sends && speaks.has(key(m, i))) run.silent[i] = 1; });
 }
 
-/** Notes the classes of lines of each mote in each piece of time, and the moments at which anything happens. */
+/** Notes in one pass over the lines: their classes by mote and piece of time, the moments at which anything happens,
+ * the sends and silences of each island, and the prints of each mote and the moment at which it halted. */
 function makeOverview(run) {
   const {kind, at, traceStart, silent} = run, motes = run.begins.length;
   run.pieces = Math.min(run.end + 1, 2048);
   run.piece = (run.end + 1) / run.pieces;
   run.overview = new Uint8Array(motes * run.pieces);
   run.busy = new Uint8Array(run.end + 1);
+  run.prints = Array.from({length: motes}, () => []);
+  run.haltAt = new Float64Array(motes).fill(Infinity);
   const share = run.pieces / (run.end + 1);
-  for (let m = 0; m < motes; m++) {
-    const row = m * run.pieces;
-    for (let i = traceStart[m]; i < traceStart[m + 1]; i++) {
-      run.overview[row + Math.floor(at[i] * share)] |= silent[i] ? SILENT : CLASS[kind[i]];
-      run.busy[at[i]] = 1;
-    }
-  }
   for (const group of run.groups) {
-    group.sends = new Uint32Array(run.pieces);
-    group.silences = new Uint32Array(run.pieces);
-    group.sent = group.quiet = 0;
+    Object.assign(group, {sends: new Uint32Array(run.pieces), silences: new Uint32Array(run.pieces), sent: 0,
+      quiet: 0});
     for (const m of group.motes) {
       for (let i = traceStart[m]; i < traceStart[m + 1]; i++) {
-        if (kind[i] === SEND) {
-          group.sends[Math.floor(at[i] * share)]++;
+        const piece = Math.floor(at[i] * share);
+        run.overview[m * run.pieces + piece] |= silent[i] ? SILENT : CLASS[kind[i]];
+        run.busy[at[i]] = 1;
+        if (kind[i] === PRINT) run.prints[m].push(i);
+        else if (kind[i] === HALT) run.haltAt[m] = at[i];
+        else if (kind[i] === SEND) {
+          group.sends[piece]++;
           group.sent++;
         } else if (silent[i]) {
-          group.silences[Math.floor(at[i] * share)]++;
+          group.silences[piece]++;
           group.quiet++;
         }
       }
-    }
-  }
-}
-
-/** Lists the prints of each mote, and the moment at which it halted. */
-function countByMote(run) {
-  const {kind, traceStart} = run, motes = run.begins.length;
-  run.prints = Array.from({length: motes}, () => []);
-  run.haltAt = new Float64Array(motes).fill(Infinity);
-  for (let m = 0; m < motes; m++) {
-    for (let i = traceStart[m]; i < traceStart[m + 1]; i++) {
-      if (kind[i] === PRINT) run.prints[m].push(i);
-      else if (kind[i] === HALT) run.haltAt[m] = run.at[i];
     }
   }
 }

@@ -3,7 +3,7 @@
 import {drawArrows, drawChosen} from './arrows.js';
 import {drawAxis, drawBands, drawColumn, drawGrid, drawNames} from './axis.js';
 import {HALT, KINDS, POST, PRINT, RECV, SEND, START, TAKE, lowerBound} from './data.js';
-import {colours, path, stampOf, stroke} from './forms.js';
+import {box, colours, path, ring, setFont, stampOf, stroke, write} from './forms.js';
 import {drawHeads} from './heads.js';
 import {CLASS, OTHER} from './index.js';
 import {APART, AXIS, FULL_LANE, SMALL_LANE} from './layout.js';
@@ -35,40 +35,27 @@ function putMark(pane, form, x, y, r, line) {
   return true;
 }
 
-/** Keeps a label until the next mark shows whether it has room. */
-function putLabel(pane, text, x, y, colour) {
-  drawLabel(pane);
-  if (x <= pane.width) pane.label = {text, x, y, colour, end: x + text.length * 6.4};
-}
-
-/** Keeps the name of a run's process like a label, unless it would cover the label that is kept. */
-function putName(pane, {name, x, y}) {
-  if (!pane.label || x >= pane.label.end || Math.abs(y - pane.label.y) >= 9) putLabel(pane, name, x, y, 'run-ink');
-}
-
-/** Draws the label that is kept if the next mark begins after it. Drops and counts it if that mark would cover it. */
-function settleLabel(pane, x, y) {
-  if (!pane.label) return;
-  if (x >= pane.label.end) drawLabel(pane);
-  else if (Math.abs(y - pane.label.y) < 9) {
-    if (pane.label.colour !== 'run-ink') pane.drawn.unlabelled++;
-    pane.label = null;
+/** Draws the labels of a lane that cover no later mark and no label before, and counts the values without room.
+ * `marks` are the left edges and heights of all marks, of which those from `behind` on are after a label. */
+function drawLabels(pane, labels, marks) {
+  const {context: c, drawn} = pane;
+  let last = -99;
+  for (const {text, x, y, colour, behind} of labels) {
+    const end = x + text.length * 6.4;
+    let isFree = x <= pane.width && x >= last;
+    for (let i = behind; isFree && i < marks.length && marks[i] < end; i += 2) isFree = Math.abs(marks[i + 1] - y) >= 9;
+    if (!isFree) {
+      if (colour !== 'run-ink') drawn.unlabelled++;
+      continue;
+    }
+    last = end;
+    // (the name of a process is in a box of one colour)
+    if (colour !== 'run-ink') {
+      Object.assign(c, {strokeStyle: colours.paper, lineWidth: 3, lineJoin: 'round'});
+      c.strokeText(text, x, y);
+    }
+    write(c, text, x, y, colour);
   }
-}
-
-function drawLabel(pane) {
-  if (!pane.label) return;
-  const c = pane.context, {text, x, y, colour} = pane.label;
-  pane.label = null;
-  // (the name of a process is in a box of one colour)
-  if (colour !== 'run-ink') {
-    c.strokeStyle = colours.paper;
-    c.lineWidth = 3;
-    c.lineJoin = 'round';
-    c.strokeText(text, x, y);
-  }
-  c.fillStyle = colours[colour];
-  c.fillText(text, x, y);
 }
 
 /** Draws the boxes of a turn's runs, and notes the names of processes that fit into them. A run goes from a start or
@@ -79,10 +66,8 @@ function drawRuns(pane, mote, from, to, xOf) {
   if (!wide) {
     if (Math.round(pane.x(run.at[from])) === pane.runEnd) return;
     pane.runEnd = Math.round(pane.x(run.at[from]));
-    c.fillStyle = colours.run;
     const broad = Math.max(1.5, Math.min(page.time.scale * 0.8, 14));
-    c.fillRect(xOf(from) - broad / 2, y - tall / 2, broad, tall);
-    return;
+    return box(c, 'run', xOf(from) - broad / 2, y - tall / 2, broad, tall);
   }
   for (let i = from; i < to; i++) {
     if (run.kind[i] !== START && run.kind[i] !== TAKE) continue;
@@ -90,13 +75,13 @@ function drawRuns(pane, mote, from, to, xOf) {
     while (end < to && run.kind[end] !== START && run.kind[end] !== TAKE) end++;
     const half = (xOf(Math.min(i + 1, to - 1)) - xOf(i)) / 2 || 8, left = xOf(i) - Math.min(half * 0.9, 10);
     const right = xOf(end - 1) + Math.min(half * 0.9, 10);
-    c.fillStyle = colours.run;
-    c.fillRect(left, y - tall / 2, right - left, tall);
-    c.strokeStyle = colours.line;
-    c.lineWidth = 1;
+    box(c, 'run', left, y - tall / 2, right - left, tall);
+    Object.assign(c, {strokeStyle: colours.line, lineWidth: 1});
     c.strokeRect(left + 0.5, y - tall / 2 + 0.5, right - left - 1, tall - 1);
-    const name = run.process(run.p[i]);
-    if (right - left > name.length * 6.6 + 14 && tall > 10) pane.names.set(i, {name, x: left + 12, y});
+    const text = run.process(run.p[i]);
+    if (right - left > text.length * 6.6 + 14 && tall > 10) {
+      pane.names.set(i, {text, x: left + 12, y, colour: 'run-ink'});
+    }
   }
 }
 
@@ -115,15 +100,12 @@ function drawLane(pane, mote) {
   const {run, drawn} = pane, [from, to] = pane.linesInView(mote), isFull = pane.lane >= FULL_LANE;
   const r = isFull ? Math.max(3, Math.min(6.5, Math.round(pane.lane * 0.17) / 2)) :
     Math.max(2.5, Math.min(5.5, Math.round(pane.lane * 0.5) / 2));
-  const top = pane.laneTop(mote), {kind, at} = run;
+  const top = pane.laneTop(mote), {kind, at} = run, labels = [], marks = [];
   pane.marks = new Map();
-  pane.label = null;
   pane.names = new Map();
   pane.runEnd = -99;
   drawn.lines += to - from;
-  pane.context.font = '11px system-ui, "DejaVu Sans", sans-serif';
-  pane.context.textBaseline = 'middle';
-  pane.context.textAlign = 'left';
+  setFont(pane.context, 11);
   for (let i = from; i < to;) {
     let end = i + 1;
     while (end < to && at[end] === at[i]) end++;
@@ -137,19 +119,19 @@ function drawLane(pane, mote) {
         continue;
       }
       const x = xOf(line), y = form === 'silent' ? pane.lineY(SEND, mote) : pane.lineY(k, mote);
-      settleLabel(pane, x - r, y);
-      if (k === RECV && !isFull) {
-        if (putMark(pane, 'tick', x, y, Math.min(4, pane.lane * 0.2), line)) continue;
-      } else if (putMark(pane, form, x, y, k === PRINT && !isFull ? Math.min(4, r) : r, line) && k === PRINT &&
-        pane.lane >= 14) {
-        putLabel(pane, String(run.w[line]), x + r + 2, y, 'print');
-      } else if (k === HALT && pane.lane >= 14) putLabel(pane, 'halts', x + r * 1.6 + 3, y, 'trouble');
+      marks.push(x - r, y);
+      const behind = marks.length;
+      if (k === RECV && !isFull) putMark(pane, 'tick', x, y, Math.min(4, pane.lane * 0.2), line);
+      else if (putMark(pane, form, x, y, k === PRINT && !isFull ? Math.min(4, r) : r, line) && pane.lane >= 14) {
+        if (k === PRINT) labels.push({text: String(run.w[line]), x: x + r + 2, y, colour: 'print', behind});
+        if (k === HALT) labels.push({text: 'halts', x: x + r * 1.6 + 3, y, colour: 'trouble', behind});
+      }
       if (isFull && form === 'silent') putMark(pane, 'timer', x, pane.lineY(TAKE, mote), r, line);
-      if (pane.names.has(line)) putName(pane, pane.names.get(line));
+      if (pane.names.has(line)) labels.push({...pane.names.get(line), behind});
     }
     i = end;
   }
-  drawLabel(pane);
+  drawLabels(pane, labels, marks);
   if (run.haltAt[mote] < pane.moment(pane.width)) {
     const x = Math.max(pane.gutter, pane.x(run.haltAt[mote] + 1)), c = pane.context;
     c.save();
@@ -163,7 +145,7 @@ function drawLane(pane, mote) {
 
 /** Draws rings around the lines that a search has found. */
 function drawFound(pane, from, to) {
-  const {run, context: c} = pane, found = page.logged.found[pane.number];
+  const {context: c} = pane, found = page.logged.rings[pane.number];
   if (!found || !found.length) return;
   let inView = 0;
   for (let place = from; place < to; place++) {
@@ -180,12 +162,10 @@ function drawFound(pane, from, to) {
     const mote = pane.order[place], [a, b] = pane.linesInView(mote);
     let before = -99;
     for (let m = lowerBound(found, a), end = lowerBound(found, b, m); m < end; m++) {
-      const x = pane.lineX(found[m], mote), y = pane.lane < SMALL_LANE ? pane.laneTop(mote) + pane.lane / 2 :
-        pane.lineY(run.kind[found[m]], mote);
+      const [x, y] = pane.placeOf(found[m], mote);
       if (x - before < 3 || x < pane.gutter) continue;
       before = x;
-      c.beginPath();
-      c.arc(x, y, Math.max(2, Math.min(8, pane.lane * 0.4)), 0, 7);
+      ring(c, x, y, Math.max(2, Math.min(8, pane.lane * 0.4)));
       c.stroke();
     }
   }
@@ -198,8 +178,7 @@ function drawSeen(pane) {
   c.beginPath();
   c.rect(left, top, right - left, bottom - top);
   c.clip();
-  c.fillStyle = colours.paper;
-  c.fillRect(left, top, right - left, bottom - top);
+  box(c, 'paper', left, top, right - left, bottom - top);
   drawBands(pane, from, to);
   drawGrid(pane);
   drawArrows(pane);

@@ -15,6 +15,14 @@ export const APART = 14;
 // The room of a label in front of a strip, which it may reach into.
 const LABEL = 80;
 
+/** How far a point is from a line between two points.
+ * @param {number} x @param {number} y @param {number[]} ends */
+export function awayFrom(x, y, [x0, y0, x1, y1]) {
+  const dx = x1 - x0, dy = y1 - y0, share = ((x - x0) * dx + (y - y0) * dy) / (dx * dx + dy * dy || 1);
+  const along = Math.max(0, Math.min(1, share));
+  return Math.hypot(x - x0 - along * dx, y - y0 - along * dy);
+}
+
 export class Layout {
   constructor(run) {
     this.top = 0;
@@ -116,6 +124,14 @@ export class Layout {
     const row = kind === SEND ? 0.15 : kind > SEND && kind <= DEAF ? 0.3 : kind === POST || kind === FULL ? 0.72 :
       kind === TAKE || kind === DROP ? 0.88 : 0.5;
     return top + this.lane * row;
+  }
+
+  /** The place of a line's mark; in low lanes the middle of the lane.
+   * @returns {[number, number]} */
+  placeOf(line, mote) {
+    const {silent, kind} = this.run;
+    return [this.lineX(line, mote), this.lane < SMALL_LANE ? this.laneTop(mote) + this.lane / 2 :
+      this.lineY(silent[line] ? SEND : kind[line], mote)];
   }
 
   sees(mote) {

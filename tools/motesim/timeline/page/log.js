@@ -1,38 +1,29 @@
 // @ts-check
-// The tab *Log*: the lines of all motes in chronological order, filtered by the words of a search or by a sentence. The
-// lines that are found have rings on the lanes.
-import {orderOf, placesOf} from './chronology.js';
+// The tab *Log*: the lines of all motes in order of time, and steps along them. A search leaves the lines that fit it,
+// which have rings on the lanes.
 import {KINDS, lowerBound} from './data.js';
 import {chooseLine} from './details.js';
-import {byId, element, lineButton, makeButton} from './dom.js';
+import {byId, element, lineButton, onSubmit} from './dom.js';
 import {redraw} from './draw.js';
+import {findLines, orderOf} from './query.js';
 import {page} from './stage.js';
-import {searchesOf} from './stops.js';
 import {showTab} from './tabs.js';
 import {count} from './words.js';
 
-const MOST_LOGGED = 200, NONE = new Uint32Array(0);
+const MOST_LISTED = 200;
 
-/** The lines that a filter leaves, in chronological order; null if it is neither a search nor a sentence. */
-async function linesOfLog(run, text) {
+/** Takes the lines that fit the search, and shows them. */
+function search() {
+  const text = byId('log-asked').value.trim(), {logged, panes} = page;
+  if (!panes.length) return;
+  const found = panes.map(({run}) => findLines(run, text)), [[lines, unknown]] = found, [{run}] = panes;
   const {order, rank} = orderOf(run);
-  if (!text) return order;
-  const [places, unknown] = placesOf(run, searchesOf(text));
-  if (places) return places.map(place => order[place]);
-  const answer = !page.backend || !page.backend.can.has('lines') ?
-    {said: `No kind, process or event has the name ${unknown}.`} :
-    await page.backend.ask('lines', {number: page.web.number, sentence: text}).catch(fault => ({said: fault.message}));
-  if (answer.said) {
-    byId('log-counts').textContent = answer.said;
-    return null;
-  }
-  return Uint32Array.from(answer.rows, row => rank[run.atRow(row).line]).sort().map(place => order[place]);
-}
-
-/** The lines with rings in a pane, in the order of the report. */
-function ringed({run}, text) {
-  const [places] = text ? placesOf(run, searchesOf(text)) : [null];
-  return places ? places.map(place => orderOf(run).order[place]).sort() : NONE;
+  Object.assign(logged, {run, first: Infinity, places: (lines || new Uint32Array(0)).map(line => rank[line]).sort(),
+    rings: text ? found.map(([its]) => its || []) : []});
+  byId('log-counts').textContent = lines ? countsOf(run, lines) :
+    `No kind, process or event has the name ${unknown}.`;
+  list(run, order);
+  redraw();
 }
 
 /** How many lines there are of each kind, in words. */
@@ -43,77 +34,58 @@ function countsOf(run, lines) {
     KINDS.map((kind, k) => kinds[k] ? `${kind} ${kinds[k].toLocaleString('en')}` : '').filter(Boolean).join(', ');
 }
 
-/** Reads the filter, and shows lines from the current moment on. */
-async function showLog() {
-  const [pane] = page.panes, text = byId('log-asked').value.trim();
-  if (!pane) return;
-  const {run} = pane, lines = await linesOfLog(run, text);
-  if (page.panes[0].run !== run) return;
-  Object.assign(page.logged, {run, lines: lines || NONE,
-    found: page.panes.map((one, i) => i || !text ? ringed(one, text) : Uint32Array.from(lines || NONE).sort())});
-  redraw();
-  if (!lines) return showLogFrom(0);
-  byId('log-counts').textContent = countsOf(run, lines);
-  const first = lines.findIndex(line => run.at[line] >= Math.floor(page.play.now));
-  showLogFrom(Math.min(first < 0 ? lines.length : first, Math.max(0, lines.length - MOST_LOGGED)));
+/** The place in the log of the selected line, or of the first one at the moment that is shown or later. */
+function placeNow({places, run}) {
+  const {order, rank} = orderOf(run), {line} = page.chosen;
+  if (line >= 0) return lowerBound(places, rank[line]);
+  const found = places.findIndex(place => run.at[order[place]] >= Math.floor(page.play.now));
+  return found < 0 ? places.length : found;
 }
 
-function showLogFrom(first) {
-  const [pane] = page.panes, {run} = pane, {lines} = page.logged, last = Math.min(lines.length, first + MOST_LOGGED);
-  page.logged.first = first;
-  byId('log-earlier').disabled = first === 0;
-  byId('log-later').disabled = last === lines.length;
-  byId('log-lines').replaceChildren(...Array.from(lines.subarray(first, last), line => element('li', '', [
-    lineButton(`mote ${run.moteOf(line)}`, run.text(line), '', page.chosen.line === line, () => goToFound(line))])));
+/** Lists the lines around the selection, and marks it. */
+function list(run, order) {
+  const {logged, chosen} = page, {places} = logged, now = placeNow(logged), box = byId('log-lines');
+  logged.times = chosen.times;
+  if (now < logged.first || now >= logged.first + MOST_LISTED) {
+    logged.first = Math.max(0, Math.min(now - MOST_LISTED / 2, places.length - MOST_LISTED));
+    const lines = Array.from(places.subarray(logged.first, logged.first + MOST_LISTED), place => order[place]);
+    box.replaceChildren(...lines.map(line => element('li', '', [lineButton(`mote ${run.moteOf(line)}`, run.text(line),
+      '', false, () => chooseLine(page.panes[0], line, true))])));
+  }
+  for (const it of box.querySelectorAll('[aria-current]')) it.removeAttribute('aria-current');
+  const item = box.children[Math.min(now - logged.first, box.children.length - 1)];
+  if (!item) return;
+  if (order[places[now]] === chosen.line) item.firstChild.setAttribute('aria-current', 'true');
+  const panel = byId('log').getBoundingClientRect(), {top, bottom} = item.getBoundingClientRect();
+  if (top < panel.top || bottom > panel.bottom) byId('log').scrollTop += top - (panel.top + panel.bottom) / 2;
 }
 
-/** Selects a line of the log. @param {number} line */
-function goToFound(line) {
-  chooseLine(page.panes[0], line, true);
-  showLogFrom(page.logged.first);
-}
-
-/** Selects the next line of the log after the selected one or the moment that is shown, or the one before.
+/** Selects the next line of the log, or the one before.
  * @param {number} by */
 export function walkLog(by) {
-  const [{run}] = page.panes, {rank} = orderOf(run), {lines} = page.logged, {chosen, play} = page;
-  if (!lines || !lines.length) return;
-  const places = lines.map(line => rank[line]), isFound = chosen.line >= 0;
-  const now = isFound ? rank[chosen.line] : lowerBound(lines.map(line => run.at[line]), Math.floor(play.now));
-  const next = !isFound ? now - (by < 0 ? 1 : 0) : by > 0 ? lowerBound(places, now + 1) : lowerBound(places, now) - 1;
-  goToFound(lines[(next + lines.length) % lines.length]);
+  const [{run}] = page.panes, {logged, chosen} = page;
+  if (logged.run !== run) search();
+  const {places} = logged, {order, rank} = orderOf(run), now = placeNow(logged);
+  const isThere = chosen.line >= 0 && places[now] === rank[chosen.line], next = by > 0 && !isThere ? now : now + by;
+  if (places.length) chooseLine(page.panes[0], order[places[(next + places.length) % places.length]], true);
 }
 
-/** Filters the log, and selects its first line from the moment that is shown on. @param {string} text */
-export async function find(text) {
+/** Searches, and selects the first line from the moment that is shown on. @param {string} text */
+export function find(text) {
   byId('log-asked').value = text;
   showTab('log');
-  await showLog();
+  search();
   page.chosen.line = -1;
   if (text) walkLog(1);
 }
 
 /** Shows the log from now on. */
 export function beginLog() {
-  const form = element('form'), knows = page.backend && page.backend.can.has('lines');
-  form.className = 'bar';
-  const input = Object.assign(element('input'), {id: 'log-asked', type: 'search', spellcheck: false,
-    autocomplete: 'off', size: 36, placeholder: `send mote 3${knows ? ', or an expectation' : ''}`});
-  const move = (name, by, id) => Object.assign(makeButton(name,
-    () => showLogFrom(Math.max(0, Math.min(page.logged.lines.length - 1, page.logged.first + by * MOST_LOGGED)))),
-  {id, disabled: true});
-  form.append(Object.assign(element('label', 'Lines'), {htmlFor: 'log-asked'}), input, element('button', 'Show'),
-    move('‹ earlier', -1, 'log-earlier'), move('later ›', 1, 'log-later'));
-  form.addEventListener('submit', event => {
-    event.preventDefault();
-    showLog();
-  });
-  byId('log').append(form, Object.assign(element('p'), {id: 'log-counts'}),
-    Object.assign(element('ol'), {id: 'log-lines'}));
-  // (the tab was opened, or another run is shown)
-  page.followers.push(pane => {
-    if (page.logged.run === pane.run || pane.number || byId('log').hidden && !input.value) return;
-    page.logged.run = pane.run;
-    showLog();
+  onSubmit('log-form', search);
+  // (the tab was opened, another run is shown, or something else was selected)
+  page.followers.push(({number, run}) => {
+    if (number || byId('log').hidden && !byId('log-asked').value) return;
+    if (page.logged.run !== run) search();
+    else if (page.logged.times !== page.chosen.times) list(run, orderOf(run).order);
   });
 }

@@ -3,10 +3,10 @@
 import {COLLIDE, DEAF, KINDS, LOST, RECV, SEND, lowerBound} from './data.js';
 import {chooseMote} from './details.js';
 import {redraw} from './draw.js';
-import {FORM, colours, cross, drawArrow, fill, path, stampOf, stroke} from './forms.js';
+import {box, colours, drawArrow, drawForm, fill, path, ring, setFont, stampOf, stroke, write} from './forms.js';
 import {HANDED, MEDIUM, arrivalOf} from './index.js';
 import {linkInWords, moteInWords} from './near.js';
-import {onPinch} from './pinch.js';
+import {onPointer} from './pointer.js';
 import {MapLayout} from './places.js';
 import {page} from './stage.js';
 import {offerTips} from './tip.js';
@@ -64,16 +64,16 @@ export class MapView extends MapLayout {
       run.hearers.forEach((list, s) => {
         for (const r of list) {
           if (r < s && run.places) continue;
-          c.moveTo(this.x(s), this.y(s));
-          c.lineTo(this.x(r), this.y(r));
+          const [x0, y0, x1, y1] = this.way(s, r);
+          c.moveTo(x0, y0);
+          c.lineTo(x1, y1);
         }
       });
       stroke(c, colours.line, this.radius > 4 ? 1.2 : 0.8);
     }
     const losses = run.losses.filter(([s, r]) => run.hearers[s] && run.hearers[s].includes(r));
     for (const [s, r] of losses) this.drawLoss(c, s, r);
-    Object.assign(c, {font: '11px system-ui, "DejaVu Sans", sans-serif', fillStyle: colours.trouble,
-      textAlign: 'center', textBaseline: 'middle'});
+    setFont(c, 11, 'center');
     this.shares = [];
     for (const [s, r, every] of losses) this.drawShare(c, s, r, every);
     return canvas;
@@ -81,15 +81,13 @@ export class MapView extends MapLayout {
 
   /** Draws the receiver's half of a link that loses packets: dashed, with a cross. */
   drawLoss(c, s, r) {
-    const x0 = this.x(s), y0 = this.y(s), x1 = this.x(r), y1 = this.y(r), mx = (x0 + x1) / 2, my = (y0 + y1) / 2;
+    const [x0, y0, x1, y1] = this.way(s, r), mx = (x0 + x1) / 2, my = (y0 + y1) / 2;
     path(c, [mx, my, x1, y1]);
     stroke(c, colours.paper, 3);
     c.setLineDash([4, 3]);
-    path(c, [mx, my, x1, y1]);
     stroke(c, colours.trouble, 1.8);
     c.setLineDash([]);
-    if (Math.hypot(x1 - x0, y1 - y0) < 20) return;
-    cross(c, mx, my, 4, colours.trouble, 1.8);
+    if (Math.hypot(x1 - x0, y1 - y0) >= 20) drawForm(c, 'cross', mx, my, 4);
   }
 
   /** Draws the share of a link's losses beside it, nearer to the receiver; opposite links have it on other sides. */
@@ -99,15 +97,14 @@ export class MapView extends MapLayout {
     const text = every === 1 ? 'all' : `1 in ${every}`, wide = c.measureText(text).width;
     const x = this.x(s) + dx * 0.66 + dy / long * (wide / 2 + APART);
     const y = this.y(s) + dy * 0.66 - dx / long * (TALL / 2 + APART);
-    c.fillText(text, x, y);
+    write(c, text, x, y, 'trouble');
     this.shares.push({x, y, wide});
   }
 
   draw() {
     const {context: c, run} = this;
     if (!this.still) this.still = this.drawStill();
-    c.fillStyle = colours.paper;
-    c.fillRect(0, 0, this.width, this.height);
+    box(c, 'paper', 0, 0, this.width, this.height);
     c.drawImage(this.still, 0, 0, this.width, this.height);
     const flying = this.drawFlying();
     for (let m = 0; m < run.begins.length; m++) this.drawMote(m);
@@ -123,11 +120,7 @@ export class MapView extends MapLayout {
   drawChosenPacket() {
     const {context: c, run} = this, k = page.chosen.k, s = run.packetSender[k];
     for (let copy = run.copyStart[k]; copy < run.copyStart[k + 1]; copy++) {
-      const r = run.copyTo[copy], dx = this.x(r) - this.x(s), dy = this.y(r) - this.y(s),
-        long = Math.hypot(dx, dy) || 1;
-      const cut = this.radius / long;
-      drawArrow(c, this.x(s) + dx * cut, this.y(s) + dy * cut, this.x(r) - dx * cut, this.y(r) - dy * cut,
-        run.copyFate[copy],
+      drawArrow(c, this.way(s, run.copyTo[copy], this.radius), run.copyFate[copy],
         copy === page.chosen.copy ? 3 : 2, 4);
     }
   }
@@ -144,10 +137,10 @@ export class MapView extends MapLayout {
         if (share >= 1) continue;
         flying++;
         if (flying > 4000) continue;
-        const r = run.copyTo[copy], fate = run.copyFate[copy], isLost = fate === MEDIUM && share > 0.55;
-        const way = isLost ? 0.6 : 0.12 + 0.76 * share, x = this.x(s) + (this.x(r) - this.x(s)) * way;
-        const y = this.y(s) + (this.y(r) - this.y(s)) * way, size = Math.max(2, this.radius * 0.4);
-        if (isLost) cross(c, x, y, size, colours.trouble, 2);
+        const fate = run.copyFate[copy], isLost = fate === MEDIUM && share > 0.55;
+        const [x0, y0, x1, y1] = this.way(s, run.copyTo[copy]), way = isLost ? 0.6 : 0.12 + 0.76 * share;
+        const x = x0 + (x1 - x0) * way, y = y0 + (y1 - y0) * way, size = Math.max(2, this.radius * 0.4);
+        if (isLost) drawForm(c, 'cross', x, y, size);
         else this.drawDisc(x, y, size, fate === HANDED ? 'send' : 'trouble');
       }
     }
@@ -159,13 +152,11 @@ export class MapView extends MapLayout {
     const {dots, context} = this;
     if (r < LEAST_ROUND || this.run.begins.length > MANY) {
       const side = Math.max(2, Math.round(2 * r));
-      context.fillStyle = colours[colour];
-      return context.fillRect(Math.round(x - r), Math.round(y - r), side, side);
+      return box(context, colour, Math.round(x - r), Math.round(y - r), side, side);
     }
     const place = at => Math.round((at - side / 2) * dots) / dots;
     const picture = stampOf(`disc ${colour} ${edge} ${wide}`, r, dots, (c, middle) => {
-      c.beginPath();
-      c.arc(middle, middle, r, 0, 7);
+      ring(c, middle, middle, r);
       fill(c, colours[colour]);
       if (edge) stroke(c, colours[edge], wide);
     });
@@ -192,38 +183,26 @@ export class MapView extends MapLayout {
     this.drawDisc(x, y, r, sends ? 'send' : isHalted ? 'grid' : hears ? 'recv' : 'run', isChosen ? 'mark' : 'quiet',
       isChosen ? 3 : 1);
     if (sends) {
-      c.beginPath();
-      c.arc(x, y, r + 4, 0, 7);
+      ring(c, x, y, r + 4);
       stroke(c, colours.send, 1.5);
     }
-    if (silent && !sends && r >= 4) FORM.silent(c, x + r, y - r, Math.max(3, r * 0.45));
-    if (trouble && r >= 3) FORM[trouble](c, x - r, y - r, Math.max(3.5, r * 0.5));
-    if (isHalted) cross(c, x, y, r * 0.7, colours.trouble, 1.6);
+    if (silent && !sends && r >= 4) drawForm(c, 'silent', x + r, y - r, Math.max(3, r * 0.45));
+    if (trouble && r >= 3) drawForm(c, trouble, x - r, y - r, Math.max(3.5, r * 0.5));
+    if (isHalted) drawForm(c, 'cross', x, y, r * 0.7);
     if (r >= 7 && !isHalted) {
-      c.font = `${r >= 10 ? 11 : 9.5}px system-ui, "DejaVu Sans", sans-serif`;
-      c.textAlign = 'center';
-      c.textBaseline = 'middle';
-      c.fillStyle = sends || hears ? colours.paper : colours.ink;
-      c.fillText(String(m), x, y + 0.5);
+      setFont(c, r >= 10 ? 11 : 9.5, 'center');
+      write(c, String(m), x, y + 0.5, sends || hears ? 'paper' : 'ink');
     }
     if (r >= 5) this.drawPrinted(m, now, x, y + r + 2);
   }
 
   /** Draws the value that a mote printed last. */
   drawPrinted(m, now, x, y) {
-    const prints = this.run.prints[m];
-    let low = 0, high = prints.length;
-    while (low < high) {
-      const middle = (low + high) >>> 1;
-      if (this.run.at[prints[middle]] <= now) low = middle + 1; else high = middle;
-    }
-    if (!low) return;
-    const c = this.context;
-    c.font = '10.5px system-ui, "DejaVu Sans", sans-serif';
-    c.textAlign = 'center';
-    c.textBaseline = 'top';
-    c.fillStyle = colours.print;
-    c.fillText(String(this.run.w[prints[low - 1]]), x, y);
+    const {context: c, run: {at, prints, traceStart, w}} = this;
+    const last = lowerBound(prints[m], lowerBound(at, now + 1, traceStart[m], traceStart[m + 1])) - 1;
+    if (last < 0) return;
+    setFont(c, 10.5, 'center', 'top');
+    write(c, String(w[prints[m][last]]), x, y, 'print');
   }
 
   /** The mote or the link at a point, in words. */
@@ -243,13 +222,28 @@ export class MapView extends MapLayout {
     this.canvas.setAttribute('aria-label',
       'Map of the motes: who hears whom, and the packets on their way at the moment that is played');
     const zoom = (factor, x, y) => {
-      held = null;
       this.zoomAt(factor, x, y);
       this.still = null;
       redraw();
     };
-    let held = null;
-    onPinch(this.canvas, zoom);
+    onPointer(this.canvas, {
+      zoom,
+      hold: (x, y) => this.edits ? this.edits.hold(x, y) : -1,
+      drag: (dx, dy, event, mote) => {
+        if (mote >= 0) return this.edits.drag(mote, event.offsetX, event.offsetY, event.altKey);
+        this.dx += dx;
+        this.dy += dy;
+        this.still = null;
+        redraw();
+      },
+      drop: (event, mote) => {
+        if (mote >= 0) this.edits.drop(mote, event.offsetX, event.offsetY, event.altKey);
+      },
+      click: (x, y) => {
+        const mote = this.moteNear(x, y);
+        if (!(this.edits && this.edits.click(x, y, mote)) && mote >= 0) chooseMote(this.pane, mote, true);
+      },
+    });
     this.canvas.addEventListener('wheel', event => {
       event.preventDefault();
       zoom(Math.exp(-event.deltaY * 0.0015), event.offsetX, event.offsetY);
@@ -259,29 +253,5 @@ export class MapView extends MapLayout {
       const [finger] = event.touches, box = this.canvas.getBoundingClientRect();
       if (this.edits && this.edits.hold(finger.clientX - box.x, finger.clientY - box.y) >= 0) event.preventDefault();
     }, {passive: false});
-    this.canvas.addEventListener('pointerdown', event => {
-      held = {x: event.offsetX, y: event.offsetY, moved: false, mote: -1};
-      if (this.edits) held.mote = this.edits.hold(event.offsetX, event.offsetY);
-      this.canvas.setPointerCapture(event.pointerId);
-    });
-    this.canvas.addEventListener('pointermove', event => {
-      if (!held) return;
-      const dx = event.offsetX - held.x, dy = event.offsetY - held.y;
-      if (!held.moved && Math.hypot(dx, dy) < 4) return;
-      Object.assign(held, {x: event.offsetX, y: event.offsetY, moved: true});
-      if (held.mote >= 0) return this.edits.drag(held.mote, event.offsetX, event.offsetY, event.altKey);
-      this.dx += dx;
-      this.dy += dy;
-      this.still = null;
-      redraw();
-    });
-    this.canvas.addEventListener('pointerup', event => {
-      if (held && !held.moved) {
-        const mote = this.moteNear(event.offsetX, event.offsetY);
-        if (!(this.edits && this.edits.click(event.offsetX, event.offsetY, mote)) && mote >= 0)
-          chooseMote(this.pane, mote, true);
-      } else if (held && held.mote >= 0) this.edits.drop(held.mote, event.offsetX, event.offsetY, event.altKey);
-      held = null;
-    });
   }
 }

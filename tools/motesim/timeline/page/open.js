@@ -2,8 +2,8 @@
 // Opens the page of tools/timeline on the runs that it holds.
 import {openAsAddressed} from './address.js';
 import {chainOf} from './causes.js';
-import {Run, lowerBound, unpacked} from './data.js';
-import {chooseLine, chooseMote} from './details.js';
+import {Run, columnsIn, lowerBound, unpacked} from './data.js';
+import {chooseLine, chooseMote, chooseRow} from './details.js';
 import {byId, element, lineButton, list} from './dom.js';
 import {drawAll} from './draw.js';
 import {readColours} from './forms.js';
@@ -12,7 +12,6 @@ import {breathe, indexRun} from './index.js';
 import {FULL_LANE} from './layout.js';
 import {listen, resize, showRuns, whole} from './main.js';
 import {setNow} from './play.js';
-import {chooseRow} from './rows.js';
 import {page} from './stage.js';
 import {showTime} from './time.js';
 
@@ -20,8 +19,7 @@ import {showTime} from './time.js';
 function showAround(moment, mote) {
   showTime(Math.max(0, moment - 15), Math.min(page.time.end, moment + 45));
   setNow(moment);
-  if (mote === null) return;
-  for (const pane of page.panes) {
+  for (const pane of mote === null ? [] : page.panes) {
     if (mote >= pane.order.length) continue;
     if (pane.lane < FULL_LANE) pane.zoomLanes(FULL_LANE * 1.2 / pane.lane);
     pane.reveal(mote);
@@ -56,31 +54,22 @@ function partsOf({why, lines}, pane) {
       lineButton(`line ${row} of the report`, text, '', false, () => chooseRow(pane, row))))];
 }
 
-/** A note about a further sentence, closed. */
-function further(note, pane) {
-  const box = element('details');
-  box.append(element('summary', `Also broken: ${note.title}`), ...partsOf(note, pane));
-  return box;
-}
-
 /** Shows a note, and its first line that the report has; or the last line of the mote before a missing one. */
 function openAtNote(note) {
-  const box = byId('note'), [pane] = page.panes;
+  const box = byId('note'), [pane] = page.panes, {run} = pane, first = note.lines.find(it => it.row);
   box.hidden = false;
   document.body.classList.add('noted');
   resize();
-  box.append(element('h2', `Broken: ${note.title}`), ...partsOf(note, pane),
-    ...note.others.map(it => further(it, pane)));
-  const first = note.lines.find(it => it.row);
-  if (first) {
-    chooseRow(pane, first.row);
-    showAround(page.play.now, page.chosen.pane ? page.chosen.mote : null);
-  } else if (note.mote !== null) {
-    const {run} = pane, begin = run.traceStart[note.mote];
+  box.append(element('h2', `Broken: ${note.title}`), ...partsOf(note, pane), ...note.others.map(it =>
+    element('details', '', [element('summary', `Also broken: ${it.title}`), ...partsOf(it, pane)])));
+  if (first) chooseRow(pane, first.row);
+  else if (note.mote !== null) {
+    const begin = run.traceStart[note.mote];
     const end = lowerBound(run.at, note.at + 1, begin, run.traceStart[note.mote + 1]);
     if (end > begin) chooseLine(pane, end - 1, false); else chooseMote(pane, note.mote, false);
-    showAround(end > begin ? page.play.now : note.at, note.mote);
   }
+  const {line, mote} = page.chosen;
+  if (page.chosen.pane) showAround(first || line >= 0 ? page.play.now : note.at, mote);
 }
 
 /** Selects the first line of a mote at a moment, in the first run that has one. */
@@ -99,7 +88,7 @@ async function open() {
   const data = JSON.parse(byId('data').textContent), runs = [], begin = performance.now();
   readColours();
   for (const [number, table] of data.runs.entries()) {
-    const packed = byId(`run${number}`), run = new Run(table, await unpacked(packed.textContent));
+    const packed = byId(`run${number}`), run = new Run(table, columnsIn(table, await unpacked(packed.textContent)));
     packed.textContent = '';
     await breathe();
     await indexRun(run);

@@ -3,10 +3,9 @@
 import {Layout} from './layout.js';
 
 export class Pane extends Layout {
-  constructor(run, number, box) {
+  constructor(run, number, canvas, over) {
     super(run);
     this.number = number;
-    const [canvas, over] = box.querySelectorAll('canvas');
     this.canvas = /** @type {HTMLCanvasElement} */ (canvas);
     this.front = canvas.getContext('2d', {alpha: false});
     // (the moment that the map shows; the last picture of the lanes alone, and room for the next one)

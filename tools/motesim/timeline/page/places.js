@@ -1,6 +1,7 @@
 // @ts-check
 // The places of a run's motes on the map.
 import {lowerBound} from './data.js';
+import {awayFrom} from './layout.js';
 
 // Pixels from the row or the column of another mote within which a mote is moved there.
 const SNAP = 6;
@@ -108,6 +109,13 @@ export class MapLayout {
     return found;
   }
 
+  /** The ends of the way between two motes, each a cut nearer to the other. */
+  way(s, r, cut = 0) {
+    const x0 = this.x(s), y0 = this.y(s), x1 = this.x(r), y1 = this.y(r);
+    const by = cut / (Math.hypot(x1 - x0, y1 - y0) || 1), dx = (x1 - x0) * by, dy = (y1 - y0) * by;
+    return [x0 + dx, y0 + dy, x1 - dx, y1 - dy];
+  }
+
   /** The radius of a mote: by the room that each has. */
   get radius() {
     const each = Math.sqrt((this.spanX * this.fit + 30) * (this.spanY * this.fit +
@@ -134,14 +142,10 @@ export class MapLayout {
     this.run.hearers.forEach((list, s) => {
       for (const r of list) {
         if (r < s) continue;
-        const x0 = this.x(s), y0 = this.y(s), dx = this.x(r) - x0, dy = this.y(r) - y0;
-        const square = dx * dx + dy * dy || 1;
-        const share = Math.max(0, Math.min(1, ((x - x0) * dx + (y - y0) * dy) / square));
-        const away = Math.hypot(x - x0 - share * dx, y - y0 - share * dy);
-        if (away < best) {
-          best = away;
-          found = [s, r];
-        }
+        const away = awayFrom(x, y, this.way(s, r));
+        if (away >= best) continue;
+        best = away;
+        found = [s, r];
       }
     });
     return found;

@@ -28,19 +28,19 @@ export const page = {
   time: {begin: 0, scale: 1, end: 0, width: 100},
   /** The moment that the maps show, and the one before it; and those between which playing goes round, or null. */
   play: {now: 0, before: -1, runs: false, last: 0, loop: /** @type {number[]|null} */ (null)},
-  /** The selection: a mote of a pane (null: nothing), and its line (or -1), or a packet k with a copy (or -1). `bows`
-   * are pairs of lines to join, `next` the lines to which Enter leads, and `times` counts selections. */
-  chosen: {pane: /** @type {any} */ (null), mote: -1, line: -1, k: -1, copy: -1, bows: /** @type {any[]} */ ([]),
-    next: /** @type {number[]} */ ([]), times: 0},
+  /** The selection: a mote of a pane (null: nothing), and its line (or -1), or a packet k with a copy (or -1). `times`
+   * counts selections. */
+  chosen: {pane: /** @type {any} */ (null), mote: -1, line: -1, k: -1, copy: -1, times: 0},
   /** The chain of causes that is shown. */
-  why: {pane: /** @type {any} */ (null), run: /** @type {any} */ (null), hops: /** @type {Hop[]} */ ([]), about: ''},
+  why: {pane: /** @type {any} */ (null), run: /** @type {any} */ (null), hops: /** @type {Hop[]} */ ([])},
   /** The first difference from another run, and the moment of the first one in each lane. */
   differs: {first: /** @type {any} */ (null), parts: new Map()},
   /** The map as a way to change the text: the link that is shown, and the mote that is moved. */
   ground: {adding: false, way: /** @type {any} */ (null), held: /** @type {any} */ (null)},
-  /** The lines that the log has, the first that it shows, and those with rings in each pane. */
-  logged: {run: /** @type {any} */ (null), lines: /** @type {any} */ (null), first: 0,
-    found: /** @type {any[]} */ ([])},
+  /** The places in order of time that the log has, the first that it lists, for which selection, and the lines with
+   * rings in each pane. */
+  logged: {run: /** @type {any} */ (null), places: new Uint32Array(0), first: 0, times: -1,
+    rings: /** @type {any[]} */ ([])},
   /** Functions of other modules: they draw over the lanes of a pane, or over a map; follow the moment and the
    * selection; or add lines below a selected line, in a box. */
   overlays: /** @type {((pane: any) => void)[]} */ ([]),
@@ -54,12 +54,11 @@ export const page = {
   chainOf: /** @type {(run: any, line: number) => any} */ (() => null),
 
   /** Functions that are called when the results that are shown become those of an earlier text; when the results of
-   * a run are there; when a document was opened; when its text is kept; and after a step. */
+   * a run are there; when a document was opened; and when its text is kept. */
   reactions: {outdated: /** @type {(() => void)[]} */ ([]), judged: /** @type {((results: any) => void)[]} */ ([]),
-    opened: /** @type {((document: any) => void)[]} */ ([]), kept: /** @type {((text: string) => void)[]} */ ([]),
-    stepped: /** @type {((pane: any, mote: number, line: number, key: string) => void)[]} */ ([])},
-  /** The state that is shown in steps; and the selection whose statement is marked. */
-  steps: {run: /** @type {any} */ (null), shown: '', marked: 0},
+    opened: /** @type {((document: any) => void)[]} */ ([]), kept: /** @type {((text: string) => void)[]} */ ([])},
+  /** The state that is shown, and the selection whose statement is marked. */
+  state: '', marked: 0,
   faults: {number: 0, found: /** @type {any} */ (null), isGoing: false, timer: 0},
 
   /** The text. `document` has its name and place, `saved` the text of its file, and `intro` says where it came from;
@@ -76,6 +75,6 @@ export class Refused extends Error {}
 
 /** Replaces the selection. @param {any} it */
 export function choose(it) {
-  Object.assign(page.chosen, {pane: null, mote: -1, line: -1, k: -1, copy: -1, bows: [], next: []}, it);
+  Object.assign(page.chosen, {pane: null, mote: -1, line: -1, k: -1, copy: -1}, it);
   page.chosen.times++;
 }

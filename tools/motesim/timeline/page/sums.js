@@ -1,6 +1,7 @@
 // @ts-check
-// The totals of a run: by mote, for the net, and by link.
+// The tab *Sums*: the totals of a run, by mote, for the net, and by link.
 import {DROP, FULL, HALT, POST, PRINT, SEND, TAKE} from './data.js';
+import {element, table} from './dom.js';
 import {COLLIDED, GONE, LEFT, MEDIUM, RING, delayOf} from './index.js';
 
 const DIGITS = 1e6;
@@ -37,7 +38,7 @@ export function sums(run) {
   const motes = ofMotes.map((became, mote) => moteRow(run, mote, became));
   const links = [...ofLinks.values()].sort((a, b) => a.from - b.from || a.to - b.to);
   return {motes: [MOTE_NAMES, ...motes, netRow(motes)],
-    links: [LINK_NAMES, ...links.map(it => [it.from, it.to, ...copiesRow(it.became), it.delay])], more: 0};
+    links: [LINK_NAMES, ...links.map(it => [it.from, it.to, ...copiesRow(it.became), it.delay])]};
 }
 
 /** @param {Map<number, any>} links @param {number} from @param {number} to */
@@ -62,4 +63,19 @@ function netRow(motes) {
   const counted = Object.keys(COUNTED).map(name => total(place(name)));
   return ['net', '', total(place('sent')), ...copiesRow(became), ...counted,
     motes.filter(row => row[place('halt')] !== null).length];
+}
+
+/** @param {any[][]} all the names and the rows */
+function sumTable(all) {
+  const [names, ...rows] = all;
+  const shown = value => value === null ? '-' : Number.isInteger(value) || typeof value === 'string' ? String(value) :
+    value.toFixed(3);
+  return table(names, rows.map(row => element('tr', '', row.map((value, i) =>
+    element('td', shown(value), [], {className: names[i]})), {className: row[0]})));
+}
+
+/** Shows the totals of a run. */
+export function fillSums(box, run) {
+  const {motes, links} = sums(run);
+  box.replaceChildren(sumTable(motes), sumTable(links));
 }

@@ -1,17 +1,12 @@
 // @ts-check
 // A tip at the pointer: what is there, in words.
-import {byId, element} from './dom.js';
+import {byId} from './dom.js';
 
 const AWAY = 14;
 
 /** Shows words at the pointer, or nothing if there are none.
  * @param {string} words @param {PointerEvent} event */
 function show(words, event) {
-  if (!byId('tip')) {
-    const made = Object.assign(element('div'), {id: 'tip'});
-    made.setAttribute('role', 'tooltip');
-    document.body.append(made);
-  }
   const box = byId('tip');
   box.hidden = !words;
   if (!words) return;
@@ -30,6 +25,7 @@ export function offerTips(canvas, wordsAt) {
     canvas.classList.toggle('points', Boolean(words));
     show(words, event);
   });
-  canvas.addEventListener('pointerleave', event => show('', event));
-  canvas.addEventListener('pointerdown', event => show('', event));
+  for (const name of ['pointerleave', 'pointerdown']) {
+    canvas.addEventListener(name, () => { byId('tip').hidden = true; });
+  }
 }

@@ -52,7 +52,7 @@ export class Alone {
     if (got.superseded || got.limit) return got;
     const {line} = got;
     if (line) return {fault: {line, words: ruleOf(this.rules, line), place: placeOfFault(text, line)}};
-    const run = /** @type {any} */ (new Run({name, ...got.table, ...scenarioOf(text)}, got.buffer));
+    const run = /** @type {any} */ (new Run({name, ...got.table, ...scenarioOf(text)}, got.columns));
     run.end = Math.max(run.end, lastMoment(run));
     await indexRun(run);
     if (number !== this.number) return {superseded: true};

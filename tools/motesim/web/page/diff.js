@@ -62,15 +62,11 @@ function differences(a, b) {
 /** How two runs differ, in the form in which the page shows it.
  * @param {any} a the earlier run @param {any} b the run that is shown */
 export function difference(a, b) {
-  const found = differences(a, b), [first] = found, motes = [];
-  const program = (run, mote) => mote < run.begins.length ? run.programs[run.begins[mote]] : undefined;
-  for (let mote = 0; mote < Math.max(a.begins.length, b.begins.length); mote++) {
-    if (program(a, mote) !== program(b, mote)) motes.push(mote);
-  }
+  const found = differences(a, b), [first] = found, programs = run => Array.from(run.begins, it => run.programs[it]);
   const inMedium = Boolean(first) && first.mote === MEDIUM;
-  return {same: !found.length && !motes.length && a.left === b.left, motes,
+  return {same: !found.length && a.left === b.left && programs(a).join() === programs(b).join(),
     first: first ? {at: first.at, mote: inMedium ? senderOf(a, b, first.place) : first.mote,
-      index: inMedium ? -1 : first.place, inMedium, sides: [a, b].map(run => sideOf(run, first))} : null,
+      index: inMedium ? -1 : first.place, inMedium} : null,
     parts: found.filter(it => it.mote !== MEDIUM).map(it => [it.mote, it.at])};
 }
 
@@ -81,12 +77,4 @@ function senderOf(a, b, place) {
   found.sort((one, other) => one.packetAt[place] - other.packetAt[place] ||
     one.packetSender[place] - other.packetSender[place] || one.packetNumber[place] - other.packetNumber[place]);
   return found[0].packetSender[place];
-}
-
-/** The line of a run at a difference; null if the run has none there.
- * @param {any} run @param {Difference} it */
-function sideOf(run, {mote, place}) {
-  const [from, to] = stretch(run, mote), hasMote = mote < run.begins.length;
-  if (from + place >= to) return {text: null, hasMote};
-  return {text: mote === MEDIUM ? run.packetText(place) : run.text(from + place), hasMote};
 }

@@ -5,8 +5,8 @@ import {applied} from '../../studio/page/text.js';
 import {Refused} from '../../timeline/page/stage.js';
 import {NoToml, readToml} from './toml.js';
 
-export const MOST_PLACE = 30000;
-export const MOST_EVERY = 1000000;
+const MOST_PLACE = 30000;
+const MOST_EVERY = 1000000;
 const MOST_MOTES = 1000;
 
 /** @typedef {import('../../studio/page/text.js').Change} Change */
@@ -171,10 +171,6 @@ const EDITS = {
     const said = `${way} loses ${every === 1 ? 'all packets' : `1 packet in ${every}`}.`;
     if (found >= 0) return [[text.set(['loss', found, 'every'], every)], said];
     return [[text.appended('loss', [`from = ${from}`, `to = ${to}`, `every = ${every}`])], said];
-  },
-
-  set(text, wish) {
-    return [[text.set(wish.path, wish.value)], `${wish.path[wish.path.length - 1]} is ${wish.value}.`];
   },
 };
 

@@ -1,45 +1,30 @@
 // @ts-check
-// Where a text comes from and goes to: a link, a file, this page saved with it, and the browser's storage.
+// Where a text comes from and goes to: a link, a file, and the browser's storage.
 import {byId, handOut, stored} from '../../timeline/page/dom.js';
 import {page} from '../../timeline/page/stage.js';
 import {LONGEST_LINK, packed, unpackedText} from './share.js';
 
 const DRAFT = 'motesim draft', STARTED = 'motesim started', LONGEST_FILE = 1 << 20;
 
-/** The page as it was delivered, before anything changed it. */
-const delivered = typeof document === 'undefined' ? '' : `<!DOCTYPE html>\n${document.documentElement.outerHTML}`;
-
-/** A number that tells texts apart. @param {string} text */
-const sign = text => [...text].reduce((sum, it) => (sum * 31 + (it.codePointAt(0) || 0)) | 0, text.length);
-
-/** The text that the page was saved with, or null.
- * @returns {{text: string, name: string}|null} */
-const savedHere = () => JSON.parse(byId('saved').textContent);
-
 /** Keeps the text as the draft of this page. @param {string} text @param {string} name */
-export const keepDraft = (text, name) =>
-  stored(it => it.setItem(DRAFT, JSON.stringify({text, name, of: sign(JSON.stringify(savedHere()))})));
+export const keepDraft = (text, name) => stored(it => it.setItem(DRAFT, JSON.stringify({text, name})));
 
 export const forgetDraft = () => stored(it => it.removeItem(DRAFT));
 
 /** Notes that a run of a text begins or has ended, so that a text at which the browser gives up isn't run again.
  * @param {string|null} text */
-export const noteStart = text =>
-  stored(it => text === null ? it.removeItem(STARTED) : it.setItem(STARTED, String(sign(text))));
+export const noteStart = text => stored(it => text === null ? it.removeItem(STARTED) : it.setItem(STARTED, text));
 
 /** True if the last run of a text never ended. @param {string} text */
-export const neverEnded = text => stored(it => it.getItem(STARTED) === String(sign(text)));
+export const neverEnded = text => stored(it => it.getItem(STARTED) === text);
 
 /** The text to open with, and where it came from; null for the first example.
- * @returns {Promise<{text: string, name: string, from: 'link'|'page'|'draft'}|null>} */
+ * @returns {Promise<{text: string, name: string, from: 'link'|'draft'}|null>} */
 export async function textToOpen() {
   const linked = await unpackedText(location.hash);
   if (linked !== null) return {text: linked, name: 'shared.toml', from: 'link'};
-  const saved = savedHere(), draft = stored(it => JSON.parse(it.getItem(DRAFT) || 'null'));
-  if (draft && typeof draft.text === 'string' && draft.of === sign(JSON.stringify(saved))) {
-    return {text: draft.text, name: String(draft.name), from: 'draft'};
-  }
-  return saved ? {...saved, from: 'page'} : null;
+  const draft = stored(it => JSON.parse(it.getItem(DRAFT) || 'null'));
+  return draft && typeof draft.text === 'string' ? {text: draft.text, name: String(draft.name), from: 'draft'} : null;
 }
 
 /** The address of this page with a text; null if it is too long for chats and mails.
@@ -60,21 +45,13 @@ export async function keepInAddress(text) {
   }
 }
 
-/** Hands out this page with a text in it. @param {string} text @param {string} name */
-function savePage(text, name) {
-  const inside = JSON.stringify({text, name}).replace(/</g, '\\u003c');
-  const begin = '<script id="saved" type="application/json">';
-  const from = delivered.indexOf(begin) + begin.length, to = delivered.indexOf('</' + 'script>', from);
-  handOut(name.replace(/\.toml$/, '.html'), [delivered.slice(0, from), inside, delivered.slice(to)], 'text/html');
-}
-
 /** Shows the ways to share a text. @param {string} text @param {string} name */
 export async function showSharing(text, name) {
   const {line, mote, pane} = page.chosen, box = byId('sharing');
   const bare = await linkTo(text), link = bare && line >= 0 ? `${bare}&line=${pane.run.numberOf(line, mote)}` : bare;
   byId('sharing-said').textContent = link ?
     `The link carries the whole scenario, in ${link.length.toLocaleString('en')} characters.` :
-    'This scenario is too long for a link in a chat or a mail: send the file, or this page saved with it.';
+    'This scenario is too long for a link in a chat or a mail: send the file.';
   byId('link').hidden = byId('copy-link').hidden = !link;
   byId('link').value = link || '';
   byId('copy-link').textContent = 'Copy the link';
@@ -88,7 +65,6 @@ export async function showSharing(text, name) {
     byId('copy-link').textContent = 'Copied';
   };
   byId('download').onclick = () => handOut(name, [text], 'text/plain');
-  byId('save-page').onclick = () => savePage(text, name);
   box.showModal();
 }
 
@@ -105,14 +81,9 @@ export function beginFiles(take, refuse) {
     read(byId('file').files[0]);
     byId('file').value = '';
   });
-  document.addEventListener('dragover', event => {
-    event.preventDefault();
-    document.body.classList.add('dropping');
-  });
-  document.addEventListener('dragleave', () => document.body.classList.remove('dropping'));
+  document.addEventListener('dragover', event => event.preventDefault());
   document.addEventListener('drop', event => {
     event.preventDefault();
-    document.body.classList.remove('dropping');
     read(event.dataTransfer && event.dataTransfer.files[0]);
   });
 }

@@ -1,7 +1,7 @@
 // @ts-check
 // The text area: it shows the whole text, or one program of it, in colours; and marks an error.
 import {byId} from '../../timeline/page/dom.js';
-import {differing, lineAndColumn, movedOffset} from '../../studio/page/text.js';
+import {lineAndColumn} from '../../studio/page/text.js';
 import {Tint} from '../../studio/page/tint.js';
 import {firstState} from '../../studio/page/tokens.js';
 
@@ -28,15 +28,13 @@ export class Pad {
   /** Shows a stretch of a text. Caret and view stay as near as may be, unless it is shown anew.
    * @param {string} text @param {number} begin @param {number} end @param {boolean} isNew */
   show(text, begin, end, isNew = false) {
-    const {area} = this, {selectionStart, scrollTop} = area, old = area.value, shown = text.slice(begin, end);
+    const {area} = this, {selectionStart, scrollTop} = area, shown = text.slice(begin, end);
     this.before = text.slice(0, begin);
     this.behind = text.slice(end);
-    this.tint.first = {...firstState(), quote: /("""|'''|"|')\r?\n?$/.exec(begin ? this.before : '')?.[1] || ''};
-    if (shown !== old) {
-      const {begin: from, end: to, text: piece} = differing(old, shown);
+    this.tint.first = firstState(/("""|'''|"|')\r?\n?$/.exec(begin ? this.before : '')?.[1]);
+    if (shown !== area.value) {
       area.value = shown;
-      const caret = isNew ? 0 : movedOffset(selectionStart, from, to, piece.length);
-      area.setSelectionRange(caret, caret);
+      area.setSelectionRange(isNew ? 0 : selectionStart, isNew ? 0 : selectionStart);
     }
     area.scrollTop = isNew ? 0 : scrollTop;
     this.renew();
@@ -59,7 +57,7 @@ export class Pad {
   mark(place) {
     this.place = place;
     const above = this.rowsBefore;
-    this.tint.mark(place && place[0] >= above ? [place[0] - above, place[1], place[2]] : null);
+    this.tint.mark({place: place && place[0] >= above ? [place[0] - above, place[1], place[2]] : null});
   }
 
   /** Brings a row of the shown text into view. @param {number} row */
@@ -82,14 +80,14 @@ export class Pad {
   light(piece) {
     const begin = this.area.value.indexOf(piece), [row, column] = lineAndColumn(this.area.value, Math.max(0, begin));
     if (begin < 0) return;
-    this.tint.lit = [row, column, column + piece.length];
+    this.tint.mark({lit: [row, column, column + piece.length]});
     this.showRow(row);
   }
 
   /** Marks a row of the whole text as the statement that is selected; -1 marks none. @param {number} row */
   lightRow(row) {
     const shown = row - this.rowsBefore, isShown = row >= 0 && shown >= 0 && shown < this.area.value.split('\n').length;
-    this.tint.light(isShown ? shown : -1);
+    this.tint.mark({row: isShown ? shown : -1});
     if (isShown) this.showRow(shown);
   }
 

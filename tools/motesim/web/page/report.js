@@ -1,13 +1,10 @@
 // @ts-check
 // A report as columns: the numbers that `Run` takes, and a table of names.
-import {ALL, KINDS} from '../../timeline/page/data.js';
+import {ALL, ARRAYS, KINDS} from '../../timeline/page/data.js';
 
-/** @typedef {Uint8Array|Uint16Array|Uint32Array} Numbers */
-
-/** The columns in the order in which `Run` reads them, with their kinds of numbers. */
+/** The columns that `Run` takes, with their kinds of numbers. */
 const NAMES = {traceStart: 'u32', at: 'u32', x: 'u32', packetAt: 'u32', copyAfter: 'u32', w: 'u16', p: 'u16', e: 'u16',
   begins: 'u16', packetSender: 'u16', packetValue: 'u16', copyCount: 'u16', copyTo: 'u16', kind: 'u8'};
-const ARRAYS = {u8: Uint8Array, u16: Uint16Array, u32: Uint32Array};
 /** The words of a line after its kind: s a serial or number, p a process, r a mote, e an event, w a value. */
 const FIELDS = {start: 'p', leave: 'p', post: 'spew', full: 'pew', take: 'sp', drop: 'sp', print: 'pw', busy: 'p',
   send: 'sw', recv: 'rsw', lost: 'rs', collide: 'rs', deaf: 'rs', halt: ''};
@@ -18,7 +15,7 @@ class Growing {
   constructor(type) {
     this.Type = ARRAYS[type];
     this.length = 0;
-    this.numbers = /** @type {Numbers} */ (new this.Type(1024));
+    this.numbers = new this.Type(1024);
   }
 
   /** @param {number} number */
@@ -31,7 +28,7 @@ class Growing {
     this.numbers[this.length++] = number;
   }
 
-  get bytes() { return new Uint8Array(this.numbers.buffer, 0, this.length * this.Type.BYTES_PER_ELEMENT); }
+  get whole() { return this.numbers.slice(0, this.length); }
 }
 
 /** Names in the order in which they were met, each with its number. */
@@ -126,21 +123,8 @@ export function columnsOf(text) {
     number();
     columns.begins.push(programs.place(word()));
   }
-  return {table: {left, programs: programs.list, processes: processes.list, events: events.list, plain: true,
-    columns: Object.entries(NAMES).map(([name, type]) => [name, type, columns[name].length])},
-  buffer: joined(Object.keys(NAMES).map(name => columns[name].bytes))};
-}
-
-/** Columns one after another, each at a multiple of 4.
- * @param {Uint8Array[]} parts */
-function joined(parts) {
-  const size = it => Math.ceil(it.length / 4) * 4, all = new Uint8Array(parts.reduce((sum, it) => sum + size(it), 0));
-  let place = 0;
-  for (const part of parts) {
-    all.set(part, place);
-    place += size(part);
-  }
-  return all.buffer;
+  return {table: {left, programs: programs.list, processes: processes.list, events: events.list},
+    columns: Object.fromEntries(Object.entries(columns).map(([name, it]) => [name, it.whole]))};
 }
 
 /** The last moment at which anything is written in columns.

@@ -1,14 +1,8 @@
 // @ts-check
 // A scenario's text as TOML: its values, and the places of its keys, values and tables.
 
-/** The text isn't TOML, at an offset. */
-export class NoToml extends Error {
-  /** @param {string} message @param {number} at */
-  constructor(message, at) {
-    super(message);
-    this.at = at;
-  }
-}
+/** The text isn't TOML. */
+export class NoToml extends Error {}
 
 /** The place of an item: those of its header or key, and of its value, as offsets.
  * @typedef {{key: [number, number], value: [number, number]|null}} Place */
@@ -33,7 +27,7 @@ class Reader {
   }
 
   /** @returns {never} */
-  fail(message = 'this is not TOML') { throw new NoToml(message, this.at); }
+  fail() { throw new NoToml(); }
 
   /** @param {RegExp} pattern */
   take(pattern) {
@@ -53,55 +47,51 @@ class Reader {
   blanks() { this.take(/[ \t]*/y); }
   gaps() { this.take(/(?:[ \t\r\n]|#[^\n]*)*/y); }
 
-  endRow() {
-    this.blanks();
-    if (!this.take(/(?:#[^\n]*)?(?:\r?\n|$)/y)) this.fail('a row has one key');
-  }
+  /** @param {Path} path @param {[number, number]} key @param {[number, number]|null} value */
+  note(path, key, value) { this.places.set(JSON.stringify(path), {key, value}); }
 
   document() {
     let base = /** @type {Path} */ ([]), table = /** @type {any} */ (this.tables);
     for (this.gaps(); this.at < this.text.length; this.gaps()) {
-      if (this.text[this.at] !== '[') {
-        this.pair(table, base);
-        this.endRow();
-        continue;
-      }
       const from = this.at, isMember = this.pass('[[');
-      if (!isMember) this.at++;
-      const names = this.key();
-      if (!this.pass(isMember ? ']]' : ']')) this.fail('a header ends with a bracket');
-      this.headers.push(from);
-      [table, base] = this.opened(names, isMember);
-      this.places.set(JSON.stringify(base), {key: [from, this.at], value: null});
-      this.endRow();
+      if (isMember || this.pass('[')) {
+        const names = this.key();
+        if (!this.pass(isMember ? ']]' : ']')) this.fail();
+        this.headers.push(from);
+        [table, base] = this.opened(names, isMember);
+        this.note(base, [from, this.at], null);
+      } else this.pair(table, base);
+      this.blanks();
+      if (!this.take(/(?:#[^\n]*)?(?:\r?\n|$)/y)) this.fail();
     }
     return this;
+  }
+
+  /** The table of a name in another, which is made if it isn't there; of an array the last one. Lengthens the path.
+   * @param {any} table @param {string} name @param {Path} path */
+  inner(table, name, path) {
+    path.push(name);
+    if (!Object.hasOwn(table, name)) table[name] = {};
+    let found = table[name];
+    if (Array.isArray(found)) {
+      path.push(found.length - 1);
+      found = found[found.length - 1];
+    }
+    return typeof found === 'object' ? found : this.fail();
   }
 
   /** The table that a header opens, and its path.
    * @param {string[]} names @param {boolean} isMember @returns {[any, Path]} */
   opened(names, isMember) {
-    let table = /** @type {any} */ (this.tables), path = /** @type {Path} */ ([]);
-    names.forEach((name, i) => {
-      const isLast = i === names.length - 1;
-      path = [...path, name];
-      if (isLast && isMember) {
-        table = table[name] = own(table, name) || [];
-        if (!Array.isArray(table)) this.fail('this is no array of tables');
-        path.push(table.length);
-        table.push({});
-        table = table[table.length - 1];
-        return;
-      }
-      if (own(table, name) === undefined) table[name] = {};
-      table = table[name];
-      if (Array.isArray(table)) {
-        path.push(table.length - 1);
-        table = table[table.length - 1];
-      }
-      if (typeof table !== 'object') this.fail('this is no table');
-    });
-    return [table, path];
+    let table = /** @type {any} */ (this.tables);
+    const path = /** @type {Path} */ ([]), last = isMember ? names.pop() : undefined;
+    for (const name of names) table = this.inner(table, name, path);
+    if (last === undefined) return [table, path];
+    if (!Object.hasOwn(table, last)) table[last] = [];
+    const list = table[last];
+    if (!Array.isArray(list)) this.fail();
+    path.push(last, list.push({}) - 1);
+    return [list[list.length - 1], path];
   }
 
   /** A key with dots, as its names. */
@@ -118,96 +108,59 @@ class Reader {
 
   /** A key with its value. @param {any} table @param {Path} base */
   pair(table, base) {
-    const from = this.at, names = this.key(), behind = this.at;
-    if (!this.pass('=')) this.fail('a key is followed by =');
+    const from = this.at, names = this.key(), behind = this.at, path = [...base], last = names.pop() || '';
+    if (!this.pass('=')) this.fail();
     this.blanks();
-    const path = [...base, ...names], last = names[names.length - 1];
-    for (const name of names.slice(0, -1)) {
-      if (own(table, name) === undefined) table[name] = {};
-      table = table[name];
-      if (typeof table !== 'object') this.fail('this is no table');
-    }
-    if (own(table, last) !== undefined) this.fail('this key is there twice');
+    for (const name of names) table = this.inner(table, name, path);
+    if (Object.hasOwn(table, last)) this.fail();
     const begin = this.at;
+    path.push(last);
     table[last] = this.value(path);
-    this.places.set(JSON.stringify(path), {key: [from, behind], value: [begin, this.at]});
+    this.note(path, [from, behind], [begin, this.at]);
   }
 
   /** @param {Path} path @returns {any} */
   value(path) {
     const sign = this.text[this.at];
     if (sign === '"' || sign === "'") return this.string();
-    if (sign === '[') return this.array(path);
-    if (sign === '{') return this.inline(path);
-    const word = this.take(/[A-Za-z0-9_.+:-]+/y) || this.fail('a value is missing');
+    if (sign === '[' || sign === '{') return this.items(sign, path);
+    const word = this.take(/[A-Za-z0-9_.+:-]+/y) || this.fail();
     if (word[0] === 'true' || word[0] === 'false') return word[0] === 'true';
     const digits = word[0].replace(/(?<=[0-9a-fA-F])_(?=[0-9a-fA-F])/g, '');
     if (NUMBER.test(digits)) return Number(digits);
-    if (/^[+-]?[0-9]/.test(digits)) return digits;
-    return this.fail('this is no value');
+    return /^[+-]?[0-9]/.test(digits) ? digits : this.fail();
   }
 
-  /** @param {Path} path */
-  array(path) {
-    const found = [];
+  /** An array, or a table in braces. @param {string} sign @param {Path} path */
+  items(sign, path) {
+    const found = /** @type {any} */ (sign === '[' ? [] : {}), end = sign === '[' ? ']' : '}';
     this.at++;
-    for (this.gaps(); !this.pass(']'); this.gaps()) {
-      const begin = this.at, inner = [...path, found.length];
-      found.push(this.value(inner));
-      this.places.set(JSON.stringify(inner), {key: [begin, begin], value: [begin, this.at]});
+    for (this.gaps(); !this.pass(end); this.gaps()) {
+      const begin = this.at, inside = [...path, found.length];
+      if (sign === '{') this.pair(found, path);
+      else {
+        found.push(this.value(inside));
+        this.note(inside, [begin, begin], [begin, this.at]);
+      }
       this.gaps();
-      if (!this.pass(',') && this.text[this.at] !== ']') this.fail('an array ends with ]');
-    }
-    return found;
-  }
-
-  /** @param {Path} path */
-  inline(path) {
-    const found = {};
-    this.at++;
-    for (this.gaps(); !this.pass('}'); this.gaps()) {
-      this.pair(found, path);
-      this.gaps();
-      if (!this.pass(',') && this.text[this.at] !== '}') this.fail('a table in braces ends with }');
+      if (!this.pass(',') && this.text[this.at] !== end) this.fail();
     }
     return found;
   }
 
   string() {
-    for (const quote of ["'''", '"""']) if (this.text.startsWith(quote, this.at)) return this.long(quote);
-    const found = this.take(/'([^'\n]*)'|"((?:[^"\\\n]|\\.)*)"/y) || this.fail('a string has no end');
+    const long = this.take(/'''(?:\r?\n)?([^]*?'{0,2})'''(?!')/y);
+    if (long) return long[1];
+    const escaped = this.take(/"""(?:\r?\n)?((?:[^"\\]|\\[^]|"(?!""))*"{0,2})"""/y);
+    if (escaped) return unescaped(escaped[1]);
+    const found = this.take(/'([^'\n]*)'|"((?:[^"\\\n]|\\.)*)"/y) || this.fail();
     return found[1] !== undefined ? found[1] : unescaped(found[2]);
   }
-
-  /** @param {string} quote */
-  long(quote) {
-    this.at += 3;
-    this.take(/\r?\n/y);
-    const end = quote === "'''" ? this.text.indexOf(quote, this.at) : endOfLong(this.text, this.at);
-    if (end < 0) this.fail('a program has no end');
-    let behind = end;
-    while (behind < end + 2 && this.text[behind + 3] === quote[0]) behind++;
-    const inside = this.text.slice(this.at, behind);
-    this.at = behind + 3;
-    return quote === "'''" ? inside : unescaped(inside);
-  }
 }
-
-/** @param {any} table @param {string} name */
-const own = (table, name) => Object.hasOwn(table, name) ? table[name] : undefined;
 
 /** @param {string} text */
 const unescaped = text => text.replace(ESCAPE, (all, short, long, sign) =>
   short || long ? String.fromCodePoint(parseInt(short || long, 16)) : sign ? ESCAPES[sign] ?? all : '');
-
-/** @param {string} text @param {number} from */
-function endOfLong(text, from) {
-  for (let at = from; at < text.length; at++) {
-    if (text[at] === '\\') at++;
-    else if (text.startsWith('"""', at)) return at;
-  }
-  return -1;
-}
 
 /** A text with its values (`tables`), the `places` of all items by their paths in JSON, and the offsets of `headers`.
  * @param {string} text */

@@ -19,7 +19,6 @@ import {difference} from './diff.js';
 import {effectInWords} from './effect.js';
 import {beginGallery, firstSentence} from './gallery.js';
 import {beginFiles, showSharing} from './keeping.js';
-import {showNet} from './net.js';
 import {Pad} from './pad.js';
 import {programsOf} from './scenario.js';
 
@@ -64,7 +63,7 @@ function sayIntro() {
 
 /** Shows the text in the part that is open. @param {boolean} isNew */
 function showText(isNew = false) {
-  const {text} = web.history, programs = programsOf(text), which = byId('which'), isNet = web.part === 'part-net';
+  const {text} = web.history, programs = programsOf(text), which = byId('which');
   const names = programs.map(it => it.name), kept = which.value;
   if (names.join() !== [...which.options].map(it => it.value).join()) {
     which.replaceChildren(...names.map(name => Object.assign(element('option', name), {value: name})));
@@ -72,10 +71,7 @@ function showText(isNew = false) {
   }
   const isProgram = web.part === 'part-program' && programs.length > 0;
   which.hidden = !isProgram || names.length < 2;
-  byId('net').hidden = !isNet;
-  byId('editor').hidden = isNet;
   byId('editor').setAttribute('aria-labelledby', web.part);
-  if (isNet) showNet(text, page.edit);
   const it = programs.find(one => one.name === which.value) || programs[0];
   web.pad.show(text, isProgram ? it.begin : 0, isProgram ? it.end : text.length, isNew);
   nameSteps();
@@ -118,7 +114,6 @@ export async function open(document, {example = /** @type {any} */ (null), intro
   Object.assign(web, {document, example, intro, saved: document.text, fresh: true});
   clearTimeout(web.keepTimer);
   web.history.begin(against === null ? document.text : against);
-  if (web.part === 'part-net') byId('part-program').click();
   showText(true);
   if (waits) {
     beReady();
@@ -148,7 +143,7 @@ function makeTry() {
 export function goTo(row, from, to) {
   const at = offsetOf(web.history.text, [row, 0]), {pad} = web;
   const isShown = at >= pad.before.length && at <= pad.before.length + pad.area.value.length;
-  if (!isShown || web.part === 'part-net') byId('part-all').click();
+  if (!isShown) byId('part-all').click();
   const begin = offsetOf(web.history.text, [row, from]) - pad.before.length;
   pad.select(begin, begin + to - from);
 }
@@ -216,7 +211,6 @@ async function showRun({run, number, took}, step) {
   if (page.panes.length) showInstead(page.panes[0], run); else showFirst(run);
   renewMotes();
   showSums();
-  if (web.part === 'part-net') showText();
   byId('about').textContent = `${count(run.begins.length, 'mote')}, ${count(run.end + 1, 'moment')}` +
     (took === undefined ? '' : `, ${Math.max(1, Math.round(took))} ms`);
   if (web.fresh) beginShow();
@@ -280,7 +274,7 @@ function beginButtons() {
   click('fault-place', () => { if (web.pad.place) goTo(...web.pad.place); });
   click('fault-correct', () => change(web.fault.corrected, 'edit'));
   byId('which').addEventListener('change', () => showText(true));
-  beginTabs(['part-program', 'part-net', 'part-all'], id => {
+  beginTabs('parts', id => {
     web.part = id;
     showText(true);
   });
@@ -296,8 +290,8 @@ function beginButtons() {
 
 /** Begins the page. Returns its examples, those with a card first.
  * @param {import('../../timeline/page/stage.js').Backend} backend @param {any} data the examples, with the words of the
- * notation @param {string[][]} panels further panels, after those of each page */
-export function begin(backend, {cards, texts, words}, panels = []) {
+ * notation */
+export function begin(backend, {cards, texts, words}) {
   const shown = cards.map(it => it.file), others = Object.keys(texts).filter(it => !shown.includes(it));
   const examples = [...cards, ...others.map(file => ({file}))].map(it => ({...it, text: texts[it.file]}));
   readColours();
@@ -310,7 +304,7 @@ export function begin(backend, {cards, texts, words}, panels = []) {
     words => say(words, 'bad'));
   beginGallery(examples, openExample);
   beginFiles((text, name) => open({where: '', name, text}, {intro: `This is ${name}.`}), words => say(words, 'bad'));
-  beginDrawer(panels);
+  beginDrawer();
   return examples;
 }
 

@@ -43,6 +43,6 @@ self.onmessage = ({data}) => {
     module = data.module;
     return;
   }
-  const answer = answerTo(data.text), {buffer} = /** @type {any} */ (answer);
-  /** @type {any} */ (self).postMessage({number: data.number, ...answer}, buffer ? [buffer] : []);
+  const answer = answerTo(data.text), {columns = {}} = /** @type {any} */ (answer);
+  /** @type {any} */ (self).postMessage({number: data.number, ...answer}, Object.values(columns).map(it => it.buffer));
 };
