@@ -3,7 +3,6 @@ test_web_page.py tries: files, corrections, warnings, expectations, faults, caus
 import contextlib
 import json
 import threading
-from pathlib import Path
 from typing import Any
 from unittest import mock
 

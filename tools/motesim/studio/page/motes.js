@@ -77,24 +77,20 @@ function showWay(way) {
   redraw();
   if (!way) return;
   const [s, r] = way;
-  const close = makeButton('×', () => showWay(null));
-  close.setAttribute('aria-label', 'Close');
+  const close = Object.assign(makeButton('×', () => showWay(null)), {title: 'Close'});
   const head = element('h3', '', [element('span', `Mote ${s} and mote ${r}`), close]);
   box.replaceChildren(head, wayOf(run, s, r), wayOf(run, r, s));
   box.scrollIntoView({block: 'nearest'});
 }
 
 function wayOf(run, s, r) {
-  const every = run.lossOf.get(s * 65536 + r), box = element('p');
-  const input = Object.assign(element('input'), {type: 'number', min: 0, max: 1000000, value: every || '',
-    placeholder: 'none'});
-  const label = element('label', '', ['loses 1 in ', input]);
-  input.setAttribute('aria-label', `Losses from mote ${s} to mote ${r}: one packet in this number; empty for no loss`);
-  input.dataset.way = `${s} ${r}`;
+  const input = element('input', '', [], {type: 'number', min: 0, max: 1000000, placeholder: 'none',
+    value: run.lossOf.get(s * 65536 + r) || '', 'data-way': `${s} ${r}`,
+    'aria-label': `Losses from mote ${s} to mote ${r}: one packet in this number; empty for no loss`});
   input.addEventListener('change',
     () => page.edit({what: 'lose', from: s, to: r, every: Math.floor(Number(input.value)) || 0}));
-  box.append(`${s} → ${r}: ${count(delayOf(run, s, r), 'moment')}, `, label);
-  return box;
+  return element('p', `${s} → ${r}: ${count(delayOf(run, s, r), 'moment')}, `,
+    [element('label', 'loses 1 in ', [input])]);
 }
 
 /** Draws the selected link on the map. */

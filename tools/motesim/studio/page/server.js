@@ -10,7 +10,6 @@ const LOST = 'The studio doesn\'t answer. Start it again, and open its page: the
  * @typedef {import('../../timeline/page/stage.js').Answer} Answer
  * @typedef {import('../../timeline/page/stage.js').Backend} Backend */
 export class Server {
-  can = new Set(['checks']);
   isStopped = false;
 
   /** Runs a text. @param {{text: string, name: string}} asked @returns {Promise<Answer>} */

@@ -5,14 +5,19 @@ import {AXIS, SMALL_LANE} from './layout.js';
 import {page} from './stage.js';
 import {niceStep} from './time.js';
 
+/** The moments in view that have a line. */
+function moments(pane) {
+  const {time} = page, step = niceStep(76 / time.scale), first = Math.max(0, Math.ceil(time.begin / step) * step);
+  const last = Math.min(time.end, pane.moment(pane.width));
+  return Array.from({length: Math.max(0, Math.floor((last - first) / step) + 1)}, (_, i) => first + i * step);
+}
+
 /** The axis of moments. */
 export function drawAxis(pane) {
-  const {time} = page, c = pane.front, step = niceStep(76 / time.scale);
-  const first = Math.max(0, Math.ceil(time.begin / step) * step), last = Math.min(time.end, pane.moment(pane.width));
+  const c = pane.front, middle = page.time.scale > 26 ? 0.5 : 0;
   box(c, 'panel', 0, 0, pane.width, AXIS);
   setFont(c, 12, 'center');
-  const middle = page.time.scale > 26 ? 0.5 : 0;
-  for (let moment = first; moment <= last; moment += step) {
+  for (const moment of moments(pane)) {
     const x = pane.x(moment);
     if (x < pane.gutter) continue;
     box(c, 'edge', Math.round(x), AXIS - 5, 1, 5);
@@ -28,10 +33,8 @@ export function drawAxis(pane) {
 
 /** The grid, and the areas before and after the run. */
 export function drawGrid(pane) {
-  const {time} = page, c = pane.context, step = niceStep(76 / time.scale);
-  const first = Math.max(0, Math.ceil(time.begin / step) * step), last = Math.min(time.end, pane.moment(pane.width));
-  for (let moment = first; moment <= last; moment += step)
-    box(c, 'grid', Math.round(pane.x(moment)), AXIS, 1, pane.height);
+  const c = pane.context;
+  for (const moment of moments(pane)) box(c, 'grid', Math.round(pane.x(moment)), AXIS, 1, pane.height);
   const before = pane.x(0), behind = pane.x(pane.run.end + 1);
   if (before > pane.gutter) box(c, 'panel', pane.gutter, AXIS, before - pane.gutter, pane.height);
   if (behind < pane.width) box(c, 'panel', behind, AXIS, pane.width - behind, pane.height);

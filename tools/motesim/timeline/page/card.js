@@ -4,8 +4,6 @@ import {byId} from './dom.js';
 import {page} from './stage.js';
 import {closeWhy} from './why.js';
 
-export function hideCard() { byId('card').hidden = true; }
-
 /** Shows the card at the pointer. @param {number} x @param {number} y */
 function showCard(x, y) {
   const card = byId('card');
@@ -31,11 +29,11 @@ export function beginCard() {
     if (top + height > innerHeight) byId('card').style.top = `${Math.max(8, innerHeight - height - 8)}px`;
   }).observe(byId('card'));
   byId('card-close').addEventListener('click', () => {
-    hideCard();
+    byId('card').hidden = true;
     closeWhy();
   });
   document.addEventListener('keydown', event => {
-    if (event.key === 'Escape') hideCard();
+    if (event.key === 'Escape') byId('card').hidden = true;
     if (!'[]{}wW'.includes(event.key) || !page.chosen.pane || document.activeElement !== page.panes[0].canvas) return;
     const box = page.panes[0].canvas.getBoundingClientRect();
     showCard(box.right - 420, box.top - 160);

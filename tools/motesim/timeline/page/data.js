@@ -158,9 +158,6 @@ export class Run {
     return c < this.copyStart[k + 1] && this.copyTo[c] === mote ? c : -1;
   }
 
-  /** The packet that a copy belongs to. */
-  packetOfCopy(c) { return lowerBound(this.copyStart, c + 1) - 1; }
-
   /** The lines of the turn that a line belongs to: from, to. */
   turn(line, mote) {
     const {at, traceStart} = this;

@@ -21,12 +21,7 @@ function traceButton(pane, line, what) {
 
 export function selectNothing() {
   choose({});
-  const box = byId('details');
-  box.classList.add('empty');
-  box.replaceChildren(element('h2', 'Nothing is selected'),
-    element('p',
-      'Click a mark, an arrow, or a mote on the map. With the keyboard: go to the timeline with Tab, ' +
-      'and choose with [ and ].'));
+  byId('card').hidden = true;
   redraw();
 }
 
@@ -87,7 +82,6 @@ function tell(pane, show) {
   if (line >= 0 && [POST, TAKE, DROP].includes(run.kind[line])) tellEvent(box, pane);
   if (line >= 0) for (const offer of page.offers) offer(box, pane);
   if (line >= 0) tellTurn(box, pane); else if (k < 0) tellMote(box, pane);
-  box.classList.remove('empty');
   speak(pane);
   redraw();
 }
@@ -161,29 +155,17 @@ function tellMote(box, pane) {
     list('ol', Array.from({length: end - first}, (_, i) => traceButton(pane, first + i, ''))));
 }
 
-/** Selects the line before or after the selected one; if there is none, the first in view. */
-export function walk(pane, by) {
-  const {run} = pane;
-  if (page.chosen.pane !== pane) {
-    const [from] = pane.lanesInView(), mote = pane.order[Math.min(from, pane.order.length - 1)];
-    const line = pane.linesInView(mote)[0];
-    return line < run.traceStart[mote + 1] ? chooseLine(pane, line, true) : chooseMote(pane, mote, true);
-  }
-  const {mote, line} = page.chosen, first = run.traceStart[mote], end = run.traceStart[mote + 1];
-  if (first === end) return;
-  const now = line >= 0 ? line + by : lowerBound(run.at, Math.floor(page.play.now), first, end - 1);
-  chooseLine(pane, Math.max(first, Math.min(end - 1, now)), true);
-}
-
-/** Selects the same moment on the lane above or below. */
-export function walkLanes(pane, by) {
-  if (page.chosen.pane !== pane) return walk(pane, 0);
-  const {run} = pane, place = pane.place[page.chosen.mote] + by;
-  if (place < 0 || place >= pane.order.length) return;
-  const mote = pane.order[place], first = run.traceStart[mote], end = run.traceStart[mote + 1];
-  const moment = page.chosen.line >= 0 ? run.at[page.chosen.line] : Math.floor(page.play.now);
+/** Selects the line before or after the selected one (`by`), or the same moment some `lanes` below; if nothing is
+ * selected, the first line in view. */
+export function walk(pane, by, lanes = 0) {
+  const {run} = pane, {chosen} = page, isNew = chosen.pane !== pane, isHere = !isNew && !lanes && chosen.line >= 0;
+  const place = isNew ? pane.lanesInView()[0] : pane.place[chosen.mote] + lanes;
+  const mote = pane.order[Math.max(0, Math.min(place, pane.order.length - 1))];
+  const first = run.traceStart[mote], end = run.traceStart[mote + 1];
   if (first === end) return chooseMote(pane, mote, true);
-  chooseLine(pane, Math.min(end - 1, lowerBound(run.at, moment, first, end)), true);
+  const now = chosen.line >= 0 ? run.at[chosen.line] : page.play.now, moment = isNew ? pane.moment(pane.gutter) : now;
+  const line = isHere ? chosen.line + by : lowerBound(run.at, Math.floor(moment), first, end);
+  chooseLine(pane, Math.max(first, Math.min(end - 1, line)), true);
 }
 
 /** Selects a row of the report: a line of a trace, a mote by its head, or the send of a packet. */

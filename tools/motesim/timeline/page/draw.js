@@ -33,7 +33,7 @@ export function drawAll() {
 }
 
 function draw() {
-  const {panes, maps, wanted} = page, begin = performance.now(), isWhole = wanted.lanes, withMaps = wanted.maps;
+  const {panes, maps, wanted} = page, isWhole = wanted.lanes, withMaps = wanted.maps;
   Object.assign(wanted, {lanes: false, maps: false, waits: false});
   if (!panes.length) return;
   let isAnew = false;
@@ -49,6 +49,4 @@ function draw() {
   for (const pane of panes) for (const follow of page.followers) follow(pane);
   clearTimeout(wanted.timer);
   if (panes.some(pane => pane.isMoved)) wanted.timer = window.setTimeout(redraw, SETTLED);
-  page.drawn = performance.now() - begin;
-  page.draws++;
 }

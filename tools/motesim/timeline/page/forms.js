@@ -1,7 +1,6 @@
 // @ts-check
 // The forms of lines and copies, each drawn around a point. No two differ only by colour.
-import {byId, element} from './dom.js';
-import {COLLIDED, FATE_WORDS, GONE, HANDED, LEFT, MEDIUM, RECEIVED, REFUSED, RING, UNHEARD} from './index.js';
+import {COLLIDED, GONE, HANDED, LEFT, MEDIUM, RECEIVED, REFUSED, RING, UNHEARD} from './index.js';
 
 /** The colours of the page by their names. */
 export const colours = {};
@@ -157,37 +156,13 @@ export function drawArrow(c, [x0, y0, x1, y1], fate, width, size) {
   else drawForm(c, form.end, x1, y1, form.end === 'cross' ? size * 0.9 : size);
 }
 
-/** The legend: each form with its meaning. */
-const LEGEND = [
-  ['send', 'sent a packet'],
-  ['silent', 'a timer that sends in other runs, and not in this one'],
-  ['recv', 'received a packet; in low lanes a stroke'],
-  ['collide', 'a copy that collided'],
-  ['lost', 'a copy lost here: eight others were waiting'],
-  ['deaf', 'a packet without a receiver in the program'],
-  ['run', 'a process runs'],
-  ['start', 'a process starts'],
-  ['leave', 'a process leaves'],
-  ['print', 'printed a value'],
-  ['post', 'posted an event'],
-  ['full', 'an event refused: the queue was full'],
-  ['take', 'an event reached its process'],
-  ['timer', 'a timer\'s event, posted or taken'],
-  ['drop', 'an event whose process isn\'t started'],
-  ['busy', 'a process that was to start or end, but is busy'],
-  ['halt', 'the mote halted'],
-  ...FATE_WORDS.map((words, fate) => [fate, `a copy: ${words}`]),
-];
-
+/** Draws the forms of the legend. */
 export function drawLegend() {
-  const box = byId('forms');
-  box.replaceChildren();
-  for (const [form, meaning] of LEGEND) {
-    const dots = window.devicePixelRatio || 1, canvas = element('canvas', '', [], {width: 56 * dots, height: 20 * dots,
-      role: 'img', 'aria-label': typeof form === 'number' ? 'arrow' : form});
-    const c = canvas.getContext('2d');
+  const dots = window.devicePixelRatio || 1;
+  for (const canvas of /** @type {NodeListOf<HTMLCanvasElement>} */ (document.querySelectorAll('#forms canvas'))) {
+    const {form, fate} = canvas.dataset, c = canvas.getContext('2d');
+    Object.assign(canvas, {width: 56 * dots, height: 20 * dots});
     c.scale(dots, dots);
-    if (typeof form === 'number') drawArrow(c, [5, 10, 47, 10], form, 1.4, 4.5); else drawForm(c, form, 28, 10, 5);
-    box.append(element('div', '', [canvas, element('span', String(meaning))], {className: 'form'}));
+    if (fate) drawArrow(c, [5, 10, 47, 10], Number(fate), 1.4, 4.5); else drawForm(c, form, 28, 10, 5);
   }
 }

@@ -1,7 +1,6 @@
 // @ts-check
 // The page of runs: shows them, and reacts to mouse, keys and buttons.
-import {chooseAgain, chooseCopy, chooseLine, chooseMote, chosenInWords, selectNothing, walk, walkLanes
-  } from './details.js';
+import {chooseAgain, chooseCopy, chooseLine, chooseMote, chosenInWords, selectNothing, walk} from './details.js';
 import {byId, element} from './dom.js';
 import {drawAll, redraw, redrawLanes} from './draw.js';
 import {drawLegend, readColours} from './forms.js';
@@ -10,7 +9,7 @@ import {find, walkLog} from './log.js';
 import {MapView} from './map.js';
 import {itemAt, itemInWords} from './near.js';
 import {Pane} from './pane.js';
-import {fillSpeeds, followNow, setNow, startPlaying, step, stopPlaying} from './play.js';
+import {chooseSpeed, followNow, setNow, startPlaying, step, stopPlaying} from './play.js';
 import {onPointer} from './pointer.js';
 import {page} from './stage.js';
 import {showTab} from './tabs.js';
@@ -68,8 +67,8 @@ const DO = {
   back: () => step(-1),
   before: () => walk(paneNow(), -1),
   next: () => walk(paneNow(), 1),
-  above: () => walkLanes(paneNow(), -1),
-  below: () => walkLanes(paneNow(), 1),
+  above: () => walk(paneNow(), 0, -1),
+  below: () => walk(paneNow(), 0, 1),
   why: () => { if (page.chosen.line >= 0) askWhy(page.chosen.pane, page.chosen.line); },
   found: () => walkLog(1),
   'found-before': () => walkLog(-1),
@@ -223,7 +222,7 @@ export function showRuns(runs) {
   page.time.end = Math.max(...runs.map(run => run.end));
   runs.forEach((run, number) => addPane(run, number, runs.length > 1));
   sayAbout();
-  fillSpeeds();
+  chooseSpeed();
   drawLegend();
   resize();
 }

@@ -60,15 +60,7 @@ export class MapView extends MapLayout {
     const c = canvas.getContext('2d');
     c.scale(dots, dots);
     if (this.links <= MOST_LINKS) {
-      c.beginPath();
-      run.hearers.forEach((list, s) => {
-        for (const r of list) {
-          if (r < s && run.places) continue;
-          const [x0, y0, x1, y1] = this.way(s, r);
-          c.moveTo(x0, y0);
-          c.lineTo(x1, y1);
-        }
-      });
+      this.trace(c);
       stroke(c, colours.line, this.radius > 4 ? 1.2 : 0.8);
     }
     const losses = run.losses.filter(([s, r]) => run.hearers[s] && run.hearers[s].includes(r));

@@ -85,7 +85,7 @@ function chooseAt(start, mote) {
 async function open() {
   page.chainOf = chainOf;
   beginDrawer();
-  const data = JSON.parse(byId('data').textContent), runs = [], begin = performance.now();
+  const data = JSON.parse(byId('data').textContent), runs = [];
   readColours();
   for (const [number, table] of data.runs.entries()) {
     const packed = byId(`run${number}`), run = new Run(table, columnsIn(table, await unpacked(packed.textContent)));
@@ -100,7 +100,7 @@ async function open() {
   resize();
   openAt(data);
   openAsAddressed();
-  Object.assign(page, {opened: performance.now() - begin, ready: true});
+  page.ready = true;
   drawAll();
 }
 

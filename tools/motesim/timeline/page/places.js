@@ -116,6 +116,19 @@ export class MapLayout {
     return [x0 + dx, y0 + dy, x1 - dx, y1 - dy];
   }
 
+  /** Makes the links between motes the path of a picture. */
+  trace(c) {
+    c.beginPath();
+    this.run.hearers.forEach((list, s) => {
+      for (const r of list) {
+        if (r < s && this.run.places) continue;
+        const [x0, y0, x1, y1] = this.way(s, r);
+        c.moveTo(x0, y0);
+        c.lineTo(x1, y1);
+      }
+    });
+  }
+
   /** The radius of a mote: by the room that each has. */
   get radius() {
     const each = Math.sqrt((this.spanX * this.fit + 30) * (this.spanY * this.fit +

@@ -1,13 +1,11 @@
 // @ts-check
 // The moment that the maps show, and playing from moment to moment.
 import {lowerBound} from './data.js';
-import {byId, element} from './dom.js';
+import {byId} from './dom.js';
 import {redrawNow} from './draw.js';
 import {page} from './stage.js';
 import {keepTime} from './time.js';
-import {count} from './words.js';
 
-const SPEEDS = [0.5, 1, 2, 5, 10, 20, 50, 100, 200, 500, 1000, 5000, 20000];
 // The seconds that playing may show nothing.
 const IDLE = 0.5;
 
@@ -80,15 +78,8 @@ function playOn(now) {
   if (page.play.now >= page.time.end) stopPlaying(); else requestAnimationFrame(playOn);
 }
 
-/** Offers speeds. The first choice plays the whole run in about 25 seconds. */
-export function fillSpeeds() {
-  const box = byId('speed'), wish = (page.time.end + 1) / 25;
-  let best = SPEEDS[0];
-  for (const speed of SPEEDS) {
-    if (speed <= wish) best = speed;
-    const option = element('option', speed < 1 ? '1 moment in 2 s' : `${count(speed, 'moment')} a second`);
-    option.value = speed;
-    box.append(option);
-  }
-  box.value = best;
+/** Chooses the speed that plays the whole run in about 25 seconds. */
+export function chooseSpeed() {
+  const {options} = byId('speed'), fitting = [...options].filter(it => Number(it.value) <= (page.time.end + 1) / 25);
+  byId('speed').value = (fitting.pop() || options[0]).value;
 }

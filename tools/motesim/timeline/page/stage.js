@@ -12,13 +12,13 @@ import {History} from './history.js';
  * newer text was asked for.
  * @typedef {{run?: Run, number?: number, took?: number, limit?: string, superseded?: boolean,
  *   fault?: {line: string, words: string[], place: number[]|null, corrected?: string|null}}} Answer */
-/** What a page asks: a server, or the page itself. `can` names what `ask` answers.
- * @typedef {{can: Set<string>, run: (asked: any) => Promise<Answer>, stop: () => any,
+/** What a page asks: a server, or the page itself, which only runs.
+ * @typedef {{run: (asked: any) => Promise<Answer>, stop: () => any,
  *   ask: (what: string, asked: any) => any}} Backend */
 
 export const page = {
-  // For tests, and for a reader's console.
-  ready: false, draws: 0, drawn: 0,
+  /** True when the page shows what it was opened for. */
+  ready: false,
   /** What the next picture draws; and the timer of the one after a move. */
   wanted: {waits: false, lanes: false, maps: false, timer: 0},
   backend: /** @type {Backend} */ (/** @type {unknown} */ (null)),

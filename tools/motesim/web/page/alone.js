@@ -14,9 +14,6 @@ const MOST_TIME = 5000, SLOW = 'The run took longer than 5 seconds, so it was st
  * @typedef {import('../../timeline/page/stage.js').Answer} Answer
  * @typedef {import('../../timeline/page/stage.js').Backend} Backend */
 export class Alone {
-  /** What only a server answers. */
-  can = new Set();
-
   /** @param {Promise<WebAssembly.Module>} module @param {string} script the worker's
    * @param {Record<string, string>} rules those that errors break */
   constructor(module, script, rules) {

@@ -20,8 +20,6 @@ class Text {
     this.places = places;
     this.place = /** @type {(...path: (string|number)[]) => any} */ (place);
     this.headers = headers;
-    this.begins = [0];
-    for (const row of text.split('\n')) this.begins.push(this.begins[this.begins.length - 1] + row.length + 1);
   }
 
   /** @param {string} name @returns {any[]} */
@@ -30,26 +28,27 @@ class Text {
   /** True if the tables of a name are written in an array in brackets. @param {string} name */
   isInline(name) { return Boolean(this.place(name) && this.place(name).value); }
 
+  /** Where the row of an offset begins, and where the next one does. @param {number} offset */
+  rowAt(offset) { return this.text.lastIndexOf('\n', offset - 1) + 1; }
   /** @param {number} offset */
-  lineOf(offset) {
-    let low = 0, high = this.begins.length - 1;
-    while (low < high) {
-      const middle = (low + high + 1) >>> 1;
-      if (this.begins[middle] <= offset) low = middle; else high = middle - 1;
-    }
-    return low;
+  rowBehind(offset) { return this.text.indexOf('\n', offset) + 1 || this.text.length; }
+
+  /** True if a row is there and blank. @param {number} offset one in the row */
+  isBlank(offset) {
+    const {length} = this.text;
+    return offset >= 0 && offset < length && !this.text.slice(this.rowAt(offset), this.rowBehind(offset)).trim();
   }
 
-  /** The rows of a table, from its header to its last key: the first, and the one after the last.
+  /** The rows of a table, from its header to its last key, as offsets.
    * @param {string} name @param {number} index @returns {[number, number]} */
   rows(name, index) {
     const header = this.place(name, index).key[0], next = this.headers.find(it => it > header) ?? Infinity;
-    let last = this.lineOf(header);
+    let last = header;
     for (const [path, {value}] of this.places) {
       const [of, at] = JSON.parse(path);
-      if (of === name && at === index && value && value[0] < next) last = Math.max(last, this.lineOf(value[1]));
+      if (of === name && at === index && value && value[0] < next) last = Math.max(last, value[1]);
     }
-    return [this.lineOf(header), last + 1];
+    return [this.rowAt(header), this.rowBehind(last)];
   }
 
   /** @param {(string|number)[]} path @param {number|boolean} value @returns {Change} */
@@ -66,13 +65,8 @@ class Text {
 
   /** @param {string} name @param {number} index @returns {Change} */
   withoutTable(name, index) {
-    const [first, end] = this.rows(name, index), {text, begins} = this, rows = begins.length - 1;
-    const isBlank = row => !text.slice(begins[row], begins[row + 1]).trim();
-    const behind = first && end < rows && isBlank(first - 1) && isBlank(end) ? end + 1 : end;
-    if (begins[behind] > text.length) {
-      return {begin: Math.max(begins[first] - 1, 0), end: text.length, text: begins[first] ? '\n' : ''};
-    }
-    return {begin: begins[first], end: begins[behind], text: ''};
+    const [begin, end] = this.rows(name, index);
+    return {begin, end: this.isBlank(begin - 1) && this.isBlank(end) ? this.rowBehind(end) : end, text: ''};
   }
 
   /** @param {string} name @param {number[]} indexes @returns {Change[]} */
@@ -98,10 +92,9 @@ class Text {
   appended(name, keys) {
     const count = this.members(name).length;
     if (this.isInline(name)) return this.appendedInline(name, count - 1, `{ ${keys.join(', ')} }`);
-    const [first, end] = count ? this.rows(name, count - 1) : [0, this.begins.length - 1];
-    const isSpaced = count > 0 && first > 0 && !this.text.slice(this.begins[first - 1], this.begins[first]).trim();
-    const offset = Math.min(this.begins[end], this.text.length), isOpen = offset > 0 && this.text[offset - 1] !== '\n';
-    const rows = [...(isSpaced ? [''] : []), `[[${name}]]`, ...keys];
+    const [first, offset] = count ? this.rows(name, count - 1) : [0, this.text.length];
+    const isOpen = offset > 0 && this.text[offset - 1] !== '\n';
+    const rows = [...(count && this.isBlank(first - 1) ? [''] : []), `[[${name}]]`, ...keys];
     return {begin: offset, end: offset, text: (isOpen ? '\n' : '') + rows.map(row => `${row}\n`).join('')};
   }
 

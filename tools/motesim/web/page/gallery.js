@@ -1,7 +1,7 @@
 // @ts-check
 // The examples: six cards with a picture of their motes, and a list of the others.
 import {byId, element, makeButton} from '../../timeline/page/dom.js';
-import {colours} from '../../timeline/page/forms.js';
+import {colours, fill, ring, stroke} from '../../timeline/page/forms.js';
 import {MapLayout} from '../../timeline/page/places.js';
 import {findHearers} from '../../timeline/page/index.js';
 import {scenarioOf} from './scenario.js';
@@ -31,19 +31,12 @@ function drawStill(canvas, text) {
   map.fitTo(WIDE, HIGH);
   Object.assign(canvas, {width: WIDE * dots, height: HIGH * dots});
   c.scale(dots, dots);
-  c.strokeStyle = colours.line;
-  c.beginPath();
-  run.hearers.forEach((list, s) => list.forEach(r => {
-    c.moveTo(map.x(s), map.y(s));
-    c.lineTo(map.x(r), map.y(r));
-  }));
-  c.stroke();
+  map.trace(c);
+  stroke(c, colours.line, 1);
   run.places.forEach((_, m) => {
-    c.beginPath();
-    c.arc(map.x(m), map.y(m), Math.min(7, map.radius), 0, 7);
-    c.fillStyle = m ? colours.run : colours.send;
-    c.fill();
-    c.stroke();
+    ring(c, map.x(m), map.y(m), Math.min(7, map.radius));
+    fill(c, m ? colours.run : colours.send);
+    stroke(c, colours.line, 1);
   });
 }
 
@@ -56,10 +49,9 @@ export function beginGallery(examples, choose) {
     choose(it);
   };
   const stills = cards.map(it => {
-    const canvas = element('canvas'), card = makeButton('', () => open(it));
-    canvas.setAttribute('aria-hidden', 'true');
+    const canvas = element('canvas', '', [], {'aria-hidden': 'true'}), card = makeButton('', () => open(it));
     card.append(canvas, element('strong', it.title), element('span', it.about),
-      Object.assign(element('span', it.question), {className: 'question'}));
+      element('span', it.question, [], {className: 'question'}));
     byId('gallery-cards').append(card);
     return () => drawStill(canvas, it.text);
   });

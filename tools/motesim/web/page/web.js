@@ -14,7 +14,6 @@ import {setNow, startPlaying, stopPlaying} from '../../timeline/page/play.js';
 import {page, Refused} from '../../timeline/page/stage.js';
 import {beginTabs} from '../../timeline/page/tabs.js';
 import {count} from '../../timeline/page/words.js';
-import {hideCard} from '../../timeline/page/card.js';
 import {difference} from './diff.js';
 import {effectInWords} from './effect.js';
 import {beginGallery, firstSentence} from './gallery.js';
@@ -221,7 +220,7 @@ async function showRun({run, number, took}, step) {
     if (document.activeElement === document.body && step.how === 'try') byId('revert').focus();
   } else if (!before) sayIntro();
   drawAll();
-  if (!page.backend.can.has('checks')) return;
+  if (!page.reactions.judged.length) return;
   const results = await attempt(() => page.backend.ask('judge', {...web.document, text: '', number, saved: web.saved}));
   if (results && !results.gone && number === web.number) react('judged', results);
   web.judged = number;
@@ -242,7 +241,6 @@ function beginShow() {
   web.fresh = false;
   whole();
   selectNothing();
-  hideCard();
   sayIntro();
   stopPlaying();
   byId('try').classList.toggle('breathes', Boolean(example));
