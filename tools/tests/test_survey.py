@@ -1,0 +1,113 @@
+"""Surveys of four small nets by motecheck. A brute force finds the same sets: it runs motesim with each set of at most
+two faults, as losses in the text of the scenario."""
+import subprocess
+import unittest
+from collections.abc import Iterator, Sequence
+from itertools import chain, combinations
+
+from motesim.report import Report
+from motesim.runner import program_path
+from motesim.scenario import Scenario
+from skips import need_program
+from test_claims import answers, need_motecheck
+
+# Each mote that hears a message for the first time prints it, and passes it on.
+FLOOD = '''
+process flood;
+autostart flood;
+receiver flood;
+code flood {
+  var known = 0;
+  etimer t;
+  body {
+    if (self == 0) { known = 1; set t 10; yield_until fired(t); send 7; }
+    while 1 {
+      yield;
+      if is(packet) { if !known { known = 1; print data; send data; } }
+    }
+  }
+}
+'''
+# Mote 1 passes on what mote 0 asks mote 2, and the answer. Only mote 2 prints the question; mote 0 prints the answer.
+ASK = '''
+process ask;
+autostart ask;
+receiver ask;
+code ask {
+  etimer t;
+  body {
+    if (self == 0) { set t 10; yield_until fired(t); send 1; }
+    while 1 {
+      yield;
+      if (is(packet) && ((self == 1) && (from == 0))) { send 2; }
+      if (is(packet) && ((self == 1) && (from == 2))) { send 4; }
+      if (is(packet) && ((self == 2) && (data == 2))) { print 7; send 3; }
+      if (is(packet) && ((self == 0) && (data == 4))) { print 7; }
+    }
+  }
+}
+'''
+LINE = ((0, 0), (10, 0), (20, 0))
+NETS = {
+    'a flood along a line': (LINE, FLOOD),
+    'two ways round': (((0, 0), (10, 0), (0, 10), (10, 10)), FLOOD),
+    'all hear one another': (((0, 0), (6, 0), (0, 6)), FLOOD),
+    'a question and its answer': (LINE, ASK),
+}
+Link = tuple[int, int]
+
+
+class FourNets(unittest.TestCase):
+    def test_a_survey_lists_the_sets_that_a_brute_force_finds(self) -> None:
+        need_program(self)
+        need_motecheck(self)
+        for name, (places, program) in NETS.items():
+            text = scenario_of(places, program)
+            claims = ['mote %d: at least 1 line "print value 7"' % mote for mote in range(len(places))]
+            for workers in (), ('--workers', '3'):
+                with self.subTest(net=name, workers=workers):
+                    found = answers(self, text, claims, '--links', '--silent', '--at-most', '2', *workers)
+                    self.assertEqual(found, lines_of_survey(text, claims))
+
+
+def scenario_of(places: Sequence[tuple[int, int]], program: str) -> str:
+    motes = ''.join('[[mote]]\nx = %d\ny = %d\nprogram = "p"\n' % place for place in places)
+    medium = '[medium]\nrange = 10\nbase = 5\nper = 100\ncollide = false\n'
+    return 'version = 2\nend = 100\n%s[programs]\np = \'\'\'%s\'\'\'\n%s' % (medium, program, motes)
+
+
+def candidates_of(text: str) -> dict[str, list[Link]]:
+    """The faults in their order: the text of each, and the links that it breaks."""
+    scenario = Scenario.parse(text)
+    motes = range(scenario.motes)
+    links = [(s, r) for s in motes for r in motes if s != r and scenario.hears(r, s)]
+    silent = {'mote %d is silent' % mote: [it for it in links if it[0] == mote] for mote in motes}
+    return {'link %d to %d is broken' % it: [it] for it in links} | silent
+
+
+def who_prints(text: str, lost: set[Link]) -> set[int]:
+    """The motes that print in the run in which these links lose everything."""
+    losses = ''.join('[[loss]]\nfrom = %d\nto = %d\nevery = 1\n' % it for it in sorted(lost))
+    done = subprocess.run([program_path()], input=text + losses, capture_output=True, text=True, check=True)
+    return {line.mote for line in Report.parse(done.stdout).lines('print')}
+
+
+def lines_of_survey(text: str, claims: Sequence[str]) -> list[str]:
+    """The text of a survey, from a run with each set of at most two faults."""
+    faults = candidates_of(text)
+    listed: list[list[tuple[str, ...]]] = [[] for _ in claims]
+    runs = 0
+    for chosen in chain.from_iterable(combinations(faults, size) for size in range(3)):
+        printing = who_prints(text, {link for fault in chosen for link in faults[fault]})
+        new = [not any(set(it) <= set(chosen) for it in of_claim) for of_claim in listed]
+        runs += any(new)
+        for mote, of_claim in enumerate(listed):
+            if new[mote] and mote not in printing:
+                of_claim.append(chosen)
+    return [*chain(*map(lines_of_claim, claims, listed)),
+            'covered: all sets of at most 2 of %d faults; runs: %d' % (len(faults), runs)]
+
+
+def lines_of_claim(claim: str, listed: Sequence[Sequence[str]]) -> Iterator[str]:
+    yield '%s: %s' % ('broken' if listed else 'holds', claim)
+    yield from ('  if ' + (' and '.join(it) or 'nothing is broken') for it in listed)
