@@ -1,6 +1,8 @@
 """The place of the tests: the tools that they test are found from here, and called in a folder of a test."""
+import contextlib
 import os
 import pkgutil
+import pty
 import runpy
 import select
 import signal
@@ -88,6 +90,19 @@ def call(tool: str, *words: str, cwd: Path | str | None = None, env: Mapping[str
     if check:
         done.check_returncode()
     return done
+
+
+def on_terminal(words: list[str], cwd: Path, env: Mapping[str, str]) -> tuple[int, str]:
+    """The status of a program, and what it writes on a terminal, to which standard output goes too."""
+    ours, its = pty.openpty()
+    done = subprocess.run(words, cwd=cwd, stdin=subprocess.DEVNULL, stdout=its, stderr=its, timeout=60, env=env)
+    os.close(its)
+    said = b''
+    with contextlib.suppress(OSError):
+        while data := os.read(ours, 65536):
+            said += data
+    os.close(ours)
+    return done.returncode, said.decode().replace('\r\n', '\n')
 
 
 def room_of(test: unittest.TestCase) -> Path:

@@ -129,16 +129,16 @@ The first collision that only B has:
         # mote 1: six lines against two; mote 2: post, take and send at another moment; a packet at another moment
         self.assertIn('''
 Lines that differ: 10 only in A, 6 only in B
-  by mote    only A    only B
-  mote 1          6         2
-  mote 2          3         3
-  by kind    only A    only B
-  post            3         1
-  take            3         1
-  send            1         1
-  recv            2         0
-  collide         0         2
-  medium          1         1''', compared(A, B)[0])
+  by mote only A only B
+  mote 1       6      2
+  mote 2       3      3
+  by kind only A only B
+  post         3      1
+  take         3      1
+  send         1      1
+  recv         2      0
+  collide      0      2
+  medium       1      1''', compared(A, B)[0])
 
     def test_lines_of_a_moment_may_stand_in_another_order(self) -> None:
         text, first, is_same = compared(A, A.replace('0 start etimer\n0 send 0 1\n', '0 send 0 1\n0 start etimer\n'))

@@ -3,11 +3,10 @@ import random
 import re
 import shutil
 import subprocess
-import tempfile
 import unittest
 from pathlib import Path
 
-from here import TOOLS, TOP, call
+from here import TOOLS, TOP, Room
 from motesim.contiki.expressions import Expressions, calculated
 from motesim.contiki.folder import folder_files
 from motesim.contiki.names import Names, file_names
@@ -219,13 +218,9 @@ class ProgramFileTest(unittest.TestCase):
         self.assertIn('    c.p = &a_process;\n    c.f = c_callback;\n', text)
 
 
-class FolderTest(unittest.TestCase):
-    def setUp(self) -> None:
-        self.folder = Path(tempfile.mkdtemp())
-        self.addCleanup(shutil.rmtree, self.folder)
-
+class FolderTest(Room):
     def export(self, *arguments: str) -> subprocess.CompletedProcess[str]:
-        return call('export', *arguments, cwd=self.folder)
+        return self.tool('export', *arguments)
 
     def compilers(self) -> list[str]:
         found = [it for it in ('gcc', 'clang', 'tcc') if shutil.which(it)]
@@ -241,22 +236,22 @@ class FolderTest(unittest.TestCase):
                 continue
             scenario = Scenario.parse(example.read_bytes())
             for name, text in folder_files(example.stem, scenario, True):
-                path = self.folder / example.stem / name
+                path = self.room / example.stem / name
                 path.parent.mkdir(parents=True, exist_ok=True)
                 path.write_text(text, 'utf-8')
             for compiler in compilers:
-                for source in sorted((self.folder / example.stem / 'contiki_host').glob('*_host.c')):
+                for source in sorted((self.room / example.stem / 'contiki_host').glob('*_host.c')):
                     done = subprocess.run([compiler, *STRICT, '-I..', '-I.', '-c', source.name, '-o', 'x.o'],
                                           cwd=source.parent, capture_output=True, text=True)
                     self.assertEqual((done.returncode, done.stderr), (0, ''), (example.name, compiler))
 
     def test_files_of_a_folder(self) -> None:
-        (self.folder / 's.toml').write_bytes(scenario_of('process a; code a { body { } }').replace(b"'p'", b"'process'")
+        (self.room / 's.toml').write_bytes(scenario_of('process a; code a { body { } }').replace(b"'p'", b"'process'")
                                              .replace(b'\np =', b'\nprocess ='))
         done = self.export('s.toml', '--form', 'contiki', '-o', 'out')
         self.assertEqual(done.stdout.split(), ['out/process_program.c', 'out/motesim_radio.h', 'out/motesim_radio.c',
                                                'out/Makefile', 'out/README.md'])
-        self.assertIn('CONTIKI_PROJECT = process_program\n', (self.folder / 'out/Makefile').read_text())
+        self.assertIn('CONTIKI_PROJECT = process_program\n', (self.room / 'out/Makefile').read_text())
 
     def test_files_have_names_of_their_own(self) -> None:
         """Not those of Contiki or of the host, nor one name twice, nor one that looks like an option."""
@@ -269,13 +264,13 @@ class FolderTest(unittest.TestCase):
     @long
     def test_the_makefile_builds_all_programs(self) -> None:
         """With a stand-in for the Makefile of a Contiki tree, which has the rule that makes a program."""
-        (self.folder / 'Makefile.include').write_text('%: %.c; @echo $@ $(TARGET) $(PROJECT_SOURCEFILES)\n')
+        (self.room / 'Makefile.include').write_text('%: %.c; @echo $@ $(TARGET) $(PROJECT_SOURCEFILES)\n')
         for more in ((), ('--host',)):
             self.export(str(TOP / 'examples/small_network.toml'), '--form', 'contiki', '-o', 'out', *more)
-            done = subprocess.run(['make', '-s', '-C', 'out', 'CONTIKI=%s' % self.folder, 'TARGET=sky'],
-                                  capture_output=True, text=True, cwd=self.folder)
+            done = subprocess.run(['make', '-s', '-C', 'out', 'CONTIKI=%s' % self.room, 'TARGET=sky'],
+                                  capture_output=True, text=True, cwd=self.room)
             self.assertEqual(done.stdout, 'listener sky motesim_radio.c\nsender sky motesim_radio.c\n', done.stderr)
-        done = subprocess.run(['make', '-s', '-C', 'out'], capture_output=True, text=True, cwd=self.folder)
+        done = subprocess.run(['make', '-s', '-C', 'out'], capture_output=True, text=True, cwd=self.room)
         self.assertIn('CONTIKI has to be the folder of a Contiki 2.x tree', done.stderr)
 
     def test_another_queue_is_named(self) -> None:
@@ -285,8 +280,8 @@ class FolderTest(unittest.TestCase):
         self.assertIn('`DEFINES=PROCESS_CONF_NUMEVENTS=1`', files['README.md'])
 
     def test_what_is_refused(self) -> None:
-        (self.folder / 's.toml').write_bytes(scenario_of('process a; code a { body { x = 1; } }'))
-        (self.folder / 'file').write_text('')
+        (self.room / 's.toml').write_bytes(scenario_of('process a; code a { body { x = 1; } }'))
+        (self.room / 'file').write_text('')
         for arguments, said in (
                 (['s.toml', '--form', 'contiki'],
                  'export: s.toml: program p fault 3 line 1 (tools/explain s.toml says more)\n'),

@@ -1,9 +1,6 @@
 """The comparison of motesim with the host: what its scenarios reach, and that it notices what differs."""
 import itertools
-import os
 import shutil
-import subprocess
-import tempfile
 import tomllib
 import unittest
 from collections import Counter
@@ -11,7 +8,7 @@ from collections.abc import Iterator
 from functools import cache
 from pathlib import Path
 
-from here import TOOLS, TOP, call
+from here import TOOLS, TOP, Room
 from motesim.contiki import differential
 from motesim.contiki.coverage import LIMITS, Coverage
 from motesim.contiki.host_runs import HostFault, HostRuns, compilers
@@ -83,24 +80,23 @@ class Generator(unittest.TestCase):
 
 
 @long
-class Mutants(unittest.TestCase):
+class Mutants(Room):
     """Edits of the host that break a rule are noticed by some random scenario."""
 
     def setUp(self) -> None:
+        super().setUp()
         need_program(self)
         need_compiler(self)
-        self.folder = Path(tempfile.mkdtemp())
-        self.addCleanup(shutil.rmtree, self.folder)
 
     def mutant(self, number: int, edit: dict[str, str]) -> HostRuns:
         """The host with one edit."""
-        source = self.folder / ('source_%d' % number)
+        source = self.room / ('source_%d' % number)
         shutil.copytree(HOST, source)
         path = source / edit['file']
         text = path.read_text('utf-8')
         self.assertEqual(text.count(edit['from']), 1, edit['rule'])
         path.write_text(text.replace(edit['from'], edit['to']), 'utf-8')
-        return HostRuns(self.folder / ('built_%d' % number), source, is_optimised=False)
+        return HostRuns(self.room / ('built_%d' % number), source, is_optimised=False)
 
     def noticed(self, host: HostRuns) -> Iterator[int]:
         """The seeds of scenarios whose reports differ."""
@@ -123,40 +119,36 @@ class Mutants(unittest.TestCase):
 
 
 @long
-class Command(unittest.TestCase):
+class Command(Room):
     def setUp(self) -> None:
+        super().setUp()
         need_program(self)
         need_compiler(self)
-        self.folder = Path(tempfile.mkdtemp())
-        self.addCleanup(shutil.rmtree, self.folder)
-
-    def run_tool(self, *arguments: str, **environment: str) -> subprocess.CompletedProcess[str]:
-        return call('differential', *arguments, env={**os.environ, **environment}, cwd=self.folder)
 
     def test_all_agree(self) -> None:
-        done = self.run_tool('--seed', '31', '--count', '12', '--jobs', '2')
+        done = self.tool('differential', '--seed', '31', '--count', '12', '--jobs', '2')
         self.assertEqual(done.returncode, 0, done.stdout)
         self.assertEqual(done.stdout.splitlines()[-1], '12 passed, 0 failed')
         self.assertIn('forms of lines: ', done.stdout)
 
     def test_a_scenario_of_ones_own(self) -> None:
-        done = self.run_tool(str(TOP / 'examples/processes.toml'), '--jobs', '1')
+        done = self.tool('differential', str(TOP / 'examples/processes.toml'), '--jobs', '1')
         self.assertEqual((done.returncode, done.stdout), (0, '1 passed, 0 failed\n'))
 
     def test_without_a_compiler(self) -> None:
-        folder = self.folder / 'bin'
+        folder = self.room / 'bin'
         folder.mkdir()
-        done = call('differential', '--count', '1', env={**os.environ, 'PATH': str(folder)}, cwd=self.folder)
+        done = self.tool('differential', '--count', '1', PATH=str(folder))
         self.assertEqual((done.returncode, done.stderr),
                          (2, 'differential: there is no C compiler: on Debian `apt-get install tcc` installs one\n'))
 
     def test_a_difference_becomes_small(self) -> None:
         """A host that loses packets by their numbers, instead of their numbers plus one."""
-        source = self.folder / 'source'
+        source = self.room / 'source'
         shutil.copytree(HOST, source)
         path = source / 'medium.c'
         path.write_text(path.read_text('utf-8').replace('(copy.number + 1) % ', 'copy.number % '), 'utf-8')
-        work = differential.Comparison(HostRuns(self.folder / 'built', source, is_optimised=False),
+        work = differential.Comparison(HostRuns(self.room / 'built', source, is_optimised=False),
                                        Runner(program=program_path()), with_workers=False)
         scenario = (TOP / 'examples/small_network.toml').read_bytes()
         self.assertTrue(work.is_different(scenario))

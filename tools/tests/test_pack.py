@@ -1,9 +1,7 @@
 """The archive for a classroom: what it holds, and that its program and tools run from any folder."""
-import contextlib
 import hashlib
 import io
 import os
-import pty
 import re
 import shutil
 import subprocess
@@ -13,7 +11,7 @@ import unittest
 from pathlib import Path
 from unittest import mock
 
-from here import TOP, Room, scenario_of
+from here import TOP, Room, on_terminal, scenario_of
 from motesim.experiments.results import Head
 from motesim.faults import Fault
 from motesim.version import VERSION
@@ -74,16 +72,8 @@ class Pack(Room):
 
     def on_terminal(self, top: Path, *words: str) -> tuple[int, list[str]]:
         """The status of an archive's ./run, and the lines on its terminal."""
-        ours, its = pty.openpty()
-        done = subprocess.run(['./run', *words], cwd=top, stdin=subprocess.DEVNULL, stdout=its, stderr=its, timeout=60,
-                              env={'PATH': '/usr/bin:/bin', 'MOTESIM_SEEN': str(top / 'said')})
-        os.close(its)
-        said = b''
-        with contextlib.suppress(OSError):
-            while data := os.read(ours, 65536):
-                said += data
-        os.close(ours)
-        return done.returncode, said.decode().replace('\r', '').splitlines()
+        status, said = on_terminal(['./run', *words], top, {'PATH': '/usr/bin:/bin', 'MOTESIM_SEEN': str(top / 'said')})
+        return status, said.splitlines()
 
     def test_a_refused_scenario_has_a_line_more(self) -> None:
         top = self.unpacked()

@@ -6,6 +6,7 @@ from collections import Counter
 from collections.abc import Callable, Iterator, Sequence
 from typing import Any, NamedTuple
 
+from motesim.cells import aligned
 from motesim.comparison import scenarios as scenario_differences
 from motesim.comparison.columns import MEDIUM, Both
 from motesim.faults import Fault
@@ -226,10 +227,8 @@ def table(name: str, rows: list[tuple[str, int, int]], most: int) -> Iterator[st
     if len(rows) > most:
         rest = rows[most:]
         shown.append(('%d more' % len(rest), sum(row[1] for row in rest), sum(row[2] for row in rest)))
-    width = max(len(it) for it in [name, *(row[0] for row in shown)])
-    yield '  %-*s  %8s  %8s' % (width, name, 'only A', 'only B')
-    for row in shown:
-        yield '  %-*s  %8d  %8d' % (width, *row)
+    texts = [[name, 'only A', 'only B'], *([*map(str, row)] for row in shown)]
+    return ('  ' + row for row in aligned(texts, {0}))
 
 
 def counted(counts: Counts, most: int) -> Iterator[str]:
