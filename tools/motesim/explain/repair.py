@@ -138,7 +138,7 @@ def _of_key(text: str, tables: dict[str, Any], fault: ScenarioError) -> Iterator
         return
     known = TABLES.get(str(fault.path[0]), {}) if len(fault.path) > 1 else {**TOP, 'queue': TOP['end']}
     if name in ('collide', 'queue') and tables.get('version') == 1:
-        at = value_of(text, place_of(text, ('version',)))
+        at = value_of(text, ('version',))
         yield hint('version-2', replaced(text, at.line, at.column, at.column + at.length, '2'), name=name)
     like = None if synonyms.is_about_chance(name) else synonyms.meant(name, known)
     if like and name in _row(text, place)[place.column:place.column + place.length]:

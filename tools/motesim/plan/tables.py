@@ -136,9 +136,8 @@ class Tables:
 
     def fault(self, path: Path, rule: str, may: str = '', is_value: bool = True) -> PlanFault:
         """A fault at a key or a table; `is_value` marks the value after the key."""
-        place = place_of(self.text, path)
-        if is_value and path and type(path[-1]) is str:
-            place = value_of(self.text, place)
+        is_of_value = is_value and path and type(path[-1]) is str
+        place = value_of(self.text, path) if is_of_value else place_of(self.text, path)
         return PlanFault(shown(self.shown_as, self.text, place, rule, may))
 
     def filled(self, value: Any, path: Path) -> Any:

@@ -7,7 +7,7 @@ from __future__ import annotations
 from typing import Any, NamedTuple
 
 from motesim.faults import Fault
-from motesim.scenario.places import Place, places
+from motesim.scenario.places import places
 from motesim.toml import NoToml, read_toml
 
 
@@ -36,16 +36,13 @@ class Text:
             raise Fault('The text is not TOML.') from None
         self.rows = text.split('\n')
         found = places(text)
-        self.inline = found.values
+        self.values = found.values
         self.places = {path: found.at(span) for path, span in found.own.items()}
         self.begins = [0]
         for row in self.rows:
             self.begins.append(self.begins[-1] + len(row) + 1)
         self.headers = sorted({place.line for path, place in self.places.items()
                                if self.rows[place.line - 1].lstrip().startswith('[')})
-
-    def offset(self, place: Place) -> int:
-        return self.begins[place.line - 1] + place.column
 
     def members(self, name: str) -> list[Any]:
         members = self.tables.get(name, [])
@@ -66,20 +63,20 @@ class Text:
         """The change that adds tables, each a list of its keys with their values, at the end of an inline array."""
         last, added = len(self.members(name)) - 1, ['{ %s }' % ', '.join(it) for it in tables]
         if last < 0:
-            begin = self.inline[(name,)][0] + 1
+            begin = self.values[(name,)][0] + 1
             return Change(begin, begin, ', '.join(added))
-        end, between = self.inline[name, last][1], self.between(name, last)
+        end, between = self.values[name, last][1], self.between(name, last)
         return Change(end, end, ''.join(between + it for it in added))
 
     def between(self, name: str, last: int) -> str:
         """The text that divides the last table of an inline array from the one before it, if it has no comment."""
-        text = self.text[self.inline[name, last - 1][1]:self.inline[name, last][0]] if last else ''
+        text = self.text[self.values[name, last - 1][1]:self.values[name, last][0]] if last else ''
         return text if text and not text.strip(', \r\n') else ', '
 
     def appended(self, name: str, table: list[str]) -> Change:
         """The change that adds a table, after the last one of its name or at the end of the text."""
         members = self.members(name)
-        if (name,) in self.inline:
+        if (name,) in self.values:
             return self.appended_inline(name, [table[1:]])
         first, end_line = self.lines(name, len(members) - 1) if members else (0, len(self.rows))
         spaced = bool(members) and first > 0 and not self.rows[first - 1].strip()

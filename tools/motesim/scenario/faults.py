@@ -72,8 +72,7 @@ class ScenarioError(Exception):
         """The place of the fault."""
         if self.line:
             return Place(*self.line, 1)
-        place = place_of(text, self.path)
-        return value_of(text, place) if self.is_of_value() else place
+        return value_of(text, self.path) if self.is_of_value() else place_of(text, self.path)
 
 
 @dataclass(frozen=True)

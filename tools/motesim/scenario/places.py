@@ -16,7 +16,6 @@ KEY = r'(?:[A-Za-z0-9_-]+|"[^"\n]*"|\'[^\'\n]*\')'
 DOTTED = r'%s(?:[^\S\n]*\.[^\S\n]*%s)*' % (KEY, KEY)
 HEADER = re.compile(r'[^\S\n]*(\[\[?)[^\S\n]*(%s)[^\S\n]*\]\]?' % DOTTED)
 ENTRY = re.compile(r'[^\S\n]*(%s)[^\S\n]*=' % DOTTED)
-VALUE = re.compile(r'["\']?\s*=\s*("(?:[^"\\]|\\.)*"|\'[^\']*\'|\[[^][]*\]|[^\s,}#\'"]+)')
 # Texts, comments, the characters that divide a value, and other words; blanks are between them.
 PIECE = re.compile(r'''
     (?P<blank> [^\S\n]+ | \#[^\n]* )
@@ -47,7 +46,7 @@ class Places:
 
     own     the tables and keys on lines of their own
     keys    the keys in inline tables
-    values  the inline arrays and tables, and the values in them
+    values  the values of all keys, and the members of inline arrays
     """
 
     def __init__(self, text: str):
@@ -80,11 +79,11 @@ class Places:
         return at
 
     def after_value(self, path: Path, at: int) -> int:
-        """The offset after an inline array or table; it may also be another value, or none, which is left."""
+        """The offset after the value of a key, or after the key if no value follows on its line."""
         piece = PIECE.match(self.text, at)
         first = piece.end() if piece and piece['blank'] else at
         try:
-            return self.value(path, first) if self.text[first:first + 1] in ('[', '{') else at
+            return at if self.text[first:first + 1] in ('', '\n') else self.value(path, first)
         except NoEnd:
             for found in self.keys, self.values:
                 for inner in [it for it in found if it[:len(path)] == path]:
@@ -148,8 +147,7 @@ def place_of(text: str, path: Path) -> Place:
     return Place(1, 0, len(text.split('\n')[0]))
 
 
-def value_of(text: str, place: Place) -> Place:
-    """The place of the value after a key, if it is on the same line; otherwise that of the key."""
-    line = text.split('\n')[place.line - 1]
-    found = VALUE.match(line, place.column + place.length)
-    return Place(place.line, found.start(1), len(found[1])) if found else place
+def value_of(text: str, path: Path) -> Place:
+    """The place of the value of a key, if it is known; otherwise that of the key, or of the nearest table above it."""
+    found = places(text)
+    return found.at(found.values[path]) if path in found.values else place_of(text, path)

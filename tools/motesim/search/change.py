@@ -17,7 +17,6 @@ from motesim.plan.tables import Value
 from motesim.report.run import refuse_others
 from motesim.scenario.scenario import MotePlace, Scenario
 from motesim.scenario.faults import find_fault
-from motesim.scenario.places import place_of, value_of
 from motesim.search.added import DIES, changed_program
 from motesim.scenario.edits import Change as Edit
 from motesim.scenario.edits import Text, applied
@@ -78,7 +77,6 @@ class Base:
         self.scenario_itself = Scenario.parse(source)
         self.tables = read_toml(source)
         self.lines = Text(source)
-        self.stretches: dict[tuple[str | int, ...], tuple[int, int]] = {}
 
     @classmethod
     def of_plan(cls, plan: Plan) -> Base:
@@ -172,25 +170,15 @@ class Base:
 
     def with_losses(self, added: list[list[str]]) -> Edit:
         """Adds losses, each a list of its keys with their values."""
-        if ('loss',) in self.lines.inline:
+        if ('loss',) in self.lines.values:
             return self.lines.appended_inline('loss', added)
         end = self.end_of_losses
         rows = [row for it in added for row in ('[[loss]]', *it)]
         return Edit(end.begin, end.end, end.text + ''.join(row + '\n' for row in rows))
 
-    def stretch(self, path: tuple[str | int, ...]) -> tuple[int, int]:
-        """The place of a key's value in the text, if it can be found."""
-        if path in self.lines.inline:
-            return self.lines.inline[path]
-        if path not in self.stretches:
-            value = value_of(self.source, place_of(self.source, path))
-            begin = self.lines.offset(value)
-            self.stretches[path] = begin, begin + value.length
-        return self.stretches[path]
-
     def value(self, path: tuple[str | int, ...], text: str) -> Edit:
         """Replaces the value of a key."""
-        begin, end = self.stretch(path)
+        begin, end = self.lines.values.get(path, (0, 0))
         if self.source[begin:end].strip('"\'') != shown(self.tables, path):
             raise CannotChange('%s: %s is not on a line of its own, so it can\'t be changed in the text'
                                % (self.name, '.'.join(map(str, path))))
