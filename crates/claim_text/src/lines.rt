@@ -80,7 +80,8 @@ fn add_line(
 /// other lines.
 ///
 /// # Errors
-/// `NotAClaim` for the first line that isn't read, and `Memory` if an allocation fails.
+/// `NotAClaim` for the first line that isn't read, and `Memory` if an allocation fails. No clause says when a text is
+/// refused, nor what the cause of an error is.
 pub fn read_claims(alloc: Global, names: &Names, text: &[u8]) -> Result<Vec<Claim>, ClaimsError>
     ensures texts { IfOk result (λ cs. map (text_of names.now) cs.items ≡ claim_lines [] text.now) }
 {
