@@ -13,10 +13,10 @@ from here import TOOLS, room_of
 from motesim.commands import expect as command
 from motesim.faults import Fault
 from motesim.judge import remarks, sentences
-from motesim.judge.expectations import UnknownSentence, expect, judged_by, parts_of, read_all
+from motesim.judge.expectations import UnknownSentence, expect, judged, parts_of, read_all
 from motesim.judge.judge import Judge
 from motesim.report import Report
-from motesim.runner import programs
+from motesim.runner import Answer, programs
 from motesim.scenario import Scenario
 from motesim.scenario.fields import of_line, read_fields
 from motesim.judge.sentences import EXAMPLES, Does, Names, SentenceFault, Value, names_of, read_sentence
@@ -215,6 +215,12 @@ case $text in
 esac
 """
 
+# For it, all claims hold.
+CHECKER = """#!/bin/bash
+cat "$1" "$2" >"${0%/*}/asked"
+sed 's/^/holds: /' "$2"
+"""
+
 
 class Files(unittest.TestCase):
     def setUp(self) -> None:
@@ -244,6 +250,19 @@ class Files(unittest.TestCase):
             'holds   mote 0 sends twice', 'broken  no mote halts', '          mote 3 does',
             '          line 22: 90 halt', '1 passed, 1 failed'])
         self.assertEqual((err, code), ('', 1))
+
+    def test_a_verdict_is_given_only_if_motecheck_has_the_same(self) -> None:
+        (self.room / 'motecheck').write_text(CHECKER)
+        (self.room / 'motecheck').chmod(0o755)
+        with mock.patch.dict(os.environ, MOTECHECK=str(self.room / 'motecheck')):
+            whole = 'expect = ["mote 0 sends twice", %s]'
+            out, err, code = self.said(whole % '"mote 1 can hear mote 0", "no mote halts before 90"')
+            self.assertEqual((out.splitlines()[-1], err, code), ('3 passed, 0 failed', '', 0))
+            self.assertEqual((self.room / 'asked').read_text(), SCENARIO + 'mote 0: exactly 2 lines "send"\n'
+                             'exactly 0 of motes 0 to 3: at least 1 line "halt" from 0 to 89')
+            out, err, code = self.said(whole % '"no mote halts"')
+            self.assertEqual((out, code), ('', 2))
+            self.assertIn('Disagreement: `no mote halts` holds for motecheck, but not for the judge', err)
 
     def test_all_hold(self) -> None:
         said = self.said('expect = ["mote 0 sends twice"]', str(self.expected))
@@ -430,7 +449,8 @@ class Fields(unittest.TestCase):
         text = 'fields = { seq = "value % 16" }\nexpect = ["mote 0 sends with seq 1"]\n'
         part = parts_of(text + "[[change]]\nreplace = { a = 'b' }\nexpect = ['mote 0 sends with seq 2']\n", 'a')
         self.assertEqual([it.fields for it in part], [read_fields({'seq': 'value % 16'})] * 2)
-        verdicts = judged_by(part[0], Report.parse(REPORT), Scenario.parse(SCENARIO))
+        with mock.patch.dict(os.environ, MOTECHECK=''):
+            verdicts = judged(SCENARIO, part[0], lambda scenario: Answer(0, REPORT.encode(), b''))
         self.assertEqual([it.holds for it in verdicts], [True])
         with self.assertRaisesRegex(Fault, 'fields of a is not a table, such as'):
             parts_of('fields = 3\nexpect = ["mote 0 sends"]', 'a')

@@ -35,14 +35,13 @@ def main() -> int:
     add_limits(words)
     asked = words.parse_intermixed_args()
     from motesim.explain.within import runs_within
-    from motesim.judge.expectations import beside, expect
+    from motesim.judge.expectations import beside, claims_shown, expect
     scenario = Path(asked.scenario)
     expectations = Path(asked.expectations) if asked.expectations else beside(scenario)
     if not asked.expectations and scenario.exists() and not expectations.exists():
         raise Fault('there is no file %s next to %s: name another one, tools/expect SCENARIO EXPECTATIONS' % (
             expectations, scenario))
     if asked.claims:
-        from motesim.judge.claims import claims_shown
         print('\n'.join(claims_shown(scenario, expectations)))
         return 0
     passed, failed = expect(scenario, expectations, run=runs_within(asked.scenario, asked))

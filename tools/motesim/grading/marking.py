@@ -14,10 +14,9 @@ from motesim.grading.entries import Entry, data_of, decoded, without_program
 from motesim.grading.marks import LONGEST_WHY, InNet, Mark, Marks, over_nets, spread, unmarked
 from motesim.grading.nets import Net, program_of, unused_of
 from motesim.grading.warned import net_warned, seen_of, warned_of
-from motesim.judge.expectations import REFUSED, Part, UnknownSentence, known_of, more_of, read_all, refused, same_report
-from motesim.judge.judge import Broken, Judge
-from motesim.judge.remarks import remark_of
-from motesim.judge.sentences import Sentence, lacking
+from motesim.judge.expectations import REFUSED, Part, UnknownSentence, known_of, of_report, read_all, refused
+from motesim.judge.judge import Judge
+from motesim.judge.sentences import lacking
 from motesim.notation.reader import find_fault as find_program_fault
 from motesim.report import Report
 from motesim.runner import LimitMet, Limits, Runner
@@ -118,21 +117,15 @@ class Task:
             is_held = verdicts and all(it.holds for it in verdicts)
             why = '' if is_held else verdicts[0].more[0] if verdicts else REFUSED
             held = [Mark(it.sentence, it.holds) for it in verdicts]
-            return InNet(spread(held, self.part.sentences, lacks), lacks, why, broken=[None] * len(lacks),
-                         is_refused=True)
+            return InNet(spread(held, self.part.sentences, lacks), lacks, why, is_refused=True)
         scenario = known or Scenario.parse(text)
         report = Report.parse(got.report)
-        judge = Judge(report, scenario)
-        broken = [judge.broken(it) for it in sentences]
-        marks = spread(marks_of(part, sentences, broken, judge), self.part.sentences, lacks)
-        if self.part.report is not None:
-            whole = same_report(judge.rows, self.part.report)
-            marks.append(Mark(whole.sentence, whole.holds, (), tuple(whole.more)))
-        places = iter(broken)
+        verdicts = of_report(part, sentences, Judge(report, scenario), text, self.limits)
+        held = [Mark(it.sentence, it.holds, (), tuple(it.more), remark=it.remark, broken=it.broken) for it in verdicts]
+        marks = [*spread(held, self.part.sentences, lacks), *held[len(sentences):]]
         programs = {program: scenario.programs[program]} if program else scenario.programs
         return InNet(marks, lacks, run=Run('', report, scenario, file) if len(got.report) <= MOST_SHOWN else None,
-                     broken=[None if lack else next(places) for lack in lacks], bytes=len(got.report),
-                     halts=halt_of(report), moments=seen_of(scenario, report, program),
+                     bytes=len(got.report), halts=halt_of(report), moments=seen_of(scenario, report, program),
                      warned=warned_of(programs, text))
 
     def answer(self, scenario: bytes) -> Answer:
@@ -206,22 +199,15 @@ class Task:
         return name, ''
 
 
-def marks_of(part: Part, sentences: Sequence[Sentence], broken: Sequence[Broken | None], judge: Judge) -> list[Mark]:
-    """The marks of sentences in a net. A mark doesn't depend on a remark, so an error in a remark leaves it out."""
-    return [Mark(words, why is None, (), tuple(more_of(why, judge.rows)) if why else (),
-                 remark=tried(lambda: remark_of(it, judge, why is None), lambda words: ''))
-            for words, it, why in zip(part.sentences, sentences, broken)]
-
-
 def note_in(run: Run, its: InNet, place: int) -> Note:
     """The note about a sentence that fails in the run of a net."""
     mark = its.marks[place]
-    return note_of(run, mark.sentence, its.broken[place] if place < len(its.broken) else None, mark.more)
+    return note_of(run, mark.sentence, mark.broken, mark.more)
 
 
 def with_nearest(marks: Marks, place: int, its: InNet) -> Marks:
     """The marks, with the lines nearest to the one that a broken sentence wants, if no line breaks it."""
-    mark, broken = marks.marks[place], its.broken[place] if place < len(its.broken) else None
+    mark, broken = marks.marks[place], its.marks[place].broken
     if its.run is None or broken is None or broken.row or mark.nets[:1] not in ((), (its.net,)):
         return marks
     run = its.run

@@ -22,6 +22,7 @@ class Mark(NamedTuple):
     shown        the net and the reason as a page may show them to students: nothing of a hidden net
     is_required  whether a solution that doesn't meet the sentence earns nothing
     remark       in the first net, if each net has one: the remark that the sentence says less than a reader may think
+    broken       what breaks it, if this is the mark in one net
     """
     sentence: str
     holds: bool
@@ -30,6 +31,7 @@ class Mark(NamedTuple):
     shown: tuple[str, ...] = ()
     is_required: bool = False
     remark: str = ''
+    broken: Broken | None = None
 
     @property
     def words(self) -> str:
@@ -108,13 +110,11 @@ class Marks:
 
 
 class InNet(NamedTuple):
-    """The marks of a solution in one net, and for each sentence the name that the scenario lacks, and the reason if the
-    sentence is broken."""
+    """The marks of a solution in one net, and for each sentence the name that the scenario lacks."""
     marks: Sequence[Mark]
     lacks: list[str]
     why: str = ''
     run: Run | None = None
-    broken: Sequence[Broken | None] = ()
     is_refused: bool = False
     net: str = ''
     is_hidden: bool = False

@@ -5,15 +5,11 @@ the claims are about the report alone.
 """
 from __future__ import annotations
 
-from collections.abc import Iterator, Sequence
-from pathlib import Path
+from collections.abc import Sequence
 
-from motesim.faults import Fault
 from motesim.judge.claim_words import (
-    ALL, Case, Counted, Deed, Limits, Test, claim_text, every_line, limited, lines_of, motes_text, period_text, ratio,
-    set_text,
+    ALL, Case, Counted, Deed, Limits, Test, claim_text, every_line, limited, lines_of, period_text, ratio, set_text,
 )
-from motesim.judge.expectations import known_of, parts_of, place_of_part, read_all, text_of
 from motesim.judge.judge import BECAME, periods
 from motesim.judge.links import Apart, Links, Span
 from motesim.judge.sentences import (
@@ -33,7 +29,6 @@ PARTS = ('process', 'serial', 'event', 'sender', 'packet', 'value')
 PART_OF = {'number': 'packet', 'word': 'value'}
 OF_SCENARIO = {Hears: 'it is about the scenario', Refused: 'it is about a scenario without a report',
                MediumLine: 'claims have no whole lines of the medium'}
-NO_CLAIM = '# no claim: %s'
 
 
 class NoClaim(Exception):
@@ -257,27 +252,3 @@ def ordered(it: Does, relation: Relation, deed: Deed, event: Deed) -> list[Test]
     if it.is_counted:
         return [limited(of_count(it.count), lines_of(deed, order, event))]
     return [limited(of_count(it.count), lines_of(deed)), every_line(deed, order, event)]
-
-
-def claims_shown(scenario: Path, expectations: Path) -> Iterator[str]:
-    """The lines of a text of claims: each expectation as a comment, and the claims that it means. Expectations that
-    claims can't say, and those about a changed scenario, have only a comment."""
-    name = str(expectations)
-    part, *others = parts_of(text_of(expectations), name)
-    known, names = known_of(text_of(scenario), part.fields)
-    sentences = read_all(part.sentences, names)
-    if known is None:
-        raise Fault('%s is no scenario, so no claims can be about it' % scenario)
-    claims = Claims(known)
-    for text, sentence in zip(part.sentences, sentences):
-        yield '# ' + ' '.join(text.split())
-        try:
-            yield from claims.of(sentence)
-        except NoClaim as why:
-            yield NO_CLAIM % why
-        if claims.apart:
-            yield '# without a distance, so without a case: ' + motes_text(sorted(set(claims.apart)))
-    if part.report is not None:
-        yield NO_CLAIM % 'the whole report'
-    for number, it in enumerate(others, 1):
-        yield NO_CLAIM % 'the expectations of %s are about another scenario' % place_of_part(number, it, name)

@@ -6,17 +6,20 @@ from __future__ import annotations
 
 import dataclasses
 import itertools
-from collections.abc import Callable, Sequence
+from collections.abc import Callable, Iterator, Sequence
 from dataclasses import dataclass
 from pathlib import Path
 from typing import Any, NamedTuple
 
-from motesim.faults import Fault
+from motesim.faults import Fault, tried
 from motesim.text import nearest
+from motesim.judge.claim_words import motes_text
+from motesim.judge.claims import Claims, NoClaim
 from motesim.judge.judge import Broken, Judge
+from motesim.judge.motecheck import breaks
 from motesim.judge.remarks import remark_of
 from motesim.report import Report
-from motesim.runner import LimitMet, ProgramFault
+from motesim.runner import LimitMet, Limits, ProgramFault
 from motesim.report.run import Answer, answer, read_file, refuse_others
 from motesim.scenario import Scenario, ScenarioFault
 from motesim.scenario.encodings import decoded
@@ -29,6 +32,7 @@ LONGEST_SHOWN = 150
 # The most sentences that can't be read which an error shows.
 MOST_UNKNOWN = 10
 REFUSED = 'the scenario is refused'
+NO_CLAIM = '# no claim: %s'
 WHOLE = 'the report is the expected one'
 KEYS = {'expect': list, 'required': list, 'report': str, 'change': list, 'about': str, 'replace': dict,
         'fields': dict}
@@ -73,13 +77,15 @@ class Part:
 
 
 class Verdict(NamedTuple):
-    """A sentence, whether it holds, the lines to show if it doesn't, whether the scenario has no report, and a remark on
-    the sentence."""
+    """A sentence, whether it holds, the lines to show if it doesn't, whether the scenario has no report, and a remark;
+    what breaks the sentence, and the row of the report that shows it."""
     sentence: str
     holds: bool
     more: list[str]
     is_refused: bool = False
     remark: str = ''
+    row: int | None = None
+    broken: Broken | None = None
 
 
 def part_of(table: dict[str, Any], name: str, keys: set[str]) -> Part:
@@ -183,7 +189,7 @@ def same_report(rows: Sequence[str], wanted: str) -> Verdict:
     """The verdict on a report that must be the same as another report."""
     for number, (row, line) in enumerate(itertools.zip_longest(rows, wanted.splitlines(), fillvalue='the end'), 1):
         if row != line:
-            return Verdict(WHOLE, False, ['line %d: %s' % (number, row), 'expected: %s' % line])
+            return Verdict(WHOLE, False, ['line %d: %s' % (number, row), 'expected: %s' % line], row=number)
     return Verdict(WHOLE, True, [])
 
 
@@ -197,21 +203,15 @@ def refused(part: Part, sentences: list[Sentence], got: Answer) -> list[Verdict]
     return found if part.report is None else found + [Verdict(WHOLE, False, more, True)]
 
 
-def of_report(part: Part, sentences: list[Sentence], judge: Judge) -> list[Verdict]:
-    """The verdicts on a report."""
+def of_report(part: Part, sentences: list[Sentence], judge: Judge, scenario: str, limits: Limits = Limits()
+              ) -> list[Verdict]:
+    """The verdicts on the report of a scenario. They don't depend on remarks: an error in a remark leaves it out."""
     found = []
-    for text, sentence in zip(part.sentences, sentences):
-        broken = judge.broken(sentence)
-        remark = remark_of(sentence, judge, broken is None)
-        more = more_of(broken, judge.rows, part.fields) if broken else []
-        found.append(Verdict(text, broken is None, more, remark=remark))
+    for text, it, its in zip(part.sentences, sentences, breaks(part.sentences, sentences, judge, scenario, limits)):
+        remark = tried(lambda: remark_of(it, judge, its is None), lambda words: '')
+        found.append(Verdict(text, its is None, more_of(its, judge.rows, part.fields) if its else [], False, remark,
+                             its.row if its else None, its))
     return found + ([same_report(judge.rows, part.report)] if part.report is not None else [])
-
-
-def judged_by(part: Part, report: Report, scenario: Scenario) -> list[Verdict]:
-    """The verdicts on an existing report of the scenario with the changes of the part."""
-    scenario.fields = part.fields
-    return of_report(part, read_all(part.sentences, names_of(scenario)), Judge(report, scenario))
 
 
 def known_of(text: str, fields: tuple[Field, ...] = ()) -> tuple[Scenario | None, Names]:
@@ -232,7 +232,7 @@ def judged(scenario: str, part: Part, run: Callable[[bytes], Answer] | None = No
     got = (run or answer)(text.encode())
     if got.status:
         return refused(part, sentences, got)
-    return of_report(part, sentences, Judge(Report.parse(got.report), known or Scenario.parse(text)))
+    return of_report(part, sentences, Judge(Report.parse(got.report), known or Scenario.parse(text)), text)
 
 
 def expect(scenario: Path, expectations: Path, is_quiet: bool = False,
@@ -267,3 +267,27 @@ def expect(scenario: Path, expectations: Path, is_quiet: bool = False,
     if has_fault:
         print(SHOWS % scenario)
     return passed, failed
+
+
+def claims_shown(scenario: Path, expectations: Path) -> Iterator[str]:
+    """The lines of a text of claims: each expectation as a comment, and the claims that it means. Expectations that
+    claims can't say, and those about a changed scenario, have only a comment."""
+    name = str(expectations)
+    part, *others = parts_of(text_of(expectations), name)
+    known, names = known_of(text_of(scenario), part.fields)
+    sentences = read_all(part.sentences, names)
+    if known is None:
+        raise Fault('%s is no scenario, so no claims can be about it' % scenario)
+    claims = Claims(known)
+    for text, sentence in zip(part.sentences, sentences):
+        yield '# ' + ' '.join(text.split())
+        try:
+            yield from claims.of(sentence)
+        except NoClaim as why:
+            yield NO_CLAIM % why
+        if claims.apart:
+            yield '# without a distance, so without a case: ' + motes_text(sorted(set(claims.apart)))
+    if part.report is not None:
+        yield NO_CLAIM % 'the whole report'
+    for number, it in enumerate(others, 1):
+        yield NO_CLAIM % 'the expectations of %s are about another scenario' % place_of_part(number, it, name)

@@ -19,10 +19,11 @@ from motesim.judge.links import Apart as Apart
 from motesim.judge.links import Links
 from motesim.judge.links import Span as Span
 from motesim.judge.numbers import TOGETHER, either, has, has_lines, motes_do, there_are, verb
+from motesim.judge.relations import Event as Event
 from motesim.judge.sentences import (
     Copies, Count, Deed, Does, Hears, Lines, MediumLine, Motes, Packets, Pattern, Refused, Sentence, Value, Window,
 )
-from motesim.report import LOST, MOST_WORD, Line, Report, Rows
+from motesim.report import LOST, MOST_WORD, Report, Rows
 from motesim.report.lazy import LazyReport
 from motesim.scenario import Scenario
 from motesim.scenario.fields import in_words as in_fields
@@ -58,12 +59,6 @@ class Broken(NamedTuple):
     def words(self) -> str:
         """The reason, as it stands above the row."""
         return '; '.join(filter(None, [self.why, self.shows]))
-
-
-class Event(NamedTuple):
-    """A line of a trace with its row."""
-    row: int
-    line: Line
 
 
 class Row(NamedTuple):

@@ -13,43 +13,33 @@ it must hold for none.
 from __future__ import annotations
 
 import bisect
-from collections.abc import Callable, Sequence
+from collections.abc import Sequence
 from functools import cached_property
 from itertools import islice
-from typing import Protocol
+from typing import NamedTuple
 
 from motesim.judge.numbers import has, has_lines
 from motesim.judge.sentences import Does, Relation
+from motesim.report import Line
 
 
-class At(Protocol):
-    """A line of a trace."""
-    @property
-    def at(self) -> int: ...
-    @property
-    def mote(self) -> int: ...
-
-
-class Found(Protocol):
-    """A line with its row in the report."""
-    @property
-    def row(self) -> int: ...
-    @property
-    def line(self) -> At: ...
+class Event(NamedTuple):
+    """A line of a trace with its row in the report."""
+    row: int
+    line: Line
 
 
 # The reason why a sentence is broken, and the row that shows it.
 Why = tuple[str, int | None]
-By = Callable[[Found], tuple[int, int]]
 # Numbers below and above those of all rows.
 FIRST, LAST = -1, 1 << 62
 
 
-def in_time(event: Found) -> tuple[int, int]:
+def in_time(event: Event) -> tuple[int, int]:
     return event.line.at, event.row
 
 
-def _is_after(line: Found, event: Found) -> bool:
+def _is_after(line: Event, event: Event) -> bool:
     """True if a line is later than an event, or at the same moment further down in the same trace."""
     if line.line.at != event.line.at:
         return line.line.at > event.line.at
@@ -59,32 +49,32 @@ def _is_after(line: Found, event: Found) -> bool:
 class Order:
     """Events in the order of their moments."""
 
-    def __init__(self, events: Sequence[Found]):
+    def __init__(self, events: Sequence[Event]):
         self.events = sorted(events, key=in_time)
         self.keys = list(map(in_time, self.events))
 
-    def first(self) -> Found | None:
+    def first(self) -> Event | None:
         return self.events[0] if self.events else None
 
     @cached_property
-    def earliest(self) -> dict[int, Found]:
+    def earliest(self) -> dict[int, Event]:
         """For each mote that has an event at the first moment, its first event. These events have no order among
         themselves."""
-        found: dict[int, Found] = {}
+        found: dict[int, Event] = {}
         for event in self.events[:bisect.bisect_right(self.keys, (self.keys[0][0], LAST)) if self.keys else 0]:
             found.setdefault(event.line.mote, event)
         return found
 
-    def is_after(self, line: Found) -> bool:
+    def is_after(self, line: Event) -> bool:
         """True if a line is after one of the first events."""
         first = self.first()
         return first is not None and _is_after(line, self.earliest.get(line.line.mote, first))
 
-    def not_after(self, line: Found) -> Found | None:
+    def not_after(self, line: Event) -> Event | None:
         """One of the first events, if a line isn't before all of them."""
         return next((event for event in islice(self.earliest.values(), 2) if not _is_after(event, line)), None)
 
-    def last_before(self, line: Found) -> Found | None:
+    def last_before(self, line: Event) -> Event | None:
         """The last event that is not after a line; an event of another mote at the same moment counts."""
         place = bisect.bisect_right(self.keys, (line.line.at, LAST))
         if place and self.is_of(self.events[place - 1], line):
@@ -92,7 +82,7 @@ class Order:
             place = bisect.bisect_left(self.keys, in_time(line))
         return self.events[place - 1] if place else None
 
-    def first_from(self, event: Found) -> Found | None:
+    def first_from(self, event: Event) -> Event | None:
         """The first of these lines that is not before an event."""
         place = bisect.bisect_left(self.keys, (event.line.at, FIRST))
         if place < len(self.events) and self.is_of(self.events[place], event):
@@ -100,12 +90,12 @@ class Order:
         return self.events[place] if place < len(self.events) else None
 
     @staticmethod
-    def is_of(it: Found, other: Found) -> bool:
+    def is_of(it: Event, other: Event) -> bool:
         """True if two lines are of the same moment and mote."""
         return (it.line.at, it.line.mote) == (other.line.at, other.line.mote)
 
 
-def _holds(relation: Relation, line: Found, order: Order) -> bool:
+def _holds(relation: Relation, line: Event, order: Order) -> bool:
     """True if a line has this relation to the events."""
     if relation.kind == 'after':
         return order.is_after(line)
@@ -115,7 +105,7 @@ def _holds(relation: Relation, line: Found, order: Order) -> bool:
     return event is not None and line.line.at - event.line.at <= relation.moments
 
 
-def _why_not(relation: Relation, line: Found, order: Order) -> str:
+def _why_not(relation: Relation, line: Event, order: Order) -> str:
     """The reason why a line doesn't have this relation to the events."""
     here, first = 'this line of mote %d' % line.line.mote, order.first()
     if first is None:
@@ -133,7 +123,7 @@ def _why_not(relation: Relation, line: Found, order: Order) -> str:
         here, line.line.at - event.line.at, relation.words, event.line.at, event.row, relation.moments)
 
 
-def _counted(it: Does, relation: Relation, name: str, when: str, lines: Sequence[Found], order: Order) -> Why | None:
+def _counted(it: Does, relation: Relation, name: str, when: str, lines: Sequence[Event], order: Order) -> Why | None:
     """Checks the number of lines with the relation."""
     fit = [line for line in lines if _holds(relation, line, order)]
     if it.count.admits(len(fit)):
@@ -148,7 +138,7 @@ def _counted(it: Does, relation: Relation, name: str, when: str, lines: Sequence
     return ('%s\n%s' % (why, _why_not(relation, nearest, order)), nearest.row) if nearest else (why, None)
 
 
-def _distance(line: Found, order: Order) -> int:
+def _distance(line: Event, order: Order) -> int:
     """The moments from the last event that is not after a line."""
     event = order.last_before(line)
     return line.line.at - event.line.at if event else LAST
@@ -158,7 +148,7 @@ def _kind_in_words(relation: Relation) -> str:
     return 'within %d of' % relation.moments if relation.kind == 'within' else relation.kind
 
 
-def _answered(relation: Relation, name: str, when: str, lines: Sequence[Found], order: Order,
+def _answered(relation: Relation, name: str, when: str, lines: Sequence[Event], order: Order,
               end: int) -> Why | None:
     """Checks that each event has a line soon after it. An event without a line can't be judged if its moments go past
     the end of the run; at least one event must be judged."""
@@ -185,7 +175,7 @@ def _none_judged(relation: Relation, when: str, order: Order, end: int) -> Why:
         end, relation.moments, relation.words), first.row
 
 
-def broken(it: Does, name: str, when: str, lines: Sequence[Found], events: Sequence[Found], end: int) -> Why | None:
+def broken(it: Does, name: str, when: str, lines: Sequence[Event], events: Sequence[Event], end: int) -> Why | None:
     """The reason why a sentence with a relation is broken, from the lines of a mote (or of several) and the events.
     `when` is the period of the lines, in words; for `within 10 of each time`, the period of the events."""
     relation, order = it.relation, Order(events)

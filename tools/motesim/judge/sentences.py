@@ -8,8 +8,8 @@ from __future__ import annotations
 
 import operator
 import re
-from collections.abc import Callable, Sequence
-from dataclasses import dataclass
+from collections.abc import Callable, Iterable, Iterator, Sequence
+from dataclasses import dataclass, fields, is_dataclass
 
 from motesim.faults import Fault
 from motesim.notation.grammar import SYSTEM
@@ -263,6 +263,14 @@ class Refused:
 
 
 Sentence = Does | Copies | Packets | Lines | MediumLine | Hears | Refused
+
+
+def parts_of(it: object) -> Iterator[object]:
+    """A sentence, or sentences, with all of their parts."""
+    yield it
+    parts: Iterable[object] = it if isinstance(it, (tuple, list)) else ()
+    for part in [getattr(it, field.name) for field in fields(it)] if is_dataclass(it) else parts:
+        yield from parts_of(part)
 
 
 class _Reader:

@@ -17,6 +17,7 @@ import signal
 import subprocess
 import threading
 import time
+from collections.abc import Callable
 from pathlib import Path
 from typing import IO, Literal, NamedTuple
 
@@ -125,8 +126,9 @@ class Running:
     """A run that has begun. `wait` returns the answer of `motesim`, once; any thread may call `stop` to end the
     run."""
 
-    def __init__(self, process: subprocess.Popen[bytes], limits: Limits, is_leader: bool):
-        self._process, self._limits, self._is_leader = process, limits, is_leader
+    def __init__(self, process: subprocess.Popen[bytes], limits: Limits, is_leader: bool,
+                 asks_end: Callable[[], bool]):
+        self._process, self._limits, self._is_leader, self._asks_end = process, limits, is_leader, asks_end
         self._look = time.monotonic() + TICK
         self._end = time.monotonic() + limits.seconds
         self._report: list[bytes] = []
@@ -234,13 +236,17 @@ class Running:
             self._end_by(LimitMet('seconds', self._limits))
         elif memory_of(self._process.pid) > self._limits.memory:
             self._end_by(LimitMet('memory', self._limits))
+        elif self._asks_end():
+            self.stop()
 
 
 class Runner:
-    """Runs a binary within limits; without a path, the binary that all tools run."""
+    """Runs a binary within limits; without a path, the binary that all tools run. Once `asks_end()` is true, its runs are
+    stopped."""
 
-    def __init__(self, program: Path | None = None, limits: Limits = Limits()):
-        self.program, self.limits = program, limits
+    def __init__(self, program: Path | None = None, limits: Limits = Limits(),
+                 asks_end: Callable[[], bool] = lambda: False):
+        self.program, self.limits, self.asks_end = program, limits, asks_end
 
     def start(self, scenario: bytes, *arguments: str) -> Running:
         """Begins a run of a scenario."""
@@ -259,7 +265,7 @@ class Runner:
         except (OSError, ValueError) as fault:
             why = fault.strerror if isinstance(fault, OSError) else fault
             raise ProgramFault('%s can\'t be run: %s' % (path, why)) from None
-        return Running(process, self.limits, is_leader)
+        return Running(process, self.limits, is_leader, self.asks_end)
 
     def answer(self, scenario: bytes, *arguments: str) -> Answer:
         """The answer of the binary to a scenario, with these arguments on its command line."""

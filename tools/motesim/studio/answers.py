@@ -1,7 +1,6 @@
 """The results of a run for the page: its error, its warnings, and the sentences that hold."""
 from __future__ import annotations
 
-from itertools import zip_longest
 from typing import Any, NamedTuple
 
 from motesim.explain.explanation import TEXT, correction_of, explanation, place_of_fault
@@ -10,7 +9,6 @@ from motesim.explain.warnings import warnings
 from motesim.faults import Fault
 from motesim.judge import expectations
 from motesim.judge.judge import Judge
-from motesim.judge.remarks import remark_of
 from motesim.judge.sentences import names_of
 from motesim.report import Report
 from motesim.report.run import Run
@@ -113,21 +111,10 @@ def checks(done: Finished, saved: str, expected: tuple[str, str] | None) -> dict
 def marks(part: expectations.Part, done: Finished) -> list[dict[str, Any]]:
     """A mark for each sentence of a part, and one for its report, if it has one."""
     done.scenario.fields = part.fields
-    judge = Judge(done.run.report, done.scenario)
-    found = list[dict[str, Any]]()
-    for words, sentence in zip(part.sentences, expectations.read_all(part.sentences, names_of(done.scenario))):
-        broken = judge.broken(sentence)
-        found.append({'sentence': words, 'holds': broken is None, 'required': len(found) < part.required,
-                      'row': broken.row if broken else None,
-                      'more': expectations.more_of(broken, judge.rows, part.fields) if broken else [],
-                      'remark': remark_of(sentence, judge, broken is None)})
-    if part.report is not None:
-        whole = expectations.same_report(judge.rows, part.report)
-        row = next((row for row, (ours, wanted) in enumerate(zip_longest(judge.rows, part.report.splitlines()), 1)
-                    if ours != wanted), None)
-        found.append({'sentence': whole.sentence, 'holds': whole.holds, 'required': False, 'row': row,
-                      'more': whole.more, 'remark': ''})
-    return found
+    sentences = expectations.read_all(part.sentences, names_of(done.scenario))
+    verdicts = expectations.of_report(part, sentences, Judge(done.run.report, done.scenario), done.text)
+    return [{'sentence': it.sentence, 'holds': it.holds, 'required': number < part.required, 'row': it.row,
+             'more': it.more, 'remark': it.remark} for number, it in enumerate(verdicts)]
 
 
 def sentences_for(text: str, saved: str, expected: tuple[str, str] | None) -> list[str]:
