@@ -1,6 +1,7 @@
 """The claims that expectations mean: their texts; the verdicts on random runs of motecheck, of the tools' judge, and of
 the second judge, which was written from the page alone; and a survey of motecheck."""
 import contextlib
+import json
 import os
 import random
 import re
@@ -96,6 +97,42 @@ class Surveys(unittest.TestCase):
         self.assertEqual(alone, 'broken: ' + claims[0])
         self.assertEqual([tuple(map(int, re.findall(r'\d+', it))) for it in (first, second)], lost)
         self.assertEqual(covered, 'covered: all sets of at most 1 of 40 faults; runs: 41')
+
+
+class Searches(unittest.TestCase):
+    def test_a_search_finds_the_same_with_a_survey(self) -> None:
+        need_program(self)
+        need_motecheck(self)
+        room = room_of(self)
+        hops = '"mote 8 prints news 7", "every mote never prints news at 1 plus 0 for each hop from mote 0"'
+        its = '"every mote but 0 prints just news 7", "every mote sends at most once"'
+        (room / 'net.toml').write_bytes((TOP / 'examples/news.toml').read_bytes())
+        for faults, sentences in ('links,motes', its), ('links', hops), ('motes', hops):
+            (room / 'net.expect.toml').write_text('expect = [%s]' % sentences)
+            found = []
+            for program in str(CHECK), '':
+                done = call('search', 'net.toml', '--faults', faults, '--at-most', '2', '--json', '-', cwd=room,
+                            env={**os.environ, 'MOTECHECK': program})
+                tried = len((room / 'net.search/tried.txt').read_text().splitlines()) - 1
+                found.append((tried, done.returncode, done.stderr, {**json.loads(done.stdout), 'seconds': 0}))
+            (few, *one), (many, *other) = found
+            self.assertEqual(one, other)
+            self.assertLess(few, many / 2)
+
+    def test_a_survey_that_lists_too_much_is_an_error(self) -> None:
+        need_program(self)
+        room = room_of(self)
+        (room / 'net.toml').write_bytes((TOP / 'examples/news.toml').read_bytes())
+        (room / 'motecheck').write_text("""#!/bin/bash
+            echo 'holds: nothing
+              if link 7 to 8 is broken
+            covered: all sets of at most 1 of 40 faults; runs: 41' | sed 's/^  *//; s/^if/  if/'""")
+        (room / 'motecheck').chmod(0o755)
+        done = call('search', 'net.toml', '--faults', 'links', '--expect', 'mote 8 prints news 7', cwd=room,
+                    env={**os.environ, 'MOTECHECK': str(room / 'motecheck')})
+        self.assertEqual((done.stdout, done.returncode), ('', 2))
+        self.assertIn('Disagreement: an expectation is broken for motecheck, but not for the judge, with: link 7 to 8 '
+                      'loses everything', done.stderr)
 
 
 def need_motecheck(case: unittest.TestCase) -> None:

@@ -8,7 +8,7 @@ from here import TOOLS, call
 from motesim.commands import export, search, shrink, studio, sweep
 from motesim.experiments import asked
 from motesim.export.command import ENDS
-from motesim.search import one_program
+from motesim.search.work import LIMITS
 from motesim.studio import runs
 
 COMMANDS = sorted(path.stem for path in (TOOLS / 'motesim/commands').glob('[a-z]*.py'))
@@ -63,8 +63,7 @@ class Commands(unittest.TestCase):
             self.assertEqual((done.returncode, done.stdout, done.stderr), (2, '', line))
 
     def test_defaults_are_those_of_the_libraries(self) -> None:
-        usual = one_program.LIMITS
-        self.assertEqual((search.SECONDS, search.BYTES, shrink.SECONDS), (usual.seconds, usual.report, usual.seconds))
+        self.assertEqual((search.SECONDS, search.BYTES, shrink.SECONDS), (LIMITS.seconds, LIMITS.report, LIMITS.seconds))
         megabytes = [it // runs.MEGABYTE for it in (runs.LIMITS.memory, runs.LIMITS.report)]
         self.assertEqual([studio.SECONDS, studio.MEMORY, studio.REPORT], [runs.LIMITS.seconds, *megabytes])
         self.assertEqual((sweep.MOST_BYTES, sweep.MOST_SECONDS), (asked.MOST_BYTES, asked.MOST_SECONDS))

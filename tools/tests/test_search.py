@@ -11,7 +11,6 @@ import sys
 import tempfile
 import time
 import unittest
-from concurrent.futures import ThreadPoolExecutor
 from collections.abc import Iterator, Sequence
 from pathlib import Path
 from typing import Any
@@ -26,7 +25,6 @@ from motesim.judge.sentences import names_of, read_sentence
 from motesim.plan.plan import Plan
 from motesim.report.report import Report
 from motesim.report.run import answer, program_path
-from motesim.runner import LimitMet
 from motesim.scenario.scenario import Scenario
 from motesim.search.added import DIES, LATE, NoRoom, changed_program
 from motesim.search.change import Base, CannotChange
@@ -34,7 +32,6 @@ from motesim.search.cuts import cut_of
 from motesim.search.faults import Asked, change_of, faults_of
 from motesim.search.halting import without_halts
 from motesim.search.kept import Kept
-from motesim.search.one_program import LIMITS, OneProgram
 from motesim.search.search import Bounds, Search
 from motesim.search.sets import Known, count_of
 from motesim.search.shrink_found import Allowance
@@ -832,7 +829,7 @@ class Searches(unittest.TestCase):
         with folder_with() as folder:
             status, _, seen = search(folder, '--faults', 'links', '--bytes', '100')
             self.assertEqual(status, 2)
-            self.assertIn('the report is longer than 100 bytes (--seconds and --bytes of tools/search set', seen)
+            self.assertIn('the report is longer than 100 bytes (an option such as --seconds sets', seen)
 
     def test_kinds_with_the_same_fault(self) -> None:
         # (of two packets every = 2 loses packet 1)
@@ -920,64 +917,3 @@ code flood {
             status, _, seen = search(folder, scenario='absent.toml')
             self.assertEqual(status, 2)
             self.assertIn('absent.toml', seen)
-
-
-class Programs(unittest.TestCase):
-    """Runs one after the other, each within limits."""
-
-    def program(self, folder: str | Path, body: str) -> str:
-        path = Path(folder, 'program')
-        path.write_text('#!/bin/sh\n' + body)
-        path.chmod(0o755)
-        return str(path)
-
-    def test_answers(self) -> None:
-        with tempfile.TemporaryDirectory() as folder:
-            one = OneProgram(self.program(folder, 'cat; echo told >&2; exit 3\n'), LIMITS)
-            for text in b'a long text', b'short':
-                found = one.run(text)
-                self.assertEqual((found.status, found.report, found.fault), (3, text, b'told\n'))
-
-    def test_limits_in_another_thread(self) -> None:
-        with tempfile.TemporaryDirectory() as folder, ThreadPoolExecutor(1) as thread:
-            one = OneProgram(self.program(folder, 'cat\n'), LIMITS)
-            self.assertEqual(thread.submit(one.run, b'text').result().report, b'text')
-            late = OneProgram(self.program(folder, 'exec sleep 60\n'), LIMITS._replace(seconds=0.2))
-            with self.assertRaisesRegex(LimitMet, 'no answer in 0.2 seconds'):
-                thread.submit(late.run, b'').result()
-
-    def test_limit_on_memory(self) -> None:
-        need_program(self)
-        # (2,000 lines at each of a million moments, which the program keeps until the end)
-        text = DIAMOND.replace('end = 100', 'end = 1000000').replace(
-            'set t 10;', 'set t 1; while 1 { yield_until fired(t); known = 0; set t 1; '
-            'while (known < 2000) { print 1; known = (known + 1); } }')
-        one = OneProgram(str(program_path().resolve()), LIMITS._replace(seconds=60, memory=50_000_000))
-        self.addCleanup(one.close)
-        with self.assertRaisesRegex(LimitMet, 'more than 47 megabytes of memory'):
-            one.run(text.encode())
-        self.assertEqual(one.run(DIAMOND.encode()).why, '')
-
-    def test_limits(self) -> None:
-        with tempfile.TemporaryDirectory() as folder:
-            late = OneProgram(self.program(folder, 'exec sleep 60\n'), LIMITS._replace(seconds=0.2))
-            begin = time.monotonic()
-            with self.assertRaisesRegex(LimitMet, 'no answer in 0.2 seconds'):
-                late.run(b'')
-            self.assertLess(time.monotonic() - begin, 10)
-            long = OneProgram(self.program(folder, 'exec cat /dev/zero\n'), LIMITS._replace(report=100_000))
-            with self.assertRaisesRegex(LimitMet, 'the report is longer than 100,000 bytes'):
-                long.run(b'')
-
-    def test_an_alarm_that_rings_as_the_run_ends(self) -> None:
-        def waitid(*words: int) -> object:
-            ended = wait(*words)
-            signal.raise_signal(signal.SIGALRM)
-            return ended
-
-        wait = os.waitid
-        with tempfile.TemporaryDirectory() as folder:
-            one = OneProgram(self.program(folder, 'cat\n'), LIMITS)
-            with mock.patch('os.waitid', waitid), self.assertRaisesRegex(LimitMet, 'no answer in 10 seconds'):
-                one.run(b'')
-            self.assertEqual(one.run(b'text').report, b'text')

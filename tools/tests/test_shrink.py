@@ -17,13 +17,14 @@ from motesim.judge.judge import Judge
 from motesim.judge.sentences import Names, motes_named, names_of, read_sentence
 from motesim.report.report import Report
 from motesim.report.run import answer, program_path
+from motesim.runner import Runner
 from motesim.scenario.scenario import Scenario
 from motesim.search.faults import EFFECTS, FaultyPart
 from motesim.search.following import follow
 from motesim.search.forms import FORMS, form_of
 from motesim.search.found import Found
 from motesim.search.net import loss_steps, mote_steps, net_of, number_steps, parts, program_steps, without_motes
-from motesim.search.one_program import LIMITS, OneProgram
+from motesim.search.work import LIMITS
 from motesim.search.shrink import Shrinking, case_of, parts_and_sentences
 from motesim.search.shrink_command import STOPPED
 from motesim.search.shrink_found import chosen
@@ -140,8 +141,7 @@ class Following(unittest.TestCase):
 class Shrinks(unittest.TestCase):
     def setUp(self) -> None:
         need_program(self)
-        self.program = OneProgram(str(program_path().resolve()), LIMITS)
-        self.addCleanup(self.program.close)
+        self.program = Runner(program_path(), LIMITS)
 
     def way(self, text: str, sentence: Any) -> Any:
         """Returns whether a scenario breaks a sentence, and by how many lines, by the judge only."""

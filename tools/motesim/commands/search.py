@@ -35,7 +35,7 @@ from motesim.command import command
 from motesim.search.forms import with_forms
 from motesim.words import words_of
 
-# The limits of a run: those of motesim.search.one_program.
+# The limits of a run: those of motesim.search.work.
 SECONDS, BYTES = 10.0, 16_000_000
 
 

@@ -33,7 +33,7 @@ from motesim.faults import INTERRUPTED
 from motesim.search.forms import with_forms
 from motesim.words import words_of
 
-# The limit of a run: that of motesim.search.one_program.
+# The limit of a run: that of motesim.search.work.
 SECONDS = 10.0
 
 

@@ -11,8 +11,8 @@
     prepare.py         the checks before a search
     halting.py         the expectations that the line `halt` of a failed mote breaks by itself, and reports without it
     work.py            one run of a set of faults
+    survey.py          the sets that motecheck decides
     single_packets.py  whether the link of a lost packet loses only this packet in the run
-    one_program.py     runs of `motesim`, one after the other, at little cost
     runner.py          many runs by several processes, or by a Dask cluster
     kept.py            the sets that were tried, for --resume
     progress.py        the progress of a search, on standard error

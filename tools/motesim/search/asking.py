@@ -2,6 +2,7 @@
 from __future__ import annotations
 
 import hashlib
+import time
 from collections.abc import Callable
 
 from motesim.judge.sentences import Sentence
@@ -12,20 +13,13 @@ from motesim.search.faults import (
     WHY_NONE, Asked, absent_kinds, after_packets, faults_of, untried_copies, without_effect,
 )
 from motesim.search.kept import Kept
-from motesim.runner import Limits, program_path
-from motesim.search.one_program import LIMITS, OneProgram
+from motesim.runner import Limits, Runner, program_path
 from motesim.search.prepare import plain_run, prepare
-from motesim.search.runner import Here, OnCluster, Runner
+from motesim.search.runner import Here, OnCluster
 from motesim.search.search import Bounds, Search
-from motesim.search.sets import Known
-from motesim.search.work import Work, mask_of, numbers_of
-
-
-def runner_of(work: Work, processes: int, address: str | None) -> Runner:
-    """The workers of a search: processes of this machine, or a Dask cluster."""
-    if address:
-        return OnCluster(work, address)
-    return Here(work, processes)
+from motesim.search.sets import Known, count_of, union
+from motesim.search.survey import survey_of
+from motesim.search.work import LIMITS, Work, mask_of, numbers_of
 
 
 class Asking:
@@ -36,8 +30,10 @@ class Asking:
                  limits: Limits = LIMITS):
         self.base, self.texts, self.sentences, self.bounds, self.limits = base, texts, sentences, bounds, limits
         self.path = program_path().resolve()
-        program = OneProgram(str(self.path), limits)
+        program = Runner(self.path, limits)
+        begun = time.monotonic()
         self.plain = plain_run(base, program, sentences)
+        self.seconds = time.monotonic() - begun
         asked.sent = tuple(self.plain.sent)
         faults = faults_of(base, asked)
         self.absent = absent_kinds(base, asked)
@@ -45,7 +41,6 @@ class Asking:
         self.prepared = prepare(base, self.plain, program, sentences, faults)
         self.idle = without_effect(base, self.prepared.faults, self.plain.sent)
         self.late = after_packets(self.prepared.faults, self.plain.last)
-        program.close()
 
     @property
     def notes(self) -> list[str]:
@@ -55,9 +50,7 @@ class Asking:
         rows += ['there is no fault of the kind %s in this scenario%s' % (kind, WHY_NONE.get(kind, ''))
                  for kind in self.absent]
         rows += ['left out: ' + it for it in self.prepared.left_out]
-        blind = 0
-        for mask in self.prepared.blind.values():
-            blind |= mask
+        blind = union(self.prepared.blind.values())
         rows += ['left out for motes that fail or start late, because the process that causes these faults breaks the '
                  'expectation by itself: ' + self.texts[number] for number in numbers_of(blind)]
         return rows
@@ -93,7 +86,13 @@ class Asking:
         known = Known(self.prepared.faults, mask_of(held))
         search = Search(known, self.bounds, kept, self.prepared.blind_of(), shown)
         search.asks_end = asks_end
-        runner = runner_of(self.work(), processes, address)
+        if self.bounds.runs is None and self.bounds.seconds is None:
+            its = {number: self.sentences[number] for number in held}
+            # (a run may need much longer than that without a fault, and a survey ends no run)
+            sets = sum(count_of(known.faults, size) for size in range(1, self.bounds.at_most + 1))
+            limits = self.limits._replace(seconds=self.limits.seconds + self.seconds * sets)
+            search.survey = survey_of(self.base, known.faults, its, self.bounds.at_most, processes, limits, asks_end)
+        runner: OnCluster | Here = OnCluster(self.work(), address) if address else Here(self.work(), processes)
         try:
             search.run(runner)
         except KeyboardInterrupt:

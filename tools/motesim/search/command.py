@@ -19,7 +19,6 @@ from motesim.search.change import NUMBERS, Base
 from motesim.search.faults import KINDS, Asked
 from motesim.search.found import Found, as_csv, earlier_files, found_by, write_files, write_whole
 from motesim.search.kept import Kept
-from motesim.search.one_program import LIMITS
 from motesim.search.numbers import LEAST, numbers_of_words
 from motesim.search.progress import ProgressOfSearch
 from motesim.search.say import as_json, covered_lines, last_line, line_of_earlier, result_line, verdict_lines
@@ -27,6 +26,7 @@ from motesim.search.search import Bounds, Search
 from motesim.search.shrink import parts_and_sentences
 from motesim.search.shrink_found import shrink_each
 from motesim.search.study import check_studies
+from motesim.search.work import LIMITS
 from motesim.toml import NoToml, read_toml
 
 STATE = 'tried.txt'

@@ -6,20 +6,15 @@ are only about halts are judged without this line, so for all other motes.
 from __future__ import annotations
 
 from collections.abc import Iterable, Sequence
-from dataclasses import fields, is_dataclass
 
 from motesim.judge.judge import broken_of
-from motesim.judge.sentences import Does, Lines, Sentence
+from motesim.judge.sentences import Does, Lines, Sentence, parts_of
 from motesim.scenario.scenario import Scenario
 
 
-def is_about_halts(it: object) -> bool:
+def is_about_halts(it: Sentence) -> bool:
     """Returns whether a line `halt` can matter to a sentence, or to a part of it."""
-    if isinstance(it, (tuple, list)):
-        return any(map(is_about_halts, it))
-    if is_dataclass(it):
-        return isinstance(it, Lines) or any(is_about_halts(getattr(it, field.name)) for field in fields(it))
-    return it == 'halt'
+    return any(isinstance(part, Lines) or part == 'halt' for part in parts_of(it))
 
 
 def is_only_about_halts(sentence: Sentence) -> bool:

@@ -12,13 +12,12 @@ from collections.abc import Callable
 from typing import NamedTuple
 
 from motesim.faults import Fault
-from motesim.runner.programs import ProgramFault
+from motesim.runner import ProgramFault, Runner
 from motesim.search.added import DIES, LATE, NoRoom, added_name, halts
 from motesim.search.change import Base, CannotChange, Change
 from motesim.search.faults import FaultyPart
 from motesim.search.halting import hidden_by_halt, is_only_about_halts
-from motesim.search.one_program import OneProgram
-from motesim.search.sets import Set
+from motesim.search.sets import Set, union
 from motesim.search.work import mask_of
 from motesim.judge.judge import broken_of
 from motesim.judge.sentences import Sentence
@@ -28,7 +27,7 @@ INTO = {DIES: 'fail', LATE: 'start late'}
 # The lines of a trace about a packet.
 OF_PACKETS = re.compile(rb'^(\d+) (?:send|recv|lost|collide) ', re.M)
 # The advice if a run reaches a limit.
-LIMITS = ' (--seconds and --bytes of tools/search set the limits of a run)'
+LIMITS = ' (an option such as --seconds sets the limits of a run)'
 
 
 class Plain(NamedTuple):
@@ -40,10 +39,10 @@ class Plain(NamedTuple):
     last: int = 0
 
 
-def plain_run(base: Base, program: OneProgram, sentences: list[Sentence]) -> Plain:
+def plain_run(base: Base, program: Runner, sentences: list[Sentence]) -> Plain:
     """Runs the scenario without a fault."""
     try:
-        answer = program.run(base.source.encode())
+        answer = program.answer(base.source.encode())
         why = answer.why
     except ProgramFault as fault:
         why = '%s%s' % (fault, LIMITS)
@@ -71,13 +70,13 @@ def without_process(report: bytes, mote: int, process: str) -> list[bytes]:
     return rows
 
 
-def difference(base: Base, plain: Plain, program: OneProgram, mote: int, kind: str) -> tuple[str, bytes]:
+def difference(base: Base, plain: Plain, program: Runner, mote: int, kind: str) -> tuple[str, bytes]:
     """The difference that the added process makes to the report of a scenario, or an empty text; if there is none, also
     the report with the process."""
     change = Change()
     change.added[mote] = kind, base.scenario_itself.end + 1 if kind == DIES else 0
     try:
-        answer = program.run(base.text(change).encode())
+        answer = program.answer(base.text(change).encode())
     except ProgramFault as fault:
         return str(fault), b''
     if answer.status:
@@ -105,17 +104,10 @@ class Prepared(NamedTuple):
 
     def blind_of(self) -> Callable[[Set], int]:
         """A function that returns the expectations that can't be judged with a set."""
-        blind = self.blind
-
-        def found(faults: Set) -> int:
-            mask = 0
-            for number in faults:
-                mask |= blind.get(number, 0)
-            return mask
-        return found if blind else lambda faults: 0
+        return lambda faults: union(self.blind.get(number, 0) for number in faults)
 
 
-def prepare(base: Base, plain: Plain, program: OneProgram, sentences: list[Sentence],
+def prepare(base: Base, plain: Plain, program: Runner, sentences: list[Sentence],
             faults: list[FaultyPart]) -> Prepared:
     """Leaves out the faults that can't be made, and notes the reasons."""
     seen = dict[tuple[int, str], tuple[str, int]]()
@@ -156,7 +148,7 @@ def _left_out(reasons: dict[tuple[int, str], list[str]]) -> list[str]:
             for (why, kinds), motes in motes_of.items()]
 
 
-def _tried(base: Base, plain: Plain, program: OneProgram, sentences: list[Sentence], mote: int,
+def _tried(base: Base, plain: Plain, program: Runner, sentences: list[Sentence], mote: int,
            kind: str) -> tuple[str, int]:
     try:
         why, report = difference(base, plain, program, mote, kind)

@@ -14,7 +14,8 @@ from motesim.faults import Fault
 from motesim.judge.shortfall import Shortfall
 from motesim.search.kept import Kept
 from motesim.search.runner import Runner
-from motesim.search.sets import Known, Set, Tally, count_of, draws
+from motesim.search.sets import Known, Set, Tally, count_of, draws, union
+from motesim.search.survey import Survey
 from motesim.search.work import MORE, RUN, SAME, STOPPED, UNMADE, Outcome, Task
 
 # The greatest number of faults that a random set has in addition to the exhaustive bound.
@@ -47,32 +48,27 @@ class Search:
         self.why: Counter[str] = Counter()
         # the lines that the run of each breaking set lacks
         self.lacks: dict[Set, Shortfall] = {}
-        self.runs = self.resumed = 0
+        self.runs = 0
         # the sets that break an expectation, among the sets of the present size or of the sample
         self.breaking = 0
         self.begin = time.monotonic()
         self.given = 0
         self.asks_end: Callable[[], bool] = lambda: False
+        self.survey: Survey | None = None
         self.is_stopped = False
         self.ended_by = ''
 
     @property
     def unjudged(self) -> int:
         """The expectations that can't be judged with some of the faults."""
-        mask = 0
-        for number in range(len(self.known.faults)):
-            mask |= self.blind((number,))
-        return mask & self.known.wanted
+        return union(self.blind((number,)) for number in range(len(self.known.faults))) & self.known.wanted
 
     @property
     def holding(self) -> int:
         """The expectations that no set breaks, and that were judged with each of the faults; without a run, none."""
         if not self.runs:
             return 0
-        broken = 0
-        for mask in self.known.minimal.values():
-            broken |= mask
-        return self.known.wanted & ~broken & ~self.unjudged
+        return self.known.wanted & ~union(self.known.minimal.values()) & ~self.unjudged
 
     @property
     def found(self) -> int:
@@ -137,6 +133,8 @@ class Search:
         # (which sets of one size are minimal depends only on the smaller ones)
         found: list[Outcome] = []
         for outcome in runner.outcomes(self.tasks(sets, tally, found), self.is_over):
+            if self.survey:
+                self.survey.compare(outcome, self.known.left(outcome.faults))
             self.kept.add(outcome)
             self.note(outcome, tally, found)
             self.breaking = len(found)
@@ -155,13 +153,11 @@ class Search:
         for it in sets:
             left = self.known.left(it)
             wanted = left & ~self.blind(it)
-            before = self.kept.outcome(it)
             if not left:
                 tally.decided += 1
             elif not wanted:
                 tally.unjudged += 1
-            elif before is not None:
-                self.resumed += 1
+            elif before := self.kept.outcome(it) or self.survey and self.survey.outcome(it, wanted):
                 self.note(before, tally, found)
             elif self.bounds.runs is not None and self.given >= self.bounds.runs:
                 self.ended_by = 'the limit of {:,} runs was reached'.format(self.bounds.runs)

@@ -6,15 +6,22 @@ expectation.
 """
 from __future__ import annotations
 
+import functools
 import itertools
+import operator
 import random
 from collections import Counter
-from collections.abc import Iterator, Sequence
+from collections.abc import Iterable, Iterator, Sequence
 from dataclasses import dataclass, field
 
 from motesim.search.faults import FaultyPart
 
 Set = tuple[int, ...]
+
+
+def union(masks: Iterable[int]) -> int:
+    """The expectations of which one of these numbers has the bit."""
+    return functools.reduce(operator.or_, masks, 0)
 
 
 @dataclass
@@ -75,11 +82,8 @@ class Known:
 
     def broken_within(self, found: Set) -> int:
         """The expectations that smaller sets in this one break."""
-        broken = 0
-        for size in range(len(found)):
-            for part in itertools.combinations(found, size):
-                broken |= self.minimal.get(part, 0)
-        return broken
+        return union(self.minimal.get(part, 0) for size in range(len(found))
+                     for part in itertools.combinations(found, size))
 
     def left(self, found: Set) -> int:
         """The expectations that smaller sets in a set don't decide for it."""

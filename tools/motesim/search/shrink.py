@@ -14,7 +14,7 @@ from motesim.faults import Fault
 from motesim.judge.judge import Broken, Judge
 from motesim.judge.sentences import Sentence, SentenceFault, names_of, read_sentence
 from motesim.report.lazy import LazyReport
-from motesim.runner.programs import ProgramFault
+from motesim.runner import ProgramFault, Runner
 from motesim.scenario.fields import Field
 from motesim.scenario.scenario import Scenario
 from motesim.search.change import Base, Change
@@ -22,7 +22,6 @@ from motesim.search.faults import MOTES_OF, Effect, put_into
 from motesim.search.following import follow, names_motes_in_quotes
 from motesim.search.halting import is_only_about_halts, without_halts
 from motesim.search.net import PARTS, Net, NetStep, loss_steps, mote_steps, net_of, number_steps, program_steps
-from motesim.search.one_program import OneProgram
 from motesim.why.cause import NO_CAUSE, Cause, cause_of
 from motesim.why.source import Source
 
@@ -105,7 +104,7 @@ class Seen(NamedTuple):
 @dataclass
 class Shrinking:
     """A case on its way to a smaller one, with its steps so far and the number of runs."""
-    program: OneProgram
+    program: Runner
     case: Case
     is_over: Callable[[], bool] = lambda: False
     taken: list[str] = field(default_factory=list)
@@ -138,7 +137,7 @@ class Shrinking:
         """The report of a text, or None if there is no report, or if it is too long."""
         self.runs += 1
         try:
-            answer = self.program.run(text.encode())
+            answer = self.program.answer(text.encode())
         except ProgramFault:
             return None
         self.last = max(self.last, len(answer.report))

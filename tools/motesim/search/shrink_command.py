@@ -6,42 +6,33 @@ import sys
 import time
 from functools import partial
 from pathlib import Path
-from types import FrameType
 
 from motesim.runner.interrupt import Break
 from motesim.faults import INTERRUPTED, Fault
 from motesim.files import refuse_inputs
 from motesim.judge.expectations import beside, fields_beside, parts_of, read_all, text_of
-from motesim.judge.judge import broken_of
 from motesim.judge.sentences import names_of
-from motesim.runner.programs import ProgramFault, program_path
+from motesim.runner import Runner, program_path
 from motesim.scenario.scenario import Scenario
 from motesim.search.change import Base
 from motesim.search.faults import effect_of
 from motesim.search.found import toml_text, write_whole
 from motesim.search.net import PARTS, Net, net_of
-from motesim.search.one_program import LIMITS, OneProgram
+from motesim.search.prepare import plain_run
 from motesim.search.progress import ProgressOfSearch
 from motesim.search.say import counted
 from motesim.search.shrink import Case, Shrinking, case_of, parts_and_sentences
 from motesim.search.smaller import statements_in
+from motesim.search.work import LIMITS
 
 OTHER_CAUSE = 'Another cause now: --fault, or --keep with an expectation or parts of the scenario, may prevent it'
 STOPPED = 'it was stopped before the first step, so no file is written'
 
 
-def first_broken(base: Base, path: Path, program: OneProgram) -> str:
+def first_broken(base: Base, path: Path, program: Runner) -> str:
     """The first sentence of a file of expectations that a scenario breaks."""
     texts = parts_of(text_of(path), str(path))[0].sentences
-    sentences = read_all(texts, names_of(base.scenario_itself))
-    try:
-        answer = program.run(base.source.encode())
-        why = answer.why
-    except ProgramFault as fault:
-        why = str(fault)
-    if why:
-        raise Fault('%s has no report: %s' % (base.name, why))
-    broken = broken_of(sentences, answer.report, base.scenario_itself, range(len(sentences)))
+    broken = plain_run(base, program, read_all(texts, names_of(base.scenario_itself))).broken
     if broken:
         return texts[broken[0]]
     raise Fault('%s breaks no expectation of %s' % (base.name, path))
@@ -99,22 +90,10 @@ def limit_in_words(seconds: float | None, runs: int | None) -> str:
     return 'at most %s' % ' and '.join(limits) if limits else 'no limit: --most-runs sets one'
 
 
-class BreakOfRun(Break):
-    """Handles Ctrl-C as `Break` does, and also ends the present run."""
-
-    def __init__(self, program: OneProgram) -> None:
-        super().__init__()
-        self.program = program
-
-    def ask(self, number: int, frame: FrameType | None) -> None:
-        super().ask(number, frame)
-        self.program.stop()
-
-
 class Work:
     """The work of tools/shrink, within its limits."""
 
-    def __init__(self, asked: argparse.Namespace, program: OneProgram, stop: Break) -> None:
+    def __init__(self, asked: argparse.Namespace, program: Runner, stop: Break) -> None:
         self.asked, self.program, self.stop = asked, program, stop
         self.path = Path(asked.scenario)
         self.output = Path(asked.output or self.path.name.removesuffix('.toml') + '.small.toml')
@@ -195,8 +174,8 @@ def differing(shrinking: Shrinking) -> list[str]:
 
 def status_of(asked: argparse.Namespace) -> int:
     """The work of tools/shrink; returns the status."""
-    program = OneProgram(str(program_path().resolve()), LIMITS._replace(seconds=asked.seconds))
-    with BreakOfRun(program) as stop:
+    with Break() as stop:
+        program = Runner(program_path(), LIMITS._replace(seconds=asked.seconds), lambda: stop.is_asked)
         try:
             return Work(asked, program, stop).status()
         except Fault:

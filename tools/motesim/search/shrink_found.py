@@ -6,9 +6,9 @@ from functools import partial
 from pathlib import Path
 
 from motesim.runner.interrupt import Break
+from motesim.runner import Runner
 from motesim.search.asking import Asking
 from motesim.search.found import Found
-from motesim.search.one_program import OneProgram
 from motesim.search.progress import ProgressOfSearch
 from motesim.search.say import counted
 from motesim.search.search import Search
@@ -56,7 +56,7 @@ def shrink_each(asking: Asking, search: Search, found: list[Found], folder: Path
     """Makes a counter-example of each expectation as small as possible: without the faults the expectation holds, but
     with them it doesn't. It is the smallest one, the worst of several, and one that cuts nobody off if there is one.
     Returns whether the user ended this."""
-    program = OneProgram(str(asking.path), asking.limits)
+    program = Runner(asking.path, asking.limits)
     warnings = sys.stderr if is_quiet else sys.stdout
     with Break() as stop:
         allowance = Allowance(search, stop)
@@ -81,7 +81,6 @@ def shrink_each(asking: Asking, search: Search, found: list[Found], folder: Path
                 show(shrinking, path, chosen(first, sets), Path(asking.base.name).name)
             if why:
                 print('  STOPPED: more steps may be possible (%s)' % why, file=warnings)
-        program.close()
         return stop.is_asked
 
 

@@ -1,24 +1,25 @@
 """One run with a set of faults: makes the text, runs `motesim` on it, and judges the sentences."""
 from __future__ import annotations
 
-from collections.abc import Mapping
+from collections.abc import Mapping, Sequence
+from pathlib import Path
 from typing import NamedTuple
 
-from motesim.runner import Answer, Limits
-from motesim.runner.programs import ProgramFault
+from motesim.runner import Limits, ProgramFault, Runner
 from motesim.scenario.scenario import Scenario
 from motesim.search.change import NOT_SO, Base, CannotChange, Change
 from motesim.search.added import NoRoom
 from motesim.search.faults import FaultyPart, change_of
 from motesim.search.halting import without_halts
-from motesim.search.one_program import OneProgram
-from motesim.search.sets import Set
+from motesim.search.sets import Set, union
 from motesim.search.single_packets import loses_more
 from motesim.judge.judge import Judge, broken_of
 from motesim.judge.sentences import Sentence
 from motesim.judge.shortfall import Shortfall, shortfall_of
 from motesim.report.lazy import LazyReport
 
+# The usual limits of a run.
+LIMITS = Limits(10.0, 1 << 30, 16_000_000)
 RUN, SAME, STOPPED, UNMADE, MORE = 'run', 'same', 'stopped', 'unmade', 'more'
 
 
@@ -58,40 +59,30 @@ def mask_of(numbers: list[int]) -> int:
     return sum(1 << number for number in numbers)
 
 
+def is_same(faults: Sequence[FaultyPart], base: Base, found: Set) -> bool:
+    """Returns whether a smaller set makes the same scenario."""
+    sets = [[faults[number] for number in found if number != left] for left in (None, *found)]
+    return len(found) > 1 and change_of(sets[0], base) in [change_of(it, base) for it in sets[1:]]
+
+
 class Bench:
     """The objects that a run needs; they are kept from one run to the next."""
 
     def __init__(self, work: Work):
         self.base, self.faults, self.halting = work.base, work.faults, work.halting
         self.sentences = work.sentences
-        self.program = OneProgram(work.program, work.limits)
-
-    def change(self, found: Set) -> Change:
-        return change_of([self.faults[number] for number in found], self.base)
-
-    def is_same(self, found: Set, change: Change) -> bool:
-        """Returns whether a smaller set makes the same scenario."""
-        return len(found) > 1 and any(self.change(found[:at] + found[at + 1:]) == change for at in range(len(found)))
-
-    def text(self, found: Set) -> str:
-        """The scenario with these faults. For a single fault the text is read back, to check that it has exactly this
-        fault."""
-        change = self.change(found)
-        text = self.base.text(change)
-        if len(found) == 1:
-            check_text(text, change, self.base)
-        return text
-
-    def answer(self, found: Set) -> Answer:
-        return self.program.run(self.text(found).encode())
+        self.program = Runner(Path(work.program), work.limits)
 
     def run(self, task: Task) -> Outcome:
         found = task.faults
         try:
-            change = self.change(found)
-            if self.is_same(found, change):
+            if is_same(self.faults, self.base, found):
                 return Outcome(found, SAME)
-            answer = self.answer(found)
+            change = change_of([self.faults[number] for number in found], self.base)
+            text = self.base.text(change)
+            if len(found) == 1:
+                check_text(text, change, self.base)
+            answer = self.program.answer(text.encode())
         except (CannotChange, NoRoom) as fault:
             return Outcome(found, UNMADE, 0, str(fault))
         except ProgramFault as fault:
@@ -113,9 +104,7 @@ class Bench:
         """The expectations that a report breaks. Those about halts are judged for the motes that the faults don't
         halt."""
         halting = [number for number in task.faults if self.halting.get(number)]
-        apart = 0
-        for number in halting:
-            apart |= self.halting[number] & task.wanted
+        apart = union(self.halting[number] for number in halting) & task.wanted
         scenario = self.base.scenario(change)
         found = broken_of(self.sentences, report, scenario, numbers_of(task.wanted & ~apart))
         if apart:
