@@ -3,8 +3,9 @@ import assert from 'node:assert/strict';
 import {test} from 'node:test';
 import {lineAndColumn, offsetOf} from '../../motesim/studio/page/text.js';
 import {PRINT, SEND} from '../../motesim/timeline/page/data.js';
-import {count, headInWords} from '../../motesim/timeline/page/words.js';
-import {effectInWords} from '../../motesim/web/page/effect.js';
+import {headInWords} from '../../motesim/timeline/page/heads.js';
+import {count} from '../../motesim/timeline/page/words.js';
+import {effectInWords} from '../../motesim/web/page/diff.js';
 
 const TEXT = 'one\ntwo one\n\none';
 

@@ -3,7 +3,7 @@
 import {lowerBound} from '../../timeline/page/data.js';
 import {chooseLine, chooseMote} from '../../timeline/page/details.js';
 import {redraw} from '../../timeline/page/draw.js';
-import {colours, fill, path, setFont, stroke, write} from '../../timeline/page/forms.js';
+import {box, colours, fill, path, setFont, stroke, write} from '../../timeline/page/forms.js';
 import {AXIS} from '../../timeline/page/layout.js';
 import {setNow} from '../../timeline/page/play.js';
 import {page} from '../../timeline/page/stage.js';
@@ -24,17 +24,16 @@ export function goToDifference() {
 }
 
 /** Draws a line at the first difference, a flag at its mote, and a stroke in each lane from its own one on. */
-function drawDifference(pane) {
+export function drawDifference(pane) {
   const {first, parts} = page.differs, c = pane.context;
   if (!first) return;
   c.save();
   for (const [mote, at] of parts) {
     if (mote >= pane.order.length || !pane.sees(mote)) continue;
     const x = Math.max(pane.gutter, pane.x(at)), y = pane.laneTop(mote) + pane.lane - Math.min(2.5, pane.lane * 0.3);
-    c.globalAlpha = 0.75;
-    c.fillStyle = colours.mark;
     const right = Math.min(pane.width, pane.x(pane.run.end + 1));
-    if (x < right) c.fillRect(x, y, right - x, Math.min(1.5, pane.lane * 0.2));
+    c.globalAlpha = 0.75;
+    if (x < right) box(c, 'mark', x, y, right - x, Math.min(1.5, pane.lane * 0.2));
   }
   c.globalAlpha = 1;
   const x = pane.x(first.at);
@@ -60,6 +59,3 @@ function drawFlag(pane, x, first) {
   fill(c, colours.mark);
   write(c, words, left + 6, y, 'paper');
 }
-
-/** Draws differences from now on. */
-export function beginFlag() { page.overlays.push(drawDifference); }

@@ -80,7 +80,10 @@ function tell(pane, show) {
   if (page.panes.length > 1) box.append(element('p', `In ${run.name}:`));
   if (k >= 0) tellPacket(box, pane);
   if (line >= 0 && [POST, TAKE, DROP].includes(run.kind[line])) tellEvent(box, pane);
-  if (line >= 0) for (const offer of page.offers) offer(box, pane);
+  if (line >= 0) {
+    box.append(element('p', '', [Object.assign(makeButton('Why is this line here?', () => page.askWhy(pane, line)),
+      {id: 'ask-why', title: 'The chain of its causes (W)'})]));
+  }
   if (line >= 0) tellTurn(box, pane); else if (k < 0) tellMote(box, pane);
   speak(pane);
   redraw();

@@ -4,7 +4,7 @@ import {box, colours, setFont, write} from './forms.js';
 import {AXIS, HEAD} from './layout.js';
 import {page} from './stage.js';
 import {niceStep} from './time.js';
-import {count, headInWords} from './words.js';
+import {count} from './words.js';
 
 /** Draws a head: the sends and silences of its motes in each bin of moments. */
 function drawHead(pane, g, most, bin) {
@@ -54,4 +54,9 @@ export function drawHeads(pane) {
   for (const group of run.groups) sumsOf(pane, group, bin,
     (j, sent, quiet) => { most = Math.max(most, sent + quiet); });
   for (let g = 0; g < run.groups.length; g++) drawHead(pane, g, most, bin);
+}
+
+/** The head of an island, `1 packet sent, 2 silences`; without silences if no island of the run has one. */
+export function headInWords(sent, silences, anySilent) {
+  return `${count(sent, 'packet')} sent` + (anySilent ? `, ${count(silences, 'silence')}` : '');
 }

@@ -15,7 +15,7 @@ import {page} from './stage.js';
 import {showTab} from './tabs.js';
 import {isWhole, keepTime, leastScale, zoomTime} from './time.js';
 import {offerTips} from './tip.js';
-import {askWhy, closeWhy, drawChain, drawChainOnMap, offerWhy} from './why.js';
+import {askWhy, closeWhy, drawChain, drawChainOnMap} from './why.js';
 import {count} from './words.js';
 
 /** Fits panes and maps to the window. */
@@ -165,8 +165,7 @@ export function refit() {
 export function listen() {
   page.overlays.push(drawChain);
   page.mapOverlays.push(drawChainOnMap);
-  page.offers.push(offerWhy);
-  Object.assign(page, {redraw, redrawLanes, drawAll, find, act, setNow, count});
+  Object.assign(page, {redraw, redrawLanes, drawAll, find, act, setNow, count, askWhy});
   document.addEventListener('keydown', onKey);
   for (const button of /** @type {NodeListOf<HTMLElement>} */ (document.querySelectorAll('[data-do]')))
     button.addEventListener('click', () => act(button.dataset.do));

@@ -41,17 +41,17 @@ export const page = {
    * rings in each pane. */
   logged: {run: /** @type {any} */ (null), places: new Uint32Array(0), first: 0, times: -1,
     rings: /** @type {any[]} */ ([])},
-  /** Functions of other modules: they draw over the lanes of a pane, or over a map; follow the moment and the
-   * selection; or add lines below a selected line, in a box. */
+  /** Functions of other modules: they draw over the lanes of a pane, or over a map; or follow the moment and the
+   * selection. */
   overlays: /** @type {((pane: any) => void)[]} */ ([]),
   mapOverlays: /** @type {((map: any) => void)[]} */ ([]),
   followers: /** @type {((pane: any) => void)[]} */ ([]),
-  offers: /** @type {((box: any, pane: any) => void)[]} */ ([]),
-  /** What pages do in ways of their own: going to a line of the programs' file, a change of the text, and finding a
-   * chain of causes. */
+  /** What pages do in ways of their own: going to a line of the programs' file, a change of the text, finding a chain
+   * of causes, and showing it. */
   goToLine: /** @type {((line: number) => void)|null} */ (null),
   edit: /** @type {(wish: any) => any} */ (() => {}),
   chainOf: /** @type {(run: any, line: number) => any} */ (() => null),
+  askWhy: /** @type {(pane: any, line: number) => any} */ (() => null),
 
   /** Functions that are called when the results that are shown become those of an earlier text; when the results of
    * a run are there; when a document was opened; and when its text is kept. */

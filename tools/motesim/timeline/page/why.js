@@ -52,14 +52,6 @@ export function closeWhy() {
   redraw();
 }
 
-/** Adds the button below a line that is selected. */
-export function offerWhy(box, pane) {
-  const made = makeButton('Why is this line here?', () => askWhy(pane, page.chosen.line));
-  made.id = 'ask-why';
-  made.title = 'The chain of its causes (W)';
-  box.append(element('p', '', [made]));
-}
-
 /** Draws the chain on the lanes: a band from the start to the line, and a ring around each of its lines. */
 export function drawChain(pane) {
   if (page.why.pane !== pane || page.why.run !== pane.run) return;

@@ -1,9 +1,12 @@
 // @ts-check
-// The differences between two runs: the first of all, and the moment of the first one in each lane.
-import {DROP, FULL, POST, SEND, TAKE} from '../../timeline/page/data.js';
+// The differences between two runs: the first of all, the moment of the first one in each lane, and their effect in a
+// sentence.
+import {COLLIDE, DROP, FULL, HALT, POST, PRINT, SEND, TAKE} from '../../timeline/page/data.js';
+import {count} from '../../timeline/page/words.js';
 
 /** The number of the log of the medium, which is used like the number of a mote. */
 const MEDIUM = -1;
+const NOUNS = {[SEND]: 'packet', [PRINT]: 'print', [COLLIDE]: 'collided copy', [HALT]: 'halted mote'};
 
 /** A difference: the moment, the mote (or MEDIUM), and the place in the mote's trace or in the log.
  * @typedef {{at: number, mote: number, place: number}} Difference */
@@ -77,4 +80,34 @@ function senderOf(a, b, place) {
   found.sort((one, other) => one.packetAt[place] - other.packetAt[place] ||
     one.packetSender[place] - other.packetSender[place] || one.packetNumber[place] - other.packetNumber[place]);
   return found[0].packetSender[place];
+}
+
+/** @param {any} run */
+function countsOf(run) {
+  const kinds = new Array(HALT + 1).fill(0);
+  for (const kind of run.kind) kinds[kind]++;
+  return kinds;
+}
+
+/** The first number that differs between two runs, in words; otherwise that their lines do.
+ * @param {any} run @param {any} before */
+function numbersInWords(run, before) {
+  const ours = countsOf(run), others = countsOf(before);
+  for (const kind of [SEND, COLLIDE, PRINT, HALT]) {
+    if (ours[kind] !== others[kind]) {
+      return `${count(ours[kind], NOUNS[kind])} instead of ${others[kind].toLocaleString('en')}.`;
+    }
+  }
+  return run.rows === before.rows ? 'As many packets and prints as before.' :
+    `A report of ${count(run.rows, 'line')} instead of ${before.rows.toLocaleString('en')}.`;
+}
+
+/** How a run differs from the one before the change.
+ * @param {any} run @param {any} before @param {any} found their difference */
+export function effectInWords(run, before, found) {
+  if (found.same) return 'This change has no effect: the report is the same.';
+  if (!found.first) return 'The motes run other programs, and write the same lines.';
+  const {at, mote, inMedium} = found.first;
+  const where = inMedium ? 'in the packets' : `at mote ${mote}`;
+  return `${numbersInWords(run, before)} First different at moment ${at}, ${where}.`;
 }

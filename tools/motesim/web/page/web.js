@@ -1,7 +1,7 @@
 // @ts-check
 // The page on which a scenario is written: it runs while it is changed, with its map, its lanes, and the effect of each
 // change in a sentence. A backend runs the texts.
-import {beginFlag, goToDifference} from '../../studio/page/flag.js';
+import {drawDifference, goToDifference} from '../../studio/page/flag.js';
 import {beginMotes, renewMotes} from '../../studio/page/motes.js';
 import {applied, offsetOf} from '../../studio/page/text.js';
 import {beginDrawer, showSums} from '../../timeline/page/drawer.js';
@@ -14,8 +14,7 @@ import {setNow, startPlaying, stopPlaying} from '../../timeline/page/play.js';
 import {page, Refused} from '../../timeline/page/stage.js';
 import {beginTabs} from '../../timeline/page/tabs.js';
 import {count} from '../../timeline/page/words.js';
-import {difference} from './diff.js';
-import {effectInWords} from './effect.js';
+import {difference, effectInWords} from './diff.js';
 import {beginGallery, firstSentence} from './gallery.js';
 import {beginFiles, showSharing} from './keeping.js';
 import {Pad} from './pad.js';
@@ -297,7 +296,7 @@ export function begin(backend, {cards, texts, words}) {
   page.goToLine = line => goTo(line - 1, 0, (web.history.text.split('\n')[line - 1] || '').length);
   web.pad = new Pad(text => change(text, 'typed'), words);
   beginButtons();
-  beginFlag();
+  page.overlays.push(drawDifference);
   beginMotes(() => web.history.text, changes => change(applied(web.history.text, changes), 'edit'),
     words => say(words, 'bad'));
   beginGallery(examples, openExample);
