@@ -375,7 +375,7 @@ class Causes(InStudio):
         self.waits('why', 'Critical path: 46 moments: 40 waiting for timers; 6 on the way, over 2 hops.')
         self.waits('why', 'line 22 (flooding.toml:35): `print newest`, in line 20 (flooding.toml:33): `if ')
         self.wait('m.chosen.mote === 6 && '
-                  'document.querySelector(".statement-line").textContent.includes("print newest")')
+                  'document.querySelector(".statement-line")?.textContent.includes("print newest")')
         self.value('document.querySelector("#why-chain .place").click()')
         self.assertEqual(self.value('(it => it.value.slice(it.selectionStart, it.selectionEnd).trim())(by("text"))'),
                          'print newest;')

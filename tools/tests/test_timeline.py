@@ -305,6 +305,9 @@ class Pages(InBrowser):
         self.assertEqual(self.value('m.panes[0].x(7) - m.panes[1].x(7)'), 0)
         self.assertEqual(self.value('m.play.now'), 10)
         self.assertEqual(self.selected(), '10 recv 0 2 30')
+        # (the log is that of the first run, whatever is selected in the other)
+        self.value('(m.panes[1].canvas.focus(), m.act("next"), m.setNow(8), m.act("found"))')
+        self.assertEqual(self.value('[m.chosen.pane === pane, run.at[m.chosen.line]]'), [True, 8])
 
     def test_an_address_says_what_is_shown(self) -> None:
         self.open(small_network(), fragment='#from=4&to=12&line=22')

@@ -57,7 +57,7 @@ export class Tint {
   rowOf(row, pieces) {
     const isFault = this.place && this.place[0] === row;
     return element('div', pieces.length ? '' : '\n', [...this.marksOf(row), ...pieces.map(([text, colour]) =>
-      colour ? element('span', text, [], {className: `cm-${colour}`}) : text)],
+      colour ? element('span', text, [], {className: `token-${colour}`}) : text)],
     {className: isFault ? 'fault-line' : row === this.row ? 'statement-line' : ''});
   }
 

@@ -34,9 +34,12 @@ function countsOf(run, lines) {
     KINDS.map((kind, k) => kinds[k] ? `${kind} ${kinds[k].toLocaleString('en')}` : '').filter(Boolean).join(', ');
 }
 
+/** The selected line, if it is one of the first pane; or -1. */
+const lineHere = () => page.chosen.pane === page.panes[0] ? page.chosen.line : -1;
+
 /** The place in the log of the selected line, or of the first one at the moment that is shown or later. */
 function placeNow({places, run}) {
-  const {order, rank} = orderOf(run), {line} = page.chosen;
+  const {order, rank} = orderOf(run), line = lineHere();
   if (line >= 0) return lowerBound(places, rank[line]);
   const found = places.findIndex(place => run.at[order[place]] >= Math.floor(page.play.now));
   return found < 0 ? places.length : found;
@@ -44,8 +47,8 @@ function placeNow({places, run}) {
 
 /** Lists the lines around the selection, and marks it. */
 function list(run, order) {
-  const {logged, chosen} = page, {places} = logged, now = placeNow(logged), box = byId('log-lines');
-  logged.times = chosen.times;
+  const {logged} = page, {places} = logged, now = placeNow(logged), box = byId('log-lines');
+  logged.times = page.chosen.times;
   if (now < logged.first || now >= logged.first + MOST_LISTED) {
     logged.first = Math.max(0, Math.min(now - MOST_LISTED / 2, places.length - MOST_LISTED));
     const lines = Array.from(places.subarray(logged.first, logged.first + MOST_LISTED), place => order[place]);
@@ -55,7 +58,7 @@ function list(run, order) {
   for (const it of box.querySelectorAll('[aria-current]')) it.removeAttribute('aria-current');
   const item = box.children[Math.min(now - logged.first, box.children.length - 1)];
   if (!item) return;
-  if (order[places[now]] === chosen.line) item.firstChild.setAttribute('aria-current', 'true');
+  if (order[places[now]] === lineHere()) item.firstChild.setAttribute('aria-current', 'true');
   const panel = byId('log').getBoundingClientRect(), {top, bottom} = item.getBoundingClientRect();
   if (top < panel.top || bottom > panel.bottom) byId('log').scrollTop += top - (panel.top + panel.bottom) / 2;
 }
@@ -63,10 +66,10 @@ function list(run, order) {
 /** Selects the next line of the log, or the one before.
  * @param {number} by */
 export function walkLog(by) {
-  const [{run}] = page.panes, {logged, chosen} = page;
+  const [{run}] = page.panes, {logged} = page;
   if (logged.run !== run) search();
-  const {places} = logged, {order, rank} = orderOf(run), now = placeNow(logged);
-  const isThere = chosen.line >= 0 && places[now] === rank[chosen.line], next = by > 0 && !isThere ? now : now + by;
+  const {places} = logged, {order} = orderOf(run), now = placeNow(logged);
+  const next = by > 0 && order[places[now]] !== lineHere() ? now : now + by;
   if (places.length) chooseLine(page.panes[0], order[places[(next + places.length) % places.length]], true);
 }
 

@@ -16,7 +16,6 @@ export class Pad {
     this.before = this.behind = '';
     this.tint = new Tint(this.area, byId('tint'), words);
     this.place = /** @type {number[]|null} */ (null);
-    this.area.classList.add('tinted');
     this.area.addEventListener('input', () => {
       this.renew();
       changed(this.before + this.area.value + this.behind);
