@@ -2,6 +2,7 @@
 http, by mouse and by keyboard, in windows of several sizes."""
 from __future__ import annotations
 
+import base64
 import functools
 import hashlib
 import http.server
@@ -12,6 +13,7 @@ import runpy
 import threading
 import time
 import unittest
+import zlib
 from pathlib import Path
 from typing import Any
 
@@ -30,6 +32,13 @@ def grid(side: int) -> str:
     motes = ''.join('[[mote]]\nx = %d\ny = %d\nprogram = "flood"\n' % (10 * x, 10 * y)
                     for y in range(side) for x in range(side))
     return FLOODING[:FLOODING.index('[[mote]]')].replace('end = 160', 'end = 300') + motes
+
+
+def fragment(text: str) -> str:
+    """The end of a link that carries a text."""
+    packing = zlib.compressobj(wbits=-15)
+    packed = packing.compress(text.encode()) + packing.flush()
+    return '#t=1.' + base64.urlsafe_b64encode(packed).decode().rstrip('=')
 
 
 def luminance(colour: str) -> float:
@@ -377,7 +386,10 @@ class Page(InBrowser):
         self.assertEqual(self.value('text'), text)
         self.wait('!by("fault").hidden && by("about").textContent === "No run yet"')
         self.assertIsNone(self.browser.run('window.wrong'))
-        for broken in '#t=1.broken', '#t=1.', '#t=2.' + link.partition('#t=1.')[2]:
+        self.browser.open(self.page, fragment(FLOODING) + '&from=4')
+        self.assertEqual(self.value('text'), FLOODING)
+        whole, too_long = fragment(text), fragment('#' * 1_048_577)
+        for broken in '#t=1.broken', '#t=1.', '#t=2.' + whole[5:], whole[:-9], too_long:
             self.browser.open(self.page, broken)
             self.wait('by("said").textContent.includes("link is broken")')
         self.browser.run('localStorage.clear()')

@@ -7,7 +7,6 @@ import {chainOf} from '../../motesim/timeline/page/causes.js';
 import {difference} from '../../motesim/web/page/diff.js';
 import {columnsOf, lastMoment} from '../../motesim/web/page/report.js';
 import {scenarioOf} from '../../motesim/web/page/scenario.js';
-import {packed, unpackedText} from '../../motesim/web/page/share.js';
 import {sums} from '../../motesim/timeline/page/sums.js';
 import {readToml} from '../../motesim/web/page/toml.js';
 import {given, sameFates} from './data.js';
@@ -65,11 +64,4 @@ test('a chain of causes ends at the timer that began the wave', async () => {
   const last = hops[hops.length - 1];
   assert.deepEqual([last.mote, last.at, last.because], [0, 40, 'a timer had come to its end']);
   assert.equal(hops.filter(hop => hop.wait === 'medium').length, 8);
-});
-
-test('a text comes back from its link, and nothing too long or broken does', async () => {
-  for (const {text} of given.alone.texts) assert.equal(await unpackedText(`#${await packed(text)}&line=3`), text);
-  assert.equal(await unpackedText('#from=4'), null);
-  await assert.rejects(unpackedText('#t=1.AAAA'));
-  await assert.rejects(unpackedText(`#${await packed('x'.repeat((1 << 20) + 1))}`), /too long/);
 });
