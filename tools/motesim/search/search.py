@@ -159,6 +159,8 @@ class Search:
                 tally.unjudged += 1
             elif before := self.kept.outcome(it) or self.survey and self.survey.outcome(it, wanted):
                 self.note(before, tally, found)
+                if self.is_over():
+                    return
             elif self.bounds.runs is not None and self.given >= self.bounds.runs:
                 self.ended_by = 'the limit of {:,} runs was reached'.format(self.bounds.runs)
                 return

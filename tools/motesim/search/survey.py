@@ -56,8 +56,8 @@ class Survey:
 
     def is_for(self, found: Set) -> bool:
         """Returns whether the sentences have the same claims with a set of faults."""
-        change = change_of([self.faults[number] for number in found], self.base)
-        return not self.values or self.own == self.meant(self.base.scenario(change))
+        return not self.values or self.own == self.meant(
+            self.base.scenario(change_of([self.faults[number] for number in found], self.base)))
 
     @cached_property
     def own(self) -> list[object]:
