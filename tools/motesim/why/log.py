@@ -54,11 +54,11 @@ class Filter(NamedTuple):
 
 def rows_of(data: bytes, report: Report, lines: Sequence[int]) -> Iterator[Row]:
     """Lines of a report, whose text is `data`, by their indices."""
-    texts = re.sub('(?m)^[0-9]+ ', '', data.decode('ascii')).split('\n')
+    texts = data.decode('ascii').split('\n')
     motes = list(map(report.trace.mote.__getitem__, lines))
     # (a line has the heads of its own mote and of all earlier ones before it)
     rows = [line + mote + 2 for line, mote in zip(lines, motes)]
-    return zip(map(report.trace.at.__getitem__, lines), motes, rows, (texts[it - 1] for it in rows))
+    return zip(map(report.trace.at.__getitem__, lines), motes, rows, (texts[it - 1].partition(' ')[2] for it in rows))
 
 
 def of_sentence(source: Source, sentence: str, it: Filter) -> list[int]:
