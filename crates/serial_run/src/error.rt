@@ -19,8 +19,8 @@ pub enum RunError {
     /// Out of memory: an allocation failed.
     Memory = 4,
     /// A thread couldn't be started, the gate refused a start, or the executor in a thread returned an error. With
-    /// null messages, also a copy that a worker may not get yet: by a law the protocol sends none, but no contract of
-    /// a single thread can exclude it.
+    /// null messages, also a copy that a worker may not get yet: the protocol sends none, but no contract of a single
+    /// thread can exclude it.
     Thread = 5,
     /// Never returned: a worker stops only after another worker failed, and then the other's error is reported.
     Stopped = 6,
