@@ -264,6 +264,11 @@ class Files(unittest.TestCase):
             self.assertEqual((out, code), ('', 2))
             self.assertIn('Disagreement: `no mote halts` holds for motecheck, but not for the judge', err)
 
+    def test_a_motecheck_that_is_not_there_is_told(self) -> None:
+        with mock.patch.dict(os.environ, MOTECHECK='none'):
+            err = self.said('expect = ["mote 0 sends twice"]')[1]
+        self.assertIn('there is no program none (the environment variable MOTECHECK names it)', err)
+
     def test_all_hold(self) -> None:
         said = self.said('expect = ["mote 0 sends twice"]', str(self.expected))
         self.assertEqual(said, ('holds   mote 0 sends twice\n1 passed, 0 failed\n', '', 0))

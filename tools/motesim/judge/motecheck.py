@@ -12,11 +12,12 @@ import re
 from collections.abc import Callable, Sequence
 from pathlib import Path
 
+from motesim.faults import Fault
 from motesim.judge.claims import Claims, NoClaim
 from motesim.judge.judge import Broken, Judge
 from motesim.judge.sentences import Sentence
 from motesim.runner import Limits, ProgramFault, Runner, program_path
-from motesim.runner.programs import TOP, is_newer_than_sources, is_proved
+from motesim.runner.programs import TOP, is_newer_than_sources, is_program, is_proved
 
 BUILT = TOP / 'crates/motecheck/out/motecheck'
 ALL_HOLD, ONE_IS_BROKEN = 0, 3
@@ -31,6 +32,8 @@ def checker() -> Path | None:
     """The program that the environment variable MOTECHECK names, or the built one of these sources. It is None if there
     is none, or if the tools run another `motesim` than the proved one of these sources."""
     named = os.environ.get('MOTECHECK')
+    if named and not is_program(Path(named)):
+        raise Fault('there is no program %s (the environment variable MOTECHECK names it)' % named)
     if named is not None:
         return Path(named) if named else None
     return BUILT if _is_built() and is_proved(program_path()) else None

@@ -73,8 +73,8 @@ class Going:
 
     def started(self, code: str, words: list[str]) -> subprocess.Popen[bytes]:
         here = {**os.environ, 'PYTHONPATH': str(TOOLS), 'PYTHONDONTWRITEBYTECODE': '1'}
-        if 'MOTESIM' in here:
-            here['MOTESIM'] = str(Path(here['MOTESIM']).resolve())
+        for name in filter(here.get, ('MOTESIM', 'MOTECHECK')):
+            here[name] = str(Path(here[name]).resolve())
         return subprocess.Popen([sys.executable, '-c', code, *words], cwd=self.folder, env=here,
                                 stdin=subprocess.DEVNULL, stdout=subprocess.DEVNULL, stderr=subprocess.PIPE,
                                 start_new_session=True)
