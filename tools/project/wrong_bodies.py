@@ -43,8 +43,8 @@ def words() -> argparse.Namespace:
     asked.add_argument('--changed', action='store_true',
                        help='leave out mutants that were refused, or left open, with exactly the same texts')
     asked.add_argument('--gate', action='store_true',
-                       help="try the gate's choice: a tenth of all mutants that aren't known to be open, first those in "
-                            "%s that have changed" % GATE)
+                       help="try the gate's choice: a twentieth of all mutants that aren't known to be open, first "
+                            "those in %s that have changed" % GATE)
     asked.add_argument('names', nargs='*', metavar='CRATE or CRATE/NAME', help='crates, or mutants (all)')
     return asked.parse_args()
 
@@ -76,11 +76,11 @@ def without_open(edits: Sequence[Edit]) -> list[Edit]:
 
 
 def of_gate(edits: Sequence[Edit]) -> list[Edit]:
-    """The mutants that the gate tries: a tenth, first those of the gate that have changed."""
+    """The mutants that the gate tries: a twentieth, first those of the gate that have changed."""
     decided, seed = without_open(edits), commit()
     new = log.changed(it for it in edits if it.file.parent.name == GATE)
     order = in_order(new, seed) + in_order([it for it in decided if it not in new], seed)
-    chosen = order[:math.ceil(len(decided) / 10)]
+    chosen = order[:math.ceil(len(decided) / 20)]
     print('%d of %d in %s that have changed, and %d others, chosen by the commit %s; known to be open, and not tried: %d' % (
         len([it for it in chosen if it in new]), len(new), GATE, len([it for it in chosen if it not in new]), seed[:8],
         len(edits) - len(decided)), flush=True)

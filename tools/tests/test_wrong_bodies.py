@@ -506,22 +506,22 @@ class Choice(unittest.TestCase):
                 mock.patch.object(wrong_bodies, 'commit', lambda: seed), mock.patch('builtins.print'):
             return wrong_bodies.of_gate(self.EVERY)
 
-    def test_a_tenth_is_chosen_by_the_commit(self) -> None:
+    def test_a_share_is_chosen_by_the_commit(self) -> None:
         found = self.of_gate('one')
-        self.assertEqual(len(found), 12)
+        self.assertEqual(len(found), 6)
         self.assertEqual(found, self.of_gate('one'))
         self.assertNotEqual(found, self.of_gate('two'))
 
-    def test_a_tenth_has_few_crates(self) -> None:
+    def test_a_share_has_few_crates(self) -> None:
         for seed in 'one', 'two', 'three':
             self.assertEqual(len({it.crate.name for it in self.of_gate(seed)}), 1)
 
-    def test_a_tenth_begins_with_changed_mutants_of_the_gate(self) -> None:
+    def test_a_share_begins_with_changed_mutants_of_the_gate(self) -> None:
         gate = [replace(it, file=Path('gate-bodies', it.file)) for it in self.EVERY]
         with mock.patch.object(self, 'EVERY', gate):
             few, many = self.of_gate('one', *gate[::30]), self.of_gate('one', *gate[::3])
-        self.assertEqual((len(few), set(gate[::30]) - {*few}), (12, set()))
-        self.assertEqual((len(many), {*many} - {*gate[::3]}), (12, set()))
+        self.assertEqual((len(few), set(gate[::30]) - {*few}), (6, set()))
+        self.assertEqual((len(many), {*many} - {*gate[::3]}), (6, set()))
 
     def test_known_open_mutants_are_left_out(self) -> None:
         verdicts = [ANSWER, LIMIT, CONTRACT, ANSWER]
