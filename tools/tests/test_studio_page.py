@@ -174,14 +174,18 @@ class Page(InStudio):
         self.wait('m.panes.length === 1 && by("fault").hidden')
 
     def test_a_run_is_stopped_by_a_button_and_at_its_limit(self) -> None:
-        self.open(limits=LIMITS._replace(seconds=5))
+        # (on a busy machine, it takes seconds until the program that stands in has started)
+        self.open(limits=LIMITS._replace(seconds=100))
         self.put('# never_ends\n' + NET)
         self.wait('!by("stop").hidden')
         self.press('stop')
         self.said('You stopped the run.')
         self.assertTrue(self.value('by("stop").hidden'))
+        runs = self.server.session.runs
+        runs.limits = LIMITS._replace(seconds=2)
         self.put('# never_ends again\n' + NET)
-        self.said('stopped: no answer in 5 seconds. Start tools/studio with a larger --seconds')
+        self.said('stopped: no answer in 2 seconds. Start tools/studio with a larger --seconds')
+        runs.limits = LIMITS._replace(seconds=100)
         self.assertTrue(self.value('document.body.classList.contains("stale")'))
         self.put('# ends\n' + NET)
         self.wait('!document.body.classList.contains("stale")')

@@ -111,7 +111,7 @@ class Data(unittest.TestCase):
     def test_a_title_is_text_in_the_page(self) -> None:
         page = ''.join(page_of('<b> & @SCRIPT@', [Run('</script>', Report.parse(SILENT), None)]))
         self.assertIn('<h1>&lt;b&gt; &amp; @SCRIPT@</h1>', page)
-        self.assertEqual(page.count('</script>'), 5)
+        self.assertEqual(page.count('</script>'), 6)
         self.assertEqual(json.loads(re.findall('id="data" type="application/json">(.*)</script>', page)[0])['runs'][0]['name'],
             '</script>')
 

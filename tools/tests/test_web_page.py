@@ -229,6 +229,41 @@ class Page(InBrowser):
         self.press('remove')
         self.wait('run.begins.length === 25 && !text.includes("x = 40\\ny = 0\\n")')
 
+    def test_motes_and_links_are_changed_by_keyboard(self) -> None:
+        self.open()
+        self.press('play')
+        canvas = 'm.maps[0].canvas'
+        self.browser.click(*self.value('(box => [box.x + m.maps[0].x(24), box.y + m.maps[0].y(24)])('
+                                       '%s.getBoundingClientRect())' % canvas))
+        self.assertEqual(self.value('[m.chosen.mote, document.activeElement === %s]' % canvas), [24, True])
+        for name, code in ('ArrowLeft', 37), ('ArrowLeft', 37), ('ArrowUp', 38):
+            self.browser.key(name, name, code)
+        moved = FLOODING.replace('x = 40\ny = 40\n', 'x = 38\ny = 39\n')
+        self.assertEqual(self.value('text'), moved)
+        self.wait('run.places[24].join() === "38,39" && run.hearers[24].join() === "19,23"')
+        for other in 19, 23:
+            self.browser.key('Enter', 'Enter', 13, '\r')
+            self.assertIn('mote 24 and mote %d' % other, self.value('by("map-said").textContent'))
+        for _ in range(2):
+            self.browser.key('Tab', 'Tab', 9)
+        self.assertEqual(self.value('document.activeElement.dataset.way'), '24 23')
+        self.browser.type('1')
+        self.browser.key('Tab', 'Tab', 9)
+        self.wait('run.losses.some(it => it.join() === "24,23,1")')
+        self.value(canvas + '.focus()')
+        self.browser.key('Delete', 'Delete', 46)
+        self.wait('run.begins.length === 24 && run.losses.length === 1')
+        self.press('add')
+        self.browser.key('Enter', 'Enter', 13, '\r')
+        self.wait('run.begins.length === 25 && m.chosen.mote === 24')
+        # (moves without a pause are one step)
+        for _ in range(6):
+            self.undo()
+        self.assertEqual(self.value('text'), FLOODING)
+        for _ in range(6):
+            self.undo('y')
+        self.wait('run.begins.length === 25 && !text.includes("every = 1\\n") && run.places[24][0] !== 38')
+
     def test_a_tip_names_what_is_under_the_pointer_and_a_finger_scrolls(self) -> None:
         self.open()
         self.assertEqual(self.value('[pane.canvas, m.maps[0].canvas].map(it => getComputedStyle(it).touchAction)'),
@@ -429,15 +464,30 @@ class Page(InBrowser):
         self.wait('by("said").textContent === "long.toml is longer than 1,048,576 bytes, the limit."')
         self.assertEqual(self.value('web.document.name'), 'mine.toml')
 
-    def test_a_draft_is_kept(self) -> None:
+    def test_a_page_is_saved_with_its_text_and_a_draft_is_kept(self) -> None:
         self.open()
         self.press('try')
         self.wait('m.differs.first')
         text = self.value('text')
         self.wait('localStorage.getItem("motesim draft")')
+        saved = self.handed_out('save-page', 'flooding.html')
         self.browser.open(self.page)
         self.assertEqual(self.value('text'), text)
         self.assertIn('of the last time', self.said())
+        # (the draft is another page's)
+        self.browser.open(saved)
+        self.assertIn('saved with the page', self.said())
+        self.assertEqual(self.value('[text, web.document.name]'), [text, 'flooding.toml'])
+        self.wait('run.packets === 6778')
+
+    def test_the_text_of_a_saved_page_is_no_markup(self) -> None:
+        text = '# </script><script>window.wrong = 1</script><!-- \\u003c $&\n' + FLOODING
+        self.open()
+        self.put(text)
+        self.wait('run.rows === 1072 && text.startsWith("# <")')
+        self.browser.open(self.handed_out('save-page', 'flooding.html'))
+        self.assertEqual(self.value('text'), text)
+        self.assertIsNone(self.browser.run('window.wrong'))
 
     def test_a_file_is_opened(self) -> None:
         self.open()

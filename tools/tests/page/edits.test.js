@@ -22,6 +22,11 @@ test('a moved mote changes two numbers, and no text of a program', () => {
   assert.equal(made(NET, 'move', {mote: 1, x: 9, y: 0}), NET.replace('x = 8\ny = 0', 'x = 9\ny = 0'));
 });
 
+test('a mote is moved by so much from its place in the text', () => {
+  assert.equal(made(NET, 'shift', {mote: 2, by: [-7, 2]}), made(NET, 'move', {mote: 2, x: 93, y: 52}));
+  assert.throws(() => edit(NET, {what: 'shift', mote: 2, by: [30000, 0]}), /whole number/);
+});
+
 test('an added mote is behind the others', () => {
   assert.ok(made(LOSSES, 'add', {x: 4, y: -4, program: 'talk'}).includes(
     `${mote(100, 50)}\n${mote(4, -4)}\n# what is lost\n`));

@@ -1,20 +1,26 @@
 // @ts-check
-// The map as a way to change the scenario: motes are moved, added and removed, and links lose packets. Each of these
-// changes the text.
+// The map as a way to change the scenario, by mouse and by keyboard: motes are moved, added and removed, and links lose
+// packets. Each of these changes the text.
+import {chooseMote} from '../../timeline/page/details.js';
 import {byId, element, focused, makeButton} from '../../timeline/page/dom.js';
 import {redraw} from '../../timeline/page/draw.js';
 import {colours, path, stroke} from '../../timeline/page/forms.js';
 import {delayOf, findHearers} from '../../timeline/page/index.js';
+import {linkInWords} from '../../timeline/page/near.js';
 import {page, Refused} from '../../timeline/page/stage.js';
 import {count} from '../../timeline/page/words.js';
 import {edit} from '../../web/page/edits.js';
+
+const ARROWS = {ArrowLeft: [-1, 0], ArrowRight: [1, 0], ArrowUp: [0, -1], ArrowDown: [0, 1]};
+const MAP_KEYS = 'Map of the motes: { and } choose a mote, arrows move it by a tenth of the range, with Shift by 1. ' +
+  'Enter shows its next link, whose losses follow in the order of Tab. Delete removes the mote.';
 
 /** Moves the motes back to the places that they have in the run. */
 function restoreMotes() {
   const map = page.maps[0];
   if (!map) return;
   if (page.ground.held) map.run.places[page.ground.held.mote] = page.ground.held.place;
-  page.ground.held = null;
+  Object.assign(page.ground, {held: null, chooses: false});
   findHearers(map.run);
   map.take(map.run);
   map.resize();
@@ -50,23 +56,56 @@ const groundEdits = {
   click(x, y, mote) {
     const map = page.maps[0];
     if (page.ground.adding) {
-      setAdding(false);
-      const [toX, toY] = map.placeAt(x, y), {run} = map;
-      page.edit({what: 'add', x: toX, y: toY, program: run.programs[run.begins[map.moteNear(x, y, Infinity)]]});
+      addMote(map.placeAt(x, y), map.moteNear(x, y, Infinity));
       return true;
     }
     if (mote >= 0) return false;
     showWay(map.linkNear(x, y));
     return true;
   },
+
+  /** Reacts to a key on the map: adds the wanted mote beside the selected one, or moves this one, removes it, or shows
+      its next link. True if it does any of these. */
+  key({key, shiftKey}) {
+    const {run} = page.maps[0], {chosen: {mote}, ground} = page, by = ARROWS[key];
+    const step = shiftKey ? 1 : Math.max(1, Math.round(run.range / 10));
+    if (key === 'Enter' && ground.adding) {
+      const near = Math.max(0, mote), [x, y] = run.places[near];
+      ground.chooses = true;
+      addMote([x + step, y], near);
+    } else if (mote < 0) return false;
+    else if (key === 'Enter') showNextWay(run, mote);
+    else if (key === 'Delete') page.edit({what: 'remove', mote});
+    else if (by) page.edit({what: 'shift', mote, by: by.map(it => it * step)}, 'moved');
+    else return false;
+    return true;
+  },
 };
+
+/** Adds a mote at a place, with the program of another one. */
+function addMote([x, y], near) {
+  const {run} = page.maps[0];
+  setAdding(false);
+  page.edit({what: 'add', x, y, program: run.programs[run.begins[near]]});
+}
 
 /** Waits for the place of a new mote, or stops waiting. */
 function setAdding(isAdding) {
   page.ground.adding = isAdding;
   byId('add').setAttribute('aria-pressed', String(isAdding));
   page.maps[0].canvas.style.cursor = isAdding ? 'crosshair' : '';
-  if (isAdding) byId('map-said').textContent = 'Click the place of the new mote on the map.';
+  if (!isAdding) return;
+  byId('map-said').textContent = 'Click the place of the new mote on the map, or press Enter to have it beside the ' +
+    'selected one.';
+  page.maps[0].canvas.focus();
+}
+
+/** Shows the link of a mote after the one that is shown. */
+function showNextWay(run, mote) {
+  const hearers = run.hearers[mote], {way} = page.ground, place = way && way[0] === mote ? hearers.indexOf(way[1]) : -1;
+  const other = hearers[(place + 1) % hearers.length];
+  showWay(hearers.length ? [mote, other] : null);
+  byId('map-said').textContent = hearers.length ? linkInWords(run, mote, other) : `Mote ${mote} has no link.`;
 }
 
 /** Delay and losses between two motes, in both directions. */
@@ -109,7 +148,11 @@ function drawWay(map) {
 export function renewMotes() {
   const map = page.maps[0];
   map.edits = map.run.places ? groundEdits : null;
-  page.ground.held = null;
+  map.canvas.tabIndex = map.edits ? 0 : -1;
+  map.canvas.setAttribute('role', 'application');
+  map.canvas.setAttribute('aria-label', MAP_KEYS);
+  if (page.ground.chooses) chooseMote(map.pane, map.run.begins.length - 1, true);
+  Object.assign(page.ground, {held: null, chooses: false});
   const {way} = page.ground, typing = byId('way').contains(focused()) && focused().dataset.way;
   const isThere = way && Math.max(...way) < map.run.begins.length && map.run.hearers[way[0]].includes(way[1]);
   showWay(isThere ? way : null);
@@ -127,13 +170,14 @@ function nameRemove() {
 
 /** Lets the map change the text from now on. `textOf` has the text; `apply` makes changes of it, and `refuse` says why
  * there are none.
- * @param {() => string} textOf @param {(changes: any[]) => void} apply @param {(words: string) => void} refuse */
+ * @param {() => string} textOf @param {(changes: any[], how: string) => void} apply
+ * @param {(words: string) => void} refuse */
 export function beginMotes(textOf, apply, refuse) {
-  page.edit = wish => {
+  page.edit = (wish, how = 'edit') => {
     try {
       const {changes, said} = edit(textOf(), wish);
       byId('map-said').textContent = said;
-      if (changes.length) apply(changes);
+      if (changes.length) apply(changes, how);
     } catch (fault) {
       if (!(fault instanceof Refused)) throw fault;
       restoreMotes();

@@ -1,7 +1,8 @@
 // @ts-check
 // The texts that undo and redo lead to, each with its run.
 
-/** Milliseconds within which what is typed belongs to one step; and the steps whose runs are kept. */
+/** Milliseconds within which what is typed, or moved by keys, belongs to one step; and the steps whose runs are kept.
+ */
 const PAUSE = 1200, KEPT = 20;
 
 /** @typedef {{text: string, run: any, how: string, at: number}} Step */
@@ -27,13 +28,14 @@ export class History {
   get before() { return this.now > 0 ? this.steps[this.now - 1] : null; }
   get canRedo() { return this.now < this.steps.length - 1; }
 
-  /** Takes a new text. What is typed without a pause is one step.
+  /** Takes a new text. What is typed, or moved by keys, without a pause is one step.
    * @param {string} text @param {string} how */
   take(text, how) {
     if (text === this.text) return;
     const at = Date.now(), {step} = this;
     this.steps.length = this.now + 1;
-    if (how === 'typed' && step.how === 'typed' && at - step.at < PAUSE) Object.assign(step, {text, at, run: null});
+    const isLonger = how === step.how && (how === 'typed' || how === 'moved') && at - step.at < PAUSE;
+    if (isLonger) Object.assign(step, {text, at, run: null});
     else this.steps.push({text, run: null, how, at});
     this.now = this.steps.length - 1;
     if (this.now >= KEPT) this.steps[this.now - KEPT].run = null;

@@ -22,7 +22,7 @@ export class MapView extends MapLayout {
   constructor(pane, box, several) {
     super(pane.run);
     this.pane = pane;
-    // The studio's actions with the motes on the map: hold, drag, drop and click.
+    // The actions with the motes on a map that can be changed: hold, drag, drop, click and key.
     this.edits = null;
     // (the element whose height the map has, instead of the one that suits the motes)
     this.frame = null;
@@ -235,6 +235,11 @@ export class MapView extends MapLayout {
         const mote = this.moteNear(x, y);
         if (!(this.edits && this.edits.click(x, y, mote)) && mote >= 0) chooseMote(this.pane, mote, true);
       },
+    });
+    this.canvas.addEventListener('keydown', event => {
+      if (event.ctrlKey || event.metaKey || event.altKey || !this.edits || !this.edits.key(event)) return;
+      event.preventDefault();
+      event.stopPropagation();
     });
     this.canvas.addEventListener('wheel', event => {
       event.preventDefault();

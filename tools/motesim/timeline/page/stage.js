@@ -35,8 +35,9 @@ export const page = {
   why: {pane: /** @type {any} */ (null), run: /** @type {any} */ (null), hops: /** @type {Hop[]} */ ([])},
   /** The first difference from another run, and the moment of the first one in each lane. */
   differs: {first: /** @type {any} */ (null), parts: new Map()},
-  /** The map as a way to change the text: the link that is shown, and the mote that is moved. */
-  ground: {adding: false, way: /** @type {any} */ (null), held: /** @type {any} */ (null)},
+  /** The map as a way to change the text: whether the next click or Enter adds a mote, and whether the added one gets
+   * selected; the link that is shown, and the mote that is moved. */
+  ground: {adding: false, chooses: false, way: /** @type {any} */ (null), held: /** @type {any} */ (null)},
   /** The places in order of time that the log has, the first that it lists, for which selection, and the lines with
    * rings in each pane. */
   logged: {run: /** @type {any} */ (null), places: new Uint32Array(0), first: 0, times: -1,
@@ -49,7 +50,7 @@ export const page = {
   /** What pages do in ways of their own: going to a line of the programs' file, a change of the text, finding a chain
    * of causes, and showing it. */
   goToLine: /** @type {((line: number) => void)|null} */ (null),
-  edit: /** @type {(wish: any) => any} */ (() => {}),
+  edit: /** @type {(wish: any, how?: string) => any} */ (() => {}),
   chainOf: /** @type {(run: any, line: number) => any} */ (() => null),
   askWhy: /** @type {(pane: any, line: number) => any} */ (() => null),
 

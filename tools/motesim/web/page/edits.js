@@ -132,6 +132,12 @@ const EDITS = {
     return [[text.set(['mote', m, 'x'], x), text.set(['mote', m, 'y'], y)], `Mote ${m} is at ${x}, ${y}.`];
   },
 
+  /** Moves a mote by so much from the place that it has in the text. */
+  shift(text, wish) {
+    const m = mote(text, wish), {x, y} = text.members('mote')[m], [dx, dy] = wish.by;
+    return EDITS.move(text, {mote: m, x: x + dx, y: y + dy});
+  },
+
   add(text, wish) {
     const [x, y] = placeOf(wish), {program} = wish, m = text.members('mote').length;
     if (!Object.hasOwn(text.tables.programs || {}, program)) {

@@ -1,13 +1,20 @@
 // @ts-check
-// Where a text comes from and goes to: a link, a file, and the browser's storage.
+// Where a text comes from and goes to: a link, a file, this page saved with it, and the browser's storage.
 import {byId, handOut, stored} from '../../timeline/page/dom.js';
 import {page} from '../../timeline/page/stage.js';
 import {LONGEST_LINK, packed, unpackedText} from './share.js';
 
 const DRAFT = 'motesim draft', STARTED = 'motesim started', LONGEST_FILE = 1 << 20;
 
+/** The page as it was delivered, before anything changed it. */
+const delivered = typeof document === 'undefined' ? '' : `<!DOCTYPE html>\n${document.documentElement.outerHTML}`;
+
+/** The text and the name that this page was saved with, as JSON; `null` if it was saved with none. */
+const savedHere = () => byId('saved').textContent;
+
 /** Keeps the text as the draft of this page. @param {string} text @param {string} name */
-export const keepDraft = (text, name) => stored(it => it.setItem(DRAFT, JSON.stringify({text, name})));
+export const keepDraft = (text, name) =>
+  stored(it => it.setItem(DRAFT, JSON.stringify({text, name, of: savedHere()})));
 
 export const forgetDraft = () => stored(it => it.removeItem(DRAFT));
 
@@ -19,12 +26,16 @@ export const noteStart = text => stored(it => text === null ? it.removeItem(STAR
 export const neverEnded = text => stored(it => it.getItem(STARTED) === text);
 
 /** The text to open with, and where it came from; null for the first example.
- * @returns {Promise<{text: string, name: string, from: 'link'|'draft'}|null>} */
+ * @returns {Promise<{text: string, name: string, from: 'link'|'page'|'draft'}|null>} */
 export async function textToOpen() {
   const linked = await unpackedText(location.hash);
   if (linked !== null) return {text: linked, name: 'shared.toml', from: 'link'};
-  const draft = stored(it => JSON.parse(it.getItem(DRAFT) || 'null'));
-  return draft && typeof draft.text === 'string' ? {text: draft.text, name: String(draft.name), from: 'draft'} : null;
+  const draft = stored(it => JSON.parse(it.getItem(DRAFT) || 'null')), saved = JSON.parse(savedHere());
+  // (pages in one folder share the storage, so the draft may be that of another one)
+  if (draft && typeof draft.text === 'string' && draft.of === savedHere()) {
+    return {text: draft.text, name: String(draft.name), from: 'draft'};
+  }
+  return saved && {...saved, from: 'page'};
 }
 
 /** The address of this page with a text; null if it is too long for chats and mails.
@@ -45,13 +56,21 @@ export async function keepInAddress(text) {
   }
 }
 
+/** Hands out this page with a text in it. @param {string} text @param {string} name */
+function savePage(text, name) {
+  const inside = JSON.stringify({text, name}).replace(/</g, '\\u003c');
+  const begin = delivered.indexOf('>', delivered.indexOf('<script id="saved"')) + 1;
+  const end = delivered.indexOf('</' + 'script>', begin);
+  handOut(name.replace(/(\.toml)?$/, '.html'), [delivered.slice(0, begin), inside, delivered.slice(end)], 'text/html');
+}
+
 /** Shows the ways to share a text. @param {string} text @param {string} name */
 export async function showSharing(text, name) {
   const {line, mote, pane} = page.chosen, box = byId('sharing');
   const bare = await linkTo(text), link = bare && line >= 0 ? `${bare}&line=${pane.run.numberOf(line, mote)}` : bare;
   byId('sharing-said').textContent = link ?
     `The link carries the whole scenario, in ${link.length.toLocaleString('en')} characters.` :
-    'This scenario is too long for a link in a chat or a mail: send the file.';
+    'This scenario is too long for a link in a chat or a mail: send the file, or this page saved with it.';
   byId('link').hidden = byId('copy-link').hidden = !link;
   byId('link').value = link || '';
   byId('copy-link').textContent = 'Copy the link';
@@ -65,6 +84,7 @@ export async function showSharing(text, name) {
     byId('copy-link').textContent = 'Copied';
   };
   byId('download').onclick = () => handOut(name, [text], 'text/plain');
+  byId('save-page').onclick = () => savePage(text, name);
   box.showModal();
 }
 

@@ -8,7 +8,7 @@ import {Alone} from './alone.js';
 import {forgetDraft, keepDraft, keepInAddress, neverEnded, textToOpen} from './keeping.js';
 import {begin, open, openExample, say} from './web.js';
 
-const ORIGINS = {link: 'This net came with the link.',
+const ORIGINS = {link: 'This net came with the link.', page: 'This net was saved with the page.',
   draft: 'This is your text of the last time. Examples has the others.'};
 
 /** The module, unpacked and compiled. */

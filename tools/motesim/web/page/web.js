@@ -297,7 +297,7 @@ export function begin(backend, {cards, texts, words}) {
   web.pad = new Pad(text => change(text, 'typed'), words);
   beginButtons();
   page.overlays.push(drawDifference);
-  beginMotes(() => web.history.text, changes => change(applied(web.history.text, changes), 'edit'),
+  beginMotes(() => web.history.text, (changes, how) => change(applied(web.history.text, changes), how),
     words => say(words, 'bad'));
   beginGallery(examples, openExample);
   beginFiles((text, name) => open({where: '', name, text}, {intro: `This is ${name}.`}), words => say(words, 'bad'));
