@@ -5,6 +5,7 @@ import {byId, element, lineButton, list, makeButton} from './dom.js';
 import {redraw} from './draw.js';
 import {FATE_WORDS, MEDIUM, arrivalOf} from './index.js';
 import {SMALL_LANE} from './layout.js';
+import {stateInWords} from './near.js';
 import {setNow} from './play.js';
 import {choose, page} from './stage.js';
 import {revealMoment} from './time.js';
@@ -143,6 +144,7 @@ function tellTurn(box, pane) {
     list('ol', Array.from({length: shown}, (_, i) => traceButton(pane, first + i,
       run.silent[first + i] ? 'a timer that sends in other runs, and not in this one' : ''))));
   if (to - from > shown) box.append(element('p', `${to - from - shown} lines of this turn are not listed.`));
+  box.append(element('p', stateInWords(run, mote, line)));
   box.append(element('p', '', [makeButton(`All of mote ${mote}`, () => chooseMote(pane, mote, false))]));
 }
 

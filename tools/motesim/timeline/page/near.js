@@ -1,7 +1,7 @@
 // @ts-check
 // What is near a point of the lanes or of a map, and its words.
 import {arrowNear} from './arrows.js';
-import {lowerBound} from './data.js';
+import {DROP, HALT, PRINT, START, TAKE, lowerBound} from './data.js';
 import {FATE_WORDS, delayOf} from './index.js';
 import {SMALL_LANE} from './layout.js';
 import {page} from './stage.js';
@@ -45,6 +45,22 @@ export function itemInWords(run, item) {
 export function moteInWords(run, mote) {
   const hears = run.hearers[mote].length;
   return `mote ${mote} runs ${run.programs[run.begins[mote]]} and hears ${hears ? count(hears, 'mote') : 'nobody'}`;
+}
+
+/** What runs in a mote after one of its lines, and what its processes printed last, as far as the report shows it.
+ * @param {any} run @param {number} mote @param {number} last */
+export function stateInWords(run, mote, last) {
+  const {at, kind, p, e, w} = run, printed = new Map();
+  let call = -1;
+  for (let i = run.traceStart[mote]; i <= last; i++) {
+    if (kind[i] === START || kind[i] === TAKE) call = i;
+    else if (kind[i] === DROP || kind[i] === HALT) call = -1;
+    else if (kind[i] === PRINT) printed.set(p[i], i);
+  }
+  const event = kind[call] === START ? 'init' : `${run.events[e[call]]} ${w[call]}`;
+  const runs = call >= 0 && at[call] === at[last] ? `${run.process(p[call])}, called with ${event}` : 'nothing';
+  const prints = [...printed].map(([process, i]) => `${run.process(process)} ${w[i]} at ${at[i]}`);
+  return `Runs now: ${runs}. Printed last: ${prints.join(', ') || 'nothing yet'}.`;
 }
 
 /** A link in words: how long its packets take, and which are lost.
