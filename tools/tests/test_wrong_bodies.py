@@ -439,7 +439,7 @@ class PublicFunctions(unittest.TestCase):
         self.assertEqual(found, [True, False, False])
 
 
-MOST_OPEN = 71
+MOST_OPEN = 64
 
 
 CODE_OF_A_CRATE = """pub use two::{Kept, free};
