@@ -439,7 +439,7 @@ class PublicFunctions(unittest.TestCase):
         self.assertEqual(found, [True, False, False])
 
 
-MOST_OPEN = 52
+MOST_OPEN = 46
 
 
 CODE_OF_A_CRATE = """pub use two::{Kept, free};
