@@ -1,4 +1,3 @@
 pub mod AnyOf
 pub mod Broken
-pub mod NoFaults
 pub mod Valid

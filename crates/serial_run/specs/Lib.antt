@@ -1,7 +1,6 @@
 pub mod Counted
 pub mod Ended
 pub mod Laws
-pub mod NetFaults
 pub mod NetRun
 pub mod OnTime
 pub mod RunErrors

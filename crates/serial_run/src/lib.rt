@@ -1,6 +1,5 @@
-//! The run of a net on one thread, which takes all turns in the order of moment, then mote number; the same run with
-//! faults of the medium; and the laws of such runs. Nothing in the net is changed for a fault: the medium tells the fates
-//! of a packet, and then the copies on broken links are lost.
+//! The run of a net on one thread, which takes all turns in the order of moment, then mote number; and the laws of
+//! such a run.
 #![tactic(auto)]
 
 mod engine;
@@ -11,4 +10,4 @@ mod serial;
 
 pub use error::RunError;
 pub use mote_net::{LogLine, Report};
-pub use serial::{run_serial, run_with_faults};
+pub use serial::run_serial;

@@ -1,0 +1,2 @@
+mod Boots
+pub mod OneReport

@@ -1,0 +1,15 @@
+use Rattle.std.proofs.Common.{length}
+use Rattle.mote_net.specs.Meaning.{net_of}
+use Rattle.net_agenda.specs.Buckets.{first_key}
+use Rattle.serial_run.specs.Ended.{HasReached}
+use Rattle.serial_run.specs.IsInState.{IsWhole}
+use Rattle.net_agenda.proofs.Ranks.{turns_left}
+use Rattle.faulty_run.specs.Engine.{as_serial}
+use Rattle.faulty_run.specs.NetFaults.{net_with}
+use Rattle.faulty_run.proofs.run.run_to_end.Given as goal
+
+abbrev pub invariant-turns : goal.invariant-turns
+invariant-turns l = record { whole : IsWhole (net_of l.net) (as_serial l.engine); reached : HasReached (net_with l.faults (net_of l.net)) (as_serial l.engine) }
+
+abbrev pub decreases-turns : goal.decreases-turns
+decreases-turns l = turns_left (length (net_of l.net).motes) l.end (first_key l.engine.agenda.buckets)
