@@ -12,3 +12,4 @@ pub mod Seen
 pub mod Settles
 pub mod Stages
 pub mod Windows
+pub mod Refusals

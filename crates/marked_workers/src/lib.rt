@@ -4,6 +4,8 @@
 pub mod laws;
 mod run;
 mod thread;
+mod worker;
 
 pub use run::run_by_marks;
-pub use thread::{MarkRunner, WorkersRun};
+pub use thread::MarkRunner;
+pub use worker::{MarkWorker, WorkersRun};

@@ -4,6 +4,7 @@
 mod ended;
 mod fits;
 mod medium_log;
+mod merge;
 mod refusal;
 mod sync;
 mod traces;
