@@ -439,7 +439,7 @@ class PublicFunctions(unittest.TestCase):
         self.assertEqual(found, [True, False, False])
 
 
-MOST_OPEN = 38
+MOST_OPEN = 36
 
 
 CODE_OF_A_CRATE = """pub use two::{Kept, free};
