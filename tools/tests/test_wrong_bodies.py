@@ -439,7 +439,7 @@ class PublicFunctions(unittest.TestCase):
         self.assertEqual(found, [True, False, False])
 
 
-MOST_OPEN = 36
+MOST_OPEN = 26
 
 
 CODE_OF_A_CRATE = """pub use two::{Kept, free};
