@@ -1,7 +1,8 @@
 """The proved program `motecheck`, which decides the claims that sentences mean.
 
 Where it is built, each sentence is read twice: the judge reads it by itself, and finds the reason in words; and
-`motecheck` decides its claims in a run of its own. A verdict is given only if both agree.
+`motecheck` decides its claims in a run of its own. A verdict is given only if both agree. If a sentence has no claims,
+or `motecheck` reaches a limit, the judge decides alone.
 """
 from __future__ import annotations
 
