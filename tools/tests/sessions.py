@@ -1,0 +1,134 @@
+"""Sessions with the tools, as tables in sessions/: the files that there are, the commands, and what they say and make.
+
+    program = "stub"                    # that of stub.py; without this line, the built program; "none": neither
+    texts.net = '...'                   # {{net}} in a later text or in a file is this text
+    files."a.toml" = '...'              # all sessions of the table begin with these files
+
+    [[session]]
+    name = "what it shows"
+    files."b.toml" = ["net", "old", "new"]     # the text `net` with other words, each of which must be in it
+    do = [{ run = "tool WORD ..", status = 2, err = "a part of what it says" }]
+
+A step may have further keys: `out` and `err` are parts of what it writes on its streams, `lacks` are in neither, `whole`
+is all of standard output, and `like` is a regular expression; `made` has parts of files, `lacks_in` what they lack,
+`names` the names in folders, and `absent` files that there aren't; `files` are written, and `remove` removed, before
+the command. Spaces and line ends count as one space each. A session of one step has its keys itself.
+"""
+from __future__ import annotations
+
+import os
+import re
+import shlex
+import shutil
+import subprocess
+import tomllib
+from collections.abc import Callable, Iterator, Mapping
+from pathlib import Path
+from typing import Any
+
+from here import TOOLS, call
+from motesim.faults import Fault
+from motesim.report.run import program_path
+import pytest
+from stub import write_stub
+
+TABLES = TOOLS / 'tests/sessions'
+OF_A_STEP = {'run', 'status', 'out', 'err', 'lacks', 'whole', 'like', 'made', 'lacks_in', 'names', 'absent', 'files',
+             'remove'}
+OF_A_SESSION = OF_A_STEP | {'name', 'do', 'program'}
+
+
+def squeezed(text: str) -> str:
+    return re.sub('[ \n]+', ' ', text).strip(' ')
+
+
+def listed(value: Any) -> list[str]:
+    return [value] if isinstance(value, str) else list(value)
+
+
+class Table:
+    """A table of sessions."""
+
+    def __init__(self, path: Path) -> None:
+        read = tomllib.loads(path.read_text('utf-8'))
+        self.texts: dict[str, str] = {}
+        for name, text in read.get('texts', {}).items():
+            self.texts[name] = self.filled(text)
+        self.program: str = read.get('program', 'built')
+        self.files: dict[str, Any] = read.get('files', {})
+        self.sessions: list[dict[str, Any]] = read['session']
+        for session in self.sessions:
+            assert session.keys() <= OF_A_SESSION and all(it.keys() <= OF_A_STEP for it in steps(session)), session
+
+    def filled(self, text: str | list[str]) -> str:
+        """A text with the texts that it names, or another text with changes."""
+        if isinstance(text, list):
+            found = self.texts[text[0]]
+            for old, new in zip(text[1::2], text[2::2], strict=True):
+                assert old in found, (old, found)
+                found = found.replace(old, new)
+            text = found
+        return re.sub(r'\{\{(\w+)\}\}', lambda it: self.texts[it[1]], text)
+
+    def write(self, room: Path, files: Mapping[str, Any]) -> None:
+        for name, text in files.items():
+            path = room / name
+            path.parent.mkdir(parents=True, exist_ok=True)
+            path.write_bytes(self.filled(text).encode('utf-8'))
+
+
+def steps(session: dict[str, Any]) -> Iterator[dict[str, Any]]:
+    return iter(session['do'] if 'do' in session else [{key: session[key] for key in session.keys() & OF_A_STEP}])
+
+
+def play(table: Table, session: dict[str, Any], room: Path) -> None:
+    """Goes through a session in a folder."""
+    environment = dict(os.environ)
+    program = session.get('program', table.program)
+    if program == 'stub':
+        (room / '.stub').mkdir()
+        environment['MOTESIM'] = str(write_stub(room / '.stub'))
+        environment.pop('MOTECHECK', None)
+    elif program == 'built':
+        try:
+            program_path()
+        except Fault as fault:
+            pytest.skip(str(fault))
+    table.write(room, table.files)
+    if 'do' in session:
+        table.write(room, session.get('files', {}))
+    for step in steps(session):
+        for name in listed(step.get('remove', [])):
+            shutil.rmtree(room / name) if (room / name).is_dir() else (room / name).unlink()
+        table.write(room, step.get('files', {}))
+        command = table.filled(step['run'])
+        tool, *words = shlex.split(command)
+        check(step, command, call(tool, *words, cwd=room, env=environment), room)
+
+
+def check(step: dict[str, Any], command: str, done: subprocess.CompletedProcess[str], room: Path) -> None:
+    said = '%s\n%s%s' % (command, done.stdout, done.stderr)
+    assert done.returncode == step.get('status', 0), said
+    assert 'Traceback' not in done.stderr, said
+    out, err = squeezed(done.stdout), squeezed(done.stderr)
+    for key, has in HAS.items():
+        for part in listed(step.get(key, [])):
+            assert has(squeezed(part), out, err), '%s %r:\n%s' % (key, part, said)
+    if 'whole' in step:
+        assert [squeezed(it) for it in done.stdout.splitlines()] == [squeezed(it) for it in step['whole'].splitlines()]
+    for key in 'made', 'lacks_in':
+        for name, parts in step.get(key, {}).items():
+            text = squeezed((room / name).read_text('utf-8'))
+            for part in listed(parts):
+                assert (squeezed(part) in text) == (key == 'made'), '%s: %s %r:\n%s' % (name, key, part, text)
+    for folder, names in step.get('names', {}).items():
+        assert sorted(os.listdir(room / folder)) == names, said
+    for name in listed(step.get('absent', [])):
+        assert not (room / name).exists(), name
+
+
+HAS: dict[str, Callable[[str, str, str], bool]] = {
+    'out': lambda part, out, err: part in out,
+    'err': lambda part, out, err: part in err,
+    'lacks': lambda part, out, err: part not in out and part not in err,
+    'like': lambda part, out, err: re.search(part, out + '\n' + err) is not None}
