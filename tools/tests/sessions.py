@@ -12,7 +12,8 @@
 A step may have further keys: `out` and `err` are parts of what it writes on its streams, `lacks` are in neither, `whole`
 is all of standard output, and `like` is a regular expression; `made` has parts of files, `lacks_in` what they lack,
 `names` the names in folders, and `absent` files that there aren't; `files` are written, and `remove` removed, before
-the command. Spaces and line ends count as one space each. A session of one step has its keys itself.
+the command. Spaces and line ends count as one space each. A session of one step has its keys itself. Commands that are
+refused, each with a part of the reason, may be listed at the end of a session: refuses."tool WORD .." = "..".
 """
 from __future__ import annotations
 
@@ -27,15 +28,13 @@ from pathlib import Path
 from typing import Any
 
 from here import TOOLS, call
-from motesim.faults import Fault
-from motesim.report.run import program_path
-import pytest
+from skips import need_built
 from stub import write_stub
 
 TABLES = TOOLS / 'tests/sessions'
 OF_A_STEP = {'run', 'status', 'out', 'err', 'lacks', 'whole', 'like', 'made', 'lacks_in', 'names', 'absent', 'files',
              'remove'}
-OF_A_SESSION = OF_A_STEP | {'name', 'do', 'program'}
+OF_A_SESSION = OF_A_STEP | {'name', 'do', 'program', 'refuses'}
 
 
 def squeezed(text: str) -> str:
@@ -64,7 +63,7 @@ class Table:
         """A text with the texts that it names, or another text with changes."""
         if isinstance(text, list):
             found = self.texts[text[0]]
-            for old, new in zip(text[1::2], text[2::2], strict=True):
+            for old, new in zip(map(self.filled, text[1::2]), map(self.filled, text[2::2]), strict=True):
                 assert old in found, (old, found)
                 found = found.replace(old, new)
             text = found
@@ -78,7 +77,11 @@ class Table:
 
 
 def steps(session: dict[str, Any]) -> Iterator[dict[str, Any]]:
-    return iter(session['do'] if 'do' in session else [{key: session[key] for key in session.keys() & OF_A_STEP}])
+    yield from session.get('do', [])
+    if 'run' in session:
+        yield {key: session[key] for key in session.keys() & OF_A_STEP}
+    for command, why in session.get('refuses', {}).items():
+        yield {'run': command, 'status': 2, 'whole': '', 'err': why}
 
 
 def play(table: Table, session: dict[str, Any], room: Path) -> None:
@@ -90,13 +93,9 @@ def play(table: Table, session: dict[str, Any], room: Path) -> None:
         environment['MOTESIM'] = str(write_stub(room / '.stub'))
         environment.pop('MOTECHECK', None)
     elif program == 'built':
-        try:
-            program_path()
-        except Fault as fault:
-            pytest.skip(str(fault))
+        need_built()
     table.write(room, table.files)
-    if 'do' in session:
-        table.write(room, session.get('files', {}))
+    table.write(room, session.get('files', {}))
     for step in steps(session):
         for name in listed(step.get('remove', [])):
             shutil.rmtree(room / name) if (room / name).is_dir() else (room / name).unlink()

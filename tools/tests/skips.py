@@ -35,9 +35,13 @@ def need_command(test: unittest.TestCase, name: str, package: str) -> None:
         test.skipTest('%s is not installed: on Debian `apt-get install %s` installs it' % (name, package))
 
 
-def need_program(test: unittest.TestCase) -> None:
+def need_built() -> None:
     """The built motesim."""
     try:
         program_path()
     except Fault as fault:
-        test.skipTest(str(fault))
+        raise unittest.SkipTest(str(fault))
+
+
+def need_program(test: unittest.TestCase) -> None:
+    need_built()

@@ -4,7 +4,6 @@ import re
 import unittest
 from collections import Counter
 
-import pytest
 from motesim.contiki.random_program import RandomProgram
 from motesim.explain.advice import advice
 from motesim.explain.say import hint_in_words
@@ -16,15 +15,8 @@ from motesim.notation.tree import Value, last_of
 from motesim.report.run import answer
 from motesim.search.added import DIES, LATE, NoRoom, changed_program
 from motesim.search.smaller import programs
+from properties import given, settings, st
 from skips import need_program
-
-pytest.importorskip('hypothesis', reason='hypothesis is not installed: on Debian `apt-get install python3-hypothesis`')
-from hypothesis import HealthCheck, given, settings  # noqa: E402
-from hypothesis import strategies as st  # noqa: E402
-
-settings.register_profile('tools', deadline=None, derandomize=True, max_examples=20, database=None,
-                          suppress_health_check=[*HealthCheck])
-settings.load_profile('tools')
 
 PIECES = st.sampled_from(sorted(RESERVED | SIGNS) + [
     'x', 'a', 't', '0', '7', '65535', '65536', '01', 'X', '@', '_x', 'a_very_long_name', 'a_very_long_named', '"', '\\',

@@ -6,6 +6,8 @@ from collections import Counter
 from dataclasses import dataclass
 from functools import lru_cache
 
+from motesim.toml import MARK
+
 # A table or a key: the names and the numbers that lead to it.
 Path = tuple[str | int, ...]
 # The offsets of the first character of a part of the text, and of the first one after it.
@@ -52,7 +54,7 @@ class Places:
     def __init__(self, text: str):
         self.text = text
         self.own, self.keys, self.values = dict[Path, Span](), dict[Path, Span](), dict[Path, Span]()
-        counts, table, at = Counter[Path](), Path(), 0
+        counts, table, at = Counter[Path](), Path(), int(text.startswith(MARK))
         while at < len(text):
             header, entry = HEADER.match(text, at), ENTRY.match(text, at)
             if header:
