@@ -120,6 +120,13 @@ def scenario_of(program: str, *places: tuple[int, int], end: int = 60, more: str
             "[programs]\np = '''\n%s'''\n" % (end, motes, more, program))
 
 
+def rows_of(name: str) -> list[tuple[str, ...]]:
+    r"""The rows of a table of cases in this folder, with a tab between two cells, which may have line ends as `\n`; lines
+    with `#` are remarks."""
+    lines = (TOOLS / 'tests' / name).read_text('utf-8').splitlines()
+    return [tuple(it.replace('\\n', '\n').split('\t')) for it in lines if it and not it.startswith('#')]
+
+
 class Room(unittest.TestCase):
     """Tests in a folder of their own."""
 

@@ -1,7 +1,7 @@
 """Sessions with the tools, as tables in sessions/: the files that there are, the commands, and what they say and make.
 
     program = "stub"                    # that of stub.py; without this line, the built program; "none": neither
-    texts.net = '...'                   # {{net}} in a later text or in a file is this text
+    texts.net = '...'                   # {{net}} in a later text, a file, or a command is this text
     files."a.toml" = '...'              # all sessions of the table begin with these files
 
     [[session]]
@@ -11,8 +11,8 @@
 
 A step may have further keys: `out` and `err` are parts of what it writes on its streams, `lacks` are in neither, `whole`
 is all of standard output, and `like` is a regular expression; `made` has parts of files, `lacks_in` what they lack,
-`names` the names in folders, and `absent` files that there aren't; `files` are written, and `remove` removed, before
-the command. Spaces and line ends count as one space each. A session of one step has its keys itself. Commands that are
+`like_in` regular expressions, `names` the names in folders, and `absent` files that there aren't; `files` are written,
+and `remove` removed, before the command. Spaces and line ends count as one space each. A session of one step has its keys itself. Commands that are
 refused, each with a part of the reason, may be listed at the end of a session: refuses."tool WORD .." = "..".
 """
 from __future__ import annotations
@@ -27,13 +27,13 @@ from collections.abc import Callable, Iterator, Mapping
 from pathlib import Path
 from typing import Any
 
-from here import TOOLS, call
+from here import TOOLS, TOP, call
 from skips import need_built
 from stub import write_stub
 
 TABLES = TOOLS / 'tests/sessions'
-OF_A_STEP = {'run', 'status', 'out', 'err', 'lacks', 'whole', 'like', 'made', 'lacks_in', 'names', 'absent', 'files',
-             'remove'}
+OF_A_STEP = {'run', 'status', 'out', 'err', 'lacks', 'whole', 'like', 'made', 'lacks_in', 'like_in',
+             'names', 'absent', 'files', 'remove'}
 OF_A_SESSION = OF_A_STEP | {'name', 'do', 'program', 'refuses'}
 
 
@@ -50,7 +50,7 @@ class Table:
 
     def __init__(self, path: Path) -> None:
         read = tomllib.loads(path.read_text('utf-8'))
-        self.texts: dict[str, str] = {}
+        self.texts = {'top': str(TOP)}
         for name, text in read.get('texts', {}).items():
             self.texts[name] = self.filled(text)
         self.program: str = read.get('program', 'built')
@@ -102,24 +102,26 @@ def play(table: Table, session: dict[str, Any], room: Path) -> None:
         table.write(room, step.get('files', {}))
         command = table.filled(step['run'])
         tool, *words = shlex.split(command)
-        check(step, command, call(tool, *words, cwd=room, env=environment), room)
+        check(table, step, command, call(tool, *words, cwd=room, env=environment), room)
 
 
-def check(step: dict[str, Any], command: str, done: subprocess.CompletedProcess[str], room: Path) -> None:
+def check(table: Table, step: dict[str, Any], command: str, done: subprocess.CompletedProcess[str], room: Path) -> None:
     said = '%s\n%s%s' % (command, done.stdout, done.stderr)
     assert done.returncode == step.get('status', 0), said
     assert 'Traceback' not in done.stderr, said
     out, err = squeezed(done.stdout), squeezed(done.stderr)
     for key, has in HAS.items():
         for part in listed(step.get(key, [])):
-            assert has(squeezed(part), out, err), '%s %r:\n%s' % (key, part, said)
+            assert has(squeezed(table.filled(part)), out, err), '%s %r:\n%s' % (key, part, said)
     if 'whole' in step:
         assert [squeezed(it) for it in done.stdout.splitlines()] == [squeezed(it) for it in step['whole'].splitlines()]
     for key in 'made', 'lacks_in':
         for name, parts in step.get(key, {}).items():
             text = squeezed((room / name).read_text('utf-8'))
-            for part in listed(parts):
+            for part in map(table.filled, listed(parts)):
                 assert (squeezed(part) in text) == (key == 'made'), '%s: %s %r:\n%s' % (name, key, part, text)
+    for name, form in step.get('like_in', {}).items():
+        assert re.search(form, (room / name).read_text('utf-8')), '%s: %r' % (name, form)
     for folder, names in step.get('names', {}).items():
         assert sorted(os.listdir(room / folder)) == names, said
     for name in listed(step.get('absent', [])):
