@@ -169,6 +169,7 @@ def test_the_line_of_a_question(question: str, kind: str, found: str) -> None:
 @pytest.mark.parametrize('question, line, holds, remark', [
     ('mote 3 sends after mote 0 sends', '3: 49 send 0 1', True, ''),
     ('every mote but 0 prints flood within 0 of receiving', '24: 64 print flood 1', True, 'mote 24 is the last'),
+    ('some mote prints flood 2', '5: 83 print flood 2', True, ''),
     ('mote 0 sends after mote 3 sends', '0: 40 send 0 1', False, 'is not after the first `mote 3 sends`'),
     ('mote 3 sends at least 80 % as often as mote 2', '3: 49 send 0 1', True, ''),
     ('mote 3 sends more than 2 times as often as mote 2', '3: 129 send 2 3', False, '3 lines, compared with 3')])
