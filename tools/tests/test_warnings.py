@@ -3,7 +3,7 @@ import re
 import unittest
 from pathlib import Path
 
-from here import TOP, Room
+from here import TOP, rows_of
 from motesim.explain.say import ABOUT_ZERO, NAMES, in_words
 from motesim.explain.warned import Warned
 from motesim.explain.warnings import of_program, warnings
@@ -14,7 +14,7 @@ from motesim.scenario import Scenario
 from skips import need_program
 
 MOST = 30
-ROWS = [row.split('\t') for row in (Path(__file__).parent / 'warnings.tsv').read_text().splitlines()]
+ROWS = rows_of('warnings.tsv')
 NET = '''%sversion = 2
 end = 100
 medium = { range = 10, base = 2, per = 100, collide = %s }
@@ -115,12 +115,3 @@ class Nets(unittest.TestCase):
         self.assertEqual([it.name for it in found(net([(0, 'p')], p=zero))], ['never-assigned'])
         self.assertIn('never-assigned', ABOUT_ZERO)
         self.assertEqual(found(net([(0, 'p')], head='# Parameters: k = 0\n', p=zero)), [])
-
-
-class Silence(Room):
-    def test_a_warning_is_silenced_by_the_name_that_it_shows(self) -> None:
-        need_program(self)
-        self.put('net.toml', net([(0, 'p')], p='process a; code a { body { print 1; } }'))
-        for silent, is_shown in ((), True), (('--silence', 'no-autostart'), False):
-            done = self.tool('explain', 'net.toml', *silent)
-            self.assertEqual((done.returncode, 'Warning (no-autostart): ' in done.stdout), (0, is_shown))
