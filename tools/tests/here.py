@@ -120,6 +120,11 @@ def scenario_of(program: str, *places: tuple[int, int], end: int = 60, more: str
             "[programs]\np = '''\n%s'''\n" % (end, motes, more, program))
 
 
+def text_of(name: str) -> str:
+    """A text of this folder: a report, a program, or a page."""
+    return (TOOLS / 'tests/texts' / name).read_text('utf-8')
+
+
 def rows_of(name: str) -> list[tuple[str, ...]]:
     r"""The rows of a table of cases in this folder, with a tab between two cells, which may have line ends as `\n`; lines
     with `#` are remarks."""

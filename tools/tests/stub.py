@@ -8,34 +8,9 @@ time, and after 100 megabytes of its report.
 import sys
 from pathlib import Path
 
-STUB = '''#!%s -IS
-import re, resource, sys, time, tomllib
-for limit, most in (resource.RLIMIT_AS, 1 << 30), (resource.RLIMIT_CPU, 120), (resource.RLIMIT_CORE, 0):
-    most = min(it for it in (most, *resource.getrlimit(limit)) if it >= 0)
-    resource.setrlimit(limit, (most, most))
-source = sys.stdin.read()
-if 'a.' * 80 in source:
-    sys.exit('motesim: scenario fault 1')
-scenario = tomllib.loads(source)
-out = []
-for number, mote in enumerate(scenario['mote']):
-    text = scenario['programs'][mote['program']]
-    if '// wait' in text:
-        time.sleep(60)
-    while '// burn' in text and time.process_time() < 60:
-        pass
-    if '// long' in text:
-        for _ in range(100):
-            sys.stdout.write('x' * 1000000)
-    if '// refuse' in text:
-        sys.stderr.write('motesim: out of memory\\n')
-        sys.exit(1)
-    value = int(re.search('print ([0-9]+)', text)[1])
-    out.append('mote %%d %%s' %% (number, mote['program']))
-    out += ['0 start %%s' %% it for it in ('etimer', 'ctimer', 'radio', 'a')]
-    out.append('%%d print a %%d' %% (value * (number + 1), value))
-print('\\n'.join(out + ['medium', 'left 0']))
-'''
+from here import text_of
+
+STUB = text_of('stub.py.txt')
 
 
 def write_stub(folder: Path) -> Path:

@@ -7,26 +7,14 @@ import unittest
 from pathlib import Path
 from unittest import mock
 
-from here import TOOLS, Room, scenario_of
+from here import TOOLS, Room, scenario_of, text_of
 import motesim
 from motesim import packages
 from stub import write_stub
 from skips import long
 
 SCENARIO = scenario_of('process a; autostart a; code a { body { print 7; } }', (0, 0), (10, 0), (20, 0))
-PLAN = '''end = 160
-[medium]
-range = 10
-base = 2
-per = 100
-[parameters]
-first = 4
-[places]
-rule = "line"
-count = 2
-step = 10
-program = "a.mote"
-'''
+PLAN = text_of('api.plan.toml')
 MOTE = 'process a;\nautostart a;\ncode a { body { print ${first}; } }\n'
 
 

@@ -10,7 +10,7 @@ from itertools import product
 from typing import Any
 from unittest import mock
 
-from here import TOOLS, TOP, Room
+from here import TOOLS, TOP, Room, text_of
 from motesim.faults import Fault
 from motesim.report import Report
 from motesim.runner import Answer
@@ -132,38 +132,7 @@ class Workers(Check):
         self.assertEqual(('on one thread differs:' in said, last), (True, '0 passed, 1 failed, 0 skipped'))
 
 
-PAGE = '''# A page
-
-Save this as `one.toml`:
-
-```toml one.toml
-end = 5
-```
-
-It is run so:
-
-```sh
-./run one.toml
-echo done
-```
-
-```
-ran end = 5
-done
-```
-
-This prints nothing:
-
-```sh
-test -e tools/dev/run_cases -a -e examples/tdma.toml
-```
-
-And a block that is no output:
-
-```
-nothing ran this
-```
-'''
+PAGE = text_of('commands.md')
 
 
 class Pages(Check):
@@ -187,45 +156,10 @@ class Pages(Check):
             self.assertNotEqual(status, 0)
 
 
-QUOTES = """# `one.toml`
-
-```
-a line of one
-```
-
-```sh
-./run other.toml
-```
-
-And `two.toml`, with `one.expect.toml` beside it, and `two.toml`:
-
-```toml
-end = 5
-..
-```
-"""
+QUOTES = text_of('quotes.md')
 # Mote 1 is between mote 0, the root, and mote 2.
-SCENARIO = """
-version = 1
-end = 400
-medium = { range = 10, base = 1, per = 100 }
-programs = { p = "" }
-mote = [{ x = 0, y = 0, program = "p" }, { x = 10, y = 0, program = "p" }, { x = 20, y = 0, program = "p" }]
-"""
-REPORT = """mote 0 p
-mote 1 p
-2 print parent 0
-300 send 0 1
-304 send 1 2
-mote 2 p
-3 print parent 1
-302 send 0 102
-medium
-300 1 0 1 0@302 2@302
-302 2 0 102 1@304
-304 1 1 2 0@306 2@306
-left 0
-"""
+SCENARIO = text_of('collects.toml')
+REPORT = text_of('collects.report')
 
 
 class Examples(unittest.TestCase):
@@ -251,26 +185,7 @@ class Examples(unittest.TestCase):
 
 # A program that asks for memory three times, or starts two threads, the second one after the first has ended if JOINS is
 # 1; it says so if one is refused, except for the request CALM.
-ASKS = r"""
-#include <pthread.h>
-#include <stdlib.h>
-#include <unistd.h>
-
-static void *work(void *given) { return given; }
-
-int main(int count, char **words) {
-  pthread_t made[2];
-  for (int n = 1; count == 1 && n <= 3; n++) {
-    void *volatile part = malloc(100);
-    if (!part && n != CALM) _exit(write(2, FAULT, sizeof FAULT - 1) > 0);
-  }
-  for (int n = 0; count > 1 && n < 2; n++) {
-    if (pthread_create(&made[n], 0, work, 0)) _exit(write(2, FAULT, sizeof FAULT - 1) > 0);
-    if (JOINS) pthread_join(made[n], 0);
-  }
-  _exit(write(1, "left 0\n", 7) != 7);
-}
-"""
+ASKS = text_of('asks.c')
 WORKERS = '--workers', '2'
 NO_MEMORY, NO_THREAD = '"motesim: out of memory\\n"', '"motesim: run fault 5\\n"'
 

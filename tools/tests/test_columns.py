@@ -3,38 +3,10 @@ import random
 import unittest
 from unittest import mock
 
-import here  # (it puts tools/ on the path)
+from here import text_of
 from motesim.report import LOST, Report, ReportFault, fast, strict
 
-SMALL = '''mote 0 talker
-0 start etimer
-0 start ctimer
-0 start radio
-0 start talk
-0 start busy
-4 post 0 talk timer 1
-4 full all msg 65535
-4 take 0 talk
-4 print talk 7
-4 send 0 7
-9 post 1 busy packet 3
-9 drop 1 busy
-9 busy busy
-mote 1 hearer
-0 start hear
-6 recv 0 0 7
-6 leave hear
-7 lost 0 1
-7 collide 0 2
-7 deaf 0 4611686018427387903
-8 halt
-mote 2 hearer
-medium
-4 0 0 7 1@6 2@lost
-4 2 0 9
-9 0 1 3 1@12
-left 1
-'''
+SMALL = text_of('each_kind.report')
 WORDS = ['', ' ', '\n', '-', '0', '00', '1', '65535', '65536', '4611686018427387904', '1000001', 'take', 'halt', 'lost',
          'a', 'A', 'send', 'all', 'true', 'null', '1@6', '@', '1@lost', 'medium', 'left 0', 'mote 3 x', 'mote 1 hearer',
          '\t', '\r', 'é']

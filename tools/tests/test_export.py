@@ -5,7 +5,7 @@ import re
 import subprocess
 from collections import Counter
 
-from here import TOOLS, TOP, call, Room
+from here import TOOLS, TOP, Room, call, text_of
 from motesim.export import pcapng, perfetto, times, vcd
 from motesim.report import Report
 from skips import interpreter_with, need_command
@@ -17,19 +17,7 @@ REPORT = EXAMPLE_REPORT.replace('10 print echo 30\n', '10 print echo 30\n11 halt
     '19 post', '9 send 1 70\n19 post').replace('19 send 1', '19 send 2').replace(
     '19 2 1 40', '9 2 1 70 1@12\n19 2 2 40')
 # The columns of tshark: time, interface, kind, sender, receiver, number, value, moments of sending and of arrival.
-PACKETS = '''0.000004000,mote 0,0,0,,0,10,0,
-0.000004000,mote 2,0,2,,0,12,0,
-0.002000000,mote 1,4,0,1,0,10,0,2
-0.002001000,mote 1,4,2,1,0,12,0,2
-0.004002000,mote 0,0,0,,1,20,4,
-0.004002000,mote 1,2,0,1,1,20,4,
-0.008002000,mote 0,0,0,,2,30,8,
-0.009000000,mote 2,0,2,,1,70,9,
-0.010000000,mote 1,1,0,1,2,30,8,10
-0.012000000,mote 1,5,2,1,1,70,9,12
-0.019002000,mote 2,0,2,,2,40,19,
-0.021000000,mote 1,6,2,1,2,40,19,21
-'''
+PACKETS = text_of('packets.csv')
 FIELDS = ['frame.time_epoch', 'frame.interface_name', 'motesim.kind', 'motesim.sender', 'motesim.receiver',
           'motesim.number', 'motesim.value', 'motesim.sent', 'motesim.arrival']
 # The waveform of the report: the values of signals, each from a time in nanoseconds on.

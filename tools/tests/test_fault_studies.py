@@ -3,30 +3,13 @@ import contextlib
 import io
 import os
 
-from here import TOP, Room
+from here import TOP, Room, text_of
 from motesim.faults import Fault
 from motesim.search.study import check_studies, studies_of
 from skips import need_program
 from test_search import DIAMOND, REACHED
 
-STUDY = '''scenario = "diamond.toml"
-[[study]]
-about = "no link is needed"
-faults = "links"
-expect = ["%s"]
-breaks = []
-[[study]]
-about = "but for mote 1"
-faults = "motes"
-expect = ["%s"]
-breaks = ["mote 1 is silent"]
-[[study]]
-about = "one of each way, of the pairs"
-faults = "links"
-at_most = 2
-expect = ["%s"]
-counts = [0, 4]
-''' % ((REACHED,) * 3)
+STUDY = text_of('study.toml') % ((REACHED,) * 3)
 
 
 class Studies(Room):

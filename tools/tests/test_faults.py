@@ -8,25 +8,12 @@ import unittest
 from pathlib import Path
 from typing import Any
 
-from here import TOOLS, TOP
+from here import TOOLS, TOP, text_of
 from motesim.faults import SHOW
 from motesim.runner.versions import version_line
 from motesim.version import VERSION
 
-COMMAND = '''import sys, time
-sys.path.insert(0, %r)
-from motesim.command import command
-from motesim.faults import Fault
-
-
-@command('thing')
-def main() -> int:
-    %s
-    return 0
-
-
-main()
-'''
+COMMAND = text_of('command.py.txt')
 
 
 class Ends(unittest.TestCase):

@@ -6,7 +6,7 @@ import subprocess
 import unittest
 from unittest import mock
 
-from here import TOOLS, TOP, Room
+from here import TOOLS, TOP, Room, text_of
 from motesim.faults import Fault
 from project import testing
 
@@ -110,18 +110,7 @@ class Packages(Room):
         self.assertEqual((done.stdout, done.returncode), ('./test --quick\n', 3))
 
 
-SOURCE = """import unittest
-class Page(unittest.TestCase):
-    @classmethod
-    def setUpClass(cls) -> None:
-        raise unittest.SkipTest(%r)
-    def test_a(self): pass
-    def test_b(self): pass
-class Other(unittest.TestCase):
-    def test_c(self): pass
-    def test_d(self): self.assertEqual(1, 2)
-    def test_e(self): self.skipTest('no tshark')
-"""
+SOURCE = text_of('counted.py.txt')
 
 
 class UnitTests(Room):

@@ -2,25 +2,14 @@
 import os
 import subprocess
 
-from here import TOOLS, Room, call, scenario_of
+from here import TOOLS, Room, call, scenario_of, text_of
 from motesim.faults import Fault
 from motesim.files import refuse_inputs
 from skips import interpreter_with, need_program
 
 SCENARIO = scenario_of('process a; autostart a; receiver a; code a { body { if (self == 0) { send 1; } yield; print '
                        'data; } }', (0, 0), (5, 0))
-PLAN = '''end = 50
-[medium]
-range = 10
-base = 2
-per = 100
-[parameters]
-seed = 1
-[places]
-rule = "csv"
-file = "places.csv"
-program = "a.mote"
-'''
+PLAN = text_of('inputs.plan.toml')
 PROGRAM = 'process a;\nautostart a;\ncode a { body { print ${seed}; } }\n'
 REPORT = 'mote 0 p\n0 start etimer\n0 start ctimer\n0 start radio\n0 start a\nmedium\nleft 0\n'
 FILES = {'net.toml': SCENARIO, 'net.expect.toml': 'expect = ["mote 1 prints a 1"]\n', 'net.plan.toml': PLAN,

@@ -1,7 +1,7 @@
 """The lesson's sentences: the solutions meet them in all nets, and programs that don't solve a task earn nothing."""
 import re
 
-from here import TOP, Room
+from here import TOP, Room, text_of
 from motesim.grading.entries import Entry
 from motesim.grading.marking import Task
 from motesim.grading.marks import Marks
@@ -13,88 +13,27 @@ from skips import need_program
 LESSON = TOP / 'examples/lesson'
 NETS = {1: 'start.toml', 2: 'start.toml', 3: 'collisions.toml'}
 HIDDEN = {1: 'hidden.toml', 2: 'hidden.toml', 3: 'hidden_collisions.toml'}
-ANSWERS = '''process wave, hops;
-autostart hops, wave;
-receiver wave;
-code wave {
-  etimer turn;
-  body {
-    if (self == 0) { send 1; } else { if (self < 3) { synch hops msg 1; } else { synch hops msg (self - 1); } }
-    %s
-    if (self > 0) { send 1; }
-  }
-}
-code hops { body { while 1 { yield_until is(msg); print data; } } }
-'''
+ANSWERS = text_of('answers.mote')
 AT_BOOT = ANSWERS % ''
 AT_BOOT_BUT_SENDS_LATER = ANSWERS % 'yield_until is(packet); set turn (10 * self); yield_until fired(turn);'
 AFTER_A_WHILE = (ANSWERS % '').replace('if (self == 0)', 'set turn 5; yield_until fired(turn); if (self == 0)')
 IDLE = 'process wave, hops;\ncode wave { body { pause; } }\ncode hops { body { print 0; } }\n'
 # Programs that print the right answers in the nets that students know.
-BY_NUMBER = '''process hops;
-autostart hops;
-receiver hops;
-code hops {
-  body {
-    if (self == 0) { send 1; exit; }
-    yield_until is(packet);
-    %s
-    send 1;
-  }
-}
-'''
+BY_NUMBER = text_of('by_number.mote')
 EVE = BY_NUMBER % 'if (self < 3) { print 1; } else { print (self - 1); }'
 BY_CLOCK = BY_NUMBER % 'print (now / 3);'
 
 # The page for teachers, which has a plan of nets, and sentences for a lab with a sink.
 PAGE = (TOP / 'docs/use/TEACHING.md').read_text('utf-8')
 # A lab: mote 0 asks for readings, motes 1 to 7 run the students' program, and mote 8 runs one of the teacher's.
-LAB = """version = 2
-end = 400
-medium = { range = 10, base = 2, per = 100, collide = false }
-[programs]
-sink = '''
-process sink;
-autostart sink;
-receiver sink;
-code sink { body { send 100; while 1 { yield_until is(packet); if (data != 100) { print data; } } } }
-'''
-sensor = "process sensor; autostart sensor; code sensor { body { pause; } }"
-ours = "process ours; autostart ours; receiver ours; code ours { body { yield_until is(packet); send %d; } }"
-""" + ''.join('[[mote]]\nx = %d\ny = 0\nprogram = "%s"\n' % (8 * at, it)
+LAB = text_of('lab.toml') + ''.join('[[mote]]\nx = %d\ny = 0\nprogram = "%s"\n' % (8 * at, it)
               for at, it in enumerate(['sink', *['sensor'] * 7, 'ours']))
-SENSOR = """process sensor;
-autostart sensor;
-receiver sensor;
-code sensor {
-  var value = 0;
-  body {
-    yield_until is(packet);
-    send 100;
-    %s
-  }
-}
-"""
+SENSOR = text_of('sensor.mote')
 FORWARDS = SENSOR % 'send self; while 1 { yield_until is(packet); if (from > self) { send data; } }'
 SPEAKS_FOR_ALL = SENSOR % 'while (value < 8) { value = (value + 1); send value; }'
 
 # Each mote prints all values on its first packet, and forwards it once, at a moment at which nothing collides.
-EVERY_VALUE = '''process hops;
-autostart hops;
-receiver hops;
-code hops {
-  var value = 0;
-  etimer turn;
-  body {
-    if (self == 0) { send 1; exit; }
-    yield_until is(packet);
-    while (value < 19) { value = (value + 1); print value; }
-    set turn (10 * self);
-    yield_until fired(turn);
-    send 1;
-  }
-}
-'''
+EVERY_VALUE = text_of('every_value.mote')
 
 
 class Lesson(Room):

@@ -1,7 +1,7 @@
 """The chronological log. What is expected comes from the report's lines, put in order by Python's own sort. What the command
 says is in sessions/log.toml."""
 import pytest
-from here import TOP
+from here import TOP, text_of
 from motesim.faults import Fault
 from motesim.report import Report
 from motesim.report.run import answer
@@ -11,21 +11,7 @@ from motesim.why.source import Source
 from skips import need_built
 
 # Both motes write lines at moment 2; the program of mote 0 has a process that is called `take`.
-REPORT = '''mote 0 p
-0 start take
-2 post 0 take msg 7
-2 take 0 take
-2 print take 3
-5 send 0 3
-mote 1 q
-1 start b
-2 print b 7
-2 full b com 3
-9 recv 0 0 3
-medium
-5 0 0 3 1@9
-left 0
-'''
+REPORT = text_of('log.report')
 
 
 def test_the_order_is_by_moment_then_by_mote() -> None:

@@ -2,43 +2,14 @@
 import re
 import unittest
 
-from here import TOP, scenario_of
+from here import TOP, scenario_of, text_of
 from motesim.notation.reader import find_fault
 from motesim.report.run import answer
 from skips import need_program
 
-PROGRAM = """event e;
-semaphore s = 0;
-process p, q;
-autostart p, q;
-receiver p;
-code p {
-  var x = 0;
-  var y = 0;
-  etimer t;
-  thread f {
-    y = (y + 1);
-  }
-  body {
-    %s
-  }
-}
-code q { body { } }
-"""
+PROGRAM = text_of('two_processes.mote')
 # Both timers are due at 10, and the process takes the event of u first.
-TWO_DUE = scenario_of('''process p;
-autostart p;
-code p { var wanted = 1; etimer t; etimer u; body {
-  set t 10;
-  set u 10;
-  yield_until fired(u);
-  %s
-  while 1 {
-    yield_until %s;
-    print now;
-  }
-} }
-''')
+TWO_DUE = scenario_of(text_of('two_due.mote'))
 # The meanings of a table's letters in a program: an expression, and names.
 LETTERS = {'e': '(x + 1)', 'E': 'e', 'P': 'q', 'T': 't', 'S': 's', 'THREAD': 'f', 'a': 'x', 'b': 'y'}
 

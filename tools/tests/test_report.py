@@ -5,7 +5,7 @@ import re
 import unittest
 from unittest import mock
 
-from here import TOP, Room
+from here import TOP, Room, text_of
 from motesim.faults import Fault
 from motesim.report import Copy, Packet, Report, ReportFault
 from motesim.report import report as report_module
@@ -13,27 +13,7 @@ from motesim.report.run import ProgramFault, check_scenario, read_run
 from motesim.scenario import Scenario, ScenarioFault
 
 # Two motes: the second one halts at 9, when its neighbour's last packet but one is on its way.
-SMALL = '''mote 0 talker
-0 start etimer
-0 send 0 7
-3 post 0 talker timer 0
-3 take 0 talker
-3 send 1 8
-6 send 2 9
-7 send 3 9
-mote 1 hearer
-4 recv 0 0 7
-4 post 0 hearer packet 7
-4 take 0 hearer
-4 print hearer 65535
-9 halt
-medium
-0 0 0 7 1@4
-3 0 1 8 1@lost
-6 0 2 9 1@10
-7 0 3 9 1@11
-left 1
-'''
+SMALL = text_of('halting.report')
 
 
 def report_in(page: str) -> str:

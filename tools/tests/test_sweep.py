@@ -11,7 +11,7 @@ from pathlib import Path
 from unittest import mock
 
 import pytest
-from here import TOOLS, Room, rows_of, scenario_of
+from here import TOOLS, Room, rows_of, scenario_of, text_of
 from motesim.experiments.asked import known_names, measures_of, sweep_of
 from motesim.experiments.doubts import of_full
 from motesim.experiments.measures import Bench, MeasureFault, imports_of, read_measure
@@ -32,24 +32,7 @@ TABLE = Table(TABLES / 'sweep.toml')
 MINE = TABLE.texts['mine']
 SCENARIO = Scenario.parse(scenario_of('process a; code a { body { print 1; } }', (0, 0), (10, 0), (20, 0), end=20))
 NAMES = names_of(SCENARIO)
-REPORT = Report.parse('''mote 0 p
-0 start a
-0 send 0 7
-mote 1 p
-0 start a
-3 recv 0 0 7
-3 print a 7
-3 send 0 7
-9 print a 8
-mote 2 p
-0 start a
-6 recv 1 0 7
-6 print a 7
-medium
-0 0 0 7 1@3
-3 1 0 7 0@6 2@6
-left 1
-''')
+REPORT = Report.parse(text_of('measured.report'))
 BENCH = Bench(Run('a', REPORT, SCENARIO))
 
 

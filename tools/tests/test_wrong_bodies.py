@@ -9,7 +9,7 @@ from typing import Any
 from unittest import mock
 
 import pytest
-from here import TOP, rows_of
+from here import TOP, rows_of, text_of
 from motesim.faults import Fault
 from project import kit, wrong_bodies
 from project.mutants import checks, log, public
@@ -17,43 +17,7 @@ from project.mutants.checks import ANSWER, CONTRACT, LIMIT, TWIN, Verdict, is_in
 from project.mutants.edits import Edit, edits_of, function_around, groups, together
 
 HAS_KIT = pytest.mark.skipif(not shutil.which('rt'), reason='the command rt of the Rattle kit is not here')
-CODE = """pub(crate) fn one<T>(
-    n: u8,
-) -> u8
-where
-    T: Copy,
-    ensures a { result = n }
-
-    // Remark.
-    ensures b { result = 1 }
-{
-    if n == 3 {
-        n
-    } else {
-        4
-    }
-}
-
-impl<'a, T: Copy> Queue<'a, T> {
-    pub const fn two(&self) -> u8 {
-        5
-    }
-
-    fn three(&self) -> u8
-        ensures { result = 6 }
-    {
-        7
-    }
-}
-
-trait Gate {
-    fn start(&self) -> u8;
-}
-
-fn four() -> u8 {
-    8
-}
-"""
+CODE = text_of('functions.txt')
 
 
 def crate_at(room: Path, files: dict[str, str]) -> Any:
@@ -342,59 +306,7 @@ def test_a_goal_of_a_contract_that_is_proved_by_hand(tmp_path: Path) -> None:
 MOST_OPEN = 26
 
 
-CODE_OF_A_CRATE = """pub use two::{Kept, free};
----
-pub fn free() -> u8
-    ensures a { result = 1 }
-{
-    1
-}
-
-pub fn hidden() -> u8
-    ensures a { result = 1 }
-{
-    1
-}
-
-pub fn law()
-    ensures a { 1 = 1 }
-{}
-
-impl<T: Drop> Kept<T> {
-    pub fn long(
-        &self,
-    ) -> u8
-    where
-        T: Copy,
-        // Remark.
-        ensures a { result = 1 }
-    {
-        1
-    }
-
-    pub fn promises_nothing() {
-        go()
-    }
-
-    fn private() -> u8
-        ensures a { result = 1 }
-    {
-        1
-    }
-}
-
-impl Trait for Kept {
-    pub fn of_trait() -> u8
-        ensures a { result = 1 }
-    {
-        1
-    }
-}
----
-pub struct Kept<T> {
-    of: T,
-}
-"""
+CODE_OF_A_CRATE = text_of('crate.txt')
 
 
 # Which mutants are tried.
