@@ -16,14 +16,15 @@ from motesim.notation.grammar import COLOURS, NAMING
 from motesim.report import KINDS, Report
 from motesim.report.run import Run
 from motesim.scenario import Scenario
-from motesim.timeline.bundle import BundleFault, bundle, modules_of
+from motesim.timeline.bundle import BundleFault, bundle, imports_of, modules_of
 from motesim.timeline.columns import data_of
 from motesim.why.chain import chain
 from motesim.why.pages import causes_of
 from motesim.why.source import At, Source
 
-PAGES = [TOOLS / 'motesim' / name / 'page' for name in ('timeline', 'studio', 'web')]
-ENTRIES = [PAGES[0] / 'open.js', PAGES[1] / 'studio.js', PAGES[2] / 'lone.js', PAGES[2] / 'worker.js']
+# The folders of modules, each of which imports only from those before it and from itself.
+PAGES = [TOOLS / 'motesim' / name / 'page' for name in ('timeline', 'web', 'studio')]
+ENTRIES = [PAGES[0] / 'open.js', PAGES[1] / 'lone.js', PAGES[1] / 'worker.js', PAGES[2] / 'studio.js']
 # (test_web_modules.py has the data of the other)
 TESTS = sorted(set((TOOLS / 'tests/page').glob('*.test.js')) - {TOOLS / 'tests/page/alone.test.js'})
 CASES = 'ring_overflows', 'nine_copies_collide', 'runaway_beside_another', 'copy_past_the_end'
@@ -99,6 +100,12 @@ class Bundles(unittest.TestCase):
     def test_every_module_of_the_pages_is_used(self) -> None:
         used = {path for entry in ENTRIES for path in modules_of(entry)}
         self.assertEqual({path for folder in PAGES for path in folder.glob('*.js')}, used)
+
+    def test_imports_have_one_direction(self) -> None:
+        for place, folder in enumerate(PAGES):
+            for path in folder.glob('*.js'):
+                for _, file in imports_of(path.read_text()):
+                    self.assertIn((folder / file).resolve().parent, PAGES[:place + 1], path)
 
     def test_the_pages_parse(self) -> None:
         for page in ENTRIES:

@@ -82,7 +82,7 @@ class Data(unittest.TestCase):
         said, columns, rest = columns_of(small_network())
         self.assertEqual(rest, 0)
         self.assertEqual(columns['traceStart'], [0, 12, 27, 36])
-        self.assertEqual(columns['at'][:8], [0, 0, 0, 0, 0, 4, 0, 0])
+        self.assertEqual(columns['at'][:8], [0, 0, 0, 0, 0, 4, 4, 4])
         self.assertEqual([KINDS[kind] for kind in columns['kind'][4:8]], ['send', 'post', 'take', 'send'])
         self.assertEqual(columns['copyTo'], [1] * 5)
         self.assertEqual(columns['copyAfter'], [2, 2, 0, 2, 2])
@@ -244,12 +244,10 @@ class Pages(InBrowser):
     def test_a_click_on_an_arrow_shows_its_copy(self) -> None:
         self.open(small_network())
         x, y = self.value('''(() => {
-          const {x: left, y: top} = pane.canvas.getBoundingClientRect(), a = pane.arrows;
-          for (let i = 0; i < a.length; i += 6) {
-            if (run.packetNumber[a[i + 4]] === 1 && run.packetSender[a[i + 4]] === 0) {
-              return [left + a[i] + (a[i + 2] - a[i]) * 0.5, top + a[i + 1] + (a[i + 3] - a[i + 1]) * 0.5];
-            }
-          }
+          const {x: left, y: top} = pane.canvas.getBoundingClientRect();
+          const {ends: [x0, y0, x1, y1]} = pane.arrows.find(
+            ({k}) => run.packetNumber[k] === 1 && run.packetSender[k] === 0);
+          return [left + (x0 + x1) / 2, top + (y0 + y1) / 2];
         })()''')
         self.browser.click(x, y)
         self.assertIn('Packet 1 of mote 0, value 20', self.shown())
@@ -377,7 +375,7 @@ class Pages(InBrowser):
         self.open(Run('many', Report.parse(many(60, 4)), None))
         for lane in 40, 11, 7, 3:
             seen = self.value('''(() => {
-              const c = pane.front, {fillText, fillRect} = c, drawn = [];
+              const c = pane.context, {fillText, fillRect} = c, drawn = [];
               c.fillText = (text, x, y, wide) => { drawn.push({text, x, y}); fillText.call(c, text, x, y, wide); };
               c.fillRect = (x, y, w, h) => { drawn.push({x, y, w, h}); fillRect.call(c, x, y, w, h); };
               pane.lane = %d;
@@ -458,34 +456,10 @@ class Pages(InBrowser):
                 self.assertTrue(abs(one['x'] - other['x']) >= (one['wide'] + other['wide']) / 2
                                 or abs(one['y'] - other['y']) >= 12)
 
-    def test_a_move_keeps_the_last_picture_and_draws_the_new_strip(self) -> None:
-        self.open(Run('many', Report.parse(many(900, 40)), None))
-        for lane in None, 6:
-            for x, y in (7, 0), (-33, 0), (0, 5), (-9, -11):
-                moved, differing = self.value("""(async () => {
-                  const lane = %s, pixels = () => {
-                    const {width, height} = pane.canvas, left = pane.gutter;
-                    return pane.context.getImageData(left, 24, width - left, height - 24).data;
-                  };
-                  m.act('whole');
-                  m.time.scale *= 4;
-                  m.time.begin = 30;
-                  if (lane) Object.assign(pane, {lane, top: 100});
-                  m.drawAll();
-                  m.time.begin += %d / m.time.scale;
-                  pane.top += lane ? %d : 0;
-                  m.redrawLanes();
-                  await new Promise(done => requestAnimationFrame(() => requestAnimationFrame(done)));
-                  const isMoved = pane.isMoved, strip = pixels();
-                  m.drawAll();
-                  return [isMoved, pixels().reduce((sum, it, i) => sum + (it !== strip[i]), 0)];
-                })()""" % (json.dumps(lane), x, y))
-                self.assertEqual((moved, differing), (bool(x or lane), 0), (lane, x, y))
-
-    def test_playing_moves_a_canvas_of_its_own(self) -> None:
+    def test_playing_moves_an_element_over_the_lanes(self) -> None:
         self.open(small_network())
         is_same, was, now = self.value("""(async () => {
-          const where = () => pane.over.canvas.style.transform, was = where(), lanes = pane.canvas.toDataURL();
+          const where = () => pane.cursor.style.transform, was = where(), lanes = pane.canvas.toDataURL();
           m.setNow(8);
           await new Promise(done => requestAnimationFrame(() => requestAnimationFrame(done)));
           return [pane.canvas.toDataURL() === lanes, was, where()];

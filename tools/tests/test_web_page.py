@@ -68,7 +68,7 @@ class Sources(unittest.TestCase):
 
     def test_colours_have_contrast_in_both_schemes(self) -> None:
         sheets = [(TOOLS / 'motesim' / name).read_text() for name in (
-            'timeline/page/page.css', 'studio/page/text.css')]
+            'timeline/page/page.css', 'web/page/text.css')]
         light, dark = dict[str, str](), dict[str, str]()
         for sheet in sheets:
             blocks = re.findall(r':root \{(.*?)\}', sheet, re.S)
@@ -327,8 +327,7 @@ class Page(InBrowser):
           const worker = new Worker(motesim.backend.script), module = await motesim.backend.module;
           const answer = await new Promise(done => {
             worker.onmessage = ({data}) => done(data);
-            worker.postMessage({module});
-            worker.postMessage({number: 1, text: %s});
+            worker.postMessage({module, number: 1, text: %s});
           });
           worker.terminate();
           return {...answer, columns: Boolean(answer.columns)};

@@ -7,43 +7,21 @@ from __future__ import annotations
 import sys
 import zlib
 from array import array
-from collections.abc import Callable, Iterator, Sequence
-from itertools import chain, repeat
+from collections.abc import Iterator
 from operator import sub
 from typing import Any
 
 from motesim.faults import Fault
-from motesim.report import KINDS, LOST, Log, Report
-from motesim.runner.batch import each_part
+from motesim.report import LOST, Log, Report
+from motesim.report.columns import NONE
 from motesim.report.run import Run
 from motesim.scenario import Scenario
 from motesim.scenario.fields import in_words
 
 ALL = 0xFFFF
-LEVEL = 6
-# The column to which a field of a line belongs.
-OF_FIELDS = {'process': 'p', 'sender': 'p', 'serial': 'x', 'number': 'x', 'event': 'e', 'word': 'w', 'value': 'w'}
+LEVEL = 5
 ARRAYS = {'u8': 'B', 'u16': 'H', 'u32': 'I'}
 TOO_LARGE = 'the report has a number that is too large for a page'
-# The least number of lines for which several processes make the columns; and the number of motes for which each of
-# these processes makes them at a time.
-MANY, MOTES_AT_ONCE = 300_000, 16
-
-
-def _zigzag(numbers: Sequence[int]) -> list[int]:
-    """Each number as its difference from the expected number, which is one more than the number before it. The result
-    is never negative, and is small if the two numbers are near."""
-    steps = map(sub, numbers, chain((-1,), numbers))
-    return [2 * step - 2 if step > 0 else 1 - 2 * step for step in steps]
-
-
-def _in_row(numbers: array[int]) -> bool:
-    """True if the numbers are 0, 1, 2, .."""
-    return not numbers or numbers[-1] == len(numbers) - 1 and numbers == array(numbers.typecode, range(len(numbers)))
-
-
-def _differences(numbers: Sequence[int]) -> Iterator[int]:
-    return map(sub, numbers, chain((0,), numbers))
 
 
 class Columns:
@@ -54,64 +32,30 @@ class Columns:
 
     def __init__(self, report: Report):
         self.columns = {name: array(ARRAYS[kind]) for name, kind in self.names.items()}
-        self.trace = trace = report.trace
+        trace = report.trace
         processes, events = trace.processes(), trace.words_of('event')
         self.processes = [name for name in trace.names if name in processes and name != 'all']
         self.events = [name for name in trace.names if name in events]
         self.programs = list(dict.fromkeys(mote.program for mote in report.motes))
-        self._add_traces(report)
         try:
+            self._add_traces(report)
             self._add_medium(report.log, len(report.motes))
         except OverflowError:
             raise Fault(TOO_LARGE) from None
 
     def _add_traces(self, report: Report) -> None:
-        """The lines of all motes."""
-        columns, motes = self.columns, len(report.motes)
-        columns['traceStart'].extend(self.trace.starts)
-        columns['kind'].frombytes(self.trace.kind)
-        columns['begins'].extend(map(self.programs.index, (mote.program for mote in report.motes)))
-        groups = [range(first, min(first + MOTES_AT_ONCE, motes)) for first in range(0, motes, MOTES_AT_ONCE)]
-        for part in each_part(self._lines, groups, is_much=len(self.trace) >= MANY):
-            for name, column in part.items():
-                columns[name].extend(column)
-
-    def _lines(self, motes: range) -> dict[str, array[int]]:
-        """The columns of some motes' lines. Moments are differences; serials and numbers are differences from the
-        expected ones."""
-        starts, found = self.trace.starts, {'at': array('I')}
-        for mote in motes:
-            found['at'].extend(_differences(self.trace.at[starts[mote]:starts[mote + 1]]))
-        kinds = bytes(self.trace.kind[starts[motes.start]:starts[motes.stop]])
-        following: Callable[[Iterator[int]], int] = next
-        for name in 'xpew':
-            parts = [self._part(motes, kind, name) for kind in KINDS]
-            try:
-                found[name] = array(ARRAYS[self.names[name]], map(following, map(parts.__getitem__, kinds)))
-            except OverflowError:
-                raise Fault(TOO_LARGE) from None
-        return found
-
-    def _part(self, motes: range, kind: str, name: str) -> Iterator[int]:
-        """The numbers that the lines of a kind have in a column, in their order."""
-        place = slice(self.trace.place(motes.start, kind).start, self.trace.place(motes.stop - 1, kind).stop)
-        for field, column in self.trace.of[kind].items():
-            if OF_FIELDS[field] != name:
-                continue
-            if name == 'x':
-                return self._numbers(motes, kind, column)
-            if name in 'pe' and field != 'sender':
-                places = {it: place for place, it in enumerate(self.events if name == 'e' else self.processes)}
-                table = [places.get(it, ALL) for it in self.trace.names]
-                return map(table.__getitem__, column[place])
-            return iter(column[place])
-        return repeat(0)
-
-    def _numbers(self, motes: range, kind: str, column: array[int]) -> Iterator[int]:
-        """Serials or numbers, as differences from the expected ones."""
-        for mote in motes:
-            numbers = column[self.trace.place(mote, kind)]
-            yield from repeat(0, len(numbers)) if _in_row(numbers) else _zigzag(numbers)
+        """The lines of all motes. A line without a process has its sender in the column of processes, or 0."""
+        columns, trace = self.columns, report.trace
+        columns['traceStart'].extend(trace.starts)
+        columns['begins'].extend(self.programs.index(mote.program) for mote in report.motes)
+        columns['kind'].frombytes(trace.kind)
+        columns['at'].extend(trace.at)
+        columns['x'].extend(iter(trace.number))
+        columns['w'].extend(trace.value)
+        processes = {NONE: 0, **_places(trace.names, self.processes)}
+        columns['p'].extend(processes[it] or sender for it, sender in zip(trace.process, trace.sender))
+        events = {NONE: 0, **_places(trace.names, self.events)}
+        columns['e'].extend(map(events.__getitem__, trace.event))
 
     def _add_medium(self, log: Log, motes: int) -> None:
         """The packets with their copies. A lost copy has the time 0."""
@@ -121,7 +65,7 @@ class Columns:
             if number != sent[sender]:
                 raise Fault('the packets of mote %d are not numbered 0, 1, 2, ..' % sender)
             sent[sender] += 1
-        columns['packetAt'].extend(_differences(log.at))
+        columns['packetAt'].extend(log.at)
         columns['packetSender'].extend(iter(log.sender))
         columns['packetValue'].extend(log.value)
         columns['copyCount'].extend(map(sub, log.first[1:], log.first))
@@ -150,6 +94,12 @@ class Columns:
     def table(self) -> list[list[Any]]:
         """The name, the kind of number and the length of each column."""
         return [[name, kind, len(self.columns[name])] for name, kind in self.names.items()]
+
+
+def _places(names: list[str], chosen: list[str]) -> dict[int, int]:
+    """The number of each chosen name by its place in the report; that of others is ALL."""
+    numbers = {name: number for number, name in enumerate(chosen)}
+    return {place: numbers.get(name, ALL) for place, name in enumerate(names)}
 
 
 def _last_moment(report: Report) -> int:

@@ -32,7 +32,7 @@ Writer = Callable[[str | Path, Iterable[bytes]], None]
 PACKAGES = Path(__file__).resolve().parent.parent
 # All pages have one template and one style.
 TEMPLATE = PACKAGES / 'web/page/web.html'
-STYLES = [PACKAGES / name for name in ('timeline/page/page.css', 'studio/page/text.css', 'web/page/web.css')]
+STYLES = [PACKAGES / name for name in ('timeline/page/page.css', 'web/page/text.css', 'web/page/web.css')]
 # A place in the template to be filled.
 MARK = re.compile('@([A-Z]+)@')
 

@@ -5,7 +5,7 @@ import {Run} from '../../motesim/timeline/page/data.js';
 import {indexRun} from '../../motesim/timeline/page/index.js';
 import {chainOf} from '../../motesim/timeline/page/causes.js';
 import {difference} from '../../motesim/web/page/diff.js';
-import {columnsOf, lastMoment} from '../../motesim/web/page/report.js';
+import {columnsOf} from '../../motesim/web/page/report.js';
 import {scenarioOf} from '../../motesim/web/page/scenario.js';
 import {sums} from '../../motesim/timeline/page/sums.js';
 import {readToml} from '../../motesim/web/page/toml.js';
@@ -13,7 +13,6 @@ import {given, sameFates} from './data.js';
 
 async function runOf({name, report, scenario}) {
   const {table, columns} = columnsOf(report), run = new Run({name, ...table, ...scenarioOf(scenario)}, columns);
-  run.end = Math.max(run.end, lastMoment(run));
   await indexRun(run);
   return run;
 }

@@ -1,7 +1,7 @@
 // Changes of a scenario's text by the map and the form: only what they name becomes another.
 import assert from 'node:assert/strict';
 import {test} from 'node:test';
-import {applied} from '../../motesim/studio/page/text.js';
+import {applied} from '../../motesim/web/page/text.js';
 import {Refused} from '../../motesim/timeline/page/stage.js';
 import {edit} from '../../motesim/web/page/edits.js';
 import {readToml} from '../../motesim/web/page/toml.js';

@@ -1,7 +1,7 @@
 // The colours of programs, from the table of the notation's words.
 import assert from 'node:assert/strict';
 import {test} from 'node:test';
-import {firstState, rowTokens} from '../../motesim/studio/page/tokens.js';
+import {firstState, rowTokens} from '../../motesim/web/page/tokens.js';
 import {given} from './data.js';
 
 /** Pairs of a token and its colour. */

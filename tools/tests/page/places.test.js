@@ -19,7 +19,7 @@ test('wide empty stretches are shortened, and the way back is exact', () => {
 test('each mote is found at its place, and a link at its middle', async () => {
   const map = new MapLayout(await runOf('small_network'));
   for (const width of [200, 360, 900]) {
-    map.fitTo(width);
+    map.fitTo(width, 240);
     for (let m = 0; m < map.run.begins.length; m++) {
       assert.equal(map.moteNear(map.x(m), map.y(m)), m);
       assert.ok(map.x(m) >= 0 && map.x(m) <= map.width && map.y(m) >= 0 && map.y(m) <= map.height);
@@ -32,7 +32,7 @@ test('each mote is found at its place, and a link at its middle', async () => {
 
 test('zooming keeps the point under the pointer', async () => {
   const map = new MapLayout(await runOf('small_network'));
-  map.fitTo(360);
+  map.fitTo(360, 240);
   map.zoomAt(3, 100, 60);
   const [x, y] = map.shownAt(100, 60);
   map.zoomAt(2, 100, 60);
@@ -45,6 +45,6 @@ test('zooming keeps the point under the pointer', async () => {
 test('without places the motes are on a circle', async () => {
   const run = await runOf('silent'), map = new MapLayout(run);
   assert.equal(run.places, null);
-  map.fitTo(300);
+  map.fitTo(300, 240);
   assert.equal(map.moteNear(map.x(1), map.y(1)), 1);
 });

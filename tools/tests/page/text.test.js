@@ -1,7 +1,7 @@
 // Texts: places, numbers with nouns, and the difference of two runs in words.
 import assert from 'node:assert/strict';
 import {test} from 'node:test';
-import {lineAndColumn, offsetOf} from '../../motesim/studio/page/text.js';
+import {lineAndColumn, offsetOf} from '../../motesim/web/page/text.js';
 import {PRINT, SEND} from '../../motesim/timeline/page/data.js';
 import {headInWords} from '../../motesim/timeline/page/heads.js';
 import {count} from '../../motesim/timeline/page/words.js';

@@ -25,37 +25,34 @@ function showWarnings(warnings) {
     makeButton(`Warning (${name}): ${text}.`, () => { if (place) goTo(...place); })));
 }
 
+/** Shows the state of the expectations: the label of the tab, its mark, words, and more. */
+function showState(label, className, words, ...more) {
+  labelTab('checks', label, className);
+  byId('checks').classList.remove('earlier');
+  byId('checks').replaceChildren(element('p', words), ...more);
+}
+
 function showChecks(checks) {
-  const box = byId('checks');
-  box.classList.remove('earlier');
-  labelTab('checks', 'Checks');
   if (!checks) {
-    box.replaceChildren(element('p', 'There are no expectations for this scenario. Write some, such as "mote 6 ' +
-      'prints flood 1 by 60" into a file NAME.expect.toml next to NAME.toml: they are checked here after each run.'));
-    return;
+    return showState('Checks', '', 'There are no expectations for this scenario. Write some, such as "mote 6 prints ' +
+      'flood 1 by 60" into a file NAME.expect.toml next to NAME.toml: they are checked here after each run.');
   }
-  if (checks.fault) {
-    labelTab('checks', 'Checks: ?', 'bad');
-    box.replaceChildren(element('p', `The expectations can't be checked. ${checks.name}: ${checks.fault}`));
-    return;
-  }
-  const passed = checks.marks.filter(it => it.holds).length, all = checks.marks.length;
-  labelTab('checks', `Checks ${passed}/${all}`, passed === all ? 'good' : 'bad');
-  const about = checks.about ? `, with the change "${checks.about}"` : '';
-  box.replaceChildren(element('p', `${passed} of ${all} expectations of ${checks.name} hold${about}.`),
-    element('ul', '', checks.marks.map(checkItem)));
+  const {name, fault, marks, about} = checks;
+  if (fault) return showState('Checks: ?', 'bad', `The expectations can't be checked. ${name}: ${fault}`);
+  const passed = marks.filter(it => it.holds).length, all = marks.length;
+  const withChange = about ? `, with the change "${about}"` : '';
+  showState(`Checks ${passed}/${all}`, passed === all ? 'good' : 'bad',
+    `${passed} of ${all} expectations of ${name} hold${withChange}.`, element('ul', '', marks.map(checkItem)));
 }
 
 /** A sentence. A click on a broken one shows the line that breaks it, or how near the run came. */
-function checkItem(it) {
-  const sign = element('span', it.holds ? '✓' : '✗', [], {className: 'sign',
-    'aria-label': it.holds ? 'holds' : 'broken'});
-  const words = it.holds && !it.row ? element('span', it.sentence) :
-    makeButton(it.sentence, () => it.row ? chooseRow(page.panes[0], it.row) : askQuestion(it.sentence));
-  const inside = element('div', '', [words, it.required ? ' (required)' : '']);
-  const why = [...(it.holds ? [] : it.more), ...(it.remark ? [it.remark] : [])].join('\n');
-  if (why) inside.append(element('span', why, [], {className: 'why'}));
-  return element('li', '', [sign, inside], {className: it.holds ? 'holds' : 'broken'});
+function checkItem({sentence, holds, row, required, more, remark}) {
+  const sign = element('span', holds ? '✓' : '✗', [], {className: 'sign', 'aria-label': holds ? 'holds' : 'broken'});
+  const words = holds && !row ? element('span', sentence) :
+    makeButton(sentence, () => row ? chooseRow(page.panes[0], row) : askQuestion(sentence));
+  const why = [...(holds ? [] : more), remark].filter(Boolean).join('\n');
+  return element('li', '', [sign, element('div', '', [words, required ? ' (required)' : '',
+    element('span', why, [], {className: 'why'})])], {className: holds ? 'holds' : 'broken'});
 }
 
 /** Shows the results of runs from now on. */

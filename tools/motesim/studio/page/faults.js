@@ -7,7 +7,10 @@ import {count} from '../../timeline/page/words.js';
 import {attempt, change} from '../../web/page/web.js';
 import {labelTab, markEarlier} from './checks.js';
 
-const POLL = 300, SHOWN_SETS = 12;
+const {faults} = page, POLL = 300, SHOWN_SETS = 12, FIRST_KINDS = ['links', 'motes'];
+/** What can be done with a set of faults: the name (that of the faults if there is none), the question, the purpose. */
+const CHANGES = [['', 'counter-example', 'Change the text so that it has this fault'],
+  ['Shrink', 'shrink', 'Replace the text by the smallest scenario in which this fault breaks the expectation']];
 
 /** Offers kinds of faults, and searches from now on. */
 export function beginFaults(kinds) {
@@ -17,20 +20,19 @@ export function beginFaults(kinds) {
   });
   page.reactions.outdated.push(() => {
     stopSearch('The text was changed, so the search was stopped.');
-    if (!page.faults.found) return;
+    if (!faults.found) return;
     labelTab('faults', 'Faults');
     markEarlier(byId('faults-found'));
   });
-  byId('faults-kinds').append(...kinds.map(([kind, words]) => {
-    const input = element('input', '', [], {type: 'checkbox', value: kind, checked: ['links', 'motes'].includes(kind)});
-    return element('label', '', [input, ` ${kind}`], {title: words});
-  }));
-  onSubmit('faults-form', () => page.faults.isGoing ? stopSearch('The search was stopped.') : attempt(searchNow));
+  byId('faults-kinds').append(...kinds.map(([kind, words]) => element('label', '', [
+    element('input', '', [], {type: 'checkbox', value: kind, checked: FIRST_KINDS.includes(kind)}), ` ${kind}`],
+  {title: words})));
+  onSubmit('faults-form', () => faults.isGoing ? stopSearch('The search was stopped.') : attempt(searchNow));
 }
 
 /** Shows the state of the search, and the function of its button. */
 function showSearch(isGoing, words) {
-  page.faults.isGoing = isGoing;
+  faults.isGoing = isGoing;
   byId('faults-search').textContent = isGoing ? 'Stop' : 'Search';
   byId('faults-state').textContent = words;
   labelTab('faults', isGoing ? 'Faults …' : 'Faults');
@@ -41,7 +43,7 @@ async function searchNow() {
   const {document: {where, name}, history: {text}, saved} = page.web;
   const {number} = await page.backend.ask('search', {text, where, name, saved, kinds,
     at_most: Number(byId('faults-most').value)});
-  page.faults.number = number;
+  faults.number = number;
   forgetFaults();
   showSearch(true, 'The run without faults is being checked.');
   watchSearch(number);
@@ -49,7 +51,7 @@ async function searchNow() {
 
 /** Asks for the progress of the search until it is over or another one begins. */
 async function watchSearch(number) {
-  const isOld = () => !page.faults.isGoing || number !== page.faults.number;
+  const isOld = () => !faults.isGoing || number !== faults.number;
   if (isOld()) return;
   const state = await attempt(() => page.backend.ask('searched', {number}));
   if (isOld()) return;
@@ -57,25 +59,25 @@ async function watchSearch(number) {
   if (state.over) return endSearch(state);
   const {done, sets, runs, found} = state.progress;
   if (sets) showSearch(true, `${done} of ${sets} sets, ${count(runs, 'run')}, ${found} found`);
-  page.faults.timer = window.setTimeout(() => watchSearch(number), POLL);
+  faults.timer = window.setTimeout(() => watchSearch(number), POLL);
 }
 
 function endSearch({fault, found}) {
   showSearch(false, fault || `${count(found.runs, 'run')} in ${found.seconds.toFixed(1)} seconds`);
-  page.faults.found = fault ? null : found;
+  faults.found = fault ? null : found;
   if (!fault) showFound(found);
 }
 
 /** Stops the search, if one runs, and says why. */
 function stopSearch(why) {
-  if (!page.faults.isGoing) return;
-  clearTimeout(page.faults.timer);
+  if (!faults.isGoing) return;
+  clearTimeout(faults.timer);
   showSearch(false, why);
   attempt(() => page.backend.ask('stop-search', {}));
 }
 
 function forgetFaults() {
-  page.faults.found = null;
+  faults.found = null;
   showSearch(false, '');
   byId('faults-found').classList.remove('earlier');
   byId('faults-found').replaceChildren();
@@ -83,25 +85,23 @@ function forgetFaults() {
 
 /** Shows the coverage of the search, and a table of the broken and the kept expectations. */
 function showFound({covered_lines: lines, covered, runs, notes, holds, broken, found}) {
-  const box = byId('faults-found'), isWhole = runs > 0 && Object.values(covered).every(it => it.all);
-  box.replaceChildren(...[...notes, ...lines].map(line => element('p', line)));
+  const isWhole = runs > 0 && Object.values(covered).every(it => it.all);
   if (broken.length) labelTab('faults', `Faults ${broken.length}`, 'bad');
   else if (isWhole) labelTab('faults', 'Faults ✓', 'good');
-  if (!runs) return box.append(element('p', 'Nothing was searched: choose other kinds of faults.'));
   const kept = holds.map(sentence => element('tr', '', [element('td', '✓ holds'), element('td', sentence)],
     {className: 'holds'}));
-  box.append(table(['fault', 'expectation', ''], [...broken.flatMap(sentence => rowsOf(sentence, found)), ...kept]));
+  byId('faults-found').replaceChildren(...[...notes, ...lines].map(line => element('p', line)), runs ?
+    table(['fault', 'expectation', ''], [...broken.flatMap(sentence => rowsOf(sentence, found)), ...kept]) :
+    element('p', 'Nothing was searched: choose other kinds of faults.'));
 }
 
 /** The rows of one expectation that is broken. */
 function rowsOf(sentence, found) {
-  const sets = found.map((it, index) => ({it, index})).filter(({it}) => it.expectations.includes(sentence));
-  const rows = sets.slice(0, SHOWN_SETS).map(({it, index}, place) => {
-    const buttons = [[`✗ ${it.faults.join('; ')}`, 'counter-example', 'Change the text so that it has this fault'],
-      ['Shrink', 'shrink', 'Replace the text by the smallest scenario in which this fault breaks the expectation']];
-    const [show, small] = buttons.map(([name, what, title]) =>
-      Object.assign(makeButton(name, () => attempt(() => takeText(what, index, sentence))), {title}));
-    return element('tr', '', [[show], place ? [] : [sentence], [small]].map(inside => element('td', '', inside)));
+  const sets = [...found.entries()].filter(([, it]) => it.expectations.includes(sentence));
+  const rows = sets.slice(0, SHOWN_SETS).map(([index, it], place) => {
+    const [show, small] = CHANGES.map(([name, what, title]) =>
+      makeButton(name || `✗ ${it.faults.join('; ')}`, () => attempt(() => takeText(what, index, sentence)), {title}));
+    return element('tr', '', [show, place ? '' : sentence, small].map(inside => element('td', '', [inside])));
   });
   const more = sets.length - rows.length;
   if (more > 0) rows.push(element('tr', '', [element('td', `and ${more} more: tools/search --all shows them`)]));
@@ -111,7 +111,7 @@ function rowsOf(sentence, found) {
 /** Takes the text with a fault, or the smallest one: a change of the text. */
 async function takeText(what, index, sentence) {
   byId('faults-state').textContent = what === 'shrink' ? 'shrinking …' : '';
-  const {text} = await page.backend.ask(what, {number: page.faults.number, index, sentence});
+  const {text} = await page.backend.ask(what, {number: faults.number, index, sentence});
   byId('faults-state').textContent = '';
   change(text, 'fault');
 }

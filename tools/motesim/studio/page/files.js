@@ -9,8 +9,8 @@ const {web} = page;
 /** The document that was opened, and what its page says and offers: the first change that its expectations name.
  * @param {any} opened @returns {[any, any]} */
 export function documentOf({document, may_save: maySave, changes: [first]}) {
-  const offer = first && {try: `Try: ${first.about || 'the first change'}`, replace: first.replace};
-  return [{...document, maySave}, offer || null];
+  return [{...document, maySave},
+    first ? {try: `Try: ${first.about || 'the first change'}`, replace: first.replace} : null];
 }
 
 const isDirty = () => web.document && web.history.text !== web.saved;
@@ -18,8 +18,10 @@ const isDirty = () => web.document && web.history.text !== web.saved;
 /** The name of the draft of the document in the browser's storage. */
 const draftName = () => `motesim draft ${web.folder} ${web.document.where} ${web.document.name}`;
 
+const forgetDraft = () => stored(it => it.removeItem(draftName()));
+
 /** Keeps a text that isn't saved in the browser's storage. @param {string} text */
-const keepDraft = text => stored(it => isDirty() ? it.setItem(draftName(), text) : it.removeItem(draftName()));
+const keepDraft = text => isDirty() ? stored(it => it.setItem(draftName(), text)) : forgetDraft();
 
 /** Offers the draft of the document that was opened, if it has one. */
 function offerDraft() {
@@ -27,7 +29,7 @@ function offerDraft() {
   if (draft === null || draft === web.saved) return;
   say(`This browser has a text of ${web.document.name} that was not saved.`, '', {offers: [
     ['Take it', () => change(draft, 'edit')], ['Forget it', () => {
-      stored(it => it.removeItem(draftName()));
+      forgetDraft();
       say('The text is that of the file.');
     }]]});
 }
@@ -57,7 +59,7 @@ async function save(over = false, named = '') {
     return say(`${said.changed}.`, 'bad', {offers: named ? [] : [['Overwrite it with mine', () => save(true)],
       ['Load the other', () => openFile(web.document.name)]]});
   }
-  stored(it => it.removeItem(draftName()));
+  forgetDraft();
   Object.assign(web, {document: {...file, ...said, maySave: true}, saved: text});
   nameDocument();
   say(`It is saved as ${said.name}.`);
@@ -66,8 +68,8 @@ async function save(over = false, named = '') {
 /** Writes the text under a new name. */
 function saveAs() {
   const {name, maySave} = web.document, wish = maySave ? name.replace(/\.toml$/, '_2.toml') : `my_${name}`;
-  const named = prompt(`A new file, in ${web.folder}:`, wish);
-  if (named && named.trim()) return save(false, named.trim());
+  const named = prompt(`A new file, in ${web.folder}:`, wish)?.trim();
+  if (named) return save(false, named);
 }
 
 /** Hands the reader the page of the run that is shown. */
@@ -93,8 +95,5 @@ export function beginFiles({files, folder}) {
   });
   page.reactions.outdated.push(nameDocument);
   page.reactions.kept.push(keepDraft);
-  page.reactions.opened.push(() => {
-    nameDocument();
-    offerDraft();
-  });
+  page.reactions.opened.push(nameDocument, offerDraft);
 }

@@ -7,14 +7,15 @@ import {showTab} from '../../timeline/page/tabs.js';
 import {sayWhy, showChain} from '../../timeline/page/why.js';
 import {attempt} from '../../web/page/web.js';
 
+const ask = asked => page.backend.ask('why', {number: page.web.number, ...asked});
+
 /** The hops of a chain that the server found, with their lines in the run. */
-const hopsOf = ({chain}) => chain.map(({mote, line: row, at, words, because, waited, how, for: wait}) =>
-  ({line: how === 'start' ? -1 : row - mote - 2, mote, at, row, words, because, waited, wait: wait || ''}));
+const hopsOf = ({chain}) => chain.map(({line: row, how, for: wait, ...hop}) =>
+  ({...hop, row, line: how === 'start' ? -1 : row - hop.mote - 2, wait: wait || ''}));
 
 /** The chain of a line. */
 async function chainOf(run, line) {
-  const row = run.numberOf(line, run.moteOf(line));
-  const answer = await page.backend.ask('why', {number: page.web.number, row});
+  const answer = await ask({row: run.numberOf(line, run.moteOf(line))});
   showTab('why');
   if (answer.said) throw new Error(answer.said);
   return {hops: hopsOf(answer), about: ''};
@@ -26,7 +27,7 @@ export async function askQuestion(question) {
   byId('why-asked').value = question;
   showTab('why');
   if (!pane || !question) return;
-  const answer = await attempt(() => page.backend.ask('why', {number: page.web.number, question}));
+  const answer = await attempt(() => ask({question}));
   if (!answer) return;
   if (answer.said) return sayWhy(answer.said);
   if (answer.chain) {

@@ -6,18 +6,13 @@ import {showTime} from './time.js';
 
 /** Follows the page's address after #: from, to, mote, line (a number). */
 export function openAsAddressed() {
-  const wish = new URLSearchParams(location.hash.slice(1)), number = name => Number(wish.get(name));
-  const {time, panes: [pane]} = page;
-  if (wish.has('from')) showTime(number('from'), wish.has('to') ? number('to') : number('from') + 60);
-  if (wish.has('mote') && number('mote') < pane.order.length) {
-    chooseMote(pane, number('mote'), false);
-    pane.reveal(number('mote'));
+  const wish = new URLSearchParams(location.hash.slice(1)), {time, panes: [pane]} = page;
+  const [from, to, mote, row] = ['from', 'to', 'mote', 'line'].map(name => Number(wish.get(name)));
+  if (wish.has('from')) showTime(from, wish.has('to') ? to : from + 60);
+  if (wish.has('mote') && mote < pane.order.length) {
+    chooseMote(pane, mote);
+    pane.reveal(mote);
   }
-  if (wish.has('line')) {
-    const found = pane.run.atRow(number('line'));
-    if (found && found.line >= 0) {
-      const after = pane.run.at[found.line] - time.begin, isShown = after >= 0 && after <= time.width / time.scale;
-      chooseLine(pane, found.line, !wish.has('from') || !isShown);
-    }
-  }
+  const line = pane.run.atRow(row)?.line ?? -1, after = pane.run.at[line] - time.begin;
+  if (line >= 0) chooseLine(pane, line, !wish.has('from') || after < 0 || after > time.width / time.scale);
 }

@@ -4,38 +4,41 @@ import {byId} from './dom.js';
 import {page} from './stage.js';
 import {closeWhy} from './why.js';
 
-/** Shows the card at the pointer. @param {number} x @param {number} y */
+const EDGE = 8;
+
+/** Shows the card at a place of the window, and within it. @param {number} x @param {number} y */
 function showCard(x, y) {
   const card = byId('card');
   card.hidden = !page.chosen.pane;
-  if (card.hidden) return;
   const {width, height} = card.getBoundingClientRect();
-  const left = x + 24 + width < innerWidth ? x + 24 : Math.max(8, x - width - 24);
-  Object.assign(card.style, {left: `${left}px`, top: `${Math.max(8, Math.min(y - 30, innerHeight - height - 8))}px`});
+  const left = x + 24 + width < innerWidth ? x + 24 : Math.max(EDGE, x - width - 24);
+  Object.assign(card.style, {left: `${left}px`, top: `${Math.max(EDGE, Math.min(y, innerHeight - height - EDGE))}px`});
 }
 
-/** Shows the card whenever something is selected by the pointer, and by a key once it was opened. */
+/** Shows the card whenever something is selected by the pointer, or by a key over the lanes. */
 export function beginCard() {
+  const card = byId('card');
   let before = 0;
   for (const id of ['panes', 'maps']) {
     byId(id).addEventListener('pointerdown', () => { before = page.chosen.times; }, true);
     byId(id).addEventListener('pointerup', event => setTimeout(() => {
-      if (page.chosen.times !== before) showCard(event.clientX, event.clientY);
+      if (page.chosen.times !== before) showCard(event.clientX, event.clientY - 30);
     }));
   }
   // (the chain of causes makes the card longer)
   new ResizeObserver(() => {
-    const {top, height} = byId('card').getBoundingClientRect();
-    if (top + height > innerHeight) byId('card').style.top = `${Math.max(8, innerHeight - height - 8)}px`;
-  }).observe(byId('card'));
+    const {top, bottom} = card.getBoundingClientRect();
+    if (bottom > innerHeight) card.style.top = `${Math.max(EDGE, top + innerHeight - bottom - EDGE)}px`;
+  }).observe(card);
   byId('card-close').addEventListener('click', () => {
-    byId('card').hidden = true;
+    card.hidden = true;
     closeWhy();
   });
-  document.addEventListener('keydown', event => {
-    if (event.key === 'Escape') byId('card').hidden = true;
-    if (!'[]{}wW'.includes(event.key) || !page.chosen.pane || document.activeElement !== page.panes[0].canvas) return;
-    const box = page.panes[0].canvas.getBoundingClientRect();
+  document.addEventListener('keydown', ({key}) => {
+    if (key === 'Escape') card.hidden = true;
+    const canvas = page.panes[0]?.canvas;
+    if (!'[]{}wW'.includes(key) || !page.chosen.pane || document.activeElement !== canvas) return;
+    const box = canvas.getBoundingClientRect();
     showCard(box.right - 420, box.top - 160);
   });
 }

@@ -5,10 +5,6 @@ import {page} from './stage.js';
 /** @type {(id: string) => any} */
 export const byId = id => document.getElementById(id);
 
-/** The element that has the keyboard.
- * @type {() => any} */
-export const focused = () => document.activeElement;
-
 /** A new element with a text, with others inside, and with properties and attributes. @returns {any} */
 export function element(name, text = '', inside = [], its = {}) {
   const made = document.createElement(name);
@@ -29,12 +25,8 @@ export function table(headings, rows) {
   return element('table', '', [element('thead', '', [head]), element('tbody', '', rows)]);
 }
 
-export function makeButton(name, act) {
-  const button = element('button', name);
-  button.type = 'button';
-  button.addEventListener('click', act);
-  return button;
-}
+export const makeButton = (name, act, its = {}) =>
+  element('button', name, [], {type: 'button', onclick: act, ...its});
 
 /** Calls a function when a form is sent. */
 export function onSubmit(id, act) {
@@ -49,23 +41,21 @@ const FILE_LINE = /(?<=line \d+ \()(.+?):(\d+)(?=\))/g;
 
 /** A place in the file of the programs, which a click shows. */
 function filePlace(text, line) {
-  const made = element('span', text, [], {className: 'place', tabIndex: 0, title: `Go to line ${line}`, role: 'link'});
   const go = event => {
+    if (event.key && event.key !== 'Enter' && event.key !== ' ') return;
     event.preventDefault();
     event.stopPropagation();
     page.goToLine(line);
   };
-  made.addEventListener('click', go);
-  made.addEventListener('keydown', event => { if (event.key === 'Enter' || event.key === ' ') go(event); });
-  return made;
+  return element('span', text, [], {className: 'place', tabIndex: 0, title: `Go to line ${line}`, role: 'link',
+    onclick: go, onkeydown: go});
 }
 
 /** A text in pieces, in which places in the file of the programs can be clicked. */
 export function withPlaces(text) {
-  if (!page.goToLine) return [text];
   const pieces = [];
   let from = 0;
-  for (const found of text.matchAll(FILE_LINE)) {
+  for (const found of page.goToLine ? text.matchAll(FILE_LINE) : []) {
     pieces.push(text.slice(from, found.index), filePlace(found[0], Number(found[2])));
     from = found.index + found[0].length;
   }
@@ -74,7 +64,7 @@ export function withPlaces(text) {
 
 /** A line of the report as a button: its place, its text, and a remark. */
 export function lineButton(where, text, remark, isCurrent, act) {
-  const button = Object.assign(makeButton('', act), {className: 'line'});
+  const button = makeButton('', act, {className: 'line'});
   button.append(element('span', where, [], {className: 'where'}), element('code', '', withPlaces(text)));
   if (remark) button.append(element('span', '', withPlaces(remark), {className: 'what'}));
   if (isCurrent) button.setAttribute('aria-current', 'true');
@@ -92,9 +82,7 @@ export function stored(work) {
 
 /** Hands the reader a file. */
 export function handOut(name, parts, type) {
-  const link = element('a');
-  link.href = URL.createObjectURL(new Blob(parts, {type}));
-  link.download = name;
-  link.click();
-  setTimeout(() => URL.revokeObjectURL(link.href), 10000);
+  const href = URL.createObjectURL(new Blob(parts, {type}));
+  element('a', '', [], {href, download: name}).click();
+  setTimeout(() => URL.revokeObjectURL(href), 10000);
 }

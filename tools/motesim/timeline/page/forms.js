@@ -1,6 +1,6 @@
 // @ts-check
 // The forms of lines and copies, each drawn around a point. No two differ only by colour.
-import {COLLIDED, GONE, HANDED, LEFT, MEDIUM, RECEIVED, REFUSED, RING, UNHEARD} from './index.js';
+import {MEDIUM} from './index.js';
 
 /** The colours of the page by their names. */
 export const colours = {};
@@ -17,7 +17,7 @@ export function readColours() {
   stamps.clear();
 }
 
-export function path(c, points, close) {
+export function path(c, points, close = false) {
   c.beginPath();
   for (let i = 0; i < points.length; i += 2) {
     if (i) c.lineTo(points[i], points[i + 1]); else c.moveTo(points[i], points[i + 1]);
@@ -25,14 +25,16 @@ export function path(c, points, close) {
   if (close) c.closePath();
 }
 
+/** Strokes the path in a colour. */
 export function stroke(c, colour, width) {
-  c.strokeStyle = colour;
+  c.strokeStyle = colours[colour];
   c.lineWidth = width;
   c.stroke();
 }
 
+/** Fills the path with a colour. */
 export function fill(c, colour) {
-  c.fillStyle = colour;
+  c.fillStyle = colours[colour];
   c.fill();
 }
 
@@ -46,6 +48,16 @@ export function setFont(c, size, align = 'left', baseline = 'middle', weight = '
 export function write(c, text, x, y, colour, most) {
   c.fillStyle = colours[colour];
   c.fillText(text, x, y, most);
+}
+
+/** Draws the lines between points. */
+export function drawPath(c, points, colour, width, alpha = 1, dash = /** @type {number[]} */ ([])) {
+  c.save();
+  c.globalAlpha = alpha;
+  c.setLineDash(dash);
+  path(c, points);
+  stroke(c, colour, width);
+  c.restore();
 }
 
 /** Fills a rectangle with a colour. */
@@ -100,8 +112,8 @@ export function drawForm(c, name, x, y, r) {
   for (const {lines, circle, fill: inside, edge, wide = 1.4} of FORMS[name]) {
     if (lines) path(c, lines.map((it, i) => (i % 2 ? y : x) + it * r), Boolean(inside));
     else ring(c, x, y, circle * r);
-    if (inside) fill(c, colours[inside]);
-    if (edge) stroke(c, colours[edge], wide);
+    if (inside) fill(c, inside);
+    if (edge) stroke(c, edge, wide);
   }
 }
 
@@ -119,17 +131,10 @@ export function stampOf(name, r, dots, draw = (c, at) => drawForm(c, name, at, a
   return stamps.get(key);
 }
 
-/** The line and the end of an arrow by the fate of its copy. */
-const ARROW = [];
-ARROW[HANDED] = {dash: [], end: 'head', colour: 'recv'};
-ARROW[RECEIVED] = {dash: [], end: 'open', colour: 'recv'};
-ARROW[REFUSED] = {dash: [], end: 'full', colour: 'trouble'};
-ARROW[UNHEARD] = {dash: [], end: 'deaf', colour: 'trouble'};
-ARROW[RING] = {dash: [8, 3, 2, 3], end: 'lost', colour: 'trouble'};
-ARROW[COLLIDED] = {dash: [2, 3], end: 'collide', colour: 'trouble'};
-ARROW[MEDIUM] = {dash: [6, 4], end: 'cross', colour: 'trouble'};
-ARROW[GONE] = {dash: [1, 4], end: 'bar', colour: 'quiet'};
-ARROW[LEFT] = {dash: [10, 3], end: 'open', colour: 'quiet'};
+/** The line and the end of an arrow by the fate of its copy, in the order of fates. */
+const ARROWS = [{end: 'head', colour: 'recv'}, {end: 'full'}, {end: 'deaf'}, {dash: [8, 3, 2, 3], end: 'lost'},
+  {dash: [2, 3], end: 'collide'}, {dash: [6, 4], end: 'cross'}, {dash: [1, 4], end: 'bar', colour: 'quiet'},
+  {dash: [10, 3], end: 'open', colour: 'quiet'}, {end: 'open', colour: 'recv'}];
 
 /** The head of an arrow.
  * @param {any} c @param {number[]} ends @param {number} r @param {string} colour @param {boolean} filled */
@@ -142,18 +147,14 @@ export function head(c, [x0, y0, x1, y1], r, colour, filled) {
 
 /** Draws an arrow. That of a copy lost on the way ends before it arrives, with a cross.
  * @param {any} c @param {number[]} ends @param {number} fate @param {number} width @param {number} size */
-export function drawArrow(c, [x0, y0, x1, y1], fate, width, size) {
-  const form = ARROW[fate], colour = colours[form.colour];
-  if (fate === MEDIUM) {
-    x1 = x0 + (x1 - x0) * 0.62;
-    y1 = y0 + (y1 - y0) * 0.62;
-  }
-  c.setLineDash(form.dash);
-  path(c, [x0, y0, x1, y1]);
-  stroke(c, colour, width);
-  c.setLineDash([]);
-  if (form.end === 'head' || form.end === 'open') head(c, [x0, y0, x1, y1], size * 1.7, colour, form.end === 'head');
-  else drawForm(c, form.end, x1, y1, form.end === 'cross' ? size * 0.9 : size);
+export function drawArrow(c, [x0, y0, x1, y1], fate, width, size, alpha = 1) {
+  const {dash = [], end, colour = 'trouble'} = ARROWS[fate], way = fate === MEDIUM ? 0.62 : 1;
+  const ends = [x0, y0, x0 + (x1 - x0) * way, y0 + (y1 - y0) * way];
+  drawPath(c, ends, colour, width, alpha, dash);
+  c.globalAlpha = alpha;
+  if (end === 'head' || end === 'open') head(c, ends, size * 1.7, colour, end === 'head');
+  else drawForm(c, end, ends[2], ends[3], end === 'cross' ? size * 0.9 : size);
+  c.globalAlpha = 1;
 }
 
 /** Draws the forms of the legend. */

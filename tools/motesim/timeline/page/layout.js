@@ -1,6 +1,6 @@
 // @ts-check
 // The layout of a pane: the places of its motes, moments and lines.
-import {DEAF, DROP, FULL, POST, PRINT, RECV, SEND, TAKE, lowerBound} from './data.js';
+import {PRINT, RECV, SEND} from './data.js';
 import {page} from './stage.js';
 
 /** The height of the axis, and of the head of an island. */
@@ -12,8 +12,9 @@ export const FULL_LANE = 32;
 export const TALL_LANE = 150;
 /** From this scale on, the lines of a moment are drawn apart. */
 export const APART = 14;
-// The room of a label in front of a strip, which it may reach into.
-const LABEL = 80;
+/** The rows of lines in a lane by their kinds; and those in low lanes. */
+const ROWS = [0.5, 0.5, 0.72, 0.72, 0.88, 0.88, 0.5, 0.5, 0.15, 0.3, 0.3, 0.3, 0.3, 0.5];
+const LOW_ROWS = {[RECV]: 0.8, [PRINT]: 0.3};
 
 /** How far a point is from a line between two points.
  * @param {number} x @param {number} y @param {number[]} ends */
@@ -24,30 +25,22 @@ export function awayFrom(x, y, [x0, y0, x1, y1]) {
 }
 
 export class Layout {
-  constructor(run) {
-    this.top = 0;
-    this.lane = 20;
-    this.gutter = 70;
-    this.width = 200;
-    this.height = 200;
-    this.strip = /** @type {{left: number, top: number, right: number, bottom: number}|null} */ (null);
-    this.take(run);
-  }
+  top = 0;
+  lane = 20;
+  gutter = 70;
+  width = 200;
+  height = 200;
+
+  constructor(run) { this.take(run); }
 
   /** Makes lanes for the motes of a run, in the order of islands. */
   take(run) {
     this.run = run;
-    this.order = [];
+    this.order = run.groups.flatMap(group => group.motes);
     this.place = new Int32Array(run.begins.length);
     this.groupOf = new Int32Array(run.begins.length);
-    run.groups.forEach((group, g) => {
-      group.first = this.order.length;
-      for (const mote of group.motes) {
-        this.place[mote] = this.order.length;
-        this.groupOf[mote] = g;
-        this.order.push(mote);
-      }
-    });
+    this.order.forEach((mote, place) => { this.place[mote] = place; });
+    run.groups.forEach((group, g) => group.motes.forEach(mote => { this.groupOf[mote] = g; }));
   }
 
   get heads() { return this.run.groups.length * HEAD; }
@@ -67,20 +60,18 @@ export class Layout {
 
   get isFit() { return Math.abs(this.lane - Math.min(TALL_LANE, this.fitting)) < 0.01; }
 
-  get full() { return this.heads + this.order.length * this.lane; }
-
   /** Keeps the lanes within the pane. */
   keep() {
     this.lane = Math.min(240, Math.max(Math.min(1, this.fitting), this.lane));
-    this.top = Math.max(0, Math.min(this.top, this.full - (this.height - AXIS)));
+    this.top = Math.max(0, Math.min(this.top, this.heads + this.order.length * this.lane - (this.height - AXIS)));
   }
 
   /** Makes lanes taller by a factor; the lane at y stays there. */
   zoomLanes(factor, y = this.height / 2) {
-    const place = this.placeAt(y), before = this.laneTopOfPlace(Math.min(place, this.order.length - 1));
+    const place = Math.min(this.placeAt(y), this.order.length - 1), before = this.laneTopOfPlace(place);
     this.lane *= factor;
     this.keep();
-    this.top += this.laneTopOfPlace(Math.min(place, this.order.length - 1)) - before;
+    this.top += this.laneTopOfPlace(place) - before;
     this.keep();
   }
 
@@ -92,7 +83,7 @@ export class Layout {
   }
 
   laneTop(mote) { return this.laneTopOfPlace(this.place[mote]); }
-  headTop(g) { return AXIS - this.top + g * HEAD + this.run.groups[g].first * this.lane; }
+  headTop(group) { return this.laneTop(group.motes[0]) - HEAD; }
 
   /** The place of the lane at y in the order of lanes; at a head, of the next lane below. */
   placeAt(y) {
@@ -110,20 +101,16 @@ export class Layout {
   }
 
   /** The x of a line: within its moment by its place in the turn, if there is room for that. */
-  lineX(line, mote, turn) {
-    const middle = this.x(this.run.at[line] + 0.5);
-    if (page.time.scale < APART) return middle;
-    const [from, to] = turn || this.run.turn(line, mote), share = Math.min(1, (page.time.scale - APART) / 20);
-    return middle + page.time.scale * 0.86 * share * ((line - from + 0.5) / (to - from) - 0.5);
+  lineX(line, mote, turn = null) {
+    const {scale} = page.time, middle = this.x(this.run.at[line] + 0.5);
+    if (scale < APART) return middle;
+    const [from, to] = turn || this.run.turn(line, mote), share = Math.min(1, (scale - APART) / 20);
+    return middle + scale * 0.86 * share * ((line - from + 0.5) / (to - from) - 0.5);
   }
 
   /** The y of a line of a kind: by its row in the lane. */
   lineY(kind, mote) {
-    const top = this.laneTop(mote);
-    if (this.lane < FULL_LANE) return top + this.lane * (kind === RECV ? 0.8 : kind === PRINT ? 0.3 : 0.5);
-    const row = kind === SEND ? 0.15 : kind > SEND && kind <= DEAF ? 0.3 : kind === POST || kind === FULL ? 0.72 :
-      kind === TAKE || kind === DROP ? 0.88 : 0.5;
-    return top + this.lane * row;
+    return this.laneTop(mote) + this.lane * (this.lane < FULL_LANE ? LOW_ROWS[kind] ?? 0.5 : ROWS[kind]);
   }
 
   /** The place of a line's mark; in low lanes the middle of the lane.
@@ -149,21 +136,18 @@ export class Layout {
     this.keep();
   }
 
-  /** The part of the pane that is drawn: all lanes, or a strip of them. */
-  get seen() { return this.strip || {left: this.gutter, top: AXIS, right: this.width, bottom: this.height}; }
-
   /** The places of the lanes in view: from, to. */
   lanesInView() {
-    const {top, bottom} = this.seen, from = this.placeAt(top);
-    let to = this.placeAt(bottom - 1);
-    if (to < this.order.length && this.laneTopOfPlace(to) < bottom) to++;
-    return [from, Math.max(from, to)];
+    const from = this.placeAt(AXIS);
+    let to = from;
+    while (to < this.order.length && this.laneTopOfPlace(to) < this.height) to++;
+    return [from, to];
   }
 
   /** The lines of a mote that are in view: from, to. */
   linesInView(mote) {
-    const {at, traceStart} = this.run, low = traceStart[mote], high = traceStart[mote + 1], {left, right} = this.seen;
-    const from = lowerBound(at, Math.floor(this.moment(left - (this.strip ? LABEL : 0))), low, high);
-    return [from, lowerBound(at, Math.ceil(this.moment(right)) + 1, from, high)];
+    const {run} = this;
+    return [run.lineAt(mote, Math.floor(this.moment(this.gutter))),
+      run.lineAt(mote, Math.ceil(this.moment(this.width)) + 1)];
   }
 }

@@ -7,8 +7,9 @@ import {byId, element, lineButton, onSubmit} from './dom.js';
 import {redraw} from './draw.js';
 import {findLines, orderOf} from './query.js';
 import {page} from './stage.js';
+import {countKinds} from './sums.js';
 import {showTab} from './tabs.js';
-import {count} from './words.js';
+import {count, digits} from './words.js';
 
 const MOST_LISTED = 200;
 
@@ -28,10 +29,9 @@ function search() {
 
 /** How many lines there are of each kind, in words. */
 function countsOf(run, lines) {
-  const kinds = new Array(KINDS.length).fill(0);
-  for (const line of lines) kinds[run.kind[line]]++;
-  return `${lines.length.toLocaleString('en')} of ${count(run.count, 'line')}` + (lines.length ? ': ' : '') +
-    KINDS.map((kind, k) => kinds[k] ? `${kind} ${kinds[k].toLocaleString('en')}` : '').filter(Boolean).join(', ');
+  const kinds = countKinds(Array.from(lines, line => run.kind[line])).flatMap(
+    (number, kind) => number ? [`${KINDS[kind]} ${digits(number)}`] : []);
+  return `${digits(lines.length)} of ${count(run.count, 'line')}${kinds.length ? ': ' : ''}${kinds.join(', ')}`;
 }
 
 /** The selected line, if it is one of the first pane; or -1. */
@@ -66,11 +66,11 @@ function list(run, order) {
 /** Selects the next line of the log, or the one before.
  * @param {number} by */
 export function walkLog(by) {
-  const [{run}] = page.panes, {logged} = page;
-  if (logged.run !== run) search();
-  const {places} = logged, {order} = orderOf(run), now = placeNow(logged);
+  const [pane] = page.panes, {logged} = page;
+  if (logged.run !== pane.run) search();
+  const {places} = logged, {order} = orderOf(pane.run), now = placeNow(logged);
   const next = by > 0 && order[places[now]] !== lineHere() ? now : now + by;
-  if (places.length) chooseLine(page.panes[0], order[places[(next + places.length) % places.length]], true);
+  if (places.length) chooseLine(pane, order[places[(next + places.length) % places.length]], true);
 }
 
 /** Searches, and selects the first line from the moment that is shown on. @param {string} text */

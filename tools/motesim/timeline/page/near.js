@@ -16,10 +16,7 @@ export function itemAt(pane, x, y) {
   let best = 10, line = -1;
   for (let i = 0; i < pane.hits.length; i += 3) {
     const away = Math.hypot(pane.hits[i] - x, pane.hits[i + 1] - y);
-    if (away < best) {
-      best = away;
-      line = pane.hits[i + 2];
-    }
+    if (away < best) [best, line] = [away, pane.hits[i + 2]];
   }
   const arrow = arrowNear(pane, x, y, line >= 0 ? Math.min(3, best - 3) : 7);
   if (arrow) return {k: arrow.k, copy: arrow.copy};
@@ -32,39 +29,34 @@ export function itemAt(pane, x, y) {
 
 /** An item of the lanes in words.
  * @param {any} run @param {any} item */
-export function itemInWords(run, item) {
-  if (item.mote !== undefined) return moteInWords(run, item.mote);
-  const {line, k, copy} = item;
-  if (line !== undefined) return `mote ${run.moteOf(line)}, moment ${run.at[line]}: ${run.told(line)}`;
+export function itemInWords(run, {mote, line, k, copy}) {
+  if (mote !== undefined) return moteInWords(run, mote);
+  if (line !== undefined) return `mote ${run.moteOf(line)}, moment ${run.at[line]}: ${run.told(line)} (click for more)`;
   return `packet ${run.packetNumber[k]} of mote ${run.packetSender[k]} to mote ${run.copyTo[copy]}, sent at ` +
     `${run.packetAt[k]}: ${FATE_WORDS[run.copyFate[copy]]}`;
 }
 
-/** A mote in words: its program and the motes that it hears.
- * @param {any} run @param {number} mote */
+/** A mote in words: its program and the motes that it hears. */
 export function moteInWords(run, mote) {
   const hears = run.hearers[mote].length;
   return `mote ${mote} runs ${run.programs[run.begins[mote]]} and hears ${hears ? count(hears, 'mote') : 'nobody'}`;
 }
 
-/** What runs in a mote after one of its lines, and what its processes printed last, as far as the report shows it.
- * @param {any} run @param {number} mote @param {number} last */
+/** What runs in a mote after one of its lines, and what its processes printed last, as far as the report shows it. */
 export function stateInWords(run, mote, last) {
   const {at, kind, p, e, w} = run, printed = new Map();
   let call = -1;
   for (let i = run.traceStart[mote]; i <= last; i++) {
     if (kind[i] === START || kind[i] === TAKE) call = i;
     else if (kind[i] === DROP || kind[i] === HALT) call = -1;
-    else if (kind[i] === PRINT) printed.set(p[i], i);
+    else if (kind[i] === PRINT) printed.set(run.process(p[i]), `${w[i]} at ${at[i]}`);
   }
   const event = kind[call] === START ? 'init' : `${run.events[e[call]]} ${w[call]}`;
   const runs = call >= 0 && at[call] === at[last] ? `${run.process(p[call])}, called with ${event}` : 'nothing';
-  const prints = [...printed].map(([process, i]) => `${run.process(process)} ${w[i]} at ${at[i]}`);
-  return `Runs now: ${runs}. Printed last: ${prints.join(', ') || 'nothing yet'}.`;
+  return `Runs now: ${runs}. Printed last: ${[...printed].map(it => it.join(' ')).join(', ') || 'nothing yet'}.`;
 }
 
-/** A link in words: how long its packets take, and which are lost.
- * @param {any} run @param {number} s @param {number} r */
+/** A link in words: how long its packets take, and which are lost. */
 export function linkInWords(run, s, r) {
   const way = (from, to) => {
     const every = run.lossOf.get(from * 65536 + to);

@@ -3,71 +3,52 @@
 import {lowerBound} from './data.js';
 import {awayFrom} from './layout.js';
 
-// Pixels from the row or the column of another mote within which a mote is moved there.
-const SNAP = 6;
+// Pixels from the row or the column of another mote within which a mote is moved there; and the margin of the map.
+const SNAP = 6, ROOM = 26;
 
 /** Places along one axis with wide empty stretches shortened; whether any was; and the function from shown places back
     to real ones. */
 export function shortened(values, most) {
-  const sorted = [...new Set(values)].sort((a, b) => a - b), at = new Map();
-  let place = 0, isShort = false;
-  sorted.forEach((value, i) => {
-    const gap = i ? value - sorted[i - 1] : 0;
-    place += Math.min(gap, most);
-    isShort = isShort || gap > most;
-    at.set(value, place);
-  });
-  const shown = sorted.map(value => at.get(value)), last = sorted.length - 1;
+  const sorted = [...new Set(values)].sort((a, b) => a - b), shown = [0], last = sorted.length - 1;
+  for (let i = 1; i <= last; i++) shown.push(shown[i - 1] + Math.min(sorted[i] - sorted[i - 1], most));
   const back = where => {
     const i = lowerBound(shown, where);
-    if (i === 0) return sorted[0] + where - shown[0];
-    if (i > last) return sorted[last] + where - shown[last];
+    if (i === 0 || i > last) return sorted[Math.min(i, last)] + where - shown[Math.min(i, last)];
     return sorted[i] - (shown[i] - where) * (sorted[i] - sorted[i - 1]) / (shown[i] - shown[i - 1]);
   };
-  return [values.map(value => at.get(value)), isShort, back];
+  return [values.map(value => shown[lowerBound(sorted, value)]), shown[last] < sorted[last] - sorted[0], back];
 }
 
 /** The map's geometry: a place for each mote in a view of `width` by `height`, zoomed and moved by the reader. */
 export class MapLayout {
-  constructor(run) {
-    this.zoom = 1;
-    this.backX = this.backY = /** @type {(where: number) => number} */ (Number);
-    this.dx = this.dy = 0;
-    this.take(run);
-  }
+  zoom = 1;
+  dx = 0;
+  dy = 0;
+
+  constructor(run) { this.take(run); }
 
   take(run) {
+    const motes = [...run.begins.keys()], turn = m => m / motes.length * 2 * Math.PI;
+    const places = run.places || motes.map(m => [Math.sin(turn(m)), -Math.cos(turn(m))]);
+    const most = run.places && run.range ? run.range * 1.6 : Infinity;
+    const [xs, shortX, backX] = shortened(places.map(place => place[0]), most);
+    const [ys, shortY, backY] = shortened(places.map(place => place[1]), most);
     this.run = run;
-    this.layOut();
+    this.xs = xs;
+    this.ys = ys;
+    this.backTo = [backX, backY];
+    this.spanX = Math.max(...xs);
+    this.spanY = Math.max(...ys);
+    this.isShort = shortX || shortY;
+    this.linkCount = run.hearers.reduce((sum, list) => sum + list.length, 0) / 2;
   }
 
-  layOut() {
-    const {run} = this, motes = run.begins.length;
-    if (run.places) {
-      const most = run.range ? run.range * 1.6 : Infinity;
-      const [xs, shortX, backX] = shortened(run.places.map(place => place[0]), most);
-      const [ys, shortY, backY] = shortened(run.places.map(place => place[1]), most);
-      Object.assign(this, {xs, ys, backX, backY});
-      this.isShort = shortX || shortY;
-    } else {
-      this.xs = Array.from({length: motes}, (_, m) => Math.sin(m / motes * 2 * Math.PI));
-      this.ys = Array.from({length: motes}, (_, m) => -Math.cos(m / motes * 2 * Math.PI));
-    }
-    this.left = Math.min(...this.xs);
-    this.upper = Math.min(...this.ys);
-    this.spanX = Math.max(...this.xs) - this.left;
-    this.spanY = Math.max(...this.ys) - this.upper;
-    this.links = this.run.hearers.reduce((sum, list) => sum + list.length, 0) / 2;
-  }
-
-  /** Takes a width, and the height that suits the motes unless there is another one. */
+  /** Takes the size of the view. */
   fitTo(width, height) {
-    const ratio = this.spanX > 0 ? Math.min(1, Math.max(0.3, (this.spanY + this.spanX * 0.1) / this.spanX)) : 0.6;
-    const room = 26;
     this.width = width;
-    this.height = height || Math.round(Math.min(440, Math.max(110, width * ratio)));
-    this.fit = Math.min((width - 2 * room) / (this.spanX || 1), (this.height - 2 * room) / (this.spanY || 1));
-    if (!this.spanX && !this.spanY) this.fit = 1;
+    this.height = height;
+    const fit = Math.min((width - 2 * ROOM) / (this.spanX || 1), (height - 2 * ROOM) / (this.spanY || 1));
+    this.fit = this.spanX || this.spanY ? fit : 1;
   }
 
   /** Zooms by a factor so that the point at x, y stays there. */
@@ -79,20 +60,19 @@ export class MapLayout {
     this.zoom = zoom;
   }
 
-  x(m) { return this.width / 2 + this.dx + (this.xs[m] - this.left - this.spanX / 2) * this.fit * this.zoom; }
-  y(m) { return this.height / 2 + this.dy + (this.ys[m] - this.upper - this.spanY / 2) * this.fit * this.zoom; }
+  x(m) { return this.width / 2 + this.dx + (this.xs[m] - this.spanX / 2) * this.fit * this.zoom; }
+  y(m) { return this.height / 2 + this.dy + (this.ys[m] - this.spanY / 2) * this.fit * this.zoom; }
 
   /** The place of a point of the view on the shown axes. */
   shownAt(x, y) {
     const by = this.fit * this.zoom;
-    return [(x - this.width / 2 - this.dx) / by + this.left + this.spanX / 2,
-      (y - this.height / 2 - this.dy) / by + this.upper + this.spanY / 2];
+    return [(x - this.width / 2 - this.dx) / by + this.spanX / 2,
+      (y - this.height / 2 - this.dy) / by + this.spanY / 2];
   }
 
   /** The coordinates of a mote at a point of the view. */
   placeAt(x, y) {
-    const [shownX, shownY] = this.shownAt(x, y);
-    return [Math.round(this.backX(shownX)), Math.round(this.backY(shownY))];
+    return this.shownAt(x, y).map((shown, axis) => Math.round(this.backTo[axis](shown)));
   }
 
   /** The coordinates of a mote at a point: in the row and the column of others, if these are near. */
@@ -101,9 +81,7 @@ export class MapLayout {
     this.run.places.forEach((place, m) => {
       if (m === mote) return;
       [Math.abs(this.x(m) - x), Math.abs(this.y(m) - y)].forEach((away, axis) => {
-        if (away >= best[axis]) return;
-        best[axis] = away;
-        found[axis] = place[axis];
+        if (away < best[axis]) [best[axis], found[axis]] = [away, place[axis]];
       });
     });
     return found;
@@ -116,35 +94,34 @@ export class MapLayout {
     return [x0 + dx, y0 + dy, x1 - dx, y1 - dy];
   }
 
+  /** The links between motes, each once. */
+  * links() {
+    const {hearers, places} = this.run;
+    for (const [s, list] of hearers.entries()) for (const r of list) if (r > s || !places) yield [s, r];
+  }
+
   /** Makes the links between motes the path of a picture. */
   trace(c) {
     c.beginPath();
-    this.run.hearers.forEach((list, s) => {
-      for (const r of list) {
-        if (r < s && this.run.places) continue;
-        const [x0, y0, x1, y1] = this.way(s, r);
-        c.moveTo(x0, y0);
-        c.lineTo(x1, y1);
-      }
-    });
+    for (const [s, r] of this.links()) {
+      const [x0, y0, x1, y1] = this.way(s, r);
+      c.moveTo(x0, y0);
+      c.lineTo(x1, y1);
+    }
   }
 
   /** The radius of a mote: by the room that each has. */
   get radius() {
-    const each = Math.sqrt((this.spanX * this.fit + 30) * (this.spanY * this.fit +
-      30) / this.run.begins.length) * this.zoom;
-    return Math.max(1.5, Math.min(14, each * 0.22));
+    const room = (this.spanX * this.fit + 30) * (this.spanY * this.fit + 30);
+    return Math.max(1.5, Math.min(14, Math.sqrt(room / this.run.begins.length) * this.zoom * 0.22));
   }
 
   /** The mote nearest to a point, or -1 if none is within reach. */
   moteNear(x, y, reach = Math.max(12, this.radius + 4)) {
     let best = reach, found = -1;
-    for (let m = 0; m < this.run.begins.length; m++) {
+    for (const m of this.run.begins.keys()) {
       const away = Math.hypot(x - this.x(m), y - this.y(m));
-      if (away < best) {
-        best = away;
-        found = m;
-      }
+      if (away < best) [best, found] = [away, m];
     }
     return found;
   }
@@ -152,15 +129,10 @@ export class MapLayout {
   /** The two motes of the link that passes near a point, or null. */
   linkNear(x, y) {
     let best = 7, found = null;
-    this.run.hearers.forEach((list, s) => {
-      for (const r of list) {
-        if (r < s) continue;
-        const away = awayFrom(x, y, this.way(s, r));
-        if (away >= best) continue;
-        best = away;
-        found = [s, r];
-      }
-    });
+    for (const pair of this.links()) {
+      const away = awayFrom(x, y, this.way(pair[0], pair[1]));
+      if (away < best) [best, found] = [away, pair];
+    }
     return found;
   }
 }

@@ -2,20 +2,23 @@
 // The moment that the maps show, and playing from moment to moment.
 import {lowerBound} from './data.js';
 import {byId} from './dom.js';
-import {redrawNow} from './draw.js';
+import {redraw, redrawNow} from './draw.js';
 import {page} from './stage.js';
 import {keepTime} from './time.js';
 
-// The seconds that playing may show nothing.
-const IDLE = 0.5;
+// The seconds that playing may show nothing, that it plays a run, and that it may leave out on a busy machine.
+const IDLE = 0.5, WHOLE = 25, MOST_LATE = 0.2;
 
-/** Sets the moment that the maps show. */
-export function setNow(moment) {
-  page.play.now = Math.max(0, Math.min(page.time.end, moment));
-  page.play.before = page.play.now - 1;
-  byId('now').value = Math.floor(page.play.now);
+/** Sets the moment that the maps show; `before` is the last one that they showed. */
+export function setNow(moment, before = null) {
+  const {play} = page;
+  play.now = Math.max(0, Math.min(page.time.end, moment));
+  play.before = before ?? play.now - 1;
+  byId('now').value = Math.floor(play.now);
   redrawNow();
 }
+
+const isBusy = moment => page.panes.some(pane => pane.run.busy[moment]);
 
 /** The next moment, or the one before, at which anything happens in a run. */
 function nextBusy(now, by) {
@@ -23,8 +26,6 @@ function nextBusy(now, by) {
   while (moment >= 0 && moment <= page.time.end && !isBusy(moment)) moment += by;
   return Math.max(0, Math.min(page.time.end, moment));
 }
-
-const isBusy = moment => page.panes.some(pane => pane.run.busy[moment]);
 
 /** True if a packet may be on its way. */
 const isFlying = (run, now) => lowerBound(run.packetAt, now - run.longest) < lowerBound(run.packetAt, now + 1e-9);
@@ -44,42 +45,39 @@ export function step(by) {
 
 /** Keeps the moment that is played in view. */
 export function followNow() {
-  const x = (page.play.now - page.time.begin) * page.time.scale;
-  if (x < 0 || x > page.time.width * 0.92) {
-    page.time.begin = page.play.now - page.time.width * 0.1 / page.time.scale;
-    keepTime();
-  }
+  const {play, time} = page, x = (play.now - time.begin) * time.scale;
+  if (x >= 0 && x <= time.width * 0.92) return;
+  time.begin = play.now - time.width * 0.1 / time.scale;
+  keepTime();
+  redraw();
 }
 
 export function stopPlaying() {
-  page.play.runs = false;
-  page.play.loop = null;
+  Object.assign(page.play, {runs: false, loop: null});
   byId('play').textContent = 'Play';
 }
 
-export function startPlaying() {
+/** Plays from the moment that is shown on; between two moments again and again, if there is a `loop`. */
+export function startPlaying(loop = /** @type {number[]|null} */ (null)) {
   if (page.play.now >= page.time.end) setNow(0);
-  page.play.runs = true;
-  page.play.last = performance.now();
+  Object.assign(page.play, {runs: true, last: performance.now(), loop});
   byId('play').textContent = 'Stop';
   requestAnimationFrame(playOn);
 }
 
 function playOn(now) {
-  if (!page.play.runs) return;
-  const past = Math.min(200, Math.max(0, now - page.play.last)) / 1000, speed = Number(byId('speed').value);
-  page.play.last = now;
-  page.play.before = page.play.now;
-  page.play.now = Math.min(page.time.end, pastIdle(page.play.now + past * speed, Math.max(2, speed * IDLE)));
-  if (page.play.loop && page.play.now >= page.play.loop[1]) page.play.now = page.play.before = page.play.loop[0];
-  byId('now').value = Math.floor(page.play.now);
+  const {play} = page, speed = Number(byId('speed').value);
+  if (!play.runs) return;
+  const past = Math.min(MOST_LATE, Math.max(0, now - play.last) / 1000);
+  play.last = now;
+  const next = pastIdle(play.now + past * speed, Math.max(2, speed * IDLE)), again = play.loop && next >= play.loop[1];
+  setNow(again ? play.loop[0] : next, again ? play.loop[0] : play.now);
   followNow();
-  redrawNow();
-  if (page.play.now >= page.time.end) stopPlaying(); else requestAnimationFrame(playOn);
+  if (play.now >= page.time.end) stopPlaying(); else requestAnimationFrame(playOn);
 }
 
 /** Chooses the speed that plays the whole run in about 25 seconds. */
 export function chooseSpeed() {
-  const {options} = byId('speed'), fitting = [...options].filter(it => Number(it.value) <= (page.time.end + 1) / 25);
+  const {options} = byId('speed'), fitting = [...options].filter(it => Number(it.value) <= (page.time.end + 1) / WHOLE);
   byId('speed').value = (fitting.pop() || options[0]).value;
 }

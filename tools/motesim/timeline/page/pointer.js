@@ -15,11 +15,10 @@ export function onPointer(canvas, hand) {
   const fingers = /** @type {Map<number, number[]>} */ (new Map());
   let held = /** @type {{x: number, y: number, moved: boolean, it: number}|null} */ (null);
   const apart = () => {
-    const [[x, y], [otherX, otherY]] = [...fingers.values()];
+    const [[x, y], [otherX, otherY]] = fingers.values();
     return [Math.max(1, Math.hypot(x - otherX, y - otherY)), (x + otherX) / 2, (y + otherY) / 2];
   };
-  canvas.addEventListener('pointerdown', event => {
-    const {button, pointerId, pointerType, offsetX: x, offsetY: y} = event;
+  canvas.addEventListener('pointerdown', ({button, pointerId, pointerType, offsetX: x, offsetY: y}) => {
     if (button) return;
     if (pointerType === 'touch') fingers.set(pointerId, [x, y]);
     held = {x, y, moved: false, it: hand.hold ? hand.hold(x, y) : -1};
@@ -41,14 +40,14 @@ export function onPointer(canvas, hand) {
     Object.assign(held, {x: held.x + dx, y: held.y + dy, moved: true});
     hand.drag(dx, dy, event, held.it);
   });
-  for (const name of /** @type {('pointerup'|'pointercancel')[]} */ (['pointerup', 'pointercancel'])) {
-    canvas.addEventListener(name, event => {
-      const was = held;
-      held = null;
-      fingers.delete(event.pointerId);
-      canvas.classList.remove('held');
-      if (was && was.moved && hand.drop) hand.drop(event, was.it);
-      else if (was && !was.moved && name === 'pointerup') hand.click(event.offsetX, event.offsetY);
-    });
-  }
+  const release = event => {
+    const was = held;
+    held = null;
+    fingers.delete(event.pointerId);
+    canvas.classList.remove('held');
+    if (was && was.moved) hand.drop?.(event, was.it);
+    else if (was && event.type === 'pointerup') hand.click(event.offsetX, event.offsetY);
+  };
+  canvas.addEventListener('pointerup', release);
+  canvas.addEventListener('pointercancel', release);
 }

@@ -19,8 +19,8 @@ import {History} from './history.js';
 export const page = {
   /** True when the page shows what it was opened for. */
   ready: false,
-  /** What the next picture draws; and the timer of the one after a move. */
-  wanted: {waits: false, lanes: false, maps: false, timer: 0},
+  /** Whether a picture is asked for, and whether with the lanes. */
+  wanted: {waits: false, lanes: false},
   backend: /** @type {Backend} */ (/** @type {unknown} */ (null)),
   panes: /** @type {any[]} */ ([]),
   maps: /** @type {any[]} */ ([]),

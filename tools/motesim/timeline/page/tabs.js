@@ -1,8 +1,6 @@
 // @ts-check
 // Tabs, of which one is open; in the drawer none may be.
 import {byId} from './dom.js';
-import {redraw} from './draw.js';
-import {drawLegend} from './forms.js';
 
 /** Makes the tabs of a list work by mouse and by arrow keys. `show` gets the name of the open tab, or ''.
  * @param {string} list @param {(id: string) => void} show @param {boolean} mayClose */
@@ -28,16 +26,6 @@ export function beginTabs(list, show, mayClose = false) {
       next.focus();
     });
   });
-}
-
-/** Makes the drawer's tabs open its panels. `shown` is called when one was opened. @param {() => void} shown */
-export function beginPanels(shown) {
-  beginTabs('tabs', open => {
-    for (const panel of document.querySelectorAll('.panel')) byId(panel.id).hidden = `tab-${panel.id}` !== open;
-    shown();
-    if (open === 'tab-legend') drawLegend();
-    redraw();
-  }, true);
 }
 
 /** Opens a panel. @param {string} name */

@@ -1,8 +1,11 @@
 // @ts-check
 // Words for readers: numbers with their nouns.
 
+/** A number with commas between thousands. */
+export const digits = number => number.toLocaleString('en');
+
 /** A number with its noun, in the plural unless it is 1: `3 packets`, `1 copy`, `2 copies`. */
 export function count(number, noun) {
   const plural = number === 1 ? noun : noun.endsWith('y') ? `${noun.slice(0, -1)}ies` : `${noun}s`;
-  return `${number.toLocaleString('en')} ${plural}`;
+  return `${digits(number)} ${plural}`;
 }

@@ -4,7 +4,6 @@ import {Run} from '../../timeline/page/data.js';
 import {indexRun} from '../../timeline/page/index.js';
 import {Refused} from '../../timeline/page/stage.js';
 import {noteStart} from './keeping.js';
-import {lastMoment} from './report.js';
 import {placeOfFault, ruleOf, scenarioOf} from './scenario.js';
 
 /** The milliseconds after which a run is ended. */
@@ -14,16 +13,18 @@ const MOST_TIME = 5000, SLOW = 'The run took longer than 5 seconds, so it was st
  * @typedef {import('../../timeline/page/stage.js').Answer} Answer
  * @typedef {import('../../timeline/page/stage.js').Backend} Backend */
 export class Alone {
+  number = 0;
+  worker = /** @type {Worker|null} */ (null);
+  /** Takes the answer of the run that goes on. */
+  done = /** @type {((answer: any) => void)|null} */ (null);
+  timer = 0;
+
   /** @param {Promise<WebAssembly.Module>} module @param {string} script the worker's
    * @param {Record<string, string>} rules those that errors break */
   constructor(module, script, rules) {
     this.module = module;
-    this.script = URL.createObjectURL(new Blob([script], {type: 'text/javascript'}));
     this.rules = rules;
-    this.number = 0;
-    this.worker = /** @type {Worker|null} */ (null);
-    this.done = /** @type {((answer: any) => void)|null} */ (null);
-    this.timer = 0;
+    this.script = URL.createObjectURL(new Blob([script], {type: 'text/javascript'}));
   }
 
   /** Runs a text; a run that goes on is ended.
@@ -33,49 +34,43 @@ export class Alone {
     this.end({superseded: true});
     const module = await this.module;
     if (number !== this.number) return {superseded: true};
-    if (!this.worker) {
-      this.worker = new Worker(this.script);
-      this.worker.postMessage({module});
-    }
-    const {worker} = this, got = await new Promise(done => {
+    noteStart(text);
+    const got = await new Promise(done => {
+      const worker = this.worker ||= new Worker(this.script);
       this.done = done;
       worker.onmessage = ({data}) => this.finish(data);
       worker.onerror = event => this.end({limit: `The run failed in this browser: ${event.message}`});
       this.timer = window.setTimeout(() => this.end({limit: SLOW}), MOST_TIME);
-      noteStart(text);
-      worker.postMessage({number, text});
+      worker.postMessage({module, number, text});
     });
     noteStart(null);
     if (got.superseded || got.limit) return got;
     const {line} = got;
     if (line) return {fault: {line, words: ruleOf(this.rules, line), place: placeOfFault(text, line)}};
-    const run = /** @type {any} */ (new Run({name, ...got.table, ...scenarioOf(text)}, got.columns));
-    run.end = Math.max(run.end, lastMoment(run));
+    const run = new Run({name, ...got.table, ...scenarioOf(text)}, got.columns);
     await indexRun(run);
-    if (number !== this.number) return {superseded: true};
-    return {run, number, took: got.took};
+    return number === this.number ? {run, number, took: got.took} : {superseded: true};
   }
 
-  /** Ends the run that goes on, with its worker. */
-  stop() {
-    this.number++;
-    this.end({limit: 'You stopped the run.'});
-  }
-
-  /** @param {any} answer */
+  /** Ends the run that goes on, with its worker. @param {any} answer */
   end(answer) {
     if (!this.done) return;
-    if (this.worker) this.worker.terminate();
+    this.worker.terminate();
     this.worker = null;
     this.finish(answer);
   }
 
-  /** @param {any} answer */
   finish(answer) {
     clearTimeout(this.timer);
     const {done} = this;
     this.done = null;
-    if (done) done(answer);
+    done(answer);
+  }
+
+  /** Ends the run at the reader's wish. */
+  stop() {
+    this.number++;
+    this.end({limit: 'You stopped the run.'});
   }
 
   /** @returns {Promise<any>} */

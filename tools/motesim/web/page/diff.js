@@ -1,113 +1,77 @@
 // @ts-check
 // The differences between two runs: the first of all, the moment of the first one in each lane, and their effect in a
 // sentence.
-import {COLLIDE, DROP, FULL, HALT, POST, PRINT, SEND, TAKE} from '../../timeline/page/data.js';
-import {count} from '../../timeline/page/words.js';
+import {COLLIDE, FIELDS, HALT, PRINT, SEND} from '../../timeline/page/data.js';
+import {countKinds} from '../../timeline/page/sums.js';
+import {count, digits} from '../../timeline/page/words.js';
 
-/** The number of the log of the medium, which is used like the number of a mote. */
-const MEDIUM = -1;
-const NOUNS = {[SEND]: 'packet', [PRINT]: 'print', [COLLIDE]: 'collided copy', [HALT]: 'halted mote'};
+/** The number of the log of the medium, which is used like the number of a mote, and is behind all motes. */
+const MEDIUM = Infinity;
+const NOUNS = {[SEND]: 'packet', [COLLIDE]: 'collided copy', [PRINT]: 'print', [HALT]: 'halted mote'};
 
-/** A difference: the moment, the mote (or MEDIUM), and the place in the mote's trace or in the log.
- * @typedef {{at: number, mote: number, place: number}} Difference */
-
-/** The lines of a mote, or the packets: from, to.
- * @param {any} run @param {number} mote @returns {[number, number]} */
+/** The lines of a mote, or the packets: from, to. @returns {[number, number]} */
 const stretch = (run, mote) => mote === MEDIUM ? [0, run.packets] :
   mote < run.begins.length ? [run.traceStart[mote], run.traceStart[mote + 1]] : [0, 0];
 
-/** @param {any} a @param {any} b @param {number} i @param {number} j */
-function sameLine(a, b, i, j) {
-  const kind = a.kind[i];
-  if (kind !== b.kind[j] || a.at[i] !== b.at[j] || a.x[i] !== b.x[j]) return false;
-  if (kind >= SEND) return a.p[i] === b.p[j] && a.w[i] === b.w[j];
-  if (a.process(a.p[i]) !== b.process(b.p[j])) return false;
-  // (the value of a take or a drop is that of its post)
-  if (kind === TAKE || kind === DROP) return true;
-  return a.w[i] === b.w[j] && (kind !== POST && kind !== FULL || a.events[a.e[i]] === b.events[b.e[j]]);
-}
+const sameLine = (a, b, i, j) => a.kind[i] === b.kind[j] && a.at[i] === b.at[j] &&
+  FIELDS[a.kind[i]].every(name => a.field(i, name) === b.field(j, name));
 
-/** @param {any} a @param {any} b @param {number} i @param {number} j */
 function samePacket(a, b, i, j) {
-  if (a.packetAt[i] !== b.packetAt[j] || a.packetSender[i] !== b.packetSender[j] ||
-      a.packetValue[i] !== b.packetValue[j] || a.copyCount[i] !== b.copyCount[j]) return false;
-  for (let c = a.copyStart[i], d = b.copyStart[j]; c < a.copyStart[i + 1]; c++, d++) {
-    if (a.copyTo[c] !== b.copyTo[d] || a.copyAfter[c] !== b.copyAfter[d]) return false;
-  }
-  return true;
+  const copies = a.copiesOf(i), others = b.copiesOf(j);
+  return ['packetAt', 'packetSender', 'packetValue'].every(name => a[name][i] === b[name][j]) &&
+    copies.length === others.length && ['copyTo', 'copyAfter'].every(name =>
+      copies.every((copy, place) => a[name][copy] === b[name][others[place]]));
 }
 
-/** The first difference of a mote's traces, or of the logs; null if they are the same.
- * @param {any} a @param {any} b @param {number} mote @returns {Difference|null} */
+/** The first difference of a mote's traces, or of the logs: its moment, and its place in the trace or in the log; null
+ * if they are the same.
+ * @returns {{at: number, mote: number, place: number}|null} */
 function firstOf(a, b, mote) {
   const [from, to] = stretch(a, mote), [begin, end] = stretch(b, mote), same = mote === MEDIUM ? samePacket : sameLine;
-  const shorter = Math.min(to - from, end - begin);
   let place = 0;
-  while (place < shorter && same(a, b, from + place, begin + place)) place++;
-  if (place === to - from && place === end - begin) return null;
-  const moment = (run, first, behind) => first + place >= behind ? Infinity :
-    mote === MEDIUM ? run.packetAt[first + place] : run.at[first + place];
-  return {at: Math.min(moment(a, from, to), moment(b, begin, end)), mote, place};
+  while (from + place < to && begin + place < end && same(a, b, from + place, begin + place)) place++;
+  if (from + place === to && begin + place === end) return null;
+  const moment = (run, item, behind) =>
+    item >= behind ? Infinity : mote === MEDIUM ? run.packetAt[item] : run.at[item];
+  return {at: Math.min(moment(a, from + place, to), moment(b, begin + place, end)), mote, place};
 }
 
-/** The first differences of all motes and of the medium, in the order of moments; the medium is behind the motes.
- * @param {any} a @param {any} b @returns {Difference[]} */
-function differences(a, b) {
-  const found = [];
-  for (let mote = MEDIUM; mote < Math.max(a.begins.length, b.begins.length); mote++) {
-    const first = firstOf(a, b, mote);
-    if (first) found.push(first);
-  }
-  const rank = it => it.mote === MEDIUM ? Infinity : it.mote;
-  return found.sort((one, other) => one.at - other.at || (rank(one) === rank(other) ? 0 : rank(one) - rank(other)));
-}
-
-/** How two runs differ, in the form in which the page shows it.
+/** How two runs differ, in the form in which the page shows it: the first difference of all, and the moments of the
+ * first ones of the motes.
  * @param {any} a the earlier run @param {any} b the run that is shown */
 export function difference(a, b) {
-  const found = differences(a, b), [first] = found, programs = run => Array.from(run.begins, it => run.programs[it]);
+  const motes = a.begins.length > b.begins.length ? a.begins : b.begins;
+  const found = [...motes.keys(), MEDIUM].flatMap(mote => firstOf(a, b, mote) || []);
+  found.sort((one, other) => one.at - other.at || one.mote - other.mote);
+  const [first] = found, programs = run => Array.from(run.begins, it => run.programs[it]).join();
   const inMedium = Boolean(first) && first.mote === MEDIUM;
-  return {same: !found.length && a.left === b.left && programs(a).join() === programs(b).join(),
+  return {same: !found.length && a.left === b.left && programs(a) === programs(b),
     first: first ? {at: first.at, mote: inMedium ? senderOf(a, b, first.place) : first.mote,
       index: inMedium ? -1 : first.place, inMedium} : null,
     parts: found.filter(it => it.mote !== MEDIUM).map(it => [it.mote, it.at])};
 }
 
-/** The sender of the first packet at which two logs differ.
- * @param {any} a @param {any} b @param {number} place */
+/** The sender of the first packet at which two logs differ. */
 function senderOf(a, b, place) {
-  const found = [a, b].filter(run => place < run.packets);
-  found.sort((one, other) => one.packetAt[place] - other.packetAt[place] ||
-    one.packetSender[place] - other.packetSender[place] || one.packetNumber[place] - other.packetNumber[place]);
-  return found[0].packetSender[place];
+  const packetOf = run => ['packetAt', 'packetSender', 'packetNumber'].map(name => run[name][place] ?? Infinity);
+  const [one, other] = [packetOf(a), packetOf(b)], at = one.findIndex((it, i) => it !== other[i]);
+  return (one[at] <= other[at] || at < 0 ? one : other)[1];
 }
 
-/** @param {any} run */
-function countsOf(run) {
-  const kinds = new Array(HALT + 1).fill(0);
-  for (const kind of run.kind) kinds[kind]++;
-  return kinds;
-}
-
-/** The first number that differs between two runs, in words; otherwise that their lines do.
- * @param {any} run @param {any} before */
+/** The first number that differs between two runs, in words; otherwise that their lines do. */
 function numbersInWords(run, before) {
-  const ours = countsOf(run), others = countsOf(before);
-  for (const kind of [SEND, COLLIDE, PRINT, HALT]) {
-    if (ours[kind] !== others[kind]) {
-      return `${count(ours[kind], NOUNS[kind])} instead of ${others[kind].toLocaleString('en')}.`;
-    }
-  }
+  const ours = countKinds(run.kind), others = countKinds(before.kind);
+  const kind = [SEND, COLLIDE, PRINT, HALT].find(it => ours[it] !== others[it]);
+  if (kind !== undefined) return `${count(ours[kind], NOUNS[kind])} instead of ${digits(others[kind])}.`;
   return run.rows === before.rows ? 'As many packets and prints as before.' :
-    `A report of ${count(run.rows, 'line')} instead of ${before.rows.toLocaleString('en')}.`;
+    `A report of ${count(run.rows, 'line')} instead of ${digits(before.rows)}.`;
 }
 
 /** How a run differs from the one before the change.
  * @param {any} run @param {any} before @param {any} found their difference */
-export function effectInWords(run, before, found) {
-  if (found.same) return 'This change has no effect: the report is the same.';
-  if (!found.first) return 'The motes run other programs, and write the same lines.';
-  const {at, mote, inMedium} = found.first;
-  const where = inMedium ? 'in the packets' : `at mote ${mote}`;
-  return `${numbersInWords(run, before)} First different at moment ${at}, ${where}.`;
+export function effectInWords(run, before, {same, first}) {
+  if (same) return 'This change has no effect: the report is the same.';
+  if (!first) return 'The motes run other programs, and write the same lines.';
+  return `${numbersInWords(run, before)} First different at moment ${first.at}, ${
+    first.inMedium ? 'in the packets' : `at mote ${first.mote}`}.`;
 }

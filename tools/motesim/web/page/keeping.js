@@ -2,7 +2,8 @@
 // Where a text comes from and goes to: a link, a file, this page saved with it, and the browser's storage.
 import {byId, handOut, stored} from '../../timeline/page/dom.js';
 import {page} from '../../timeline/page/stage.js';
-import {LONGEST_LINK, packed, unpackedText} from './share.js';
+import {digits} from '../../timeline/page/words.js';
+import {linkTo, textIn} from './share.js';
 
 const DRAFT = 'motesim draft', STARTED = 'motesim started', LONGEST_FILE = 1 << 20;
 
@@ -28,7 +29,7 @@ export const neverEnded = text => stored(it => it.getItem(STARTED) === text);
 /** The text to open with, and where it came from; null for the first example.
  * @returns {Promise<{text: string, name: string, from: 'link'|'page'|'draft'}|null>} */
 export async function textToOpen() {
-  const linked = await unpackedText(location.hash);
+  const linked = await textIn(location.hash);
   if (linked !== null) return {text: linked, name: 'shared.toml', from: 'link'};
   const draft = stored(it => JSON.parse(it.getItem(DRAFT) || 'null')), saved = JSON.parse(savedHere());
   // (pages in one folder share the storage, so the draft may be that of another one)
@@ -36,13 +37,6 @@ export async function textToOpen() {
     return {text: draft.text, name: String(draft.name), from: 'draft'};
   }
   return saved && {...saved, from: 'page'};
-}
-
-/** The address of this page with a text; null if it is too long for chats and mails.
- * @param {string} text @returns {Promise<string|null>} */
-async function linkTo(text) {
-  const hash = await packed(text);
-  return hash.length > LONGEST_LINK ? null : `${location.href.split('#')[0]}#${hash}`;
 }
 
 /** Writes the text into the address, so that going back and reloading keep it; null takes it away.
@@ -66,26 +60,26 @@ function savePage(text, name) {
 
 /** Shows the ways to share a text. @param {string} text @param {string} name */
 export async function showSharing(text, name) {
-  const {line, mote, pane} = page.chosen, box = byId('sharing');
+  const {line, mote, pane} = page.chosen, [copy, field] = [byId('copy-link'), byId('link')];
   const bare = await linkTo(text), link = bare && line >= 0 ? `${bare}&line=${pane.run.numberOf(line, mote)}` : bare;
   byId('sharing-said').textContent = link ?
-    `The link carries the whole scenario, in ${link.length.toLocaleString('en')} characters.` :
+    `The link carries the whole scenario, in ${digits(link.length)} characters.` :
     'This scenario is too long for a link in a chat or a mail: send the file, or this page saved with it.';
-  byId('link').hidden = byId('copy-link').hidden = !link;
-  byId('link').value = link || '';
-  byId('copy-link').textContent = 'Copy the link';
-  byId('copy-link').onclick = async () => {
-    byId('link').select();
+  field.hidden = copy.hidden = !link;
+  field.value = link || '';
+  copy.textContent = 'Copy the link';
+  copy.onclick = async () => {
+    field.select();
     try {
       await navigator.clipboard.writeText(link);
     } catch {
       document.execCommand('copy');
     }
-    byId('copy-link').textContent = 'Copied';
+    copy.textContent = 'Copied';
   };
   byId('download').onclick = () => handOut(name, [text], 'text/plain');
   byId('save-page').onclick = () => savePage(text, name);
-  box.showModal();
+  byId('sharing').showModal();
 }
 
 /** Takes files that are chosen or dropped. `take` gets their texts; `refuse` gets what is wrong with one.
@@ -97,13 +91,13 @@ export function beginFiles(take, refuse) {
     take((await file.text()).replace(/^\ufeff/, '').replace(/\r\n/g, '\n'), file.name);
   };
   byId('open').addEventListener('click', () => byId('file').click());
-  byId('file').addEventListener('change', () => {
-    read(byId('file').files[0]);
-    byId('file').value = '';
+  byId('file').addEventListener('change', ({target}) => {
+    read(target.files[0]);
+    target.value = '';
   });
   document.addEventListener('dragover', event => event.preventDefault());
   document.addEventListener('drop', event => {
     event.preventDefault();
-    read(event.dataTransfer && event.dataTransfer.files[0]);
+    read(event.dataTransfer?.files[0]);
   });
 }

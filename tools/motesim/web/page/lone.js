@@ -3,6 +3,7 @@
 import {openAsAddressed} from '../../timeline/page/address.js';
 import {chainOf} from '../../timeline/page/causes.js';
 import {byId} from '../../timeline/page/dom.js';
+import {unpacked} from '../../timeline/page/packing.js';
 import {page} from '../../timeline/page/stage.js';
 import {Alone} from './alone.js';
 import {forgetDraft, keepDraft, keepInAddress, neverEnded, textToOpen} from './keeping.js';
@@ -11,18 +12,12 @@ import {begin, open, openExample, say} from './web.js';
 const ORIGINS = {link: 'This net came with the link.', page: 'This net was saved with the page.',
   draft: 'This is your text of the last time. Examples has the others.'};
 
-/** The module, unpacked and compiled. */
-async function moduleOf() {
-  const letters = atob(byId('module').textContent.trim()), bytes = Uint8Array.from(letters, it => it.charCodeAt(0));
-  const plain = new Blob([bytes]).stream().pipeThrough(new DecompressionStream('gzip'));
-  return WebAssembly.compile(await new Response(plain).arrayBuffer());
-}
-
 async function start() {
   const data = JSON.parse(byId('data').textContent);
-  const alone = new Alone(moduleOf(), byId('worker').textContent, data.rules);
+  const module = unpacked(byId('module').textContent, 'gzip').then(
+    bytes => WebAssembly.compile(/** @type {BufferSource} */ (bytes)));
   page.chainOf = chainOf;
-  const [first] = begin(alone, data);
+  const [first] = begin(new Alone(module, byId('worker').textContent, data.rules), data);
   page.reactions.kept.push(text => {
     keepDraft(text, page.web.document.name);
     keepInAddress(text);
@@ -33,20 +28,17 @@ async function start() {
     forgetDraft();
     keepInAddress(null);
   });
-  let opened = null, broken = '';
+  let opened = null, broken = false;
   try {
     opened = await textToOpen();
   } catch {
-    broken = 'The link is broken: no text can be read from it. This is the first example.';
-  }
-  if (!opened) {
-    await openExample(first);
-    if (broken) say(broken, 'bad');
-    return;
+    broken = true;
   }
   // (a text at which the browser gave up waits)
-  await open({where: '', ...opened}, {intro: ORIGINS[opened.from], waits: neverEnded(opened.text)});
-  if (opened.from === 'link' && page.panes.length) openAsAddressed();
+  if (opened) await open({where: '', ...opened}, {intro: ORIGINS[opened.from], waits: neverEnded(opened.text)});
+  else await openExample(first);
+  if (broken) say('The link is broken: no text can be read from it. This is the first example.', 'bad');
+  if (opened?.from === 'link' && page.panes.length) openAsAddressed();
 }
 
 // (another link, or a step back to one: the address of the page itself stays the same, so nothing is loaded)

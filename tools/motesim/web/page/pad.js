@@ -1,21 +1,25 @@
 // @ts-check
 // The text area: it shows the whole text, or one program of it, in colours; and marks an error.
 import {byId} from '../../timeline/page/dom.js';
-import {lineAndColumn} from '../../studio/page/text.js';
-import {Tint} from '../../studio/page/tint.js';
-import {firstState} from '../../studio/page/tokens.js';
+import {numbers} from '../../timeline/page/data.js';
+import {lineAndColumn} from './text.js';
+import {Tint} from './tint.js';
+import {firstState} from './tokens.js';
 
 // Pixels above and below the line that the reader types.
 const MARGIN = 8;
 
 export class Pad {
+  area = /** @type {HTMLTextAreaElement} */ (byId('text'));
+  before = '';
+  behind = '';
+  /** The place of the whole text that is marked as an error. */
+  place = /** @type {number[]|null} */ (null);
+
   /** `changed` is called with the whole text after each change by the reader; `words` are those of the notation.
    * @param {(text: string) => void} changed @param {any} words */
   constructor(changed, words) {
-    this.area = /** @type {HTMLTextAreaElement} */ (byId('text'));
-    this.before = this.behind = '';
     this.tint = new Tint(this.area, byId('tint'), words);
-    this.place = /** @type {number[]|null} */ (null);
     this.area.addEventListener('input', () => {
       this.renew();
       changed(this.before + this.area.value + this.behind);
@@ -30,7 +34,7 @@ export class Pad {
     const {area} = this, {selectionStart, scrollTop} = area, shown = text.slice(begin, end);
     this.before = text.slice(0, begin);
     this.behind = text.slice(end);
-    this.tint.first = firstState(/("""|'''|"|')\r?\n?$/.exec(begin ? this.before : '')?.[1]);
+    this.tint.first = firstState(/("""|'''|"|')\r?\n?$/.exec(this.before)?.[1]);
     if (shown !== area.value) {
       area.value = shown;
       area.setSelectionRange(isNew ? 0 : selectionStart, isNew ? 0 : selectionStart);
@@ -41,10 +45,9 @@ export class Pad {
   }
 
   renew() {
-    const count = this.area.value.split('\n').length, box = byId('numbers');
-    box.textContent = `${Array.from({length: count}, (_, i) => i + 1).join('\n')}\n\n\n`;
+    const box = byId('numbers');
+    box.textContent = `${numbers(1, this.area.value.split('\n').length + 1).join('\n')}\n\n\n`;
     box.scrollTop = this.area.scrollTop;
-    this.tint.lit = null;
     this.tint.take();
   }
 
@@ -55,8 +58,7 @@ export class Pad {
    * @param {number[]|null} place */
   mark(place) {
     this.place = place;
-    const above = this.rowsBefore;
-    this.tint.mark({place: place && place[0] >= above ? [place[0] - above, place[1], place[2]] : null});
+    this.tint.mark({place: place && [place[0] - this.rowsBefore, place[1], place[2]]});
   }
 
   /** Brings a row of the shown text into view. @param {number} row */
@@ -85,9 +87,9 @@ export class Pad {
 
   /** Marks a row of the whole text as the statement that is selected; -1 marks none. @param {number} row */
   lightRow(row) {
-    const shown = row - this.rowsBefore, isShown = row >= 0 && shown >= 0 && shown < this.area.value.split('\n').length;
-    this.tint.mark({row: isShown ? shown : -1});
-    if (isShown) this.showRow(shown);
+    const shown = row < 0 ? -1 : row - this.rowsBefore;
+    this.tint.mark({row: shown});
+    if (shown >= 0 && shown < this.area.value.split('\n').length) this.showRow(shown);
   }
 
   /** Tab writes two blanks, Enter keeps the indentation, Esc leaves the text.

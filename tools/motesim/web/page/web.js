@@ -1,29 +1,29 @@
 // @ts-check
 // The page on which a scenario is written: it runs while it is changed, with its map, its lanes, and the effect of each
 // change in a sentence. A backend runs the texts.
-import {drawDifference, goToDifference} from '../../studio/page/flag.js';
-import {beginMotes, renewMotes} from '../../studio/page/motes.js';
-import {applied, offsetOf} from '../../studio/page/text.js';
-import {beginDrawer, showSums} from '../../timeline/page/drawer.js';
 import {selectNothing} from '../../timeline/page/details.js';
 import {byId, element, makeButton} from '../../timeline/page/dom.js';
 import {drawAll} from '../../timeline/page/draw.js';
+import {beginDrawer, showSums} from '../../timeline/page/drawer.js';
 import {readColours} from '../../timeline/page/forms.js';
-import {listen, refit, showInstead, showRuns, whole} from '../../timeline/page/main.js';
+import {showInstead, showRuns, whole} from '../../timeline/page/main.js';
 import {setNow, startPlaying, stopPlaying} from '../../timeline/page/play.js';
 import {page, Refused} from '../../timeline/page/stage.js';
 import {beginTabs} from '../../timeline/page/tabs.js';
 import {count} from '../../timeline/page/words.js';
 import {difference, effectInWords} from './diff.js';
+import {drawDifference, goToDifference} from './flag.js';
 import {beginGallery, firstSentence} from './gallery.js';
 import {beginFiles, showSharing} from './keeping.js';
+import {beginMotes, renewMotes} from './motes.js';
 import {Pad} from './pad.js';
 import {programsOf} from './scenario.js';
+import {applied, offsetOf} from './text.js';
 
 /** Milliseconds from a key to its run, to the sign of a long run, and to the keeping of the text. */
 const PAUSE = 150, LONG = 500, KEEP = 1000;
 
-const {web} = page, isStill = () => matchMedia('(prefers-reduced-motion: reduce)').matches;
+const {web} = page;
 const react = (name, ...words) => page.reactions[name].forEach(does => does(...words));
 
 /** Shows a sentence, with the buttons that belong to it; `offers` are pairs of a name and a function.
@@ -52,9 +52,9 @@ export async function attempt(work) {
 
 /** Says what the open example is about, and offers its change; or where the text came from. */
 function sayIntro() {
-  const {example, intro, history} = web, tries = Boolean(example && example.replace);
+  const {example, intro, history} = web, tries = Boolean(example?.replace);
   if (tries) byId('try').textContent = example.try;
-  say(example && example.about || intro || firstSentence(history.text) || `This is ${web.document.name}.`, '', {tries});
+  say(example?.about || intro || firstSentence(history.text) || `This is ${web.document.name}.`, '', {tries});
 }
 
 // The text.
@@ -62,16 +62,15 @@ function sayIntro() {
 /** Shows the text in the part that is open. @param {boolean} isNew */
 function showText(isNew = false) {
   const {text} = web.history, programs = programsOf(text), which = byId('which');
-  const names = programs.map(it => it.name), kept = which.value;
+  const names = programs.map(it => it.name), kept = names.includes(which.value) ? which.value : names[0];
   if (names.join() !== [...which.options].map(it => it.value).join()) {
-    which.replaceChildren(...names.map(name => Object.assign(element('option', name), {value: name})));
-    if (names.includes(kept)) which.value = kept;
+    which.replaceChildren(...names.map(name => element('option', name, [], {value: name})));
+    which.value = kept;
   }
-  const isProgram = web.part === 'part-program' && programs.length > 0;
-  which.hidden = !isProgram || names.length < 2;
+  const shown = web.part === 'part-program' && programs.find(it => it.name === kept) || {begin: 0, end: text.length};
+  which.hidden = names.length < 2 || web.part !== 'part-program';
   byId('editor').setAttribute('aria-labelledby', web.part);
-  const it = programs.find(one => one.name === which.value) || programs[0];
-  web.pad.show(text, isProgram ? it.begin : 0, isProgram ? it.end : text.length, isNew);
+  web.pad.show(text, shown.begin, shown.end, isNew);
   nameSteps();
 }
 
@@ -127,22 +126,21 @@ export async function open(document, {example = /** @type {any} */ (null), intro
 
 /** Makes the change that the example offers. */
 function makeTry() {
-  let {text} = web.history;
-  for (const [old, piece] of Object.entries(web.example.replace)) text = text.split(old).join(piece);
+  const {history, example, pad} = web, pieces = Object.entries(example.replace);
+  const text = pieces.reduce((made, [old, piece]) => made.split(old).join(piece), history.text);
   byId('try').classList.remove('breathes');
-  if (text === web.history.text) {
+  if (text === history.text) {
     return say('The text no longer has what this would change. Undo, or open the example again.');
   }
   change(text, 'try');
-  web.pad.light(Object.values(web.example.replace)[0]);
+  pad.light(pieces[0][1]);
 }
 
 /** Selects a stretch of a row of the whole text. @param {number} row @param {number} from @param {number} to */
 export function goTo(row, from, to) {
-  const at = offsetOf(web.history.text, [row, 0]), {pad} = web;
-  const isShown = at >= pad.before.length && at <= pad.before.length + pad.area.value.length;
-  if (!isShown) byId('part-all').click();
-  const begin = offsetOf(web.history.text, [row, from]) - pad.before.length;
+  const {history: {text}, pad} = web, at = offsetOf(text, [row, 0]);
+  if (at < pad.before.length || at > text.length - pad.behind.length) byId('part-all').click();
+  const begin = offsetOf(text, [row, from]) - pad.before.length;
   pad.select(begin, begin + to - from);
 }
 
@@ -154,14 +152,13 @@ async function runNow() {
   const asked = ++web.asked, {step} = web.history;
   setTimeout(() => { byId('stop').hidden = asked !== web.asked || web.ran === asked; }, LONG);
   const answer = await attempt(() => page.backend.run({text: step.text, name: web.document.name}));
-  if (answer && answer.superseded || asked !== web.asked) return;
+  if (answer?.superseded || asked !== web.asked) return;
   web.ran = asked;
   byId('stop').hidden = true;
-  if (answer && answer.run) await showRun(answer, step);
-  else {
-    document.body.classList.add('stale');
-    if (answer && answer.fault) showFault(answer.fault); else if (answer) await showLimit(answer, step.text);
-  }
+  document.body.classList.toggle('stale', !answer?.run);
+  if (answer?.run) await showRun(answer, step);
+  else if (answer?.fault) showFault(answer.fault);
+  else if (answer) await showLimit(answer, step.text);
   beReady();
 }
 
@@ -173,40 +170,38 @@ function beReady() {
 /** @param {any} fault */
 function showFault(fault) {
   const {line, words, place, corrected} = web.fault = fault, above = web.part === 'part-all' ? 0 : web.pad.rowsBefore;
-  byId('fault').hidden = false;
-  byId('fault').querySelector('pre').textContent = [...words, line].join('\n');
+  markFault(place, [...words, line].join('\n'));
   byId('fault-place').hidden = !place;
   byId('fault-correct').hidden = !corrected;
-  web.pad.mark(place);
   say(`The text has an error${place ? ` in line ${place[0] + 1 - above}` : ''}${
     page.panes.length ? ': the last run is shown' : ''}.`, 'bad', {reverts: Boolean(web.history.before)});
 }
 
-function noFault() {
-  byId('fault').hidden = true;
-  web.pad.mark(null);
+/** Marks the place of an error, and shows the words about it; or that there is none. */
+function markFault(place = null, words = '') {
+  byId('fault').hidden = !words;
+  byId('fault').querySelector('pre').textContent = words;
+  web.pad.mark(place);
 }
 
 /** Says that a run was stopped, and then, if the backend finds it out, what the run does so often.
  * @param {any} answer @param {string} text */
 async function showLimit({limit, number}, text) {
   const reverts = Boolean(web.history.before), {asked} = web;
-  noFault();
+  markFault();
   say(`${limit} Does a loop repeat without waiting?`, 'bad', {reverts});
   const found = number && await attempt(() => page.backend.ask('advise', {text, number}));
-  if (found && found.does && asked === web.asked) say(limit + found.does, 'bad', {reverts});
+  if (found?.does && asked === web.asked) say(limit + found.does, 'bad', {reverts});
 }
 
 /** @param {any} answer @param {any} step */
 async function showRun({run, number, took}, step) {
-  noFault();
-  document.body.classList.remove('stale');
+  const {before} = web.history, against = before?.run, found = against && /** @type {any} */ (difference(against, run));
+  markFault();
   step.run = run;
-  const {before} = web.history, against = before && before.run;
-  const found = against ? /** @type {any} */ (difference(against, run)) : null;
   web.number = number;
-  page.differs = {first: found && found.first, parts: new Map(found ? found.parts : [])};
-  if (page.panes.length) showInstead(page.panes[0], run); else showFirst(run);
+  page.differs = {first: found?.first, parts: new Map(found?.parts)};
+  if (page.panes.length) showInstead(page.panes[0], run); else showRuns([run]);
   renewMotes();
   showSums();
   byId('about').textContent = `${count(run.begins.length, 'mote')}, ${count(run.end + 1, 'moment')}` +
@@ -225,51 +220,38 @@ async function showRun({run, number, took}, step) {
   web.judged = number;
 }
 
-/** Shows the first run of the page. @param {any} run */
-function showFirst(run) {
-  showRuns([run]);
-  page.maps[0].frame = byId('maps');
-  listen();
-  new ResizeObserver(refit).observe(byId('maps'));
-  refit();
-}
-
 /** Shows an opened text from its beginning; a wave runs over the net of an example. */
 function beginShow() {
-  const {example} = web, [from, to] = example && example.to ? [example.from, example.to] : [0, 0];
+  const {example} = web, isStill = matchMedia('(prefers-reduced-motion: reduce)').matches;
   web.fresh = false;
   whole();
   selectNothing();
   sayIntro();
   stopPlaying();
   byId('try').classList.toggle('breathes', Boolean(example));
-  if (!to) return setNow(0);
+  if (!example?.to) return setNow(0);
   byId('speed').value = example.speed;
-  if (isStill()) return setNow(example.still);
-  setNow(from);
-  page.play.loop = [from, to];
-  startPlaying();
+  setNow(isStill ? example.still : example.from);
+  if (!isStill) startPlaying([example.from, example.to]);
 }
 
 // The page.
 
 function beginButtons() {
-  const click = (name, does) => byId(name).addEventListener('click', does);
-  click('undo', () => go(-1));
-  click('redo', () => go(1));
-  click('revert', () => {
-    go(-1);
-    byId('try').focus();
-  });
-  click('try', makeTry);
-  click('show', () => {
-    stopPlaying();
-    goToDifference();
-  });
-  click('share', () => showSharing(web.history.text, web.document.name));
-  click('stop', () => page.backend.stop());
-  click('fault-place', () => { if (web.pad.place) goTo(...web.pad.place); });
-  click('fault-correct', () => change(web.fault.corrected, 'edit'));
+  for (const [id, does] of Object.entries({
+    undo: () => go(-1), redo: () => go(1), try: makeTry, stop: () => page.backend.stop(),
+    share: () => showSharing(web.history.text, web.document.name),
+    revert() {
+      go(-1);
+      byId('try').focus();
+    },
+    show() {
+      stopPlaying();
+      goToDifference();
+    },
+    'fault-place': () => goTo(.../** @type {[number, number, number]} */ (web.pad.place)),
+    'fault-correct': () => change(web.fault.corrected, 'edit'),
+  })) byId(id).addEventListener('click', does);
   byId('which').addEventListener('change', () => showText(true));
   beginTabs('parts', id => {
     web.part = id;

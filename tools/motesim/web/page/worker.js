@@ -5,14 +5,11 @@ import {columnsOf} from './report.js';
 
 /** The longest report that a page shows, in bytes. */
 const MOST_REPORT = 64 << 20;
-/** @type {WebAssembly.Module|null} */
-let module = null;
 
 class TooLong extends Error {}
 
-/** The answer to a scenario: columns, the line of an error, or a limit.
- * @param {string} text */
-function answerTo(text) {
+/** The answer to a scenario: columns, the line of an error, or a limit. @param {any} module @param {string} text */
+function answerTo(module, text) {
   const streams = {1: /** @type {Uint8Array[]} */ ([]), 2: /** @type {Uint8Array[]} */ ([])}, begin = performance.now();
   let length = 0;
   const write = (stream, bytes) => {
@@ -21,10 +18,8 @@ function answerTo(text) {
     streams[stream].push(bytes);
   };
   try {
-    const {status} = runModule(module, new TextEncoder().encode(text), write);
-    const took = performance.now() - begin;
-    if (status) return {line: textOf(streams[2]).trimEnd()};
-    return {...columnsOf(textOf(streams[1])), took};
+    const {status} = runModule(module, new TextEncoder().encode(text), write), took = performance.now() - begin;
+    return status ? {line: textOf(streams[2]).trimEnd()} : {...columnsOf(textOf(streams[1])), took};
   } catch (fault) {
     if (fault instanceof TooLong) return {limit: 'The report is longer than 64 megabytes, so the run was stopped.'};
     if (fault instanceof StackLimit) return {limit: `The run was stopped: ${fault.message}.`};
@@ -38,11 +33,7 @@ function textOf(parts) {
   return parts.map(it => decoder.decode(it, {stream: true})).join('') + decoder.decode();
 }
 
-self.onmessage = ({data}) => {
-  if (data.module) {
-    module = data.module;
-    return;
-  }
-  const answer = answerTo(data.text), {columns = {}} = /** @type {any} */ (answer);
-  /** @type {any} */ (self).postMessage({number: data.number, ...answer}, Object.values(columns).map(it => it.buffer));
+self.onmessage = ({data: {module, number, text}}) => {
+  const answer = /** @type {any} */ (answerTo(module, text));
+  /** @type {any} */ (self).postMessage({number, ...answer}, Object.values(answer.columns || {}).map(it => it.buffer));
 };

@@ -2,72 +2,74 @@
 // The map as a way to change the scenario, by mouse and by keyboard: motes are moved, added and removed, and links lose
 // packets. Each of these changes the text.
 import {chooseMote} from '../../timeline/page/details.js';
-import {byId, element, focused, makeButton} from '../../timeline/page/dom.js';
+import {byId, element, makeButton} from '../../timeline/page/dom.js';
 import {redraw} from '../../timeline/page/draw.js';
-import {colours, path, stroke} from '../../timeline/page/forms.js';
+import {drawPath} from '../../timeline/page/forms.js';
 import {delayOf, findHearers} from '../../timeline/page/index.js';
 import {linkInWords} from '../../timeline/page/near.js';
 import {page, Refused} from '../../timeline/page/stage.js';
 import {count} from '../../timeline/page/words.js';
-import {edit} from '../../web/page/edits.js';
+import {edit} from './edits.js';
 
+const {ground, maps, chosen} = page;
 const ARROWS = {ArrowLeft: [-1, 0], ArrowRight: [1, 0], ArrowUp: [0, -1], ArrowDown: [0, 1]};
 const MAP_KEYS = 'Map of the motes: { and } choose a mote, arrows move it by a tenth of the range, with Shift by 1. ' +
   'Enter shows its next link, whose losses follow in the order of Tab. Delete removes the mote.';
+// The most motes whose links are shown while one of them is moved.
+const MOST_LINKED = 400;
+
+const sayOnMap = words => { byId('map-said').textContent = words; };
 
 /** Moves the motes back to the places that they have in the run. */
 function restoreMotes() {
-  const map = page.maps[0];
+  const [map] = maps, {held} = ground;
   if (!map) return;
-  if (page.ground.held) map.run.places[page.ground.held.mote] = page.ground.held.place;
-  Object.assign(page.ground, {held: null, chooses: false});
+  if (held) map.run.places[held.mote] = held.place;
+  Object.assign(ground, {held: null, chooses: false});
   findHearers(map.run);
   map.take(map.run);
   map.resize();
   redraw();
 }
 
+/** What a map that can be changed does with its motes. */
 const groundEdits = {
   hold(x, y) {
-    const map = page.maps[0];
-    return page.ground.adding || !map.run.places ? -1 : map.moteNear(x, y);
+    const [map] = maps;
+    return ground.adding || !map.run.places ? -1 : map.moteNear(x, y);
   },
 
   /** Moves the mote with the pointer, to the rows and columns of the others unless it `isFree`, and shows who hears it
       there. */
   drag(mote, x, y, isFree) {
-    const map = page.maps[0], {run} = map;
-    if (!page.ground.held) page.ground.held = {mote, place: run.places[mote]};
+    const [map] = maps, {run} = map;
+    ground.held ||= {mote, place: run.places[mote]};
     [map.xs[mote], map.ys[mote]] = map.shownAt(x, y);
     run.places[mote] = isFree ? map.placeAt(x, y) : map.snappedAt(x, y, mote);
-    if (run.begins.length <= 400) findHearers(run);
-    map.still = null;
-    byId('map-said').textContent = `Mote ${mote} to ${run.places[mote].join(', ')}`;
-    redraw();
+    if (run.begins.length <= MOST_LINKED) findHearers(run);
+    sayOnMap(`Mote ${mote} to ${run.places[mote].join(', ')}`);
+    map.redraw();
   },
 
   drop(mote, x, y, isFree) {
     this.drag(mote, x, y, isFree);
-    const [toX, toY] = page.maps[0].run.places[mote];
+    const [toX, toY] = maps[0].run.places[mote];
     page.edit({what: 'move', mote, x: toX, y: toY});
   },
 
   /** Reacts to a click: adds a mote if one is wanted, otherwise shows the link between two motes. */
   click(x, y, mote) {
-    const map = page.maps[0];
-    if (page.ground.adding) {
-      addMote(map.placeAt(x, y), map.moteNear(x, y, Infinity));
-      return true;
-    }
-    if (mote >= 0) return false;
-    showWay(map.linkNear(x, y));
+    const [map] = maps;
+    if (ground.adding) addMote(map.placeAt(x, y), map.moteNear(x, y, Infinity));
+    else if (mote < 0) showWay(map.linkNear(x, y));
+    else return false;
     return true;
   },
 
   /** Reacts to a key on the map: adds the wanted mote beside the selected one, or moves this one, removes it, or shows
       its next link. True if it does any of these. */
   key({key, shiftKey}) {
-    const {run} = page.maps[0], {chosen: {mote}, ground} = page, by = ARROWS[key];
+    const {run} = maps[0], {mote} = chosen, by = ARROWS[key];
     const step = shiftKey ? 1 : Math.max(1, Math.round(run.range / 10));
     if (key === 'Enter' && ground.adding) {
       const near = Math.max(0, mote), [x, y] = run.places[near];
@@ -84,40 +86,39 @@ const groundEdits = {
 
 /** Adds a mote at a place, with the program of another one. */
 function addMote([x, y], near) {
-  const {run} = page.maps[0];
+  const {run} = maps[0];
   setAdding(false);
   page.edit({what: 'add', x, y, program: run.programs[run.begins[near]]});
 }
 
 /** Waits for the place of a new mote, or stops waiting. */
 function setAdding(isAdding) {
-  page.ground.adding = isAdding;
+  const [{canvas}] = maps;
+  ground.adding = isAdding;
   byId('add').setAttribute('aria-pressed', String(isAdding));
-  page.maps[0].canvas.style.cursor = isAdding ? 'crosshair' : '';
+  canvas.style.cursor = isAdding ? 'crosshair' : '';
   if (!isAdding) return;
-  byId('map-said').textContent = 'Click the place of the new mote on the map, or press Enter to have it beside the ' +
-    'selected one.';
-  page.maps[0].canvas.focus();
+  sayOnMap('Click the place of the new mote on the map, or press Enter to have it beside the selected one.');
+  canvas.focus();
 }
 
 /** Shows the link of a mote after the one that is shown. */
 function showNextWay(run, mote) {
-  const hearers = run.hearers[mote], {way} = page.ground, place = way && way[0] === mote ? hearers.indexOf(way[1]) : -1;
+  const hearers = run.hearers[mote], {way} = ground, place = way && way[0] === mote ? hearers.indexOf(way[1]) : -1;
   const other = hearers[(place + 1) % hearers.length];
   showWay(hearers.length ? [mote, other] : null);
-  byId('map-said').textContent = hearers.length ? linkInWords(run, mote, other) : `Mote ${mote} has no link.`;
+  sayOnMap(hearers.length ? linkInWords(run, mote, other) : `Mote ${mote} has no link.`);
 }
 
 /** Delay and losses between two motes, in both directions. */
 function showWay(way) {
-  const box = byId('way'), {run} = page.maps[0];
-  page.ground.way = way;
+  const box = byId('way'), {run} = maps[0];
+  ground.way = way;
   box.hidden = !way;
   redraw();
   if (!way) return;
-  const [s, r] = way;
-  const close = Object.assign(makeButton('×', () => showWay(null)), {title: 'Close'});
-  const head = element('h3', '', [element('span', `Mote ${s} and mote ${r}`), close]);
+  const [s, r] = way, head = element('h3', '', [element('span', `Mote ${s} and mote ${r}`),
+    makeButton('×', () => showWay(null), {title: 'Close'})]);
   box.replaceChildren(head, wayOf(run, s, r), wayOf(run, r, s));
   box.scrollIntoView({block: 'nearest'});
 }
@@ -125,46 +126,36 @@ function showWay(way) {
 function wayOf(run, s, r) {
   const input = element('input', '', [], {type: 'number', min: 0, max: 1000000, placeholder: 'none',
     value: run.lossOf.get(s * 65536 + r) || '', 'data-way': `${s} ${r}`,
-    'aria-label': `Losses from mote ${s} to mote ${r}: one packet in this number; empty for no loss`});
-  input.addEventListener('change',
-    () => page.edit({what: 'lose', from: s, to: r, every: Math.floor(Number(input.value)) || 0}));
+    'aria-label': `Losses from mote ${s} to mote ${r}: one packet in this number; empty for no loss`,
+    onchange: () => page.edit({what: 'lose', from: s, to: r, every: Math.floor(Number(input.value)) || 0})});
   return element('p', `${s} → ${r}: ${count(delayOf(run, s, r), 'moment')}, `,
     [element('label', 'loses 1 in ', [input])]);
 }
 
 /** Draws the selected link on the map. */
 function drawWay(map) {
-  const {way} = page.ground;
-  if (!way || Math.max(...way) >= map.run.begins.length) return;
-  const c = map.context;
-  c.save();
-  c.globalAlpha = 0.55;
-  path(c, map.way(way[0], way[1]));
-  stroke(c, colours.mark, 5);
-  c.restore();
+  const {way} = ground;
+  if (way && Math.max(...way) < map.run.begins.length) drawPath(map.context, map.way(way[0], way[1]), 'mark', 5, 0.55);
 }
 
 /** Makes the map of a new run editable, and shows the data of this run for the selected link. */
 export function renewMotes() {
-  const map = page.maps[0];
-  map.edits = map.run.places ? groundEdits : null;
-  map.canvas.tabIndex = map.edits ? 0 : -1;
+  const [map] = maps, {run} = map, {way, chooses} = ground;
+  const typing = byId('way').contains(document.activeElement) &&
+    /** @type {HTMLElement} */ (document.activeElement).dataset.way;
+  map.edits = run.places ? groundEdits : null;
+  Object.assign(map.canvas, {tabIndex: map.edits ? 0 : -1, ariaLabel: MAP_KEYS});
   map.canvas.setAttribute('role', 'application');
-  map.canvas.setAttribute('aria-label', MAP_KEYS);
-  if (page.ground.chooses) chooseMote(map.pane, map.run.begins.length - 1, true);
-  Object.assign(page.ground, {held: null, chooses: false});
-  const {way} = page.ground, typing = byId('way').contains(focused()) && focused().dataset.way;
-  const isThere = way && Math.max(...way) < map.run.begins.length && map.run.hearers[way[0]].includes(way[1]);
-  showWay(isThere ? way : null);
-  const again = typing && byId('way').querySelector(`[data-way="${typing}"]`);
-  if (again) again.focus();
+  Object.assign(ground, {held: null, chooses: false});
+  if (chooses) chooseMote(map.pane, run.begins.length - 1, true);
+  showWay(way && Math.max(...way) < run.begins.length && run.hearers[way[0]].includes(way[1]) ? way : null);
+  if (typing) byId('way').querySelector(`[data-way="${typing}"]`)?.focus();
 }
 
 /** Names the button that removes the selected mote. */
 function nameRemove() {
-  const button = byId('remove'), {mote} = page.chosen;
+  const button = byId('remove'), {mote} = chosen, name = mote < 0 ? 'Remove the mote' : `Remove mote ${mote}`;
   button.disabled = mote < 0 || page.panes[0].run.begins.length < 2;
-  const name = mote < 0 ? 'Remove the mote' : `Remove mote ${mote}`;
   if (button.textContent !== name) button.textContent = name;
 }
 
@@ -176,7 +167,7 @@ export function beginMotes(textOf, apply, refuse) {
   page.edit = (wish, how = 'edit') => {
     try {
       const {changes, said} = edit(textOf(), wish);
-      byId('map-said').textContent = said;
+      sayOnMap(said);
       if (changes.length) apply(changes, how);
     } catch (fault) {
       if (!(fault instanceof Refused)) throw fault;
@@ -186,6 +177,6 @@ export function beginMotes(textOf, apply, refuse) {
   };
   page.followers.push(nameRemove);
   page.mapOverlays.push(drawWay);
-  byId('add').addEventListener('click', () => page.maps.length && setAdding(!page.ground.adding));
-  byId('remove').addEventListener('click', () => page.edit({what: 'remove', mote: page.chosen.mote}));
+  byId('add').addEventListener('click', () => maps.length && setAdding(!ground.adding));
+  byId('remove').addEventListener('click', () => page.edit({what: 'remove', mote: chosen.mote}));
 }

@@ -21,6 +21,9 @@ function found(pattern, row, at) {
 /** The state before a row: the quote of the program that is open, and the word before.
  * @typedef {{quote: string, before: string}} State */
 
+/** The state before the first row, in the text of a program with a quote or in a table. @returns {State} */
+export const firstState = (quote = '') => ({quote, before: ''});
+
 /** A function that returns the pieces of a row with their colours, and makes the state that after the row. `colours`
  * has the words of each colour, `naming` those in front of a name.
  * @param {{colours: Record<string, string[]>, naming: string[]}} words
@@ -54,9 +57,8 @@ export function rowTokens({colours, naming}) {
   /** @returns {[string, string|null]} */
   const ofTable = (row, at, state) => {
     const quote = found(OPENING, row, at);
-    if (quote) Object.assign(state, {quote, before: ''});
-    if (quote) return [quote, 'string'];
-    const [pattern, colour] = TABLE_TOKENS.find(([it]) => found(it, row, at));
+    if (quote) Object.assign(state, firstState(quote));
+    const [pattern, colour] = quote ? [OPENING, 'string'] : TABLE_TOKENS.find(([it]) => found(it, row, at));
     return [found(pattern, row, at), colour];
   };
 
@@ -68,6 +70,3 @@ export function rowTokens({colours, naming}) {
     return pieces;
   };
 }
-
-/** The state before the first row, in the text of a program with a quote or in a table. @returns {State} */
-export const firstState = (quote = '') => ({quote, before: ''});
