@@ -17,7 +17,7 @@ from pathlib import Path
 
 import pytest
 from differences import answer, check_answer
-from motesim.contiki.random_scenario import random_scenario
+from project.differential.random_scenario import random_scenario
 from motesim.runner import Answer
 from motesim.runner.module import ABOUT, MODULE, SCRIPT, SOURCE, read_about
 from motesim.runner.programs import CODE, TOP, digest

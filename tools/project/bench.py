@@ -26,7 +26,7 @@ from pathlib import Path
 from typing import NamedTuple
 
 from motesim.command import command
-from motesim.contiki.host_runs import HostRuns, compilers
+from project.differential.host_runs import HostRuns, compilers
 from motesim.faults import Fault
 from motesim.words import words_of
 from motesim.runner.programs import program_path

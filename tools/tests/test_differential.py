@@ -9,10 +9,10 @@ from functools import cache
 from pathlib import Path
 
 from here import TOOLS, TOP, Room
-from motesim.contiki import differential
-from motesim.contiki.coverage import LIMITS, Coverage
-from motesim.contiki.host_runs import HostFault, HostRuns, compilers
-from motesim.contiki.random_scenario import random_scenario
+from project.differential import compare as differential
+from project.differential.coverage import LIMITS, Coverage
+from project.differential.host_runs import HostFault, HostRuns, compilers
+from project.differential.random_scenario import random_scenario
 from motesim.notation.reader import find_fault
 from motesim.runner import Runner
 from motesim.runner.programs import program_path

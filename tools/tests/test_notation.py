@@ -4,7 +4,6 @@ import re
 import unittest
 from collections import Counter
 
-from motesim.contiki.random_program import RandomProgram
 from motesim.explain.advice import advice
 from motesim.explain.say import hint_in_words
 from motesim.notation.grammar import RESERVED, SIGNS
@@ -15,6 +14,7 @@ from motesim.notation.tree import Value, last_of
 from motesim.report.run import answer
 from motesim.search.added import DIES, LATE, NoRoom, changed_program
 from motesim.search.smaller import programs
+from project.differential.random_program import RandomProgram
 from properties import given, settings, st
 from skips import need_program
 

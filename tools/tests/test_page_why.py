@@ -13,7 +13,7 @@ from unittest import mock
 
 import here  # noqa: F401
 from motesim.commands import log as command
-from motesim.contiki.random_scenario import random_scenario
+from project.differential.random_scenario import random_scenario
 from motesim.scenario import Scenario
 from motesim.why.chain import chain, path_of
 from motesim.why.command import short

@@ -11,7 +11,7 @@ from here import TOOLS, TOP
 import skips
 from motesim.comparison.columns import MEDIUM
 from motesim.comparison.reports import compared, differences, packet_of
-from motesim.contiki.random_scenario import random_scenario
+from project.differential.random_scenario import random_scenario
 from motesim.judge import expectations
 from motesim.report.run import Run
 from motesim.runner import Runner

@@ -7,7 +7,6 @@ from io import StringIO
 
 import pytest
 from here import TOP, rows_of
-from motesim.contiki.random_scenario import random_scenario
 from motesim.faults import Fault
 from motesim.replay.mote import Parted
 from motesim.replay.translate import translated
@@ -20,6 +19,7 @@ from motesim.why.fate import after_post
 from motesim.why.miss import Miss, _Misses, misses
 from motesim.why.question import Asked, Asker, Missing, Unasked
 from motesim.why.source import At, Source
+from project.differential.random_scenario import random_scenario
 from sessions import TABLES, Table
 from skips import need_built
 

@@ -27,22 +27,20 @@ from itertools import chain
 from pathlib import Path
 from typing import NamedTuple
 
-from motesim.contiki.coverage import Coverage
-from motesim.contiki.folder import HERE
-from motesim.contiki.host_runs import HostFault, HostRuns, compilers
-from motesim.contiki.random_scenario import random_scenario
 from motesim.command import command
 from motesim.faults import Fault
 from motesim.runner import Limits, Runner, run_each
-from motesim.runner.programs import program_path
+from motesim.runner.programs import TOP, program_path
 from motesim.search.net import loss_steps, mote_steps, net_of, number_steps, program_steps
 from motesim.scenario import Scenario, ScenarioFault
 from motesim.words import words_of
+from project.differential.coverage import Coverage
+from project.differential.host_runs import HostFault, HostRuns, compilers
+from project.differential.random_scenario import random_scenario
 
 GATE_COUNT = 300
 # (the most scenarios that are written to files because they differ)
 MOST_SHOWN = 3
-TOP = HERE.parent.parent.parent
 WORKERS: tuple[tuple[str, ...], ...] = (('--workers', '2', '--cut', 'block', '--sync', 'joins'),
                                         ('--workers', '3', '--cut', 'stripe', '--sync', 'marks'))
 LIMITS = Limits(seconds=60.0, memory=2 << 30, report=256 << 20)

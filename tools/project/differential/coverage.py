@@ -5,7 +5,7 @@ import re
 from collections import Counter
 from collections.abc import Iterator
 
-from motesim.contiki.random_program import forms
+from project.differential.random_program import forms
 
 OF_PROGRAM = ('autostart', 'receiver', 'var', 'etimer', 'ctimer', 'thread', 'onpoll', 'onexit', 'else', 'into',
               'odd number')

@@ -5,7 +5,7 @@ import random
 import re
 from collections import Counter
 
-from motesim.contiki.random_program import RandomProgram
+from project.differential.random_program import RandomProgram
 
 PROGRAM_NAMES = ('p', 'q', 'sink', 'A-b_9', 'list', 'process', 'node')
 LIMITS = ('events', 'semaphores', 'processes', 'variables', 'timers', 'threads', 'statements', 'levels')
