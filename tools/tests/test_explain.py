@@ -48,7 +48,7 @@ def mark_of(lines: Sequence[str]) -> tuple[int, str]:
 
 @pytest.mark.parametrize('text, kind, line, column, word, may', [
     *rows_of('program_errors.tsv'), ('process a;\ncode a { body { ' + 'yield; ' * 4097 + '} }', '8', '2', '28688', 'yield', '4,096'),
-    ('process a;\n// b\n\tcode a { body { print 01; } }', '1', '3', '23', '01', 'a number')], ids=lambda it: it[:20])
+    ('process a;\n// b\n\tcode a { body { print 01; } }', '1', '3', '23', '01', 'a number')], ids=lambda it: str(it)[:20])
 def test_the_first_error_of_a_program(text: str, kind: str, line: str, column: str, word: str, may: str) -> None:
     fault = reader.find_fault(text)
     if kind == '0':

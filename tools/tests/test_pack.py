@@ -7,11 +7,12 @@ import shutil
 import subprocess
 import sys
 import tarfile
+import tomllib
 import unittest
 from pathlib import Path
 from unittest import mock
 
-from here import TOP, Room, on_terminal, scenario_of
+from here import TOOLS, TOP, Room, on_terminal, scenario_of
 from motesim.experiments.results import Head
 from motesim.faults import Fault
 from motesim.version import VERSION
@@ -19,6 +20,7 @@ from project import pack
 from stub import write_stub
 
 SCENARIO = scenario_of('process a; autostart a; code a { body { print 3; } }')
+PACKED = TOOLS / 'tests/packed.toml'
 
 
 def first_lines(motesim: str = '2.0') -> str:
@@ -135,55 +137,19 @@ class Pack(Room):
             subprocess.run(['git', *words], cwd=top, check=True)
         return top
 
-    def test_a_teacher_s_exercise_is_packed_only_if_it_is_named_and_never_with_solutions(self) -> None:
-        top = self.tree('examples/a.toml examples/lesson/solutions/task1.toml docs/use/TEACHING.md docs/use/LANGUAGE.md',
-                        'examples/lesson/mine.toml examples/lesson/solutions2/x.toml examples/lab/start.toml '
-                        'examples/lab/hidden.toml examples/lab/solutions/anna.toml examples/lab/Hidden_nets/a.toml '
-                        'examples/lab/__pycache__/a.pyc lab2/start.toml lab2/sheet.md')
-        (top / 'lab2/link.toml').symlink_to(top / 'examples/lab/hidden.toml')
-        parts = ['docs/use', 'examples']
-        found = pack.sorted_files(parts, (), top)
-        self.assertEqual(sorted(found.packed), ['docs/use/LANGUAGE.md', 'examples/a.toml'])
-        self.assertEqual(found.notes(), [
-            'Left out: docs/use/TEACHING.md (for teachers)',
-            'Left out: examples/lab/Hidden_nets/a.toml (for teachers)',
-            'Left out: examples/lab/hidden.toml (for teachers)',
-            'Left out: examples/lab/solutions/anna.toml (for teachers)',
-            "Left out: examples/lab/start.toml (git doesn't know it, and it wasn't named)",
-            "Left out: examples/lesson/mine.toml (git doesn't know it, and it wasn't named)",
-            'Left out: examples/lesson/solutions/task1.toml (for teachers)',
-            'Left out: examples/lesson/solutions2/x.toml (for teachers)'])
-        found = pack.sorted_files(parts, [top / 'examples/lab', top / 'lab2'], top)
-        self.assertEqual(sorted(found.packed), ['docs/use/LANGUAGE.md', 'examples/a.toml', 'examples/lab/start.toml',
-                                                'lab2/sheet.md', 'lab2/start.toml'])
-        self.assertEqual(found.added, ['examples/lab/start.toml', 'lab2/sheet.md', 'lab2/start.toml'])
-        self.assertIn('lab2/link.toml', found.left_out)
-        found = pack.sorted_files(parts, [top / 'examples/lab/hidden.toml'], top)
-        self.assertEqual((found.added, 'examples/lab/hidden.toml' in found.left_out), ([], True))
-
-    def test_names_that_begin_with_a_dot_are_left_out_and_listed(self) -> None:
-        top = self.tree('docs/use/LANGUAGE.md', 'docs/use/.draft.md lab/start.toml lab/.net.toml lab/.git/config '
-                        'lab/.git/a/b lab/.x/y lab/start.toml~ lab/a.b/c.toml')
-        found = pack.sorted_files(['docs/use'], [top / 'lab'], top, has_all=True)
-        self.assertEqual(sorted(found.packed), ['docs/use/LANGUAGE.md', 'lab/a.b/c.toml', 'lab/start.toml'])
-        self.assertEqual(sorted(it for it in found.notes() if it.startswith('Left')), [
-            'Left out: %s (its name begins with a dot)' % it
-            for it in ('docs/use/.draft.md', 'lab/.git', 'lab/.net.toml', 'lab/.x')])
-
-    def test_solutions_in_a_folder_of_one_s_own_are_packed_only_on_request(self) -> None:
-        top = self.tree('docs/use/TEACHING.md tools/motesim/answers.py', '')
-        its = ('start.toml', 'task1_solution.toml', 'net-hidden.toml', 'answers/anna.toml', 'marks.csv', 'key.csv',
-               'bookmarks.md')
-        for name in its:
-            (top / 'lab' / name).parent.mkdir(parents=True, exist_ok=True)
-            (top / 'lab' / name).write_text('')
-        parts = ['docs/use', 'tools/motesim']
-        found = pack.sorted_files(parts, [top / 'lab'], top)
-        self.assertEqual(sorted(found.packed), ['lab/bookmarks.md', 'lab/start.toml', 'tools/motesim/answers.py'])
-        self.assertIn('Left out: lab/task1_solution.toml (for teachers)', found.notes())
-        found = pack.sorted_files(parts, [top / 'lab'], top, has_all=True)
-        self.assertEqual(found.added, sorted('lab/' + it for it in its))
-        self.assertEqual((len(found.packed), found.left_out), (9, {}))
+    def test_what_is_packed(self) -> None:
+        for case in tomllib.loads(PACKED.read_text('utf-8'))['case']:
+            with self.subTest(case['about']):
+                top = self.tree(case['known'], case['others'])
+                for name, target in case.get('links', {}).items():
+                    (top / name).symlink_to(top / target)
+                named = [top / it for it in case.get('named', '').split()]
+                found = pack.sorted_files(case['parts'].split(), named, top, has_all=case.get('has_all', False))
+                self.assertEqual((sorted(found.packed), found.added), (case['packed'].split(), case.get('added', '').split()))
+                left_out = {name: why for why, names in case.get('left_out', {}).items() for name in names.split()}
+                self.assertEqual(dict(found.left_out), left_out)
+                self.assertLessEqual({'Left out: %s (%s)' % it for it in left_out.items()}, {*found.notes()})
+                shutil.rmtree(top)
 
     def test_files_from_elsewhere_are_at_the_top_of_the_archive(self) -> None:
         top = self.tree('examples/a.toml LICENSE', '')

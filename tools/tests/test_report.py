@@ -5,7 +5,7 @@ import re
 import unittest
 from unittest import mock
 
-from here import TOP, Room, text_of
+from here import TOP, Room, rows_of, text_of
 from motesim.faults import Fault
 from motesim.report import Copy, Packet, Report, ReportFault
 from motesim.report import report as report_module
@@ -102,34 +102,11 @@ class Reports(unittest.TestCase):
             self.assertEqual(found, wanted, text)
 
     def test_a_changed_line_has_its_fault(self) -> None:
-        for row, line, expected in [
-                (1, 'mote 1 talker', "'mote 0' and the name of its program"),
-                (2, '0 start Etimer', 'a process'),
-                (2, '0 start', 'MOMENT start PROCESS'),
-                (2, '0  start etimer', 'a moment and one of start, leave'),
-                (2, '1000001 start etimer', 'a moment, 0 to 1000000'),
-                (3, '0 send 0 65536', 'a word of 16 bits, 0 to 65535'),
-                (3, '0 send 0 7 ', 'MOMENT send NUMBER VALUE'),
-                (4, '3 post 0 talker exited 0', 'an event'),
-                (5, '2 take 0 talker', 'a moment from 3 on'),
-                (9, 'mote 2 hearer', "'mote 1' and the name of its program"),
-                (10, '4 recv 2 0 7', 'a mote of this report, 0 to 1'),
-                (13, '4 halt', 'nothing more of mote 1'),
-                (15, 'media', 'a moment and one of'),
-                (16, '0 0 0', 'MOMENT SENDER NUMBER VALUE'),
-                (16, '0 0 0 7 0@4', 'receivers in rising order, without the sender'),
-                (16, '0 0 0 7 1@0', 'arrivals after moment 0'),
-                (16, '6 0 1 7 1@9', 'packets in the order of moment, sender and number'),
-                (20, 'left', "'left' and a number"),
-                (16, '0 0 0 7 1@', 'an arrival')]:
+        for row, line, expected, where in rows_of('report_faults.tsv'):
             rows = SMALL.split('\n')
-            rows[row - 1] = line
-            where, said = self.fault('\n'.join(rows))
-            if line in ('4 halt', '6 0 1 7 1@9'):
-                self.assertEqual(where, row + 1, said)
-            else:
-                self.assertEqual(where, row, said)
-            self.assertIn('expected ' + expected, said)
+            rows[int(row) - 1] = line
+            found = self.fault('\n'.join(rows))
+            self.assertEqual((found[0], 'expected ' + expected in found[1]), (int(where), True), found)
 
     def test_a_text_that_is_cut_off_or_goes_on_has_its_fault(self) -> None:
         for text, row in ('', 1), ('mote 0 a\n', 2), (SMALL[:SMALL.index('left')], 20), (SMALL.replace('\n', '\r\n'), 1):

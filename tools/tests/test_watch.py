@@ -1,10 +1,8 @@
 """The values of variables, and the state of a mote. The values are worked out by hand from the scenarios."""
-import json
 import re
-import subprocess
 import unittest
 
-from here import TOP, call
+from here import TOP
 import skips
 import test_why
 from motesim.faults import Fault
@@ -116,13 +114,3 @@ class Runs(unittest.TestCase):
                         self.assertEqual(own, found)
                     compared += any(found)
         self.assertGreater(compared, 20)
-
-    def why(self, *arguments: str) -> subprocess.CompletedProcess[str]:
-        return call('why', *arguments, cwd=TOP)
-
-    def test_the_command(self) -> None:
-        got = self.why('examples/flooding.toml', '--json', '--watch', 'mote', '3', 'newest')
-        self.assertEqual([it['value'] for it in json.loads(got.stdout)], [0, 1, 2, 3])
-        self.assertIn('timer next of flood is due at 80',
-                      self.why('examples/flooding.toml', '--state', 'mote', '0', 'at', '46').stdout)
-        self.assertEqual(self.why('examples/flooding.toml').returncode, 2)

@@ -210,8 +210,9 @@ class Log:
             log.note(found, edits)
 
     def digest(self, crate: Any) -> str:
-        for it in log.sum_of, log.digest, log.judging_code:
-            it.cache_clear()
+        log.sum_of.cache_clear()
+        log.digest.cache_clear()
+        log.judging_code.cache_clear()
         return log.digest(Edit(crate, self.room / 'high/a.edit', None, False, None), self.room)
 
 
