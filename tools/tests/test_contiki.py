@@ -137,11 +137,6 @@ def without_header(lines: list[str]) -> str:
     return '\n'.join(lines[lines.index('#include "contiki.h"'):]) + '\n'
 
 
-def scenario_of(program: str) -> bytes:
-    return ("version = 1\nend = 9\n[medium]\nrange = 1\nbase = 1\nper = 1\n[programs]\np = '''\n%s'''\n"
-            "[[mote]]\nx = 0\ny = 0\nprogram = 'p'\n" % program).encode()
-
-
 class ExpressionTest(unittest.TestCase):
     def test_exact_where_int_has_16_or_32_bits(self) -> None:
         chance = random.Random(61)
@@ -245,14 +240,6 @@ class FolderTest(Room):
                                           cwd=source.parent, capture_output=True, text=True)
                     self.assertEqual((done.returncode, done.stderr), (0, ''), (example.name, compiler))
 
-    def test_files_of_a_folder(self) -> None:
-        (self.room / 's.toml').write_bytes(scenario_of('process a; code a { body { } }').replace(b"'p'", b"'process'")
-                                             .replace(b'\np =', b'\nprocess ='))
-        done = self.export('s.toml', '--form', 'contiki', '-o', 'out')
-        self.assertEqual(done.stdout.split(), ['out/process_program.c', 'out/motesim_radio.h', 'out/motesim_radio.c',
-                                               'out/Makefile', 'out/README.md'])
-        self.assertIn('CONTIKI_PROJECT = process_program\n', (self.room / 'out/Makefile').read_text())
-
     def test_files_have_names_of_their_own(self) -> None:
         """Not those of Contiki or of the host, nor one name twice, nor one that looks like an option."""
         self.assertEqual(file_names(['net', 'a', 'A', 'list', 'list_program', '-o', 'flood']), {
@@ -278,18 +265,3 @@ class FolderTest(Room):
         files = dict(folder_files('net', scenario, False))
         self.assertIn('make DEFINES=PROCESS_CONF_NUMEVENTS=1 listener', files['Makefile'])
         self.assertIn('`DEFINES=PROCESS_CONF_NUMEVENTS=1`', files['README.md'])
-
-    def test_what_is_refused(self) -> None:
-        (self.room / 's.toml').write_bytes(scenario_of('process a; code a { body { x = 1; } }'))
-        (self.room / 'file').write_text('')
-        for arguments, said in (
-                (['s.toml', '--form', 'contiki'],
-                 'export: s.toml: program p fault 3 line 1 (tools/explain s.toml says more)\n'),
-                (['absent.toml', '--form', 'contiki'], 'export: absent.toml: No such file or directory\n'),
-                ([str(TOP / 'examples/counter.toml'), '--form', 'contiki', '-o', 'file'],
-                 'export: file: File exists\n')):
-            done = self.export(*arguments)
-            self.assertEqual((done.returncode, done.stdout, done.stderr), (2, '', said))
-        done = self.export('s.toml', '--to', 'vcd', '--host')
-        self.assertEqual(done.returncode, 2)
-        self.assertIn('--host is for --form contiki', done.stderr)

@@ -162,16 +162,3 @@ class ExportTest(Room):
         self.assertEqual(done.stdout.split('\n'), [
             '38 [5, 6, 13]', "182 {'collided': 2, 'halted': 1, 'left': 1, 'lost': 1, 'received': 1}", '[[1, 10, 22]]',
             ''], done.stderr)
-
-    def test_what_is_wrong_is_told(self) -> None:
-        (self.room / 'late.report').write_text(REPORT.replace('1@21', '1@4000000000000000000'))
-        for words, seen in [
-            (('no.report', '--to', 'vcd'), 'no.report: No such file'),
-            (('a.report', '--to', 'vcd', '-o', 'no/a.vcd'), 'no/a.vcd: No such file'),
-            (('a.report', '--to', 'gif'), 'invalid choice'),
-            (('late.report', '--to', 'pcapng'), 'a number that is too great'),
-        ]:
-            done = call('export', *words, cwd=self.room)
-            self.assertEqual((done.returncode, done.stdout), (2, ''))
-            self.assertIn(seen, done.stderr)
-        self.assertEqual(sorted(it.name for it in self.room.iterdir()), ['a.report', 'late.report'])
