@@ -144,7 +144,7 @@ class Page(InStudio):
 
     def test_zoom_place_and_selection_stay(self) -> None:
         self.open()
-        self.value('(m.act("zoom-in"), m.act("zoom-in"), pane.zoomLanes(1.5), m.find("recv 6"))')
+        self.value('(m.act("+"), m.act("+"), pane.zoomLanes(1.5), m.find("recv 6"))')
         view = '[m.time.begin, m.time.scale, pane.lane, pane.top, m.play.now, run.text(m.chosen.line)]'
         before = self.value(view)
         self.assertEqual(before[-1], '23 recv 0 1 6')

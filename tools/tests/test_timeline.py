@@ -304,7 +304,7 @@ class Pages(InBrowser):
         self.assertEqual(self.value('m.play.now'), 10)
         self.assertEqual(self.selected(), '10 recv 0 2 30')
         # (the log is that of the first run, whatever is selected in the other)
-        self.value('(m.panes[1].canvas.focus(), m.act("next"), m.setNow(8), m.act("found"))')
+        self.value('(m.panes[1].canvas.focus(), m.act("]"), m.setNow(8), m.act("n"))')
         self.assertEqual(self.value('[m.chosen.pane === pane, run.at[m.chosen.line]]'), [True, 8])
 
     def test_an_address_says_what_is_shown(self) -> None:

@@ -497,17 +497,6 @@ class Page(InBrowser):
         self.wait('run.end === 50')
         self.assertEqual(self.value('web.document.name'), 'mine.toml')
 
-    def test_a_text_whose_run_never_ended_waits(self) -> None:
-        self.open()
-        self.put(FLOODING.replace('end = 160', 'end = 90'))
-        self.wait('run.end === 90')
-        time.sleep(1.2)
-        self.browser.run('localStorage.setItem("motesim started", motesim.web.history.text)')
-        self.open()
-        self.assertEqual(self.value('[m.panes.length, by("about").textContent]'), [0, 'No run yet'])
-        self.value('by("offers").firstChild.click()')
-        self.wait('run && run.end === 90')
-
     def test_a_card_shows_why_a_line_is_there(self) -> None:
         self.open(size=(1920, 1080))
         self.press('play')

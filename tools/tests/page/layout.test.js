@@ -1,7 +1,7 @@
 // Where lanes, moments and lines are; and zooming in time.
 import assert from 'node:assert/strict';
 import {beforeEach, test} from 'node:test';
-import {AXIS, Layout} from '../../motesim/timeline/page/layout.js';
+import {AXIS, Pane} from '../../motesim/timeline/page/layout.js';
 import {page} from '../../motesim/timeline/page/stage.js';
 import {isWhole, keepTime, leastScale, momentsInWords, niceStep, revealMoment, showTime, zoomTime
   } from '../../motesim/timeline/page/time.js';
@@ -12,7 +12,7 @@ let run, layout;
 
 beforeEach(async () => {
   run = await runOf('many');
-  layout = Object.assign(new Layout(run), {width: 900, height: 500});
+  layout = Object.assign(new Pane(run), {width: 900, height: 500});
   Object.assign(time, {begin: 0, end: run.end, width: 900 - layout.gutter});
   time.scale = leastScale();
   keepTime();

@@ -3,7 +3,7 @@ import assert from 'node:assert/strict';
 import {test} from 'node:test';
 import {lineAndColumn, offsetOf} from '../../motesim/web/page/text.js';
 import {PRINT, SEND} from '../../motesim/timeline/page/data.js';
-import {headInWords} from '../../motesim/timeline/page/heads.js';
+import {headInWords} from '../../motesim/timeline/page/axis.js';
 import {count} from '../../motesim/timeline/page/words.js';
 import {effectInWords} from '../../motesim/web/page/diff.js';
 

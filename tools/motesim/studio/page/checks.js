@@ -6,7 +6,6 @@ import {page} from '../../timeline/page/stage.js';
 import {goTo} from '../../web/page/web.js';
 import {askQuestion} from './whys.js';
 
-/** @param {string} id @param {string} words @param {string} className */
 export function labelTab(id, words, className = '') {
   Object.assign(byId(`tab-${id}`), {textContent: words, className});
 }

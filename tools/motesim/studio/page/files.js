@@ -20,7 +20,7 @@ const draftName = () => `motesim draft ${web.folder} ${web.document.where} ${web
 
 const forgetDraft = () => stored(it => it.removeItem(draftName()));
 
-/** Keeps a text that isn't saved in the browser's storage. @param {string} text */
+/** Keeps a text that isn't saved in the browser's storage. */
 const keepDraft = text => isDirty() ? stored(it => it.setItem(draftName(), text)) : forgetDraft();
 
 /** Offers the draft of the document that was opened, if it has one. */
@@ -40,7 +40,7 @@ function nameDocument() {
   byId('save').disabled = web.document.maySave && !isDirty() && web.document.stamp !== '';
 }
 
-/** Opens a file of the folder. @param {string} name */
+/** Opens a file of the folder. */
 function openFile(name) {
   return attempt(async () => {
     const [document, example] = documentOf(await page.backend.ask('open', {where: 'folder', name}));
@@ -48,8 +48,7 @@ function openFile(name) {
   });
 }
 
-/** Writes the text into its file; also `over` a file that was changed elsewhere, or into a `named` one.
- * @param {boolean} over @param {string} named */
+/** Writes the text into its file; also `over` a file that was changed elsewhere, or into a `named` one. */
 async function save(over = false, named = '') {
   if (!web.document.maySave && !named) return saveAs();
   const {text} = web.history, file = {returns: false, mark: false, stamp: '', ...web.document};

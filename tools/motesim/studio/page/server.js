@@ -30,7 +30,7 @@ export class Server {
     return this.ask('stop', {});
   }
 
-  /** Asks for a value, or for the bytes of a run or a page. @param {string} what @param {any} asked */
+  /** Asks for a value, or for the bytes of a run or a page. */
   async ask(what, asked) {
     let answer, got;
     try {

@@ -21,7 +21,7 @@ async function chainOf(run, line) {
   return {hops: hopsOf(answer), about: ''};
 }
 
-/** Asks a question in the tab *Why*: answers it with a chain, or with the near misses. @param {string} question */
+/** Asks a question in the tab *Why*: answers it with a chain, or with the near misses. */
 export async function askQuestion(question) {
   const [pane] = page.panes;
   byId('why-asked').value = question;

@@ -22,7 +22,7 @@ export function lowerBound(array, value, low = 0, high = array.length) {
   return low;
 }
 
-/** The whole numbers from one on, below another. @param {number} from @param {number} to */
+/** The whole numbers from one on, below another. */
 export const numbers = (from, to) => Array.from({length: Math.max(0, to - from)}, (_, i) => from + i);
 
 /** The columns in a buffer, in the order in which a table names them with their kinds of numbers.

@@ -38,7 +38,7 @@ export function fill(c, colour) {
   c.fill();
 }
 
-/** Sets the font of texts, and where they are at a point. @param {any} c */
+/** Sets the font of texts, and where they are at a point. */
 export function setFont(c, size, align = 'left', baseline = 'middle', weight = '') {
   Object.assign(c, {font: `${weight} ${size}px system-ui, "DejaVu Sans", sans-serif`, textAlign: align,
     textBaseline: baseline});
@@ -107,7 +107,7 @@ const FORMS = {
   bar: [{lines: [0, -1, 0, 1], edge: 'quiet', wide: 2}],
 };
 
-/** Draws a form around a point, with a radius. @param {string} name */
+/** Draws a form around a point, with a radius. */
 export function drawForm(c, name, x, y, r) {
   for (const {lines, circle, fill: inside, edge, wide = 1.4} of FORMS[name]) {
     if (lines) path(c, lines.map((it, i) => (i % 2 ? y : x) + it * r), Boolean(inside));
@@ -136,19 +136,19 @@ const ARROWS = [{end: 'head', colour: 'recv'}, {end: 'full'}, {end: 'deaf'}, {da
   {dash: [2, 3], end: 'collide'}, {dash: [6, 4], end: 'cross'}, {dash: [1, 4], end: 'bar', colour: 'quiet'},
   {dash: [10, 3], end: 'open', colour: 'quiet'}, {end: 'open', colour: 'recv'}];
 
-/** The head of an arrow.
- * @param {any} c @param {number[]} ends @param {number} r @param {string} colour @param {boolean} filled */
-export function head(c, [x0, y0, x1, y1], r, colour, filled) {
+/** The head of an arrow. */
+export function head(c, ends, r, colour, filled) {
+  const [x0, y0, x1, y1] = ends;
   const a = Math.atan2(y1 - y0, x1 - x0);
   path(c, [x1 - Math.cos(a - 0.45) * r, y1 - Math.sin(a - 0.45) * r, x1, y1, x1 - Math.cos(a + 0.45) * r,
     y1 - Math.sin(a + 0.45) * r], filled);
   if (filled) fill(c, colour); else stroke(c, colour, 1.4);
 }
 
-/** Draws an arrow. That of a copy lost on the way ends before it arrives, with a cross.
- * @param {any} c @param {number[]} ends @param {number} fate @param {number} width @param {number} size */
-export function drawArrow(c, [x0, y0, x1, y1], fate, width, size, alpha = 1) {
+/** Draws an arrow. That of a copy lost on the way ends before it arrives, with a cross. */
+export function drawArrow(c, places, fate, width, size, alpha = 1) {
   const {dash = [], end, colour = 'trouble'} = ARROWS[fate], way = fate === MEDIUM ? 0.62 : 1;
+  const [x0, y0, x1, y1] = places;
   const ends = [x0, y0, x0 + (x1 - x0) * way, y0 + (y1 - y0) * way];
   drawPath(c, ends, colour, width, alpha, dash);
   c.globalAlpha = alpha;

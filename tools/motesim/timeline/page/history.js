@@ -6,10 +6,9 @@
 const PAUSE = 1200, KEPT = 20, JOINED = ['typed', 'moved'];
 
 export class History {
-  /** @param {string} text */
   constructor(text) { this.begin(text); }
 
-  /** Forgets all steps. @param {string} text */
+  /** Forgets all steps. */
   begin(text) {
     this.steps = [{text, run: /** @type {any} */ (null), how: 'begin', at: 0}];
     this.now = 0;
@@ -22,8 +21,7 @@ export class History {
   get before() { return this.steps[this.now - 1]; }
   get canRedo() { return this.now < this.steps.length - 1; }
 
-  /** Takes a new text. What is typed, or moved by keys, without a pause is one step.
-   * @param {string} text @param {string} how */
+  /** Takes a new text. What is typed, or moved by keys, without a pause is one step. */
   take(text, how) {
     if (text === this.text) return;
     const at = Date.now(), {step} = this, isLonger = how === step.how && JOINED.includes(how) && at - step.at < PAUSE;
@@ -33,7 +31,7 @@ export class History {
     if (this.now >= KEPT) this.steps[this.now - KEPT].run = null;
   }
 
-  /** Goes a step back or on; false if there is none. @param {number} by */
+  /** Goes a step back or on; false if there is none. */
   go(by) {
     if (!this.steps[this.now + by]) return false;
     this.now += by;

@@ -1,10 +1,9 @@
 // @ts-check
 // The lanes of a pane: a mark for each line. Marks closer than a pixel or two are thinned, and counted.
 import {drawArrows, drawChosen} from './arrows.js';
-import {drawAxis, drawBands, drawColumn, drawGrid, drawNames} from './axis.js';
+import {drawAxis, drawBands, drawColumn, drawGrid, drawHeads, drawNames} from './axis.js';
 import {HALT, KINDS, LEAVE, POST, PRINT, RECV, SEND, START, TAKE, lowerBound} from './data.js';
 import {box, colours, drawPath, ring, setFont, stampOf, stroke, write} from './forms.js';
-import {drawHeads} from './heads.js';
 import {APART, AXIS, FULL_LANE, SMALL_LANE} from './layout.js';
 import {drawOverview} from './overview.js';
 import {page} from './stage.js';

@@ -1,5 +1,5 @@
 // @ts-check
-// The layout of a pane: the places of its motes, moments and lines.
+// A pane: the lanes of a run, with the places of its motes, moments and lines.
 import {PRINT, RECV, SEND} from './data.js';
 import {page} from './stage.js';
 
@@ -16,15 +16,18 @@ export const APART = 14;
 const ROWS = [0.5, 0.5, 0.72, 0.72, 0.88, 0.88, 0.5, 0.5, 0.15, 0.3, 0.3, 0.3, 0.3, 0.5];
 const LOW_ROWS = {[RECV]: 0.8, [PRINT]: 0.3};
 
-/** How far a point is from a line between two points.
- * @param {number} x @param {number} y @param {number[]} ends */
-export function awayFrom(x, y, [x0, y0, x1, y1]) {
-  const dx = x1 - x0, dy = y1 - y0, share = ((x - x0) * dx + (y - y0) * dy) / (dx * dx + dy * dy || 1);
-  const along = Math.max(0, Math.min(1, share));
+/** How far a point is from a line between two points. */
+export function awayFrom(x, y, ends) {
+  const [x0, y0, x1, y1] = ends, dx = x1 - x0, dy = y1 - y0;
+  const along = Math.max(0, Math.min(1, ((x - x0) * dx + (y - y0) * dy) / (dx * dx + dy * dy || 1)));
   return Math.hypot(x - x0 - along * dx, y - y0 - along * dy);
 }
 
-export class Layout {
+export class Pane {
+  /** Its canvas, with the context and the dots of a pixel. */
+  canvas = /** @type {any} */ (null);
+  context = /** @type {any} */ (null);
+  dots = 1;
   top = 0;
   lane = 20;
   gutter = 70;
@@ -41,6 +44,17 @@ export class Layout {
     this.groupOf = new Int32Array(run.begins.length);
     this.order.forEach((mote, place) => { this.place[mote] = place; });
     run.groups.forEach((group, g) => group.motes.forEach(mote => { this.groupOf[mote] = g; }));
+  }
+
+  /** Makes the canvas as wide as its place on the page. */
+  resize(height) {
+    const {canvas, context} = this, dots = this.dots = window.devicePixelRatio || 1;
+    this.width = Math.max(200, canvas.parentElement.clientWidth);
+    this.height = height;
+    this.gutter = this.width < 560 ? 64 : 74;
+    canvas.style.height = `${height}px`;
+    Object.assign(canvas, {width: Math.round(this.width * dots), height: Math.round(height * dots)});
+    context.setTransform(dots, 0, 0, dots, 0, 0);
   }
 
   get heads() { return this.run.groups.length * HEAD; }

@@ -63,8 +63,7 @@ function list(run, order) {
   if (top < panel.top || bottom > panel.bottom) byId('log').scrollTop += top - (panel.top + panel.bottom) / 2;
 }
 
-/** Selects the next line of the log, or the one before.
- * @param {number} by */
+/** Selects the next line of the log, or the one before. */
 export function walkLog(by) {
   const [pane] = page.panes, {logged} = page;
   if (logged.run !== pane.run) search();
@@ -73,7 +72,7 @@ export function walkLog(by) {
   if (places.length) chooseLine(pane, order[places[(next + places.length) % places.length]], true);
 }
 
-/** Searches, and selects the first line from the moment that is shown on. @param {string} text */
+/** Searches, and selects the first line from the moment that is shown on. */
 export function find(text) {
   byId('log-asked').value = text;
   showTab('log');

@@ -4,17 +4,15 @@ import {chooseAgain, chooseCopy, chooseLine, chooseMote, chosenInWords, selectNo
 import {byId, element} from './dom.js';
 import {drawAll, redraw} from './draw.js';
 import {drawLegend, readColours} from './forms.js';
-import {AXIS, TALL_LANE} from './layout.js';
+import {AXIS, Pane, TALL_LANE} from './layout.js';
 import {find, walkLog} from './log.js';
 import {MapView} from './map.js';
 import {itemAt, itemInWords} from './near.js';
-import {Pane} from './pane.js';
 import {chooseSpeed, followNow, setNow, startPlaying, step, stopPlaying} from './play.js';
-import {onPointer} from './pointer.js';
+import {offerTips, onPointer} from './pointer.js';
 import {page} from './stage.js';
 import {showTab} from './tabs.js';
-import {isWhole, keepTime, leastScale, zoomTime} from './time.js';
-import {offerTips} from './tip.js';
+import {isWhole, keepTime, leastScale, showTime, zoomTime} from './time.js';
 import {askWhy, closeWhy, drawChain, drawChainOnMap} from './why.js';
 import {count} from './words.js';
 
@@ -57,42 +55,37 @@ const paneNow = () => panes.find(it => it.canvas === document.activeElement) || 
 const pan = by => { time.begin += time.width / time.scale * SHARE * by; };
 const scroll = by => panes.forEach(pane => { pane.top += Math.max(LEAST_STEP, pane.height * SHARE) * by; });
 
-/** What buttons and keys do. */
-const DO = {
-  'zoom-in': () => zoomTime(1.5, aim()),
-  'zoom-out': () => zoomTime(1 / 1.5, aim()),
-  left: () => pan(-1),
-  right: () => pan(1),
-  up: () => scroll(-1),
-  down: () => scroll(1),
-  taller: () => panes.forEach(pane => pane.zoomLanes(1.4)),
-  lower: () => panes.forEach(pane => pane.zoomLanes(1 / 1.4)),
-  whole,
-  play: () => play.runs ? stopPlaying() : startPlaying(),
-  step: () => step(1),
-  back: () => step(-1),
-  before: () => walk(paneNow(), -1),
-  next: () => walk(paneNow(), 1),
-  above: () => walk(paneNow(), 0, -1),
-  below: () => walk(paneNow(), 0, 1),
-  why: () => { if (chosen.line >= 0) askWhy(chosen.pane, chosen.line); },
-  found: () => walkLog(1),
-  'found-before': () => walkLog(-1),
-  search: () => {
+/** What keys do; a button names the key that does the same. */
+const KEYS = {
+  '+': () => zoomTime(1.5, aim()),
+  '-': () => zoomTime(1 / 1.5, aim()),
+  0: whole,
+  ArrowLeft: () => pan(-1),
+  ArrowRight: () => pan(1),
+  ArrowUp: () => scroll(-1),
+  ArrowDown: () => scroll(1),
+  t: () => panes.forEach(pane => pane.zoomLanes(1.4)),
+  l: () => panes.forEach(pane => pane.zoomLanes(1 / 1.4)),
+  ' ': () => play.runs ? stopPlaying() : startPlaying(),
+  '.': () => step(1),
+  ',': () => step(-1),
+  '[': () => walk(paneNow(), -1),
+  ']': () => walk(paneNow(), 1),
+  '{': () => walk(paneNow(), 0, -1),
+  '}': () => walk(paneNow(), 0, 1),
+  w: () => { if (chosen.line >= 0) askWhy(chosen.pane, chosen.line); },
+  n: () => walkLog(1),
+  p: () => walkLog(-1),
+  '/': () => {
     showTab('log');
     byId('log-asked').focus();
   },
-  nothing: () => {
+  Escape: () => {
     selectNothing();
     closeWhy();
   },
 };
-const KEYS = {
-  '+': 'zoom-in', '=': 'zoom-in', '-': 'zoom-out', '_': 'zoom-out', 0: 'whole', ArrowLeft: 'left',
-  ArrowRight: 'right', ArrowUp: 'up', ArrowDown: 'down', t: 'taller', l: 'lower', ' ': 'play', '.': 'step', ',': 'back',
-  '[': 'before', ']': 'next', '{': 'above', '}': 'below', w: 'why', n: 'found', p: 'found-before', '/': 'search',
-  Escape: 'nothing',
-};
+Object.assign(KEYS, {'=': KEYS['+'], _: KEYS['-']});
 
 /** Keeps the view within the run, and draws it. */
 function show() {
@@ -101,9 +94,9 @@ function show() {
   redraw();
 }
 
-/** Carries out the command of a button or a key. */
-function act(name) {
-  DO[name]();
+/** Does what a key does. */
+function act(key) {
+  KEYS[key]();
   show();
 }
 
@@ -116,7 +109,7 @@ function onKey(event) {
   const isTyping = there && !there.matches('button, #details, #drawer');
   if (isTyping && key === 'Escape') return event.target.blur();
   if (isTyping || there && (key === ' ' || key.startsWith('Arrow')) || !KEYS[key]) return;
-  act(KEYS[key]);
+  act(key);
   event.preventDefault();
 }
 
@@ -172,8 +165,8 @@ function listen() {
   page.mapOverlays.push(drawChainOnMap);
   Object.assign(page, {redraw, drawAll, find, act, setNow, askWhy});
   document.addEventListener('keydown', onKey);
-  for (const button of /** @type {NodeListOf<HTMLElement>} */ (document.querySelectorAll('[data-do]')))
-    button.addEventListener('click', () => act(button.dataset.do));
+  for (const button of /** @type {NodeListOf<HTMLElement>} */ (document.querySelectorAll('[data-key]')))
+    button.addEventListener('click', () => act(button.dataset.key));
   byId('now').addEventListener('change', ({target}) => {
     stopPlaying();
     setNow(Number(target.value) || 0);
@@ -199,7 +192,8 @@ function addPane(run, number, several) {
       '[ and ] choose a line, { and } another lane, plus and minus zoom, arrows pan.'});
   const cursor = element('div', '', [], {className: 'cursor', 'aria-hidden': 'true'});
   const layers = element('div', '', [canvas, cursor], {className: 'layers'});
-  const map = element('section', '', [], {className: 'map'}), pane = new Pane(run, number, canvas, cursor);
+  const map = element('section', '', [], {className: 'map'}), context = canvas.getContext('2d', {alpha: false});
+  const pane = Object.assign(new Pane(run), {number, canvas, context, cursor});
   const box = element('div', '', [...(several ? [element('h2', run.name)] : []), layers], {className: 'pane'});
   byId('panes').append(box);
   byId('maps').append(map);
@@ -241,4 +235,17 @@ export function showInstead(pane, run) {
   const now = Math.min(play.now, time.end);
   if (kept) chooseAgain(pane, kept);
   setNow(now);
+}
+
+/** Follows the page's address after #: from, to, mote, line (a number). */
+export function openAsAddressed() {
+  const wish = new URLSearchParams(location.hash.slice(1)), [pane] = panes;
+  const [from, to, mote, row] = ['from', 'to', 'mote', 'line'].map(name => Number(wish.get(name)));
+  if (wish.has('from')) showTime(from, wish.has('to') ? to : from + 60);
+  if (wish.has('mote') && mote < pane.order.length) {
+    chooseMote(pane, mote);
+    pane.reveal(mote);
+  }
+  const line = pane.run.atRow(row)?.line ?? -1, after = pane.run.at[line] - time.begin;
+  if (line >= 0) chooseLine(pane, line, !wish.has('from') || after < 0 || after > time.width / time.scale);
 }

@@ -7,10 +7,9 @@ import {redraw} from './draw.js';
 import {box, drawArrow, drawForm, drawPath, fill, ring, setFont, stampOf, stroke, write} from './forms.js';
 import {HANDED, MEDIUM, arrivalOf} from './index.js';
 import {linkInWords, moteInWords} from './near.js';
-import {onPointer} from './pointer.js';
+import {offerTips, onPointer} from './pointer.js';
 import {MapLayout} from './places.js';
 import {page} from './stage.js';
-import {offerTips} from './tip.js';
 import {count} from './words.js';
 
 const MOST_LINKS = 12000, MOST_FLYING = 4000;
@@ -22,7 +21,6 @@ const TALL = 12, APART = 6;
 const FIRST = 0.12, LAST = 0.88, LOST_FROM = 0.55, LOST_AT = 0.6;
 
 export class MapView extends MapLayout {
-  /** @param {any} pane @param {HTMLElement} frame @param {string} title */
   constructor(pane, frame, title) {
     super(pane.run);
     this.pane = pane;

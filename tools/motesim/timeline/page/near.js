@@ -27,9 +27,9 @@ export function itemAt(pane, x, y) {
   return near < to && (pane.run.at[near] - moment) * page.time.scale < 6 ? {line: near} : null;
 }
 
-/** An item of the lanes in words.
- * @param {any} run @param {any} item */
-export function itemInWords(run, {mote, line, k, copy}) {
+/** An item of the lanes in words. */
+export function itemInWords(run, item) {
+  const {mote, line, k, copy} = item;
   if (mote !== undefined) return moteInWords(run, mote);
   if (line !== undefined) return `mote ${run.moteOf(line)}, moment ${run.at[line]}: ${run.told(line)} (click for more)`;
   return `packet ${run.packetNumber[k]} of mote ${run.packetSender[k]} to mote ${run.copyTo[copy]}, sent at ` +

@@ -1,6 +1,5 @@
 // @ts-check
 // Opens the page of tools/timeline on the runs that it holds.
-import {openAsAddressed} from './address.js';
 import {chainOf} from './causes.js';
 import {Run, columnsIn} from './data.js';
 import {chooseLine, chooseMote, chooseRow} from './details.js';
@@ -10,7 +9,7 @@ import {beginDrawer} from './drawer.js';
 import {readColours} from './forms.js';
 import {breathe, indexRun} from './index.js';
 import {FULL_LANE} from './layout.js';
-import {resize, showRuns, whole} from './main.js';
+import {openAsAddressed, resize, showRuns, whole} from './main.js';
 import {unpacked} from './packing.js';
 import {setNow} from './play.js';
 import {page} from './stage.js';

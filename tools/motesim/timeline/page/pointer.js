@@ -1,5 +1,6 @@
 // @ts-check
-// The pointer on a picture: it drags and clicks, and two fingers zoom.
+// The pointer on a picture: it drags and clicks, two fingers zoom, and a tip says what is there.
+import {byId} from './dom.js';
 
 /** What a pointer does with a picture: `hold` says what is held at a point, `drag` moves it by so many pixels, `drop`
  * leaves it there, `click` ends a touch without a move, and `zoom` gets a factor and the point between two fingers.
@@ -7,8 +8,8 @@
  *   drag: (dx: number, dy: number, event: PointerEvent, held: number) => void,
  *   drop?: (event: PointerEvent, held: number) => void, zoom: (factor: number, x: number, y: number) => void}} Hand */
 
-// Pixels that a click may move.
-const STILL = 4;
+// Pixels that a click may move; and those of a tip from the pointer, and from the edge of the window.
+const STILL = 4, AWAY = 14, EDGE = 4;
 
 /** Lets a hand work on a picture. @param {HTMLElement} canvas @param {Hand} hand */
 export function onPointer(canvas, hand) {
@@ -50,4 +51,20 @@ export function onPointer(canvas, hand) {
   };
   canvas.addEventListener('pointerup', release);
   canvas.addEventListener('pointercancel', release);
+}
+
+/** Shows tips over a picture. `wordsAt` has the words at a point of it, and '' where nothing is.
+ * @param {HTMLElement} canvas @param {(x: number, y: number) => string} wordsAt */
+export function offerTips(canvas, wordsAt) {
+  const box = byId('tip');
+  canvas.addEventListener('pointermove', ({buttons, pointerType, offsetX, offsetY, clientX: x, clientY: y}) => {
+    box.textContent = buttons || pointerType === 'touch' ? '' : wordsAt(offsetX, offsetY);
+    box.hidden = !box.textContent;
+    canvas.classList.toggle('points', !box.hidden);
+    const {width, height} = box.getBoundingClientRect();
+    const left = Math.max(EDGE, Math.min(x + AWAY, innerWidth - width - EDGE));
+    Object.assign(box.style, {left: `${left}px`,
+      top: `${y + AWAY + height > innerHeight ? y - height - AWAY : y + AWAY}px`});
+  });
+  for (const name of ['pointerleave', 'pointerdown']) canvas.addEventListener(name, () => { box.hidden = true; });
 }

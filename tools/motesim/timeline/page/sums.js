@@ -26,8 +26,7 @@ function copiesRow(became) {
   return [copies, ...became, due ? Math.round(became[0] / due * DIGITS) / DIGITS : null];
 }
 
-/** The tables of a run, each with its names in the first row.
- * @param {any} run */
+/** The tables of a run, each with its names in the first row. */
 export function sums(run) {
   const ofMotes = Array.from(run.begins, () => OUTCOMES.map(() => 0)), ofLinks = new Map();
   const linkOf = (from, to) => {

@@ -28,5 +28,5 @@ export function beginTabs(list, show, mayClose = false) {
   });
 }
 
-/** Opens a panel. @param {string} name */
+/** Opens a panel. */
 export function showTab(name) { if (byId(name).hidden) byId(`tab-${name}`).click(); }

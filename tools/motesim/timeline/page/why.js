@@ -19,7 +19,7 @@ export async function askWhy(pane, line) {
   }
 }
 
-/** Shows a title, texts and items, and announces a text. @param {any[]} texts @param {any[]} items */
+/** Shows a title, texts and items, and announces a text. */
 function show(title, texts, items, spoken) {
   byId('why-chain').hidden = false;
   byId('why-chain').replaceChildren(element('h2', title), ...texts.map(text => element('p', '', withPlaces(text))),
@@ -28,7 +28,7 @@ function show(title, texts, items, spoken) {
   redraw();
 }
 
-/** Shows a sentence instead of a chain. @param {any[]} items */
+/** Shows a sentence instead of a chain. */
 export function sayWhy(text, items = []) {
   closeWhy();
   show('Why', [text], items, text);

@@ -3,7 +3,6 @@
 import {Run} from '../../timeline/page/data.js';
 import {indexRun} from '../../timeline/page/index.js';
 import {Refused} from '../../timeline/page/stage.js';
-import {noteStart} from './keeping.js';
 import {placeOfFault, ruleOf, scenarioOf} from './scenario.js';
 
 /** The milliseconds after which a run is ended. */
@@ -34,7 +33,6 @@ export class Alone {
     this.end({superseded: true});
     const module = await this.module;
     if (number !== this.number) return {superseded: true};
-    noteStart(text);
     const got = await new Promise(done => {
       const worker = this.worker ||= new Worker(this.script);
       this.done = done;
@@ -43,7 +41,6 @@ export class Alone {
       this.timer = window.setTimeout(() => this.end({limit: SLOW}), MOST_TIME);
       worker.postMessage({module, number, text});
     });
-    noteStart(null);
     if (got.superseded || got.limit) return got;
     const {line} = got;
     if (line) return {fault: {line, words: ruleOf(this.rules, line), place: placeOfFault(text, line)}};
@@ -52,7 +49,7 @@ export class Alone {
     return number === this.number ? {run, number, took: got.took} : {superseded: true};
   }
 
-  /** Ends the run that goes on, with its worker. @param {any} answer */
+  /** Ends the run that goes on, with its worker. */
   end(answer) {
     if (!this.done) return;
     this.worker.terminate();

@@ -20,7 +20,6 @@ const isBlank = (text, offset) => offset >= 0 && offset < text.length &&
 
 /** A text with the places of its items; its tables of a name are written one by one, or in an array in brackets. */
 class Scenario {
-  /** @param {string} text */
   constructor(text) {
     this.text = text;
     this.toml = readToml(text);

@@ -12,15 +12,13 @@ const WIDE = 280, HIGH = 120;
  * @typedef {{file: string, text: string, title: string, about: string, question: string, try: string,
  *   replace: Record<string, string>, from: number, to: number, still: number, speed: number}} Example */
 
-/** The first sentence of the comment at the head of a text.
- * @param {string} text */
+/** The first sentence of the comment at the head of a text. */
 export function firstSentence(text) {
   const [comment] = /^(#.*\n)*/.exec(text) || [''];
   return (/^.*?[.](?= |$)/.exec(comment.replace(/^#+ ?/gm, '').replace(/\n/g, ' ').replace(/`/g, '')) || [''])[0];
 }
 
-/** Draws the motes and the links of an example.
- * @param {any} canvas @param {string} text */
+/** Draws the motes and the links of an example. */
 function drawStill(canvas, text) {
   const run = /** @type {any} */ (scenarioOf(text)), dots = window.devicePixelRatio || 1, c = canvas.getContext('2d');
   run.begins = run.places;

@@ -1,11 +1,13 @@
 // @ts-check
 // Where a text comes from and goes to: a link, a file, this page saved with it, and the browser's storage.
 import {byId, handOut, stored} from '../../timeline/page/dom.js';
+import {packed, unpacked} from '../../timeline/page/packing.js';
 import {page} from '../../timeline/page/stage.js';
 import {digits} from '../../timeline/page/words.js';
-import {linkTo, textIn} from './share.js';
 
-const DRAFT = 'motesim draft', STARTED = 'motesim started', LONGEST_FILE = 1 << 20;
+const DRAFT = 'motesim draft', FORMAT = 'deflate-raw', LONGEST_TEXT = 1 << 20;
+/** Links that are longer than this get lost in chats and mails. */
+const LONGEST_LINK = 8000;
 
 /** The page as it was delivered, before anything changed it. */
 const delivered = typeof document === 'undefined' ? '' : `<!DOCTYPE html>\n${document.documentElement.outerHTML}`;
@@ -13,18 +15,27 @@ const delivered = typeof document === 'undefined' ? '' : `<!DOCTYPE html>\n${doc
 /** The text and the name that this page was saved with, as JSON; `null` if it was saved with none. */
 const savedHere = () => byId('saved').textContent;
 
-/** Keeps the text as the draft of this page. @param {string} text @param {string} name */
+/** Keeps the text as the draft of this page. */
 export const keepDraft = (text, name) =>
   stored(it => it.setItem(DRAFT, JSON.stringify({text, name, of: savedHere()})));
 
 export const forgetDraft = () => stored(it => it.removeItem(DRAFT));
 
-/** Notes that a run of a text begins or has ended, so that a text at which the browser gives up isn't run again.
- * @param {string|null} text */
-export const noteStart = text => stored(it => text === null ? it.removeItem(STARTED) : it.setItem(STARTED, text));
+/** The address of this page with a text; null if it is too long for chats and mails.
+ * @param {string} text @returns {Promise<string|null>} */
+async function linkTo(text) {
+  const letters = (await packed(text, FORMAT)).replace(/\+/g, '-').replace(/\//g, '_').replace(/=+$/, '');
+  return letters.length > LONGEST_LINK ? null : `${location.href.split('#')[0]}#t=1.${letters}`;
+}
 
-/** True if the last run of a text never ended. @param {string} text */
-export const neverEnded = text => stored(it => it.getItem(STARTED) === text);
+/** The text in the part of an address behind `#`; null if it has none. Fails if a text is cut off, or of another form.
+ * @param {string} hash @returns {Promise<string|null>} */
+async function textIn(hash) {
+  const found = /(?:^#?|&)t=(?:1\.([A-Za-z0-9_-]+))?/.exec(hash);
+  if (!found) return null;
+  const letters = (found[1] || '').replace(/-/g, '+').replace(/_/g, '/');
+  return new TextDecoder('utf-8', {fatal: true}).decode(await unpacked(letters, FORMAT, LONGEST_TEXT));
+}
 
 /** The text to open with, and where it came from; null for the first example.
  * @returns {Promise<{text: string, name: string, from: 'link'|'page'|'draft'}|null>} */
@@ -39,8 +50,7 @@ export async function textToOpen() {
   return saved && {...saved, from: 'page'};
 }
 
-/** Writes the text into the address, so that going back and reloading keep it; null takes it away.
- * @param {string|null} text */
+/** Writes the text into the address, so that going back and reloading keep it; null takes it away. */
 export async function keepInAddress(text) {
   const link = text === null ? null : await linkTo(text);
   try {
@@ -50,7 +60,7 @@ export async function keepInAddress(text) {
   }
 }
 
-/** Hands out this page with a text in it. @param {string} text @param {string} name */
+/** Hands out this page with a text in it. */
 function savePage(text, name) {
   const inside = JSON.stringify({text, name}).replace(/</g, '\\u003c');
   const begin = delivered.indexOf('>', delivered.indexOf('<script id="saved"')) + 1;
@@ -58,7 +68,7 @@ function savePage(text, name) {
   handOut(name.replace(/(\.toml)?$/, '.html'), [delivered.slice(0, begin), inside, delivered.slice(end)], 'text/html');
 }
 
-/** Shows the ways to share a text. @param {string} text @param {string} name */
+/** Shows the ways to share a text. */
 export async function showSharing(text, name) {
   const {line, mote, pane} = page.chosen, [copy, field] = [byId('copy-link'), byId('link')];
   const bare = await linkTo(text), link = bare && line >= 0 ? `${bare}&line=${pane.run.numberOf(line, mote)}` : bare;
@@ -87,7 +97,7 @@ export async function showSharing(text, name) {
 export function beginFiles(take, refuse) {
   const read = async file => {
     if (!file) return;
-    if (file.size > LONGEST_FILE) return refuse(`${file.name} is longer than 1,048,576 bytes, the limit.`);
+    if (file.size > LONGEST_TEXT) return refuse(`${file.name} is longer than 1,048,576 bytes, the limit.`);
     take((await file.text()).replace(/^\ufeff/, '').replace(/\r\n/g, '\n'), file.name);
   };
   byId('open').addEventListener('click', () => byId('file').click());

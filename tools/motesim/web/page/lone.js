@@ -1,12 +1,12 @@
 // @ts-check
 // Opens the page without a server: on the text of a link, of this page, or of the last time, or on an example.
-import {openAsAddressed} from '../../timeline/page/address.js';
 import {chainOf} from '../../timeline/page/causes.js';
 import {byId} from '../../timeline/page/dom.js';
+import {openAsAddressed} from '../../timeline/page/main.js';
 import {unpacked} from '../../timeline/page/packing.js';
 import {page} from '../../timeline/page/stage.js';
 import {Alone} from './alone.js';
-import {forgetDraft, keepDraft, keepInAddress, neverEnded, textToOpen} from './keeping.js';
+import {forgetDraft, keepDraft, keepInAddress, textToOpen} from './keeping.js';
 import {begin, open, openExample, say} from './web.js';
 
 const ORIGINS = {link: 'This net came with the link.', page: 'This net was saved with the page.',
@@ -34,8 +34,7 @@ async function start() {
   } catch {
     broken = true;
   }
-  // (a text at which the browser gave up waits)
-  if (opened) await open({where: '', ...opened}, {intro: ORIGINS[opened.from], waits: neverEnded(opened.text)});
+  if (opened) await open({where: '', ...opened}, {intro: ORIGINS[opened.from]});
   else await openExample(first);
   if (broken) say('The link is broken: no text can be read from it. This is the first example.', 'bad');
   if (opened?.from === 'link' && page.panes.length) openAsAddressed();

@@ -28,8 +28,7 @@ export class Pad {
     this.area.addEventListener('keydown', event => this.onKey(event));
   }
 
-  /** Shows a stretch of a text. Caret and view stay as near as may be, unless it is shown anew.
-   * @param {string} text @param {number} begin @param {number} end @param {boolean} isNew */
+  /** Shows a stretch of a text. Caret and view stay as near as may be, unless it is shown anew. */
   show(text, begin, end, isNew = false) {
     const {area} = this, {selectionStart, scrollTop} = area, shown = text.slice(begin, end);
     this.before = text.slice(0, begin);
@@ -54,30 +53,27 @@ export class Pad {
   /** How many rows of the whole text are above those that are shown. */
   get rowsBefore() { return this.before.split('\n').length - 1; }
 
-  /** Marks a place of the whole text, [row, begin, end]; null for none.
-   * @param {number[]|null} place */
+  /** Marks a place of the whole text, [row, begin, end]; null for none. */
   mark(place) {
     this.place = place;
     this.tint.mark({place: place && [place[0] - this.rowsBefore, place[1], place[2]]});
   }
 
-  /** Brings a row of the shown text into view. @param {number} row */
+  /** Brings a row of the shown text into view. */
   showRow(row) {
     const {area} = this, {lineHeight, paddingTop} = getComputedStyle(area), high = parseFloat(lineHeight);
     const top = parseFloat(paddingTop) + row * high;
     area.scrollTop = Math.min(Math.max(area.scrollTop, top + high + MARGIN - area.clientHeight), top - MARGIN);
   }
 
-  /** Selects a stretch of the shown text.
-   * @param {number} begin @param {number} end */
+  /** Selects a stretch of the shown text. */
   select(begin, end) {
     this.area.setSelectionRange(begin, end);
     this.area.focus({preventScroll: true});
     this.showRow(lineAndColumn(this.area.value, begin)[0]);
   }
 
-  /** Marks a piece of the shown text as the one that was changed, until the text is changed again.
-   * @param {string} piece */
+  /** Marks a piece of the shown text as the one that was changed, until the text is changed again. */
   light(piece) {
     const begin = this.area.value.indexOf(piece), [row, column] = lineAndColumn(this.area.value, Math.max(0, begin));
     if (begin < 0) return;
@@ -85,15 +81,14 @@ export class Pad {
     this.showRow(row);
   }
 
-  /** Marks a row of the whole text as the statement that is selected; -1 marks none. @param {number} row */
+  /** Marks a row of the whole text as the statement that is selected; -1 marks none. */
   lightRow(row) {
     const shown = row < 0 ? -1 : row - this.rowsBefore;
     this.tint.mark({row: shown});
     if (shown >= 0 && shown < this.area.value.split('\n').length) this.showRow(shown);
   }
 
-  /** Tab writes two blanks, Enter keeps the indentation, Esc leaves the text.
-   * @param {KeyboardEvent} event */
+  /** Tab writes two blanks, Enter keeps the indentation, Esc leaves the text. */
   onKey(event) {
     if (event.ctrlKey || event.metaKey || event.altKey) return;
     const {area} = this, before = area.value.slice(0, area.selectionStart);

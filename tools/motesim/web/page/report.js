@@ -1,13 +1,10 @@
 // @ts-check
 // A report as columns: the numbers that `Run` takes, and a table of names.
-import {ALL, ARRAYS, KINDS} from '../../timeline/page/data.js';
+import {ALL, ARRAYS, FIELDS, KINDS} from '../../timeline/page/data.js';
 
 /** The columns that `Run` takes, with their kinds of numbers. */
 const TYPES = {traceStart: 'u32', at: 'u32', x: 'u32', packetAt: 'u32', copyAfter: 'u32', w: 'u16', p: 'u16', e: 'u16',
   begins: 'u16', packetSender: 'u16', packetValue: 'u16', copyCount: 'u16', copyTo: 'u16', kind: 'u8'};
-/** The columns of the words of a line after its kind; s is a sender, which is in the column p. */
-const FIELDS = {start: 'p', leave: 'p', post: 'xpew', full: 'pew', take: 'xp', drop: 'xp', print: 'pw', busy: 'p',
-  send: 'xw', recv: 'sxw', lost: 'sx', collide: 'sx', deaf: 'sx', halt: ''};
 const LINE_END = 10;
 
 /** A column that grows. */
@@ -31,13 +28,12 @@ class Growing {
  * @param {Map<string, number>} names @param {string} name @returns {number} */
 const placeIn = (names, name) => names.get(name) ?? names.set(name, names.size).size - 1;
 
-/** The columns of a report, its names, and how many copies were left at its end.
- * @param {string} text */
+/** The columns of a report, its names, and how many copies were left at its end. */
 export function columnsOf(text) {
   const columns = /** @type {any} */ (Object.fromEntries(Object.entries(TYPES).map(
     ([name, type]) => [name, new Growing(ARRAYS[type])])));
   const processes = new Map(), events = new Map(), programs = new Map();
-  const codes = new Map(KINDS.map((kind, code) => [kind, [code, FIELDS[kind]]]));
+  const codes = new Map(KINDS.map((kind, code) => [kind, code]));
   let place = 0, left = 0;
 
   /** The next word, whose separator is passed. */
@@ -59,8 +55,8 @@ export function columnsOf(text) {
   }};
 
   const addLine = at => {
-    const [code, fields] = codes.get(word()), line = {x: 0, p: 0, e: 0, w: 0, s: 0};
-    for (const field of fields) line[field] = READ[field]();
+    const code = codes.get(word()), line = {x: 0, p: 0, e: 0, w: 0, s: 0};
+    for (const field of FIELDS[code]) line[field] = READ[field]();
     columns.at.push(at);
     columns.kind.push(code);
     columns.x.push(line.x);

@@ -2,8 +2,7 @@
 // What the page needs of a scenario besides its run: places and losses, and where its programs are in the text.
 import {readToml} from './toml.js';
 
-/** The parts of a scenario, which motesim takes, for the page of its run.
- * @param {string} text */
+/** The parts of a scenario, which motesim takes, for the page of its run. */
 export function scenarioOf(text) {
   const {end, medium: {range, base, per, collide}, mote, loss = []} = readToml(text).tables;
   return {end, range, base, per, collide: collide === true, places: mote.map(it => [it.x, it.y]),
@@ -27,8 +26,7 @@ export function programsOf(text) {
 
 const OF_PROGRAM = /^motesim: program (\S+) fault (\d+) line (\d+)$/;
 
-/** The place of an error of motesim in the text, as [row, begin, end] from 0; null if its line names none.
- * @param {string} text @param {string} line */
+/** The place of an error of motesim in the text, as [row, begin, end] from 0; null if its line names none. */
 export function placeOfFault(text, line) {
   const [, name, , number] = OF_PROGRAM.exec(line) || [], program = programsOf(text).find(it => it.name === name);
   const row = program ? text.slice(0, program.begin).split('\n').length + Number(number) - 2 : -1;

@@ -12,7 +12,7 @@ const OPENING = /"""|'''|["'](?=\s*(event|semaphore|process)\b)/y;
 const PROGRAM_TOKEN = /\s+|\/\/.*|[A-Za-z0-9_]+|./y;
 const OPERATORS = '{}();,=!+-*/%<>&|';
 
-/** The text of a pattern at a place of a row, or ''. @param {RegExp} pattern @param {string} row @param {number} at */
+/** The text of a pattern at a place of a row, or ''. */
 function found(pattern, row, at) {
   pattern.lastIndex = at;
   return (pattern.exec(row) || [''])[0];

@@ -21,13 +21,11 @@ class Reader {
   headers = /** @type {number[]} */ ([]);
   tables = /** @type {any} */ ({});
 
-  /** @param {string} text */
   constructor(text) { this.text = text; }
 
   /** @returns {never} */
   fail() { throw new NoToml(); }
 
-  /** @param {RegExp} pattern */
   take(pattern) {
     pattern.lastIndex = this.at;
     const found = pattern.exec(this.text);
@@ -35,7 +33,6 @@ class Reader {
     return found;
   }
 
-  /** @param {string} sign */
   pass(sign) {
     const isThere = this.text.startsWith(sign, this.at);
     if (isThere) this.at += sign.length;

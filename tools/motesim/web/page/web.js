@@ -26,8 +26,7 @@ const PAUSE = 150, LONG = 500, KEEP = 1000;
 const {web} = page;
 const react = (name, ...words) => page.reactions[name].forEach(does => does(...words));
 
-/** Shows a sentence, with the buttons that belong to it; `offers` are pairs of a name and a function.
- * @param {string} words @param {string} is */
+/** Shows a sentence, with the buttons that belong to it; `offers` are pairs of a name and a function. */
 export function say(words, is = '', {tries = false, shows = false, reverts = false,
   offers = /** @type {[string, () => void][]} */ ([])} = {}) {
   byId('said').textContent = words;
@@ -59,7 +58,7 @@ function sayIntro() {
 
 // The text.
 
-/** Shows the text in the part that is open. @param {boolean} isNew */
+/** Shows the text in the part that is open. */
 function showText(isNew = false) {
   const {text} = web.history, programs = programsOf(text), which = byId('which');
   const names = programs.map(it => it.name), kept = names.includes(which.value) ? which.value : names[0];
@@ -79,43 +78,36 @@ function nameSteps() {
   byId('redo').disabled = !web.history.canRedo;
 }
 
-/** Takes a new text of the page, and runs it. @param {string} text @param {string} how */
+/** Takes a new text of the page, and runs it. */
 export function change(text, how) {
   web.history.take(text, how);
   if (how === 'typed') nameSteps(); else showText();
-  clearTimeout(web.timer);
-  web.timer = window.setTimeout(runNow, how === 'typed' ? PAUSE : 0);
-  changed();
+  changed(how === 'typed' ? PAUSE : 0);
 }
 
-/** Marks results as those of an earlier text, and keeps the new one where the reader finds it again. */
-function changed() {
-  react('outdated');
-  clearTimeout(web.keepTimer);
-  web.keepTimer = window.setTimeout(() => react('kept', web.history.text), KEEP);
-}
-
-/** Goes back to an earlier text, or on to a later one. @param {number} by */
+/** Goes back to an earlier text, or on to a later one. */
 function go(by) {
   if (!web.history.go(by)) return;
   showText();
-  changed();
-  return runNow();
+  changed(0);
 }
 
-/** Opens a text: that of an example, or one with an `intro`, which says where it came from. With an earlier text, the
- * page shows what has changed since; and one that `waits` isn't run yet.
- * @param {any} document its name, its text, and where it is */
-export async function open(document, {example = /** @type {any} */ (null), intro = '',
-  against = /** @type {string|null} */ (null), waits = false} = {}) {
+/** Runs the text after a pause, and keeps it where the reader finds it again; results are those of an earlier text. */
+function changed(pause) {
+  clearTimeout(web.timer);
+  clearTimeout(web.keepTimer);
+  web.timer = window.setTimeout(runNow, pause);
+  web.keepTimer = window.setTimeout(() => react('kept', web.history.text), KEEP);
+  react('outdated');
+}
+
+/** Opens a text: that of an example, or one with an `intro`, which says where it came from. `against` is an earlier
+ * text: the page shows what has changed since. @param {any} document its name, its text, and where it is */
+export async function open(document, {example = /** @type {any} */ (null), intro = '', against = null} = {}) {
   Object.assign(web, {document, example, intro, saved: document.text, fresh: true});
   clearTimeout(web.keepTimer);
-  web.history.begin(against === null ? document.text : against);
+  web.history.begin(against ?? document.text);
   showText(true);
-  if (waits) {
-    beReady();
-    return say('The last run of this text never ended, so it waits.', 'bad', {offers: [['Run it', runNow]]});
-  }
   await runNow();
   react('opened', document);
   if (against === null) return;
@@ -136,7 +128,7 @@ function makeTry() {
   pad.light(pieces[0][1]);
 }
 
-/** Selects a stretch of a row of the whole text. @param {number} row @param {number} from @param {number} to */
+/** Selects a stretch of a row of the whole text. */
 export function goTo(row, from, to) {
   const {history: {text}, pad} = web, at = offsetOf(text, [row, 0]);
   if (at < pad.before.length || at > text.length - pad.behind.length) byId('part-all').click();
@@ -159,15 +151,10 @@ async function runNow() {
   if (answer?.run) await showRun(answer, step);
   else if (answer?.fault) showFault(answer.fault);
   else if (answer) await showLimit(answer, step.text);
-  beReady();
-}
-
-function beReady() {
   page.ready = true;
   if (!page.panes.length) byId('about').textContent = 'No run yet';
 }
 
-/** @param {any} fault */
 function showFault(fault) {
   const {line, words, place, corrected} = web.fault = fault, above = web.part === 'part-all' ? 0 : web.pad.rowsBefore;
   markFault(place, [...words, line].join('\n'));
@@ -184,8 +171,7 @@ function markFault(place = null, words = '') {
   web.pad.mark(place);
 }
 
-/** Says that a run was stopped, and then, if the backend finds it out, what the run does so often.
- * @param {any} answer @param {string} text */
+/** Says that a run was stopped, and then, if the backend finds it out, what the run does so often. */
 async function showLimit({limit, number}, text) {
   const reverts = Boolean(web.history.before), {asked} = web;
   markFault();
@@ -194,7 +180,6 @@ async function showLimit({limit, number}, text) {
   if (found?.does && asked === web.asked) say(limit + found.does, 'bad', {reverts});
 }
 
-/** @param {any} answer @param {any} step */
 async function showRun({run, number, took}, step) {
   const {before} = web.history, against = before?.run, found = against && /** @type {any} */ (difference(against, run));
   markFault();
@@ -267,12 +252,11 @@ function beginButtons() {
   }, true);
 }
 
-/** Begins the page. Returns its examples, those with a card first.
- * @param {import('../../timeline/page/stage.js').Backend} backend @param {any} data the examples, with the words of the
- * notation */
+/** Begins the page with its examples, of which some have cards, and the words of the notation. Returns the examples,
+ * those with a card first. @param {import('../../timeline/page/stage.js').Backend} backend */
 export function begin(backend, {cards, texts, words}) {
-  const shown = cards.map(it => it.file), others = Object.keys(texts).filter(it => !shown.includes(it));
-  const examples = [...cards, ...others.map(file => ({file}))].map(it => ({...it, text: texts[it.file]}));
+  const others = Object.keys(texts).filter(file => !cards.some(it => it.file === file)).map(file => ({file}));
+  const examples = [...cards, ...others].map(it => ({...it, text: texts[it.file]}));
   readColours();
   page.backend = backend;
   page.goToLine = line => goTo(line - 1, 0, (web.history.text.split('\n')[line - 1] || '').length);
@@ -287,7 +271,6 @@ export function begin(backend, {cards, texts, words}) {
   return examples;
 }
 
-/** @param {any} it an example */
-export function openExample(it) {
-  return open({where: 'example', name: `${it.file}.toml`, text: it.text}, {example: it});
-}
+/** Opens an example. */
+export const openExample = it =>
+  open({where: 'example', name: `${it.file}.toml`, text: it.text}, {example: it});

@@ -8,7 +8,7 @@ const MOST_REPORT = 64 << 20;
 
 class TooLong extends Error {}
 
-/** The answer to a scenario: columns, the line of an error, or a limit. @param {any} module @param {string} text */
+/** The answer to a scenario: columns, the line of an error, or a limit. */
 function answerTo(module, text) {
   const streams = {1: /** @type {Uint8Array[]} */ ([]), 2: /** @type {Uint8Array[]} */ ([])}, begin = performance.now();
   let length = 0;
