@@ -19,7 +19,7 @@ import pytest
 from differences import answer, check_answer
 from project.differential.random_scenario import random_scenario
 from motesim.runner import Answer
-from motesim.runner.module import ABOUT, MODULE, SCRIPT, SOURCE, read_about
+from motesim.runner.module import SOURCES, about_of, file_of, read_about, script_of
 from motesim.runner.programs import CODE, TOP, digest
 from project import web
 from project.tree import commit
@@ -27,6 +27,7 @@ from test_cases import Case, all_cases
 
 COUNT = 300
 RENEW = 'tools/dev/build_web makes the module again'
+SCRIPT = script_of('motesim')
 RUNS = Path(__file__).with_name('run_module.js')
 # A scenario with a small report, whose run needs memory beyond that which the module has at its start.
 SMALL = TOP / 'tests/cases/nets/two_senders.toml'
@@ -40,19 +41,24 @@ def pytest_generate_tests(metafunc: pytest.Metafunc) -> None:
 
 
 @pytest.fixture(scope='session')
-def built() -> web.Made:
-    """The module of the sources of this tree."""
-    return web.build()
+def built() -> dict[str, web.Made]:
+    """The modules of the sources of this tree."""
+    return {name: web.build(name) for name in SOURCES}
 
 
 @pytest.fixture
-def module(kind: str, request: pytest.FixtureRequest, tmp_path: Path) -> Path:
+def modules(kind: str, request: pytest.FixtureRequest, tmp_path: Path) -> dict[str, Path]:
     if kind == 'committed':
-        return MODULE
-    file = tmp_path / 'built.wasm'
-    made: web.Made = request.getfixturevalue('built')
-    file.write_bytes(made.module)
-    return file
+        return {name: file_of(name) for name in SOURCES}
+    made: dict[str, web.Made] = request.getfixturevalue('built')
+    for name, one in made.items():
+        (tmp_path / (name + '.wasm')).write_bytes(one.module)
+    return {name: tmp_path / (name + '.wasm') for name in made}
+
+
+@pytest.fixture
+def module(modules: dict[str, Path]) -> Path:
+    return modules['motesim']
 
 
 def answers(module: Path, scenarios: dict[str, bytes], room: Path) -> dict[str, Answer]:
@@ -79,13 +85,14 @@ def cases() -> Iterator[tuple[str, bytes, Answer]]:
 
 # (one process builds the module, for all tests)
 @pytest.mark.xdist_group('built')
-def test_it_is_made_from_the_sources_of_this_tree(request: pytest.FixtureRequest) -> None:
-    about = read_about()
-    assert about, '%s doesn\'t say from what the module is made' % ABOUT
-    assert about.sources == digest(TOP, CODE, SOURCE), 'the crates have changed since it was made: ' + RENEW
-    if request.config.getoption('build'):
-        made: web.Made = request.getfixturevalue('built')
-        assert web.difference(about, made.about) is None, RENEW
+def test_they_are_made_from_the_sources_of_this_tree(request: pytest.FixtureRequest) -> None:
+    for name, source in SOURCES.items():
+        about = read_about(name)
+        assert about, '%s doesn\'t say from what the module is made' % about_of(name)
+        assert about.sources == digest(TOP, CODE, source), 'the crates have changed since it was made: ' + RENEW
+        if request.config.getoption('build'):
+            made: dict[str, web.Made] = request.getfixturevalue('built')
+            assert web.difference(about, made[name].about) is None, RENEW
 
 
 def test_it_writes_what_cases_expect(module: Path, tmp_path: Path) -> None:

@@ -11,6 +11,7 @@ from motesim.faults import Fault
 from motesim.judge.expectations import read_all
 from motesim.judge.judge import Judge
 from motesim.judge.sentences import names_of
+from motesim.judge.verdicts import breaks
 from motesim.report import Report
 from motesim.runner import Limits, Runner
 from motesim.report.run import Run, read_run
@@ -87,8 +88,7 @@ def expect(found: Run, sentences: Sequence[str] | str) -> list[Kept]:
     if found.scenario is None:
         raise Fault('expect needs the scenario of the run: run the scenario, or read the report together with it')
     texts = [sentences] if isinstance(sentences, str) else list(sentences)
-    judge = Judge(found.report, found.scenario)
-    broken = [judge.broken(it) for it in read_all(texts, names_of(found.scenario))]
+    broken = breaks(read_all(texts, names_of(found.scenario)), Judge(found.report, found.scenario))
     return [Kept(text, it is None, it.words if it else '', it.row if it else None) for text, it in zip(texts, broken)]
 
 

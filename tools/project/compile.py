@@ -1,7 +1,8 @@
-"""Compiles `motesim` without proving it, if no binary of these sources is built. ./run and tools/pack use this module.
+"""Compiles `motesim` and `motecheck` without proving them, if no binaries of these sources are built. ./run and tools/pack
+use this module.
 
-The binary is kept in out/programs by a digest of the sources (motesim.runner.programs). `python3 -m project.compile`
-compiles it.
+The binaries are kept in out/programs by digests of the sources (motesim.runner.programs). `python3 -m project.compile`
+compiles both.
 """
 from __future__ import annotations
 
@@ -14,7 +15,7 @@ import time
 from pathlib import Path
 
 from motesim.faults import Fault
-from motesim.runner.programs import PROGRAMS, TOP, compiled_kept, is_program
+from motesim.runner.programs import PROGRAM, PROGRAMS, TOP, compiled_kept, is_program, programs_in
 from project import kit
 from project.running import end_on_signals, is_locked, locked
 
@@ -44,20 +45,20 @@ def make(kept: Path) -> None:
         os.replace(made, kept)
 
 
-def compile_program() -> Path:
-    """Compiles the binary of these sources, unless it is compiled already, and returns its path."""
+def compile_program(name: str = PROGRAM) -> Path:
+    """Compiles a binary of these sources, unless it is compiled already, and returns its path."""
     end_on_signals()
-    kept = compiled_kept()
+    kept = compiled_kept(TOP, name)
     with locked(COMPILES, 'motesim: ' + WAITING):
         if not is_program(kept):
-            for line in (COMPILING, *kit.warnings()):
+            for line in (COMPILING.replace(PROGRAM, name), *kit.warnings()):
                 print('motesim: %s' % line, file=sys.stderr, flush=True)
             make(kept)
     return kept
 
 
 def compile_in_background() -> None:
-    """Starts a process that compiles the binary of these sources, unless another process compiles it."""
+    """Starts a process that compiles the binaries of these sources, unless another process compiles one."""
     if not is_locked(COMPILES):
         subprocess.Popen(['nice', '-n', str(NICENESS), sys.executable, '-Bm', __name__], stdin=subprocess.DEVNULL,
                          stdout=subprocess.DEVNULL, stderr=subprocess.DEVNULL, start_new_session=True,
@@ -65,4 +66,5 @@ def compile_in_background() -> None:
 
 
 if __name__ == '__main__':
-    compile_program()
+    for program in programs_in():
+        compile_program(program)

@@ -1,6 +1,6 @@
 """Makes one archive for a classroom: tools/pack [-o FILE] [OWN ..]
 
-The archive motesim-VERSION.tar.gz has `motesim`, the tools and pages for users, the examples, web/motesim.html, which
+The archive motesim-VERSION.tar.gz has `motesim` and `motecheck`, the tools and pages for users, the examples, web/motesim.html, which
 simulates in any browser, and the terms under which all of it may be passed on. The archive runs on any Linux for x86-64 with glibc 2.34 or newer, from any folder.
 Its tools need Python 3.11 or newer. Nothing is installed, and nothing is fetched from a network.
 
@@ -18,8 +18,9 @@ lists the files that it adds to the repository's own files, and the files that i
 
 The archive has the binary that the environment variable MOTESIM names. If MOTESIM isn't set, the archive has the proved
 `motesim` that ./prove has built from these sources, and a page PROVED.md about the proof and the kit. If ./prove hasn't
-built it, the archive has a binary that is compiled without a proof. Then tools/pack and the archive's ./run say so. The
-same tree and binary yield the same archive, byte for byte.
+built it, the archive has a binary that is compiled without a proof. Then tools/pack and the archive's ./run say so.
+The same holds for `motecheck` and MOTECHECK; with MOTESIM alone, the archive has no `motecheck`. The same tree and
+binaries yield the same archive, byte for byte.
 """
 from __future__ import annotations
 
@@ -39,7 +40,7 @@ from motesim.command import command
 from motesim.faults import Fault
 from motesim.files import refuse_inputs
 from motesim.plan.plan import Plan
-from motesim.runner.programs import COMPILED, TOP, is_proved, program_of_sources, program_path
+from motesim.runner.programs import CHECKER, COMPILED, TOP, checker_path, is_proved, program_of_sources, program_path
 from motesim.scenario import kinds
 from motesim.terminal import one_line
 from motesim.version import KIT, VERSION
@@ -68,6 +69,13 @@ def program() -> Path:
     """The binary that MOTESIM names, or the proved binary of these sources, or one that is compiled without a
     proof."""
     return program_path() if os.environ.get('MOTESIM') else program_of_sources() or compile_program()
+
+
+def checker() -> Path | None:
+    """The motecheck that MOTECHECK names, or that of these sources as in `program`; none if only MOTESIM is set."""
+    if os.environ.get('MOTESIM') or os.environ.get('MOTECHECK'):
+        return checker_path()
+    return program_of_sources(name=CHECKER) or compile_program(CHECKER)
 
 
 def licenses() -> dict[str, bytes]:
@@ -247,7 +255,7 @@ def parts() -> list[str]:
     return [*PARTS, *('tools/' + it for it in user_commands())]
 
 
-def files(program: Path, its: Sorted | None = None) -> dict[str, tuple[bytes, int]]:
+def files(program: Path, its: Sorted | None = None, checker: Path | None = None) -> dict[str, tuple[bytes, int]]:
     """The contents of the archive: for each name, its bytes and its mode."""
     tools, built = user_commands(), program.read_bytes()
     its = its or sorted_files(parts())
@@ -260,6 +268,8 @@ def files(program: Path, its: Sorted | None = None) -> dict[str, tuple[bytes, in
         pages['PROVED.md'] = (template('proved') % about).encode()
     found = {name: (data, 0o644) for name, data in pages.items()}
     found |= {'motesim': (built, 0o755), 'run': ((template('run') % about).encode(), 0o755)}
+    if checker:
+        found[CHECKER] = checker.read_bytes(), 0o755
     for name, file in its.packed.items():
         if name in found:
             raise Fault('%s has the name of a file of the archive: rename it' % file)
@@ -279,11 +289,11 @@ def without_dead_links(name: str, data: bytes, names: Collection[str]) -> bytes:
     return LINK.sub(kept, data.decode('utf-8', 'surrogateescape')).encode('utf-8', 'surrogateescape')
 
 
-def archive(folder: str, program: Path, its: Sorted | None = None) -> bytes:
+def archive(folder: str, program: Path, its: Sorted | None = None, checker: Path | None = None) -> bytes:
     """The archive, with all files in one folder."""
     plain = io.BytesIO()
     with tarfile.open(fileobj=plain, mode='w', format=tarfile.PAX_FORMAT) as tar:
-        for name, (data, mode) in sorted(files(program, its).items()):
+        for name, (data, mode) in sorted(files(program, its, checker).items()):
             entry = tarfile.TarInfo('%s/%s' % (folder, name))
             entry.size, entry.mode = len(data), mode
             tar.addfile(entry, io.BytesIO(data))
@@ -313,9 +323,9 @@ def main() -> int:
     folder = 'motesim-%s' % VERSION
     path = asked.output or Path(folder + '.tar.gz')
     refuse_inputs(path, [*its.packed.values(), *(file for _, file in own_files(asked.own, TOP))])
-    packed = program()
-    refuse_inputs(path, [packed])
-    data = archive(folder, packed, its)
+    packed, other = program(), checker()
+    refuse_inputs(path, [packed, *filter(None, [other])])
+    data = archive(folder, packed, its, other)
     path.write_bytes(data)
     for line in its.notes():
         print(line)

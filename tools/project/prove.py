@@ -1,6 +1,6 @@
-"""Proves the crates of motesim on this machine, and builds the proved binary: ./prove
+"""Proves the crates of motesim and motecheck on this machine, and builds the proved binaries: ./prove
 
-After that, ./run and all tools run the proved binary; until then they run the binary that is already built. A proof
+After that, ./run and all tools run the proved binaries; until then they run those that are already built. A proof
 needs about 20 to 40 minutes on four cores, at a low priority. `rt ci` does the work, on a copy of the crates in
 out/proof. You can interrupt ./prove at any time. Some kits, such as rattle-kit-13f, keep the results of each proved
 crate for all clones on this machine. With such a kit the next ./prove, or ./test, continues with the remaining crates;
@@ -19,7 +19,7 @@ from pathlib import Path
 
 from motesim.command import command
 from motesim.faults import Fault
-from motesim.runner.programs import PROVED, TOP, crates_of_program, proved_program
+from motesim.runner.programs import TOP, built_by_proof, crates_of_program, programs_in, proved_program
 from motesim.words import words_of
 from project import kit
 from project.running import end_on_signals, locked, started
@@ -67,21 +67,28 @@ def prove_copy(number: int) -> bool:
 
 
 def prove() -> None:
-    """Proves these sources, and moves the built binary to its place."""
-    crates, began = crates_of_program(TOP), time.time()
+    """Proves these sources, and moves the built binaries to their places."""
+    names, began = programs_in(), time.time()
+    crates = crates_of_program(TOP, *names)
     say('proving %d crate%s: 20 to 40 minutes without earlier results, on four processors; interrupt it at any time, '
         './prove resumes' % (len(crates), 's' * (len(crates) > 1)))
     copy_crates(TOP, crates, COPY)
-    made = COPY / PROVED.relative_to(TOP)
-    if not prove_copy(len(crates)) or not made.is_file():
+    made = {COPY / built.relative_to(TOP): built for built in map(built_by_proof, names)}
+    if not prove_copy(len(crates)) or not all(it.is_file() for it in made):
         raise Fault('not everything is proved; the lines above and %s say why' % LOG)
-    # (a source that is edited during this proof is newer than what it built)
-    os.utime(made, (began, began))
-    PROVED.parent.mkdir(exist_ok=True)
-    os.replace(made, PROVED)
+    for one, built in made.items():
+        # (a source that is edited during this proof is newer than what it built)
+        os.utime(one, (began, began))
+        built.parent.mkdir(exist_ok=True)
+        os.replace(one, built)
     shutil.rmtree(COPY)
-    if not proved_program():
+    if not are_proved():
         raise Fault('everything was proved, but a source has changed meanwhile: ./prove proves what depends on it')
+
+
+def are_proved() -> bool:
+    """Returns whether the proved binaries of these sources are built."""
+    return all([proved_program(name) for name in programs_in()])
 
 
 @command('prove')
@@ -93,12 +100,12 @@ def main() -> int:
     os.nice(5)
     try:
         with locked(LOCK, 'prove: another ./prove is at work here; this one waits for it'):
-            if proved_program():
-                say('the proved program of these sources is built already')
+            if are_proved():
+                say('all that is proved of these sources is built already')
                 return 0
             prove()
     except SystemExit:
         say('interrupted; ./prove continues with the crates that are left')
         raise
-    say('everything is proved; ./run and the tools now run the proved program')
+    say('everything is proved; ./run and the tools now run the proved programs')
     return 0

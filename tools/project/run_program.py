@@ -20,7 +20,9 @@ from pathlib import Path
 from typing import NamedTuple, NoReturn
 
 from motesim.faults import Fault
-from motesim.runner.programs import (IN_NODE, NOT_PROVED, is_compiled, module_program, nothing_runs, program_of_sources, program_path)
+from motesim.runner.programs import (
+    IN_NODE, NOT_PROVED, is_compiled, module_program, nothing_runs, program_of_sources, program_path, programs_in,
+)
 from motesim.runner.versions import version_line
 from project.compile import compile_in_background, compile_program
 from project.running import ends_with_parent
@@ -125,7 +127,10 @@ def without_binary(request: Request) -> Path:
         return module
     if not has_kit:
         raise Fault(NO_OPTIONS if module else nothing_runs())
-    return compile_program()
+    found = compile_program()
+    if len(programs_in()) > 1:
+        compile_in_background()
+    return found
 
 
 def program_for(request: Request) -> Path:

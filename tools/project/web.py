@@ -2,13 +2,12 @@
 
 The module is made from the program `serial_program`, which simulates the scenario in its standard input on one thread.
 The kit compiles this program to LLVM's intermediate code. If all libraries below it are proved here (`rt ci` and
-./prove do this), the kit first proves `serial_program` too; otherwise it compiles the sources without a proof. The
-intermediate code is then edited for WebAssembly with addresses of 64 bits (the names of the target, attributes of
+./prove do this), the kit first proves the program too; otherwise it compiles the sources without a proof. The intermediate code is then edited for WebAssembly with addresses of 64 bits (the names of the target, attributes of
 functions, and the name of `main`), compiled and linked with tools/project/runtime.c by the kit's own clang, and
 lowered to addresses of 32 bits by Debian's `binaryen`. Code with a part that the tool doesn't know, such as an external
 function, is refused.
 
-web/motesim.json names the sources, the kit and the kind of the intermediate code. From the same sources, with the same
+web/NAME.json names the sources, the kit and the kind of the intermediate code. From the same sources, with the same
 kit and the same version of binaryen, the module is the same, byte for byte.
 """
 from __future__ import annotations
@@ -25,7 +24,7 @@ from typing import NamedTuple
 
 from motesim.command import command
 from motesim.faults import Fault
-from motesim.runner.module import ABOUT, MODULE, SOURCE, About, read_about
+from motesim.runner.module import SOURCES, About, about_of, file_of, read_about
 from motesim.runner.programs import CODE, TOP, digest
 from motesim.words import words_of
 from project import kit, page
@@ -110,12 +109,12 @@ class Code(NamedTuple):
     is_proved: bool
 
 
-def code_of(top: Path, room: Path) -> Code:
-    """The intermediate code of the program: proved if the libraries below it are proved here."""
-    if kit.are_libraries_built(SOURCE, top):
-        return Code(kit.proved_code(SOURCE, top, room), True)
+def code_of(source: str, top: Path, room: Path) -> Code:
+    """The intermediate code of a program: proved if the libraries below it are proved here."""
+    if kit.are_libraries_built(source, top):
+        return Code(kit.proved_code(source, top, room), True)
     parts = room / 'parts'
-    said = kit.compiled(SOURCE, top, room, room / SOURCE, parts)
+    said = kit.compiled(source, top, room, room / source, parts)
     if said is not None:
         raise Fault('the program was not compiled, as these lines say:\n%s' % said.rstrip())
     return Code(parts / 'bitcode', False)
@@ -216,21 +215,21 @@ class Made(NamedTuple):
     about: About
 
 
-def build(top: Path = TOP) -> Made:
-    """The module of the sources of a tree."""
+def build(name: str, top: Path = TOP) -> Made:
+    """The module of a program, from the sources of a tree."""
     if not shutil.which('wasm-opt'):
         raise Fault(NO_BINARYEN)
     with tempfile.TemporaryDirectory(prefix='motesim-web-') as room:
-        code = code_of(top, Path(room))
+        code = code_of(SOURCES[name], top, Path(room))
         module = module_of(code.file, Path(room))
-    return Made(module, About(digest(top, CODE, SOURCE), 'proved' if code.is_proved else 'compiled', kit.version(),
+    return Made(module, About(digest(top, CODE, SOURCES[name]), 'proved' if code.is_proved else 'compiled', kit.version(),
                               binaryen(), hashlib.sha256(module).hexdigest()))
 
 
-def write(made: Made) -> None:
-    """Replaces the module of this tree, and the page that has it."""
-    MODULE.write_bytes(made.module)
-    ABOUT.write_text(json.dumps(made.about._asdict(), indent=2) + '\n', 'utf-8')
+def write(name: str, made: Made) -> None:
+    """Replaces a module of this tree."""
+    file_of(name).write_bytes(made.module)
+    about_of(name).write_text(json.dumps(made.about._asdict(), indent=2) + '\n', 'utf-8')
 
 
 def difference(kept: About, made: About) -> str | None:
@@ -245,10 +244,11 @@ def difference(kept: About, made: About) -> str | None:
 
 @command('build_web')
 def main() -> int:
-    words_of(__doc__).parse_args()
-    made = build()
-    kept = read_about()
-    write(made)
-    print('%s: %d bytes, from the intermediate code of the %s program%s' % (
-        MODULE.relative_to(TOP), len(made.module), made.about.code, ', as before' if kept == made.about else ''))
+    words = words_of(__doc__)
+    words.add_argument('names', metavar='NAME', nargs='*', choices=[[], *SOURCES])
+    for name in words.parse_args().names or SOURCES:
+        made, kept = build(name), read_about(name)
+        write(name, made)
+        print('%s: %d bytes, from the intermediate code of the %s program%s' % (
+            file_of(name).relative_to(TOP), len(made.module), made.about.code, ', as before' if kept == made.about else ''))
     return page.main()

@@ -22,7 +22,7 @@ class Calls(Room):
     def setUp(self) -> None:
         super().setUp()
         # (mote n of the stand-in prints P at moment P * (n + 1))
-        patch = mock.patch.dict(os.environ, MOTESIM=str(write_stub(self.room)))
+        patch = mock.patch.dict(os.environ, MOTESIM=str(write_stub(self.room)), MOTECHECK='')
         patch.start()
         self.addCleanup(patch.stop)
 

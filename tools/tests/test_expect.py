@@ -215,10 +215,11 @@ case $text in
 esac
 """
 
-# For it, all claims hold.
+# It holds for it that mote 0 sends; all other claims are broken.
 CHECKER = """#!/bin/bash
 cat "$1" "$2" >"${0%/*}/asked"
-sed 's/^/holds: /' "$2"
+sed '/^mote 0: .* "send"/{s/^/holds: /; b}; s/.*/broken: & -- here is why/' "$2"
+exit 3
 """
 
 
@@ -251,18 +252,17 @@ class Files(unittest.TestCase):
             '          line 22: 90 halt', '1 passed, 1 failed'])
         self.assertEqual((err, code), ('', 1))
 
-    def test_a_verdict_is_given_only_if_motecheck_has_the_same(self) -> None:
+    def test_the_verdict_is_that_of_motecheck(self) -> None:
         (self.room / 'motecheck').write_text(CHECKER)
         (self.room / 'motecheck').chmod(0o755)
         with mock.patch.dict(os.environ, MOTECHECK=str(self.room / 'motecheck')):
-            whole = 'expect = ["mote 0 sends twice", %s]'
-            out, err, code = self.said(whole % '"mote 1 can hear mote 0", "no mote halts before 90"')
-            self.assertEqual((out.splitlines()[-1], err, code), ('3 passed, 0 failed', '', 0))
-            self.assertEqual((self.room / 'asked').read_text(), SCENARIO + 'mote 0: exactly 2 lines "send"\n'
-                             'exactly 0 of motes 0 to 3: at least 1 line "halt" from 0 to 89')
-            out, err, code = self.said(whole % '"no mote halts"')
-            self.assertEqual((out, code), ('', 2))
-            self.assertIn('Disagreement: `no mote halts` holds for motecheck, but not for the judge', err)
+            out, err, code = self.said('expect = ["mote 0 sends exactly 3 times", "mote 1 can hear mote 0", "no mote halts"]')
+        self.assertEqual((err, code), ('', 1))
+        self.assertEqual(out.splitlines(), [
+            'holds   mote 0 sends exactly 3 times', 'broken  mote 1 can hear mote 0', '          here is why',
+            'broken  no mote halts', '          mote 3 does', '          line 22: 90 halt', '1 passed, 2 failed'])
+        self.assertEqual((self.room / 'asked').read_text(), SCENARIO + 'mote 0: exactly 3 lines "send"\nthe net: always\n'
+                         'exactly 0 of motes 0 to 3: at least 1 line "halt"')
 
     def test_a_motecheck_that_is_not_there_is_told(self) -> None:
         with mock.patch.dict(os.environ, MOTECHECK='none'):

@@ -140,7 +140,7 @@ def test_the_net_stays_as_it_is() -> None:
     path = TOOLS.parent / 'examples/small_network.toml'
     before = Scenario.parse(path.read_bytes())
     after = Scenario.parse(nets_of([path], [], 'sender')[0].with_program('process other;'))
-    assert vars(after) == {**vars(before), 'programs': {**before.programs, 'sender': 'process other;'}}
+    assert vars(after) == {**vars(before), 'text': after.text, 'programs': {**before.programs, 'sender': 'process other;'}}
 
 
 def test_motes_are_cut_off_if_each_link_to_them_loses_everything() -> None:

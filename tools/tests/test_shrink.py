@@ -223,11 +223,11 @@ HANGING = '''import os
 os.environ["MOTESIM"] = "./slow"
 from motesim.search.shrink import Shrinking
 run = Shrinking.seen
-def seen(self, text):
+def seen(self, *its):
     if len(self.taken) == %d:
         open("hang", "w").close()
         print("now", flush=True)
-    return run(self, text)
+    return run(self, *its)
 Shrinking.seen = seen
 '''
 # (an exception in this call would be ignored)

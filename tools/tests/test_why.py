@@ -191,7 +191,9 @@ def test_the_first_mote_that_misses_an_order_has_near_misses(example: str, quest
     assert example == 'flooding' or any(it.kind == 'reached' for it in found)
 
 
-def test_a_lost_copy_has_the_reason_of_its_loss() -> None:
+def test_a_lost_copy_has_the_reason_of_its_loss(monkeypatch: pytest.MonkeyPatch) -> None:
+    # (the report is that of no run)
+    monkeypatch.setenv('MOTECHECK', '')
     lossy = source(SCENARIO + '[[loss]]\nfrom = 0\nto = 1\nevery = 3\n',
                    REPORT[:REPORT.index('7 recv')] + 'medium\n4 0 0 8 1@lost\nleft 0\n')
     for question in 'no copy is lost', 'some copy is lost at mote 1':

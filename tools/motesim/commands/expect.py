@@ -9,9 +9,8 @@ The scenario is run. For each expectation a line says whether it holds. If it do
 and the first line of the report that breaks it. docs/use/TESTING.md has all forms of expectations. The last
 line is `N passed, M failed`.
 
-With --claims the tool runs nothing: it writes the claims that each expectation means for this scenario. The proved
-program `motecheck` decides them: `motecheck SCENARIO CLAIMS`. Where it is built, the tool asks it too, and gives no
-verdict that differs.
+The proved program `motecheck` decides the claims that each expectation means for this scenario. With --claims the tool
+runs nothing, and writes these claims: `motecheck SCENARIO CLAIMS` answers them.
 
 The tool ends with status 0 if all expectations hold, 1 if one is broken, and 2 if there is no result: if an expectation
 or a file can't be read, if the run reaches a limit, or if `motesim` isn't built. To use another `motesim`, name its file in

@@ -120,7 +120,7 @@ class Task:
             return InNet(spread(held, self.part.sentences, lacks), lacks, why, is_refused=True)
         scenario = known or Scenario.parse(text)
         report = Report.parse(got.report)
-        verdicts = of_report(part, sentences, Judge(report, scenario), text, self.limits)
+        verdicts = of_report(part, sentences, Judge(report, scenario), self.limits)
         held = [Mark(it.sentence, it.holds, (), tuple(it.more), remark=it.remark, broken=it.broken) for it in verdicts]
         marks = [*spread(held, self.part.sentences, lacks), *held[len(sentences):]]
         programs = {program: scenario.programs[program]} if program else scenario.programs

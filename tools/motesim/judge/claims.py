@@ -5,7 +5,8 @@ the claims are about the report alone.
 """
 from __future__ import annotations
 
-from collections.abc import Sequence
+from collections.abc import Mapping, Sequence
+from functools import lru_cache
 
 from motesim.judge.claim_words import (
     ALL, Case, Counted, Deed, Limits, Test, claim_text, every_line, limited, lines_of, period_text, ratio, set_text,
@@ -27,14 +28,14 @@ FIRST_DECLARED, MOST = 0x8b, (1 << 64) - 1
 # The parts of a pattern in their order, and the part that a field of a line is.
 PARTS = ('process', 'serial', 'event', 'sender', 'packet', 'value')
 PART_OF = {'number': 'packet', 'word': 'value'}
-OF_SCENARIO = {Hears: 'it is about the scenario', Refused: 'it is about a scenario without a report',
-               MediumLine: 'claims have no whole lines of the medium'}
+OF_TEXT = {Refused: 'it is about a scenario without a report', MediumLine: 'claims have no whole lines of the medium'}
 
 
 class NoClaim(Exception):
     """A sentence that claims can't say, with the reason."""
 
 
+@lru_cache(maxsize=64)
 class _Program:
     """The numbers of a program's processes and declared events."""
 
@@ -54,12 +55,19 @@ class Claims:
         self.is_named = all(it.processes == self.programs[0].processes for it in self.programs)
         # The motes of the last sentence that have no distance. They have no case, and count as motes that don't do it.
         self.apart: list[int] = []
+        # The motes of this sentence that fail, with the moments.
+        self.failing: Mapping[int, int] = {}
 
-    def of(self, it: Sentence) -> list[str]:
-        """The claims that a sentence means. Raises `NoClaim` if claims can't say it."""
-        self.apart = []
-        if type(it) in OF_SCENARIO:
-            raise NoClaim(OF_SCENARIO[type(it)])
+    def of(self, it: Sentence, failing: Mapping[int, int] = {}) -> list[str]:
+        """The claims that a sentence means. Raises `NoClaim` if claims can't say it. The lines `halt` of motes that
+        fail don't count from the moment on at which they fail."""
+        self.apart, self.failing = [], failing
+        if type(it) in OF_TEXT:
+            raise NoClaim(OF_TEXT[type(it)])
+        if isinstance(it, Hears):
+            # (the scenario decides it: true or false of each run)
+            holds = all(self.links.hears(mote, it.other) == it.can for mote in it.motes)
+            return [claim_text((1, 1), [()]) if holds else claim_text((1, None), [])]
         if isinstance(it, Does):
             return [self.does(one) for one in periods(it) or [it]]
         return [claim_text((1, 1), [self.of_net(it)])]
@@ -98,12 +106,24 @@ class Claims:
 
     def deed(self, patterns: Sequence[Pattern], motes: Sequence[int], spans: Sequence[Span]) -> Deed:
         """The lines of motes, each in its span."""
-        its = [tuple(it for it in (self.pattern(mote, words) for words in patterns) if it) for mote in motes]
+        spans = [self.before_failure(patterns, mote, span) for mote, span in zip(motes, spans)]
+        its = [tuple(it for it in (self.pattern(mote, words) for words in patterns) if it and not is_empty(span))
+               for mote, span in zip(motes, spans)]
         found = {it for it in its if it} or {()}
         if len(found) > 1:
             raise NoClaim('a claim counts lines of several motes by one pattern, which differs here')
         return Deed(found.pop(), tuple((mote, span) for mote, span, own in zip(motes, spans, its)
                                        if own or len(motes) == 1))
+
+    def before_failure(self, patterns: Sequence[Pattern], mote: int, span: Span) -> Span:
+        """The part of a span in which lines `halt` of a mote count."""
+        kinds = {words[0] for words in patterns}
+        if mote not in self.failing or 'halt' not in kinds:
+            return span
+        if len(kinds) > 1:
+            raise NoClaim('a claim has one interval for all lines of a mote, and lines `halt` of a mote that fails differ')
+        last = self.failing[mote] - 1
+        return span[0], last if span[1] is None else min(span[1], last)
 
     def chosen(self, motes: Motes) -> tuple[int, ...]:
         numbers = range(self.scenario.motes) if motes.numbers is None else sorted(motes.numbers)
@@ -202,6 +222,10 @@ class Claims:
             return [limited(of_count(it.count), what)]
         due = '%s' + '%s lost by the medium or due by %d' % (to, self.scenario.end)
         return compared(it.count, what, Counted(due % 'copy', due % 'copies'))
+
+
+def is_empty(span: Span) -> bool:
+    return span[1] is not None and span[1] < span[0]
 
 
 def to_motes(motes: frozenset[int] | None) -> str:

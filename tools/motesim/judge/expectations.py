@@ -16,7 +16,6 @@ from motesim.text import nearest
 from motesim.judge.claim_words import motes_text
 from motesim.judge.claims import Claims, NoClaim
 from motesim.judge.judge import Broken, Judge
-from motesim.judge.motecheck import breaks
 from motesim.judge.remarks import remark_of
 from motesim.report import Report
 from motesim.runner import LimitMet, Limits, ProgramFault
@@ -26,6 +25,7 @@ from motesim.scenario.encodings import decoded
 from motesim.scenario.faults import TOP
 from motesim.scenario.fields import Field, of_line, read_fields
 from motesim.judge.sentences import Names, Refused, Sentence, SentenceFault, names_of, read_sentence
+from motesim.judge.verdicts import breaks
 from motesim.toml import NoToml, read_toml
 
 LONGEST_SHOWN = 150
@@ -203,11 +203,10 @@ def refused(part: Part, sentences: list[Sentence], got: Answer) -> list[Verdict]
     return found if part.report is None else found + [Verdict(WHOLE, False, more, True)]
 
 
-def of_report(part: Part, sentences: list[Sentence], judge: Judge, scenario: str, limits: Limits = Limits()
-              ) -> list[Verdict]:
+def of_report(part: Part, sentences: list[Sentence], judge: Judge, limits: Limits = Limits()) -> list[Verdict]:
     """The verdicts on the report of a scenario. They don't depend on remarks: an error in a remark leaves it out."""
     found = []
-    for text, it, its in zip(part.sentences, sentences, breaks(part.sentences, sentences, judge, scenario, limits)):
+    for text, it, its in zip(part.sentences, sentences, breaks(sentences, judge, limits)):
         remark = tried(lambda: remark_of(it, judge, its is None), lambda words: '')
         found.append(Verdict(text, its is None, more_of(its, judge.rows, part.fields) if its else [], False, remark,
                              its.row if its else None, its))
@@ -232,7 +231,7 @@ def judged(scenario: str, part: Part, run: Callable[[bytes], Answer] | None = No
     got = (run or answer)(text.encode())
     if got.status:
         return refused(part, sentences, got)
-    return of_report(part, sentences, Judge(Report.parse(got.report), known or Scenario.parse(text)), text)
+    return of_report(part, sentences, Judge(Report.parse(got.report), known or Scenario.parse(text)))
 
 
 def expect(scenario: Path, expectations: Path, is_quiet: bool = False,

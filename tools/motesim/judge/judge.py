@@ -5,7 +5,7 @@
 from __future__ import annotations
 
 from bisect import bisect_left, bisect_right
-from collections.abc import Iterable, Iterator, Sequence, Set
+from collections.abc import Iterator, Sequence, Set
 from dataclasses import replace
 from functools import cached_property
 from itertools import compress, repeat
@@ -24,7 +24,6 @@ from motesim.judge.sentences import (
     Copies, Count, Deed, Does, Hears, Lines, MediumLine, Motes, Packets, Pattern, Refused, Sentence, Value, Window,
 )
 from motesim.report import LOST, MOST_WORD, Report, Rows
-from motesim.report.lazy import LazyReport
 from motesim.scenario import Scenario
 from motesim.scenario.fields import in_words as in_fields
 
@@ -520,9 +519,3 @@ class Judge:
             return None if wrong is None else Broken(hearing(self.scenario, wrong, it.other), kind='hears')
         assert isinstance(it, Refused)
         return Broken('the program writes a report')
-
-
-def broken_of(sentences: Sequence[Sentence], report: bytes, scenario: Scenario, wanted: Iterable[int]) -> list[int]:
-    """The numbers of those wanted sentences that a report of motesim breaks."""
-    judge = Judge(LazyReport(report), scenario)
-    return [number for number in wanted if judge.broken(sentences[number])]

@@ -10,9 +10,8 @@ from pathlib import Path
 from typing import NamedTuple
 
 WEB = Path(__file__).resolve().parents[3] / 'web'
-SCRIPT, MODULE, ABOUT = WEB / 'motesim', WEB / 'motesim.wasm', WEB / 'motesim.json'
-# The crate with the program from which the module is made.
-SOURCE = 'serial_program'
+# For each program, the crate from which its module is made.
+SOURCES = {'motesim': 'serial_program'}
 
 
 class About(NamedTuple):
@@ -31,8 +30,23 @@ class About(NamedTuple):
     sha256: str
 
 
-def read_about(file: Path = ABOUT) -> About | None:
-    """What the module was made from, if there is a file that says it."""
+def script_of(name: str) -> Path:
+    """The script that runs a program's module."""
+    return WEB / name
+
+
+def file_of(name: str) -> Path:
+    """The module of a program."""
+    return WEB / (name + '.wasm')
+
+
+def about_of(name: str) -> Path:
+    """The file that says what the module of a program was made from."""
+    return WEB / (name + '.json')
+
+
+def read_about(name: str = 'motesim') -> About | None:
+    """What the module of a program was made from, if there is a file that says it."""
     with contextlib.suppress(OSError, ValueError, TypeError):
-        return About(**json.loads(file.read_text('utf-8')))
+        return About(**json.loads(about_of(name).read_text('utf-8')))
     return None

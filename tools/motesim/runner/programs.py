@@ -1,14 +1,14 @@
-"""The binary of motesim that all tools run, and the place of kept binaries.
+"""The binaries of motesim and motecheck that all tools run, and the place of kept binaries.
 
 `program_path` returns the binary that MOTESIM names; otherwise the proved binary of these sources, if it has been
-built; otherwise one that was compiled without a proof, and then prints a line about this. Binaries are kept in
-out/programs by a digest of what they were made from:
+built; otherwise one that was compiled without a proof, and then prints a line about this. `checker_path` does the same
+for motecheck. Binaries are kept in out/programs by a digest of what they were made from:
 
-    proved-DIGEST/motesim      built by `./prove` or `./test`; the digest is of the sources, contracts and proofs
-    compiled-DIGEST/motesim    compiled without a proof; the digest is of the sources
+    proved-DIGEST/NAME      built by `./prove` or `./test`; the digest is of the sources, contracts and proofs
+    compiled-DIGEST/NAME    compiled without a proof; the digest is of the sources
 
-If there is none, the tools run the script web/motesim, which runs the WebAssembly module of these sources in node. The
-module has the same reports, and needs longer for them.
+If there is none, the tools run the script web/NAME, which runs the WebAssembly module of these sources in node. The
+module has the same answers, and needs longer for them.
 
 A binary in this folder is complete, and never changes.
 """
@@ -26,16 +26,14 @@ from collections.abc import Sequence
 from pathlib import Path
 
 from motesim.faults import Fault
-from motesim.runner.module import SCRIPT, SOURCE, read_about
+from motesim.runner.module import SOURCES, read_about, script_of
 
 TOP = Path(__file__).resolve().parents[3]
-# The binary that a proof builds; the next proof replaces it.
-PROVED = TOP / 'crates/motesim/out/motesim'
+PROGRAM, CHECKER = 'motesim', 'motecheck'
 DAY = 86_400
 PROGRAMS = TOP / 'out/programs'
-# The binary in an archive that tools/pack made (an archive has no crates); and the page that the archive has if the
-# binary was proved.
-PACKED, PACKED_PROVED = TOP / 'motesim', TOP / 'PROVED.md'
+# The page that an archive of tools/pack has if its binaries were proved.
+PACKED_PROVED = TOP / 'PROVED.md'
 CODE, ALL_PARTS = ('src',), ('src', 'specs', 'proofs')
 # (./run has this line too, for machines without Python)
 COMPILED = 'this program is compiled, not proved'
@@ -53,6 +51,16 @@ class ProgramFault(Fault):
     """motesim can't be run, or refuses the scenario."""
 
 
+def built_by_proof(name: str = PROGRAM) -> Path:
+    """The binary that a proof builds; the next proof replaces it."""
+    return TOP / 'crates' / name / 'out' / name
+
+
+def packed(name: str = PROGRAM) -> Path:
+    """The binary in an archive that tools/pack made (an archive has no crates)."""
+    return TOP / name
+
+
 def is_program(path: Path) -> bool:
     return path.is_file() and os.access(path, os.X_OK)
 
@@ -65,9 +73,14 @@ def _rows_of_crates(top: Path) -> dict[str, str]:
     return {row.partition(':')[0].split()[0]: row for row in rows if row}
 
 
-def crates_of_program(top: Path, program: str = 'motesim') -> list[str]:
-    """The crates from which a program is made, in the order of their names."""
-    rows, found, left = _rows_of_crates(top), set[str](), [program]
+def programs_in(top: Path = TOP) -> list[str]:
+    """The programs that a tree has."""
+    return [name for name in (PROGRAM, CHECKER) if name in _rows_of_crates(top)]
+
+
+def crates_of_program(top: Path, *programs: str) -> list[str]:
+    """The crates from which programs are made, in the order of their names."""
+    rows, found, left = _rows_of_crates(top), set[str](), list(programs or [PROGRAM])
     while left:
         name = left.pop()
         # (a name without a row is a library of the kit)
@@ -123,51 +136,54 @@ def _same(one: Path, other: Path) -> bool:
 
 
 @functools.cache
-def compiled_kept(top: Path = TOP) -> Path:
+def compiled_kept(top: Path = TOP, name: str = PROGRAM) -> Path:
     """The place of the binary that is compiled from these sources without a proof."""
-    return top / 'out/programs' / ('compiled-' + digest(top)) / PROVED.name
+    return top / 'out/programs' / ('compiled-' + digest(top, program=name)) / name
 
 
 @functools.cache
-def proved_kept(top: Path = TOP) -> Path:
+def proved_kept(top: Path = TOP, name: str = PROGRAM) -> Path:
     """The place of the proved binary of these sources."""
-    return top / 'out/programs' / ('proved-' + digest(top, ALL_PARTS)) / PROVED.name
+    return top / 'out/programs' / ('proved-' + digest(top, ALL_PARTS, name)) / name
 
 
-def proved_program() -> Path | None:
+def proved_program(name: str = PROGRAM) -> Path | None:
     """The proved binary of these sources, if it has been built; it is copied to its place."""
-    if is_newer_than_sources(PROVED):
-        for it in PROGRAMS.glob('proved-*/' + PROVED.name):
-            if is_program(it) and _same(it, PROVED):
+    built, kept = built_by_proof(name), list(PROGRAMS.glob('proved-*/' + name))
+    if is_newer_than_sources(built):
+        for it in kept:
+            if is_program(it) and _same(it, built):
                 return it
         try:
-            keep_whole(PROVED, proved_kept())
+            keep_whole(built, proved_kept(TOP, name))
         except OSError:
             # (a tree to which nothing can be written)
-            return PROVED
-    elif not any(PROGRAMS.glob('proved-*')):
+            return built
+    elif not kept:
         return None
-    return proved_kept() if is_program(proved_kept()) else None
+    return proved_kept(TOP, name) if is_program(proved_kept(TOP, name)) else None
 
 
-def compiled_program() -> Path | None:
+def compiled_program(name: str = PROGRAM) -> Path | None:
     """The binary that was compiled from these sources without a proof."""
-    return compiled_kept() if any(PROGRAMS.glob('compiled-*')) and is_program(compiled_kept()) else None
+    return compiled_kept(TOP, name) if any(PROGRAMS.glob('compiled-*/' + name)) and is_program(
+        compiled_kept(TOP, name)) else None
 
 
-def program_of_sources(may_be_proved: bool = True) -> Path | None:
+def program_of_sources(may_be_proved: bool = True, name: str = PROGRAM) -> Path | None:
     """The binary of these sources to run, or None if none has been built."""
     if not (TOP / 'crates.txt').is_file():
-        return PACKED if is_program(PACKED) else None
-    return (proved_program() if may_be_proved else None) or compiled_program()
+        return packed(name) if is_program(packed(name)) else None
+    return (proved_program(name) if may_be_proved else None) or compiled_program(name)
 
 
 @functools.cache
-def module_program() -> Path | None:
+def module_program(name: str = PROGRAM) -> Path | None:
     """The script that runs the WebAssembly module of these sources, if node is here."""
-    about = read_about() if is_program(SCRIPT) and shutil.which('node') else None
+    about = read_about(name) if name in SOURCES and is_program(script_of(name)) and shutil.which('node') else None
     is_packed = not (TOP / 'crates.txt').is_file()
-    return SCRIPT if about and (is_packed or about.sources == digest(TOP, CODE, SOURCE)) else None
+    is_own = about and (is_packed or about.sources == digest(TOP, CODE, SOURCES[name]))
+    return script_of(name) if is_own else None
 
 
 def nothing_runs() -> str:
@@ -181,7 +197,7 @@ def nothing_runs() -> str:
 
 def is_module(program: Path) -> bool:
     """Returns whether a program is the script that runs the WebAssembly module."""
-    return program.resolve() == SCRIPT.resolve()
+    return program.resolve() in [script_of(name).resolve() for name in SOURCES]
 
 
 def _is_kept_as(kind: str, program: Path) -> bool:
@@ -191,14 +207,14 @@ def _is_kept_as(kind: str, program: Path) -> bool:
 def is_proved(program: Path) -> bool:
     """Returns whether a binary was built by a proof: in this tree, or for an archive."""
     program = program.resolve()
-    is_packed = program == PACKED.resolve() and PACKED_PROVED.is_file()
-    return is_packed or program == PROVED.resolve() or _is_kept_as('proved-', program)
+    is_packed = program == packed().resolve() and PACKED_PROVED.is_file()
+    return is_packed or program == built_by_proof().resolve() or _is_kept_as('proved-', program)
 
 
 def is_compiled(program: Path) -> bool:
     """Returns whether a binary was compiled without a proof: here, or for an archive."""
     program = program.resolve()
-    is_packed = program == PACKED.resolve() and not PACKED_PROVED.is_file()
+    is_packed = program == packed().resolve() and not PACKED_PROVED.is_file()
     return is_packed or _is_kept_as('compiled-', program)
 
 
@@ -243,5 +259,22 @@ def _program_here() -> Path:
     if is_module(found):
         say_not_proved(IN_NODE)
     elif is_compiled(found):
-        say_not_proved(COMPILED if is_program(PACKED) else NOT_PROVED)
+        say_not_proved(COMPILED if is_program(packed()) else NOT_PROVED)
     return found
+
+
+def checker_path() -> Path | None:
+    """The motecheck that decides verdicts: the one that the environment variable MOTECHECK names, or that of these
+    sources. None if the variable is empty, if MOTESIM names a program of other sources, or if no motecheck is here."""
+    named = os.environ.get('MOTECHECK')
+    if named and not is_program(Path(named)):
+        raise ProgramFault('there is no program %s (the environment variable MOTECHECK names it)' % named)
+    if named is not None:
+        return Path(named) if named else None
+    other = os.environ.get('MOTESIM')
+    return _checker_here() if not other or is_proved(Path(other)) else None
+
+
+@functools.cache
+def _checker_here() -> Path | None:
+    return program_of_sources(name=CHECKER) or module_program(CHECKER)

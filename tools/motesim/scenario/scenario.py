@@ -54,12 +54,13 @@ class Scenario:
     places    a `MotePlace` for each mote, by its number
     losses    for each pair (sender, receiver) with a loss, its `every`
     fields    the format of packets that the expectations next to the scenario's file declare
+    text      the text that was read; empty if the scenario was made otherwise
 
     This class checks only what the tools need: it accepts some texts that `motesim` refuses.
     """
 
-    def __init__(self, tables: dict[str, Any]):
-        self.fields: tuple[Field, ...] = ()
+    def __init__(self, tables: dict[str, Any], text: str = ''):
+        self.text, self.fields = text, tuple[Field, ...]()
         medium: dict[str, Any] = _get(tables, 'medium', dict, 'the scenario')
         self.version: int = _get(tables, 'version', int, 'the scenario')
         self.end: int = _get(tables, 'end', int, 'the scenario')
@@ -87,7 +88,7 @@ class Scenario:
         try:
             if isinstance(text, bytes):
                 text = text.decode('utf-8')
-            return cls(read_toml(text))
+            return cls(read_toml(text), text)
         except UnicodeDecodeError:
             raise ScenarioFault('the scenario is not UTF-8') from None
         except NoToml as fault:

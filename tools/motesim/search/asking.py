@@ -14,6 +14,7 @@ from motesim.search.faults import (
 )
 from motesim.search.kept import Kept
 from motesim.runner import Limits, Runner, program_path
+from motesim.runner.programs import checker_path
 from motesim.search.prepare import plain_run, prepare
 from motesim.search.runner import Here
 from motesim.search.search import Bounds, Search
@@ -76,7 +77,8 @@ class Asking:
         return hashlib.sha256(repr(parts).encode()).hexdigest()[:16]
 
     def work(self) -> Work:
-        return Work(self.base, self.prepared.faults, self.sentences, str(self.path), self.limits, self.prepared.halting)
+        return Work(self.base, self.prepared.faults, self.sentences, str(self.path), self.limits, self.prepared.halting,
+                    checker_path())
 
     def search(self, processes: int, kept: Kept, shown: Callable[[Search, int, bool], None] | None = None,
                asks_end: Callable[[], bool] = lambda: False) -> Search:

@@ -107,6 +107,7 @@ class Base:
             # (so that each mote's neighbours are looked for once, rather than in each run)
             base.hearers(0)
         found = copy.copy(base)
+        found.text = ''
         if change.places or 'range' in change.numbers:
             found.__dict__.pop('_neighbours', None)
         found.__dict__.pop('lookahead', None)

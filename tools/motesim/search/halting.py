@@ -7,8 +7,9 @@ from __future__ import annotations
 
 from collections.abc import Iterable, Sequence
 
-from motesim.judge.judge import broken_of
+from motesim.judge.judge import Judge
 from motesim.judge.sentences import Does, Lines, Sentence, parts_of
+from motesim.report.lazy import LazyReport
 from motesim.scenario.scenario import Scenario
 
 
@@ -55,4 +56,7 @@ def hidden_by_halt(scenario: Scenario, report: bytes, sentences: Sequence[Senten
     begin, end = trace_of(report, mote)
     last = report[begin:end].rpartition(b'\n')[2].split(b' ')
     has_halted = last[1:] == [b'halt'] and int(last[0]) <= moment
-    return broken_of(sentences, with_halt(report, mote, moment), scenario, about) if about and not has_halted else []
+    if not about or has_halted:
+        return []
+    judge = Judge(LazyReport(with_halt(report, mote, moment)), scenario)
+    return [number for number in about if judge.broken(sentences[number])]

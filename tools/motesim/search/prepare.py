@@ -19,8 +19,10 @@ from motesim.search.faults import FaultyPart
 from motesim.search.halting import hidden_by_halt, is_only_about_halts
 from motesim.search.sets import Set, union
 from motesim.search.work import mask_of
-from motesim.judge.judge import broken_of
 from motesim.judge.sentences import Sentence
+from motesim.judge.verdicts import broken_of, decided
+from motesim.runner.programs import checker_path
+from motesim.scenario.scenario import Scenario
 
 ADDED = {'fails': DIES, 'late': LATE}
 INTO = {DIES: 'fail', LATE: 'start late'}
@@ -49,9 +51,15 @@ def plain_run(base: Base, program: Runner, sentences: list[Sentence]) -> Plain:
     if why:
         raise Fault('%s has no report, even if no fault is added: %s' % (base.name, why))
     sections = answer.report.partition(b'\nmedium\n')[0].split(b'\nmote ')
-    return Plain(answer.report, broken_of(sentences, answer.report, base.scenario_itself, range(len(sentences))),
+    return Plain(answer.report, broken_in(base.scenario_itself, answer.report, sentences, program),
                  [section.count(b' send ') for section in sections],
                  max(map(int, OF_PACKETS.findall(answer.report)), default=0))
+
+
+def broken_in(scenario: Scenario, report: bytes, sentences: list[Sentence], program: Runner) -> list[int]:
+    """The numbers of the sentences that are broken in the run of a scenario, which has this report."""
+    said = decided(checker_path(), scenario, scenario.text, sentences, program.limits)
+    return broken_of(said, sentences, scenario, lambda place: report)
 
 
 def without_process(report: bytes, mote: int, process: str) -> list[bytes]:
@@ -70,13 +78,11 @@ def without_process(report: bytes, mote: int, process: str) -> list[bytes]:
     return rows
 
 
-def difference(base: Base, plain: Plain, program: Runner, mote: int, kind: str) -> tuple[str, bytes]:
+def difference(base: Base, plain: Plain, program: Runner, mote: int, kind: str, text: str) -> tuple[str, bytes]:
     """The difference that the added process makes to the report of a scenario, or an empty text; if there is none, also
     the report with the process."""
-    change = Change()
-    change.added[mote] = kind, base.scenario_itself.end + 1 if kind == DIES else 0
     try:
-        answer = program.answer(base.text(change).encode())
+        answer = program.answer(text.encode())
     except ProgramFault as fault:
         return str(fault), b''
     if answer.status:
@@ -150,11 +156,14 @@ def _left_out(reasons: dict[tuple[int, str], list[str]]) -> list[str]:
 
 def _tried(base: Base, plain: Plain, program: Runner, sentences: list[Sentence], mote: int,
            kind: str) -> tuple[str, int]:
+    change = Change()
+    change.added[mote] = kind, base.scenario_itself.end + 1 if kind == DIES else 0
     try:
-        why, report = difference(base, plain, program, mote, kind)
+        text = base.text(change)
+        why, report = difference(base, plain, program, mote, kind, text)
     except (NoRoom, CannotChange) as fault:
         return str(fault), 0
     if why:
         return why, 0
-    others = [number for number in range(len(sentences)) if number not in plain.broken]
-    return '', mask_of(broken_of(sentences, report, base.scenario_itself, others))
+    broken = broken_in(Scenario.parse(text), report, sentences, program)
+    return '', mask_of([number for number in broken if number not in plain.broken])

@@ -133,8 +133,6 @@ class Search:
         # (which sets of one size are minimal depends only on the smaller ones)
         found: list[Outcome] = []
         for outcome in runner.outcomes(self.tasks(sets, tally, found), self.is_over):
-            if self.survey:
-                self.survey.compare(outcome, self.known.left(outcome.faults))
             self.kept.add(outcome)
             self.note(outcome, tally, found)
             self.breaking = len(found)

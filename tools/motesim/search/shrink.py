@@ -13,8 +13,10 @@ from typing import NamedTuple
 from motesim.faults import Fault
 from motesim.judge.judge import Broken, Judge
 from motesim.judge.sentences import Sentence, SentenceFault, names_of, read_sentence
+from motesim.judge.verdicts import decided, reason
 from motesim.report.lazy import LazyReport
 from motesim.runner import ProgramFault, Runner
+from motesim.runner.programs import checker_path
 from motesim.scenario.fields import Field
 from motesim.scenario.scenario import Scenario
 from motesim.search.change import Base, Change
@@ -75,30 +77,18 @@ def with_effects(text: str, effects: tuple[Effect, ...]) -> str:
 
 
 class Seen(NamedTuple):
-    """A report with its scenario, and the motes that a fault lets fail, each with its moment."""
+    """A report with its scenario, and what breaks sentences about it."""
     report: bytes
     scenario: Scenario
-    failed: tuple[tuple[int, int], ...] = ()
+    broken: list[Broken | None]
 
-    def report_for(self, sentence: Sentence) -> bytes:
-        """The report for a sentence: one about halts isn't about the motes that fail."""
-        return without_halts(self.report, self.failed) if is_only_about_halts(sentence) else self.report
 
-    def read(self, sentence: str) -> Sentence | None:
-        """A sentence, if it can be read with the names of this scenario."""
-        try:
-            return read_sentence(sentence, names_of(self.scenario))
-        except SentenceFault:
-            return None
-
-    def is_broken(self, sentence: str) -> bool:
-        """Returns whether a sentence is broken, or names something that the scenario no longer has."""
-        return self.read(sentence) is None or self.broken(sentence) is not None
-
-    def broken(self, sentence: str) -> Broken | None:
-        """What breaks a sentence; None if it holds, or names something that the scenario no longer has."""
-        read = self.read(sentence)
-        return Judge(LazyReport(self.report_for(read)), self.scenario).broken(read) if read else None
+def read_or_none(sentence: str, scenario: Scenario) -> Sentence | None:
+    """A sentence, if it can be read with the names of a scenario."""
+    try:
+        return read_sentence(sentence, names_of(scenario))
+    except SentenceFault:
+        return None
 
 
 @dataclass
@@ -133,17 +123,31 @@ class Shrinking:
                     ', or breaks an expectation of --keep' * bool(self.case.keeps))
             raise Fault('the scenario does not break `%s`%s' % (self.case.sentence, more))
 
-    def seen(self, text: str) -> Seen | None:
-        """The report of a text, or None if there is no report, or if it is too long."""
+    def seen(self, text: str, words: Sequence[str], is_first_broken: bool, failed: dict[int, int] = {}) -> Seen | None:
+        """The report of a text, with what breaks these sentences: the first one is broken, or holds, and the others hold.
+        None if they are otherwise, or can't be read; if there is no report; or if it is too long. A sentence about halts
+        isn't about the motes that fail."""
+        scenario = self.scenario(text)
+        read = [it for it in (read_or_none(it, scenario) for it in words) if it]
+        if len(read) < len(words):
+            return None
         self.runs += 1
+        failing = {place: failed for place, it in enumerate(read) if is_only_about_halts(it)}
+        is_wanted = [is_first_broken, *[False] * (len(words) - 1)]
         try:
+            said = decided(checker_path(), scenario, text, read, self.program.limits, failing)
+            if any(it is not None and bool(it) != wanted for it, wanted in zip(said, is_wanted)):
+                return None
             answer = self.program.answer(text.encode())
         except ProgramFault:
             return None
         self.last = max(self.last, len(answer.report))
-        scenario = self.scenario(text)
         is_long = self.longest is not None and len(answer.report) > self.longest and scenario.end < self.first_end
-        return None if answer.status or is_long else Seen(answer.report, scenario)
+        if answer.status or is_long:
+            return None
+        reports = [without_halts(answer.report, failing.get(place, {}).items()) for place in range(len(read))]
+        broken = [reason(*its, Judge(LazyReport(report), scenario)) for its, report in zip(zip(said, read), reports)]
+        return Seen(answer.report, scenario, broken) if [it is not None for it in broken] == is_wanted else None
 
     def scenario(self, text: str) -> Scenario:
         found = Scenario.parse(text)
@@ -153,29 +157,27 @@ class Shrinking:
     def way_now(self, case: Case) -> Way | None:
         """The way in which a case breaks its sentence, or None if it doesn't, or if it breaks it even without its
         faults."""
-        if case.effects:
-            without = self.seen(case.net.text)
-            if without is None or without.broken(case.sentence):
-                return None
-        found = self.seen_with_faults(case)
-        if found is None or any(found.is_broken(it) for it in case.keeps):
+        if case.effects and self.seen(case.net.text, [case.sentence], False) is None:
             return None
-        broken, self.judged = found.broken(case.sentence), found
-        if broken and broken.lacks and case.net.end < self.first_end:
+        found = self.seen_with_faults(case)
+        if found is None:
+            return None
+        broken, self.judged = found.broken[0], found
+        assert broken
+        if broken.lacks and case.net.end < self.first_end:
             # (the missing lines may only be late)
-            later = self.seen_with_faults(case._replace(net=case.net._replace(end=self.first_end)))
-            late = later.broken(case.sentence) if later else None
+            later = self.seen_with_faults(case._replace(net=case.net._replace(end=self.first_end), keeps=()))
+            late = later.broken[0] if later else None
             return way_of(broken) if late and way_of(late) == way_of(broken) else None
-        return way_of(broken) if broken else None
+        return way_of(broken)
 
     def seen_with_faults(self, case: Case) -> Seen | None:
         """The report of a case."""
+        failed = {int(it[1]): int(it[2]) for it in case.effects if it[0] == 'fails'}
         try:
-            found = self.seen(with_effects(case.net.text, case.effects))
+            return self.seen(with_effects(case.net.text, case.effects), [case.sentence, *case.keeps], True, failed)
         except Fault:
             return None
-        failed = tuple((int(it[1]), int(it[2])) for it in case.effects if it[0] == 'fails')
-        return found and found._replace(failed=failed)
 
     def after(self, step: NetStep) -> Case | None:
         """The case after a step, or None if the sentence or a fault can't follow it."""

@@ -1,4 +1,4 @@
-"""Surveys of broken links and silent motes, which the proved program `motecheck` makes for a search, where it is built.
+"""Surveys of broken links and silent motes, which the proved program `motecheck` makes for a search, where it is compiled.
 
 A survey runs the scenario with all sets of at most so many of these faults, in one process, and lists those that break
 a claim. A search then runs only the listed sets, for their reports. But a survey has the same claims for all sets: if
@@ -14,9 +14,10 @@ from functools import cached_property
 
 from motesim.judge.claims import Claims, NoClaim
 from motesim.judge.links import Apart, Links
-from motesim.judge.motecheck import Disagreement, answers, checker
 from motesim.judge.sentences import Sentence, Value, Window, parts_of
+from motesim.judge.verdicts import answers
 from motesim.runner import Limits, ProgramFault
+from motesim.runner.programs import checker_path, is_module
 from motesim.scenario import Scenario
 from motesim.search.change import Base
 from motesim.search.faults import Effect, FaultyPart, change_of
@@ -47,13 +48,6 @@ class Survey:
             return None
         return Outcome(found, SAME if is_same(self.faults, self.base, found) else RUN)
 
-    def compare(self, outcome: Outcome, wanted: int) -> None:
-        """Raises a `Disagreement` if a run breaks fewer sentences than the survey says."""
-        holding = self.breaks.get(outcome.faults, 0) & wanted & ~outcome.broken
-        if outcome.became == RUN and holding and self.is_for(outcome.faults):
-            words = '; '.join(self.faults[number].words for number in outcome.faults)
-            raise Disagreement('an expectation is broken for motecheck, but not for the judge, with: %s' % words)
-
     def is_for(self, found: Set) -> bool:
         """Returns whether the sentences have the same claims with a set of faults."""
         return not self.values or self.own == self.meant(
@@ -79,9 +73,9 @@ def survey_of(base: Base, faults: Sequence[FaultyPart], sentences: Mapping[int, 
               limits: Limits, asks_end: Callable[[], bool]) -> Survey | None:
     """The survey of a search's faults, if `motecheck` is built and can make it: of links in one direction that lose
     everything, and of silent motes, for sentences that have claims."""
-    program, kinds = checker(), {str(it.effect[0]) for it in faults}
+    program, kinds = checker_path(), {str(it.effect[0]) for it in faults}
     is_lossy = any(it.effect[0] == 'lose' and it.effect[3] != 1 for it in faults)
-    if program is None or at_most < 1 or not kinds or not kinds <= set(OPTIONS) or is_lossy:
+    if program is None or is_module(program) or at_most < 1 or not kinds or not kinds <= set(OPTIONS) or is_lossy:
         return None
     claims = Claims(base.scenario_itself)
     try:

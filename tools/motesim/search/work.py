@@ -13,9 +13,10 @@ from motesim.search.faults import FaultyPart, change_of
 from motesim.search.halting import without_halts
 from motesim.search.sets import Set, union
 from motesim.search.single_packets import loses_more
-from motesim.judge.judge import Judge, broken_of
+from motesim.judge.judge import Judge
 from motesim.judge.sentences import Sentence
 from motesim.judge.shortfall import Shortfall, shortfall_of
+from motesim.judge.verdicts import broken_of, decided
 from motesim.report.lazy import LazyReport
 
 # The usual limits of a run.
@@ -41,13 +42,14 @@ class Outcome(NamedTuple):
 
 class Work(NamedTuple):
     """The data that all runs of a search share. For each fault that halts a mote, `halting` has the expectations that
-    are judged without this mote's line `halt`."""
+    are judged without this mote's line `halt`. `checker` is the path of `motecheck`."""
     base: Base
     faults: list[FaultyPart]
     sentences: list[Sentence]
     program: str
     limits: Limits
     halting: Mapping[int, int] = {}
+    checker: Path | None = None
 
 
 def numbers_of(mask: int) -> list[int]:
@@ -70,18 +72,26 @@ class Bench:
 
     def __init__(self, work: Work):
         self.base, self.faults, self.halting = work.base, work.faults, work.halting
-        self.sentences = work.sentences
-        self.program = Runner(Path(work.program), work.limits)
+        self.sentences, self.limits = work.sentences, work.limits
+        self.program, self.checker = Runner(Path(work.program), work.limits), work.checker
 
     def run(self, task: Task) -> Outcome:
-        found = task.faults
+        found, its = task.faults, [self.faults[number] for number in task.faults]
         try:
             if is_same(self.faults, self.base, found):
                 return Outcome(found, SAME)
-            change = change_of([self.faults[number] for number in found], self.base)
+            change = change_of(its, self.base)
             text = self.base.text(change)
             if len(found) == 1:
                 check_text(text, change, self.base)
+            # (an added process makes a program with other numbers of processes)
+            scenario = Scenario.parse(text) if change.added else self.base.scenario(change)
+            numbers, failing = numbers_of(task.wanted), self.failing(task)
+            wanted = [self.sentences[number] for number in numbers]
+            said = decided(self.checker, scenario, text, wanted, self.limits, failing)
+            # (`loses_more` needs the report)
+            if not any(it is None or it for it in said) and all(it.kind != 'packets' for it in its):
+                return Outcome(found, RUN)
             answer = self.program.answer(text.encode())
         except (CannotChange, NoRoom) as fault:
             return Outcome(found, UNMADE, 0, str(fault))
@@ -90,27 +100,20 @@ class Bench:
         if answer.status:
             return Outcome(found, UNMADE, 0, answer.why)
         losses = self.base.with_parameters(change.parameters).scenario_itself.losses
-        if loses_more([self.faults[number] for number in found], answer.report, losses):
+        if loses_more(its, answer.report, losses):
             return Outcome(found, MORE)
-        broken = self.broken(answer.report, change, task)
-        return Outcome(found, RUN, broken, lacks=self.lacks(answer.report, change, task) if broken else Shortfall())
+        broken = broken_of(said, wanted, scenario,
+                           lambda place: without_halts(answer.report, failing.get(place, {}).items()))
+        lacks = shortfall_of(Judge(LazyReport(answer.report), scenario), wanted) if broken else Shortfall()
+        return Outcome(found, RUN, mask_of([numbers[place] for place in broken]), lacks=lacks)
 
-    def lacks(self, report: bytes, change: Change, task: Task) -> Shortfall:
-        """The lines that a report lacks for the expectations to be tried."""
-        wanted = [self.sentences[number] for number in numbers_of(task.wanted)]
-        return shortfall_of(Judge(LazyReport(report), self.base.scenario(change)), wanted)
-
-    def broken(self, report: bytes, change: Change, task: Task) -> int:
-        """The expectations that a report breaks. Those about halts are judged for the motes that the faults don't
-        halt."""
+    def failing(self, task: Task) -> dict[int, dict[int, int]]:
+        """For the places of the expectations about halts, among those to be tried: the motes that the faults halt, each
+        with its moment. These expectations are judged for the other motes."""
         halting = [number for number in task.faults if self.halting.get(number)]
-        apart = union(self.halting[number] for number in halting) & task.wanted
-        scenario = self.base.scenario(change)
-        found = broken_of(self.sentences, report, scenario, numbers_of(task.wanted & ~apart))
-        if apart:
-            failed = [(int(mote), int(moment)) for _, mote, moment in (self.faults[it].effect for it in halting)]
-            found += broken_of(self.sentences, without_halts(report, failed), scenario, numbers_of(apart))
-        return mask_of(found)
+        apart = union(self.halting[number] for number in halting)
+        motes = {int(mote): int(moment) for _, mote, moment in (self.faults[it].effect for it in halting)}
+        return {place: motes for place, number in enumerate(numbers_of(task.wanted)) if apart >> number & 1}
 
 
 def check_text(text: str, change: Change, base: Base) -> None:

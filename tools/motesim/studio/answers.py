@@ -112,7 +112,7 @@ def marks(part: expectations.Part, done: Finished) -> list[dict[str, Any]]:
     """A mark for each sentence of a part, and one for its report, if it has one."""
     done.scenario.fields = part.fields
     sentences = expectations.read_all(part.sentences, names_of(done.scenario))
-    verdicts = expectations.of_report(part, sentences, Judge(done.run.report, done.scenario), done.text)
+    verdicts = expectations.of_report(part, sentences, Judge(done.run.report, done.scenario))
     return [{'sentence': it.sentence, 'holds': it.holds, 'required': number < part.required, 'row': it.row,
              'more': it.more, 'remark': it.remark} for number, it in enumerate(verdicts)]
 

@@ -9,6 +9,7 @@ from pathlib import Path
 from motesim.faults import Fault
 from motesim.judge.expectations import beside, parts_of, read_all, text_of
 from motesim.judge.sentences import names_of
+from motesim.judge.verdicts import breaks
 from motesim.why.chain import Hop, as_json, chain, on_values, path_of, rows
 from motesim.why.diverge import diverged
 from motesim.why.diverge import rows as parted_rows
@@ -77,7 +78,7 @@ def of_first(asker: Asker, other: Asker, question: str) -> Asked | None:
     a sentence about motes, or if no such mote has the line in the other run."""
     for one in asker.lacking(asker.read(question)):
         if all(mote < other.traces.motes for mote in other.judge.chosen(one.motes)):
-            found = other.answer(one) if other.judge.broken(one) is None else None
+            found = None if breaks([one], other.judge)[0] else other.answer(one)
             if isinstance(found, Asked):
                 return found
     return None
@@ -129,9 +130,9 @@ def broken_beside(source: Source, path: Path) -> str:
     if not path.exists():
         raise Fault('a question is needed: an expectation, a line, --watch or --state; or a file %s' % path)
     texts = parts_of(text_of(path), str(path))[0].sentences
-    judge = Asker(source).judge
-    for text, sentence in zip(texts, read_all(texts, names_of(source.scenario))):
-        if judge.broken(sentence):
+    found = breaks(read_all(texts, names_of(source.scenario)), Asker(source).judge)
+    for text, broken in zip(texts, found):
+        if broken:
             return text
     raise Fault('all of %s hold, so a question is needed: an expectation, a line, --watch or --state' % path)
 

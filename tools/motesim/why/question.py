@@ -15,6 +15,7 @@ from motesim.judge.hearing import hearing
 from motesim.judge.judge import Apart, Broken, Event, Judge, Row, Span, periods, within
 from motesim.judge.remarks import outcome_never
 from motesim.judge.sentences import Copies, Count, Does, Hears, Motes, Packets, Sentence, names_of, read_sentence
+from motesim.judge.verdicts import breaks
 from motesim.why.fate import loss_of
 from motesim.why.source import At, Source, Traces
 
@@ -152,7 +153,7 @@ class Asker:
             raise self.of_hearing(it)
         if not isinstance(it, (Does, Copies, Packets)) or isinstance(it, Copies) and it.outcome == 'left':
             raise Unasked('this expectation is about no line of a trace')
-        broken = self.judge.broken(it)
+        broken, = breaks([it], self.judge)
         if broken:
             return self.of_broken(it, broken)
         row = self.shown(it) if isinstance(it, Does) else self.completing(it)
@@ -188,7 +189,7 @@ class Asker:
         if it.motes.kind == 'together':
             event = self.judge.shown_by(it, chosen)
             return event.row if event else None
-        doing = [mote for mote in chosen if self.judge.of_unit(it, (mote,)) is None]
+        doing = [mote for mote, broken in zip(chosen, breaks(self.each(it), self.judge)) if broken is None]
         events = sorted((one.line.at, one.row) for mote in doing if (one := self.judge.shown_by(it, (mote,))))
         if it.motes.kind == 'each':
             return events[-1][1] if events else None
@@ -239,8 +240,12 @@ class Asker:
         The list is empty for other sentences, and for those about several motes together."""
         if not isinstance(it, Does) or it.motes.kind not in EACH_ITSELF:
             return []
-        own = [replace(it, motes=Motes('each', frozenset((mote,)))) for mote in self.judge.chosen(it.motes)]
-        return [one for one in own if (broken := self.judge.broken(one)) and broken.lacks]
+        own = self.each(it)
+        return [one for one, broken in zip(own, breaks(own, self.judge)) if broken and broken.lacks]
+
+    def each(self, it: Does) -> list[Does]:
+        """The same sentence about each mote by itself."""
+        return [replace(it, motes=Motes('each', frozenset((mote,)))) for mote in self.judge.chosen(it.motes)]
 
     def lines(self, it: Sentence) -> list[int]:
         """The rows of all lines of traces that a sentence is about. Raises an `Unasked` if it is about none."""
