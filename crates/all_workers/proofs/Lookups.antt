@@ -86,10 +86,6 @@ module _ {X : Type 0} where
   each_at P (y ∷ xs) zero x h e = let f : y ≡ x = cc in subst P f h.0
   each_at P (y ∷ xs) (suc i) x h e = each_at P xs i x h.1 e
 
-  pub same_tests : (p q : X → Bool) (xs : List X) → Each (λ x. p x ≡ q x) xs → filter p xs ≡ filter q xs
-  same_tests p q [] h = refl
-  same_tests p q (x ∷ xs) h = let ih = same_tests p q xs h.1 in rw h.0 (ap (λ l. cond (q x) (x ∷ l) l) ih)
-
 module _ {X Y Z : Type 0} (P : Z → Type 0) (f : X × Y → Z) where
   pub each_zipped : (xs : List X) (ys : List Y) → ((i : ℕ) (x : X) (y : Y) → slice_get xs i ≡ Some x → slice_get ys i ≡ Some y → P (f (x, y))) → Each P (map f (zip xs ys))
   each_zipped [] ys h = tt

@@ -1,19 +1,17 @@
 -- The workers before the first window.
-use Rattle.std.proofs.Common.{◌≡◌, Bool, ℕ, zero, suc, ◌<◌, ltb, eqb, List, [], ◌∷◌, length, get_or, refl, sym, ap}
+use Rattle.std.proofs.Common.{◌≡◌, Bool, ℕ, zero, suc, ◌<◌, ltb, List, [], ◌∷◌, length, get_or, refl, sym, ap}
 use Rattle.std.proofs.Common.{subst, arith, inl, inr, None}
 use Rattle.std.specs.List.{filter, AllZip}
-use Rattle.std.proofs.lemmas.Bool.{cases_Bool, eq-eqb}
-use Rattle.radio_packet.specs.declared.copy.RadioCopy.{RadioCopy}
+use Rattle.std.proofs.lemmas.Bool.{cases_Bool}
 use Rattle.mote_net.specs.Net.{NetModel}
 use Rattle.net_agenda.specs.NetSystem.{system_of}
 use Rattle.window_laws.specs.System.{System}
 use Rattle.window_laws.specs.Windows.{first_mote, copies_by, Last}
-use Rattle.copy_inbox.specs.declared.items.Item.{Item}
-use Rattle.copy_inbox.specs.Items.{copies_of, part}
-use Rattle.copy_inbox.specs.Handles.{InboxId, TakerView, PacketsLeft}
+use Rattle.copy_inbox.specs.Items.{copies_of}
+use Rattle.copy_inbox.specs.Handles.{InboxId, TakerView}
 use Rattle.copy_inbox.specs.Views.{make_taker_state}
-use Rattle.copy_exchange.specs.Takers.{IsOrderly}
-use Rattle.copy_exchange.specs.Inboxes.{IsFresh, IsSettled, Settled}
+use Rattle.copy_exchange.specs.Inboxes.{IsFresh, Settled}
+use Rattle.copy_exchange.proofs.Windows.{settled_fresh}
 use Rattle.worker_cut.specs.Crossed.{is_own, is_to, crossed}
 use Rattle.worker_window.specs.declared.share.Share.{Share}
 use Rattle.worker_window.specs.Share.{IsWholeShare}
@@ -22,34 +20,11 @@ use Rattle.all_workers.specs.WorkerGroup.{IsAt, IsWorkerAt}
 use Rattle.all_workers.specs.Start.{AreFirst}
 use Rattle.all_workers.specs.WorkerGroup.{IsCut}
 
--- if no sender has items in a list, the list is empty
-no_parts : (rest : List Item) → ((s : ℕ) → part s rest ≡ []) → rest ≡ []
-no_parts [] h = refl
-no_parts (x ∷ rest) h = let e = rw (eq-eqb x.sender x.sender refl) at (h x.sender) in cc
-
-orderly_first : (marked : Bool) → IsOrderly (make_taker_state marked 0 [] [])
-orderly_first marked = record {
-  in_order = λ rest is s. ap (λ l. filter (λ (c : RadioCopy). eqb c.sender s) (copies_of l)) (no_parts rest (λ u. is.1 u refl));
-  begun = tt;
-  unseen = λ s e. refl;
-  apart = tt;
-  later = λ u low e. tt;
-  numbers = tt;
-}
-
-settled_first : (inbox : InboxId) (t : TakerView) → IsFresh inbox t → IsSettled inbox t
-settled_first inbox t fresh = record {
-  its = fresh.0;
-  orderly = subst IsOrderly (sym fresh.1) (orderly_first t.state.marked);
-  all = λ s low. absurd (let e = ap (λ d. d.made) fresh.1 in omega arith);
-  no_mark = subst PacketsLeft (sym fresh.1) tt;
-}
-
 pub all_settled : (inboxes : List InboxId) (takers : List TakerView) → AllZip IsFresh inboxes takers → Settled inboxes takers
 all_settled [] [] h = tt
 all_settled [] (t ∷ ts) h = h
 all_settled (i ∷ is) [] h = h
-all_settled (i ∷ is) (t ∷ ts) h = (settled_first i t h.0, all_settled is ts h.1)
+all_settled (i ∷ is) (t ∷ ts) h = (settled_fresh i t h.0, all_settled is ts h.1)
 
 pub fresh_at : (inboxes : List InboxId) (takers : List TakerView) → AllZip IsFresh inboxes takers → (v : ℕ) (d : TakerView) → v < length inboxes
     → (get_or takers v d).state ≡ make_taker_state (get_or takers v d).state.marked 0 [] []

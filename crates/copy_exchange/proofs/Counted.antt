@@ -17,6 +17,7 @@ use Rattle.copy_inbox.specs.Handles.{PacketsLeft}
 use Rattle.copy_inbox.proofs.Parts.{part-here, part-else, part-not_nil, part-nil_right}
 use Rattle.copy_inbox.proofs.Counts.{tally, front_counts, tally-nil}
 use Rattle.copy_exchange.specs.Takers.{copies_gathered, copies_in, IsOrderly}
+use Rattle.copy_exchange.proofs.Lists.{either}
 use Rattle.copy_exchange.proofs.Parts.{copies_in-append}
 
 -- ---- the packets among items
@@ -33,11 +34,6 @@ all_packets (w ∷ ws) h =
     let rest = all_packets ws h.1 in
     let one = one_more w (copies_in ws) ∙ ap (λ (b : Bool). cond b 1 0 + length (copies_in ws)) h.0 in
     omega arith
-
--- a proof by the two cases of a bool
-either : {P : Type 0} (b : Bool) → (b ≡ true → P) → (b ≡ false → P) → P
-either true f g = f refl
-either false f g = g refl
 
 copies_count : (items : List Item) → length (copies_of items) ≡ length (packets_in items)
 copies_count [] = refl

@@ -1,5 +1,5 @@
 -- All open senders of an inbox are gathered, one after another.
-use Rattle.std.proofs.Common.{◌≡◌, ◌≢◌, ◌⊎◌, ℕ, zero, suc, ◌+◌, ◌<◌, ◌≤◌, Bool, true, false, eqb, List, [], ◌∷◌, ◌++◌, length, map, drop, refl, sym, ap, ◌∙◌, subst, inl, inr, ⊎_elim, arith, append_assoc, append-nil, eq-eqb, ne_eqb}
+use Rattle.std.proofs.Common.{◌≡◌, ◌≢◌, ◌⊎◌, ℕ, zero, suc, ◌+◌, ◌<◌, ◌≤◌, true, false, eqb, List, [], ◌∷◌, ◌++◌, length, map, drop, refl, sym, ap, ◌∙◌, subst, inl, inr, ⊎_elim, arith, append_assoc, append-nil, eq-eqb, ne_eqb}
 use Rattle.std.specs.List.{AllByRecursion as Each, flat_map, range_with_len}
 use Rattle.std.proofs.lemmas.Bool.{cases_lt}
 use Rattle.std.proofs.lemmas.Bool.Decides.{eqb_tells}
@@ -18,7 +18,7 @@ use Rattle.copy_inbox.proofs.Parts.{part-append}
 use Rattle.copy_exchange.specs.Takers.{SameOfEach, copies_in, copies_gathered, IsRest, IsOrderly}
 use Rattle.copy_exchange.specs.Endpoints.{AreOpen}
 use Rattle.copy_exchange.specs.Steps.{gather_senders}
-use Rattle.copy_exchange.proofs.Lists.{each_map}
+use Rattle.copy_exchange.proofs.Lists.{each_map, either, heads}
 use Rattle.copy_exchange.proofs.Parts.{from, from-append, copies-append, OnlyIn, of_one_sender, nothing_more}
 
 abbrev pub copies_by : SenderView → List RadioCopy
@@ -93,9 +93,6 @@ record Gathering (ss : List SenderView) (d : TakerState) : Type 0 where
   unseen : (i : ℕ) → is_gathered d.gathered i ≡ false → part i d.taken ≡ []
   numbers : Each (λ (g : Gathered). (g.number < d.made) × (g.made ≤ d.made)) d.gathered
 
-heads : (x y : ℕ) (xs ys : List ℕ) → x ∷ xs ≡ y ∷ ys → (x ≡ y) × (xs ≡ ys)
-heads x y xs ys e = (cc, cc)
-
 gathers_one : (s : SenderView) (ss : List SenderView) (d : TakerState) → Gathering (s ∷ ss) d → Gathering ss (with_joined (s ∷ []) d)
 gathers_one s ss d h =
     let o = h.are_open in
@@ -166,10 +163,6 @@ each_both : {P Q R : Gathered → Type 0} (gs : List Gathered) → ((g : Gathere
 each_both [] f h k = tt
 each_both (g ∷ gs) f h k = (f g (h.0, k.0), each_both gs f h.1 k.1)
 
-elim_bool : {P : Type 0} (b : Bool) → (b ≡ true → P) → (b ≡ false → P) → P
-elim_bool true f g = f refl
-elim_bool false f g = g refl
-
 module _ (P Q R : SenderView → Type 0) where
   each_two : (ss : List SenderView) → ((a : SenderView) → P a → Q a → R a) → Each P ss → Each Q ss → Each R ss
   each_two [] f h k = tt
@@ -221,7 +214,7 @@ module _ (ss : List SenderView) (d : TakerState) (orderly : IsOrderly d) (whole 
         let old : (k : ℕ) → is_gathered d.gathered k ≡ true → Q k = λ k yes other. ap (λ l. from s (copies_in l)) (old_done k yes) in
         let new : Each (λ (a : SenderView). Q a.state.number) ss = each_two Mine' (λ a. part a.state.number rest ≡ a.state.pushed) (λ a. Q a.state.number) ss
         (λ a mine is other. ap (λ l. from s (copies_in l)) is ∙ ⊎_elim (λ (same : a.state.number ≡ j). absurd (other same)) (λ (none : from s (copies_by a) ≡ []). none) mine) (one s).each new_parts in
-        elim_bool (is_gathered (joined d.made ss d.gathered) i)
+        either (is_gathered (joined d.made ss d.gathered) i)
         (λ yes. by_joined Q d.made ss d.gathered old new i yes other)
         (λ no. ap (λ l. from s (copies_in l)) (not_gathered i no))
 

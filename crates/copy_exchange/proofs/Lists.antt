@@ -1,5 +1,5 @@
 -- Lists, element by element.
-use Rattle.std.proofs.Common.{ℕ, zero, suc, ◌<◌, List, [], ◌∷◌, ◌++◌, length, get_or, arith}
+use Rattle.std.proofs.Common.{◌≡◌, ℕ, zero, suc, ◌<◌, Bool, true, false, List, [], ◌∷◌, ◌++◌, length, get_or, refl, arith}
 use Rattle.std.specs.List.{AllByRecursion as Each}
 
 module _ {A : Type 0} (P : A → Type 0) where
@@ -24,3 +24,18 @@ module _ {A : Type 0} (P Q : A → Type 0) where
   pub each_map : (xs : List A) → ((x : A) → P x → Q x) → Each P xs → Each Q xs
   each_map [] f h = tt
   each_map (x ∷ xs) f h = (f x h.0, each_map xs f h.1)
+
+-- equal lists have equal first elements, and equal rests
+pub heads : (x y : ℕ) (xs ys : List ℕ) → x ∷ xs ≡ y ∷ ys → (x ≡ y) × (xs ≡ ys)
+heads x y xs ys e = (cc, cc)
+
+-- the default doesn't matter inside a list
+pub same_read : {A : Type 0} (xs : List A) (i : ℕ) (d e : A) → i < length xs → get_or xs i d ≡ get_or xs i e
+same_read [] i d e lt = absurd (omega arith)
+same_read (x ∷ xs) zero d e lt = refl
+same_read (x ∷ xs) (suc i) d e lt = same_read xs i d e (omega arith)
+
+-- a proof by the two cases of a bool
+pub either : {P : Type 0} (b : Bool) → (b ≡ true → P) → (b ≡ false → P) → P
+either true f g = f refl
+either false f g = g refl

@@ -52,14 +52,6 @@ on_inboxes_stays inboxes a b h s = record {
 pub stays_same : (c : Endpoint) → Stays c c
 stays_same c = record { worker = refl; inbox = refl; marked = refl; made = refl; gathered = refl; identities = refl }
 
-pub marks_without : (c : Endpoint) (to window : ℕ) → sender_to c to ≡ None → MarksOne to window c c
-marks_without c to window none = record {
-  stays = stays_same c;
-  taker = refl;
-  here = ap pushed_list none ∙ ap (λ o. pushed_with_mark o window) (sym none);
-  others = λ v n. refl;
-}
-
 module _ (c : Endpoint) (to window : ℕ) (inside : to < length c.senders.items) (s t : SenderView) (was : Some s ≡ get_or c.senders.items to (Some s)) (same_inbox : t.inbox ≡ s.inbox)
     (state : t.state ≡ after_pushing s.state (Mark window)) where
   there : sender_to c to ≡ Some s

@@ -1,5 +1,5 @@
 -- One more item is counted.
-use Rattle.std.proofs.Common.{◌≡◌, ◌≢◌, ℕ, ◌+◌, ◌<◌, ◌≤◌, ◌^◌, true, false, eqb, List, [], ◌∷◌, ◌++◌, length, set, get_or, refl, sym, ap, ◌∙◌, subst, ⊎_elim, arith, length-set, append-nil, append_assoc, zero, suc}
+use Rattle.std.proofs.Common.{◌≡◌, ◌≢◌, ℕ, ◌+◌, ◌<◌, ◌≤◌, ◌^◌, true, false, eqb, List, [], ◌∷◌, ◌++◌, length, set, get_or, refl, sym, ap, ◌∙◌, subst, ⊎_elim, arith, length-set, append-nil, append_assoc}
 use Rattle.std.specs.List.{AllByRecursion as Each}
 use Rattle.std.proofs.lemmas.Bool.Decides.{eqb_tells}
 use Rattle.std.proofs.lemmas.List.{get_or-set_same, get_or-set_other}
@@ -14,16 +14,11 @@ use Rattle.copy_inbox.proofs.Parts.{part-append, part-here, part-else}
 use Rattle.copy_exchange.proofs.Lists.{each_join}
 use Rattle.copy_exchange.proofs.Parts.{copies-append}
 use Rattle.copy_exchange.specs.Expected.{Position, IsExpectedAt, IsUnexpected, AddsCopy, TakesExpected, TakesUnexpected}
-use Rattle.copy_exchange.specs.Marks.{marks_of, AreTakersCounts, AreNone}
+use Rattle.copy_exchange.specs.Marks.{marks_of, AreTakersCounts}
 use Rattle.copy_exchange.specs.Pushes.{marks_in}
 use Rattle.copy_exchange.proofs.Whole.{marks_append}
 
 -- ---- marks of the items taken, with one more item
-pub same_read : (xs : List ℕ) (i d e : ℕ) → i < length xs → get_or xs i d ≡ get_or xs i e
-same_read [] i d e lt = absurd (omega arith)
-same_read (x ∷ xs) zero d e lt = refl
-same_read (x ∷ xs) (suc i) d e lt = same_read xs i d e (omega arith)
-
 marks_here : (s : ℕ) (taken : List Item) (x : Item) → x.sender ≡ s → marks_of s (taken ++ x ∷ []) ≡ marks_of s taken + marks_in (x.what ∷ [])
 marks_here s taken x e = ap marks_in (part-append s taken (x ∷ []) ∙ ap (λ l. part s taken ++ l) (part-here s x [] e)) ∙ marks_append (part s taken) (x.what ∷ [])
 
@@ -96,21 +91,6 @@ module _ (p : Position) where
         arrived = a.adds ∙ (ap (λ l. l ++ copies_of (x ∷ [])) h.arrived ∙ sym (copies-append h.items (x ∷ [])));
         expected = subst P (sym a.adds) (each_join (IsExpectedAt p) copies (copies_of (x ∷ [])) h.expected a.expected);
       }
-
--- ---- the counts, one by one
-pub past_more : (marks : List ℕ) (window k m : ℕ) → ((s none : ℕ) → s < k → window < get_or marks s none) → k < length marks → m ≡ get_or marks k m → window < m
-    → (s none : ℕ) → s < k + 1 → window < get_or marks s none
-past_more marks window k m before lt at low s none less = ⊎_elim
-    (λ (q : (eqb s k ≡ true) × (s ≡ k)).
-    let e : m ≡ get_or marks s none = at ∙ (same_read marks k m none lt ∙ ap (λ i. get_or marks i none) (sym q.1)) in omega arith)
-    (λ (q : (eqb s k ≡ false) × (s ≢ k)). let n = q.1 in before s none (omega arith))
-    (eqb_tells s k)
-
-pub none_more : (marks : List ℕ) → AreNone marks → AreNone (marks ++ 0 ∷ [])
-none_more [] h zero none lt = refl
-none_more [] h (suc s) none lt = absurd (omega arith)
-none_more (x ∷ xs) h zero none lt = h 0 none (omega arith)
-none_more (x ∷ xs) h (suc s) none lt = none_more xs (λ t d less. h (suc t) d (omega arith)) s none (omega arith)
 
 -- ---- the last item carries a copy that isn't expected
 pub takes_unexpected : (p : Position) (old mid new : TakerView) (x : Item) (copies : List RadioCopy) → TakesExpected p old mid copies → new ≡ after_taking mid (x ∷ []) → IsUnexpected p x

@@ -1,25 +1,11 @@
 -- The endpoint of a worker for a whole run, window by window.
-use Rattle.std.proofs.Common.{◌≡◌, ◌==◌, ℕ, List, [], ◌∷◌, ◌++◌, map, filter, ap, ◌∙◌, append_assoc}
+use Rattle.std.proofs.Common.{◌≡◌, ℕ, List, map, ap}
 use Rattle.radio_packet.specs.declared.copy.RadioCopy.{RadioCopy}
-use Rattle.worker_cut.specs.Crossed.{is_to}
-use Rattle.copy_inbox.specs.declared.items.Carried.TheVariants.{Packet, Mark}
 use Rattle.copy_inbox.specs.Handles.{InboxId, TakerView}
 use Rattle.copy_exchange.specs.declared.endpoint.Endpoint.{Endpoint}
-use Rattle.copy_exchange.specs.Endpoints.{IsOnInboxes, Stays, Delivers, PushesMarks, pushed_to, identity_of}
-use Rattle.copy_exchange.proofs.Delivered.{stays_on}
+use Rattle.copy_exchange.specs.Endpoints.{IsOnInboxes, Stays, identity_of}
 use Rattle.copy_exchange.proofs.Marked.{on_inboxes_stays}
-use Rattle.copy_exchange.specs.Delivers.{PushesWindow}
 use Rattle.copy_exchange.specs.Expected.{TakesExpected, position}
-
--- the copies were pushed first, and then the mark
-pub pushes_window : (owners : List ℕ) (workers window : ℕ) (a b c : Endpoint) (copies : List RadioCopy) → Delivers owners a b copies → PushesMarks workers window b c → PushesWindow owners workers window a c copies
-pushes_window owners workers window a b c copies out marks = record {
-  stays = stays_on a b c out.stays marks.stays;
-  taker = marks.taker ∙ out.taker;
-  pushes = λ v lt other.
-      marks.pushes v lt (ap (λ w. v == w) out.stays.worker ∙ other)
-      ∙ (ap (λ l. l ++ Mark window ∷ []) (out.pushes v) ∙ append_assoc (pushed_to a v) (map Packet (filter (is_to owners v) copies)) (Mark window ∷ []));
-}
 
 -- the identities of the senders are the same after items are taken
 pub takes_stays : (owners : List ℕ) (from : ℕ) (old new : Endpoint) (copies : List RadioCopy) → TakesExpected (position owners old.worker from) old.taker new.taker copies → new.worker ≡ old.worker → new.senders ≡ old.senders → Stays old new

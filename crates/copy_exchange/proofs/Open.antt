@@ -14,7 +14,7 @@ use Rattle.copy_exchange.specs.declared.endpoint.Endpoint.{Endpoint}
 use Rattle.copy_exchange.specs.Endpoints.{IsEndpoint, IsOnInboxes, IsSenderOn, Stays, AreOpen, Together, sender_to, senders_to}
 use Rattle.copy_exchange.proofs.Gathers.{numbers_of}
 use Rattle.copy_exchange.proofs.AfterWindow.{same_workers, each_staying, open_staying}
-use Rattle.copy_exchange.proofs.Lists.{each_at, each_map}
+use Rattle.copy_exchange.proofs.Lists.{each_at, each_map, heads}
 use Rattle.copy_exchange.proofs.Owns.{workers_of}
 
 -- ---- place by place
@@ -66,9 +66,6 @@ module _ (id : InboxId) (v : ℕ) where
   some_more : (o : Option SenderView) (ss : List SenderView) → IsSenderOn id false o → length (cons_option o ss) ≡ suc (length ss)
   some_more None ss h = absurd h
   some_more (Some s) ss h = refl
-
-  heads : (x y : ℕ) (xs ys : List ℕ) → x ∷ xs ≡ y ∷ ys → (x ≡ y) × (xs ≡ ys)
-  heads x y xs ys e = (cc, cc)
 
   as_other : (c : Endpoint) → v ≢ c.worker → On c → IsSenderOn id false (sender_to c v)
   as_other c n on = let P : Bool → Type 0 = λ own. IsSenderOn id own (sender_to c v) in subst P (ne_eqb v c.worker n) on

@@ -9,6 +9,7 @@ use Rattle.copy_exchange.specs.declared.endpoint.Endpoint.{Endpoint}
 use Rattle.copy_exchange.specs.Endpoints.{DeliversOwn, sender_to, senders_to, delivered, delivered_to, pushed_by}
 use Rattle.copy_exchange.proofs.Parts.{from}
 use Rattle.copy_exchange.proofs.Gathers.{OneOf, copies_by}
+use Rattle.copy_exchange.proofs.Lists.{heads}
 
 -- ---- the items delivered are those that the senders pushed
 by_option : (o : Option SenderView) (ss : List SenderView) → flat_map copies_by (cons_option o ss) ≡ pushed_by o ++ flat_map copies_by ss
@@ -24,9 +25,6 @@ delivered_is (c ∷ cs) v =
 abbrev pub workers_of : List Endpoint → List ℕ
 workers_of cs = map (λ (c : Endpoint). c.worker) cs
 
-numbers : (x y : ℕ) (xs ys : List ℕ) → x ∷ xs ≡ y ∷ ys → (x ≡ y) × (xs ≡ ys)
-numbers x y xs ys e = (cc, cc)
-
 module _ (worker_of : ℕ → ℕ) (s v : ℕ) where
   abbrev None' : Endpoint → Type 0
   None' c = from s (delivered c v) ≡ []
@@ -35,7 +33,7 @@ module _ (worker_of : ℕ → ℕ) (s v : ℕ) where
   pub none_of_them : (first : ℕ) (cs : List Endpoint) → workers_of cs ≡ range_with_len first (length cs) → worker_of s < first → Each (DeliversOwn worker_of) cs → Each None' cs
   none_of_them first [] e lt own = tt
   none_of_them first (c ∷ cs) e lt own =
-      let n = numbers c.worker first (workers_of cs) (range_with_len (first + 1) (length cs)) e in
+      let n = heads c.worker first (workers_of cs) (range_with_len (first + 1) (length cs)) e in
       let is = n.0 in
       let other : worker_of s ≢ c.worker = λ same. absurd (omega arith) in
       (own.0 s v (ne_eqb (worker_of s) c.worker other), none_of_them (first + 1) cs n.1 (omega arith) own.1)
@@ -66,5 +64,5 @@ module _ (worker_of : ℕ → ℕ) (s v : ℕ) where
   pub one_of : (first : ℕ) (cs : List Endpoint) → workers_of cs ≡ range_with_len first (length cs) → Each (DeliversOwn worker_of) cs → OneOf s (senders_to cs v)
   one_of first [] e own = record { number = 0; each = tt }
   one_of first (c ∷ cs) e own =
-      let n = numbers c.worker first (workers_of cs) (range_with_len (first + 1) (length cs)) e in
+      let n = heads c.worker first (workers_of cs) (range_with_len (first + 1) (length cs)) e in
       one_more (worker_of s == c.worker) c first cs refl n.0 n.1 own.0 own.1 (one_of (first + 1) cs n.1 own.1)

@@ -24,9 +24,6 @@ copies-append xs ys = filter_map-append (λ (x : Item). carried_copy x.what) xs 
 pub copies_in-append : (xs ys : List Carried) → copies_in (xs ++ ys) ≡ copies_in xs ++ copies_in ys
 copies_in-append xs ys = filter_map-append carried_copy xs ys
 
-pub from-cons : (s : ℕ) (x : RadioCopy) (xs : List RadioCopy) → from s (x ∷ xs) ≡ cond (is_from_sender s x) (x ∷ from s xs) (from s xs)
-from-cons s x xs = refl
-
 -- neither the first copy nor the rest is from mote s
 from_tail : (s : ℕ) (x : RadioCopy) (xs : List RadioCopy) → from s (x ∷ xs) ≡ [] → (is_from_sender s x ≡ false) × (from s xs ≡ [])
 from_tail s x xs e = cases (is_from_sender s x) refl

@@ -4,12 +4,8 @@ use Rattle.std.proofs.lemmas.Bool.{cases_lt}
 use Rattle.std.proofs.lemmas.Bool.Decides.{eqb_tells}
 use Rattle.std.proofs.lemmas.List.{get_or-set_same, get_or-set_other}
 use Rattle.copy_inbox.specs.Handles.{InboxId, TakerView, SenderView}
+use Rattle.copy_exchange.proofs.Lists.{same_read}
 use Rattle.copy_exchange.specs.Steps.{AreTakersOf, AreSendersOn, GathersRow, TellsOf, Opens, gather_into, at_place, opened_taker, opened_sender}
-
-pub same_read : {A : Type 0} (xs : List A) (i : ℕ) (d e : A) → i < length xs → get_or xs i d ≡ get_or xs i e
-same_read [] i d e lt = absurd (omega arith)
-same_read (x ∷ xs) zero d e lt = refl
-same_read (x ∷ xs) (suc i) d e lt = same_read xs i d e (omega arith)
 
 -- the senders at the first k places are gathered
 pub record GathersTo (k : ℕ) (old new : List TakerView) (senders : List (Option SenderView)) : Type 0 where

@@ -6,6 +6,7 @@ use Rattle.std.proofs.lemmas.List.{map-append}
 use Rattle.std.proofs.lemmas.List.Elements.{filter_map-append}
 use Rattle.std.proofs.lemmas.List.FromFn.{map-range_with_len_more}
 use Rattle.std.proofs.lemmas.Option.{get_or_from_slice_get, slice_get-get_or, slice_get_past}
+use Rattle.fork_join.proofs.Zips.{zip_length}
 use Rattle.copy_inbox.specs.declared.rule.Gathered.{Gathered}
 use Rattle.copy_inbox.specs.Gathered.{is_gathered}
 use Rattle.copy_inbox.specs.Views.{make_taker_state, make_sender_state}
@@ -15,10 +16,10 @@ use Rattle.copy_exchange.specs.Takers.{copies_in, IsOrderly}
 use Rattle.copy_exchange.specs.Endpoints.{IsEndpoint, IsSenderOn, AreOpen, Together, StartsAs, HasMarks, HasPushedNothing, senders_to, pushed_by, pushed_list}
 use Rattle.copy_exchange.specs.Inboxes.{IsSettled, Settled}
 use Rattle.copy_exchange.specs.Steps.{AreTakersOf, Opens, at_place, opened_taker, opened_sender}
-use Rattle.copy_exchange.proofs.Lists.{each_at, each_map, each_more}
+use Rattle.copy_exchange.proofs.Lists.{each_at, each_map, each_more, same_read}
 use Rattle.copy_exchange.proofs.Gathers.{numbers_of, gathered_more}
 use Rattle.copy_exchange.proofs.Owns.{workers_of}
-use Rattle.copy_exchange.proofs.Rows.{opened_takers, same_read}
+use Rattle.copy_exchange.proofs.Rows.{opened_takers}
 use Rattle.copy_exchange.proofs.AfterWindow.{Row, row_senders}
 
 -- ---- a taker that has made more senders
@@ -73,14 +74,8 @@ zip_at R (x ∷ xs) (y ∷ ys) h (suc i) d e lt = zip_at R xs ys h.1 i d e (omeg
 zip_at R [] (y ∷ ys) h i d e lt = absurd h
 zip_at R (x ∷ xs) [] h i d e lt = absurd h
 
-zip_long : {A B : Type 0} (R : A → B → Type 0) (xs : List A) (ys : List B) → AllZip R xs ys → length ys ≡ length xs
-zip_long R [] [] h = refl
-zip_long R (x ∷ xs) (y ∷ ys) h = let r = zip_long R xs ys h.1 in omega arith
-zip_long R [] (y ∷ ys) h = absurd h
-zip_long R (x ∷ xs) [] h = absurd h
-
 pub settled_takers : (inboxes : List InboxId) (takers : List TakerView) → Settled inboxes takers → AreTakersOf inboxes takers
-settled_takers inboxes takers h = record { count = zip_long IsSettled inboxes takers h; its = λ v id t lt. (zip_at IsSettled inboxes takers h v id t lt).its }
+settled_takers inboxes takers h = record { count = zip_length IsSettled inboxes takers h; its = λ v id t lt. (zip_at IsSettled inboxes takers h v id t lt).its }
 
 pub opens_no_rows : (inboxes : List InboxId) (old : List TakerView) → Settled inboxes old → OpensRows inboxes old old []
 opens_no_rows inboxes old h = record {
@@ -199,12 +194,6 @@ built_more u (q ∷ qs) p =
     let e : u + 1 + length qs ≡ u + suc (length qs) = omega arith in
     ap (λ l. endpoint_of u q.0 q.1 ∷ l) (built_more (u + 1) qs p ∙ ap (λ k. built (u + 1) qs ++ endpoint_of k p.0 p.1 ∷ []) e)
 
-pub built_length : (u : ℕ) (ts : List TakerView) (rows : List Row) → length rows ≡ length ts → length (built u (zip ts rows)) ≡ length ts
-built_length u [] [] e = refl
-built_length u (t ∷ ts) (r ∷ rs) e = let h = built_length (u + 1) ts rs (omega arith) in omega arith
-built_length u [] (r ∷ rs) e = absurd (omega arith)
-built_length u (t ∷ ts) [] e = absurd (omega arith)
-
 built_workers : (u : ℕ) (ts : List TakerView) (rows : List Row) → length rows ≡ length ts → workers_of (built u (zip ts rows)) ≡ range_with_len u (length ts)
 built_workers u [] [] e = refl
 built_workers u (t ∷ ts) (r ∷ rs) e = ap (λ l. u ∷ l) (built_workers (u + 1) ts rs (omega arith))
@@ -265,7 +254,7 @@ module _ (inboxes : List InboxId) (olds ts : List TakerView) (rows : List Row) (
   Made = built 0 (zip ts rows)
 
   old_long : length olds ≡ length inboxes
-  old_long = zip_long IsSettled inboxes olds settled
+  old_long = zip_length IsSettled inboxes olds settled
 
   row_long : length rows ≡ length ts
   row_long = long ∙ sym h.takers.count

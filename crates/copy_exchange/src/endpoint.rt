@@ -5,6 +5,7 @@ ghost use Rattle.std.specs.List.{AllByRecursion as Each};
 ghost use Rattle.copy_exchange.specs.Endpoints.{IsEndpoint, IsOnInboxes, HasMarks, Collects, Delivers, Leaves};
 ghost use Rattle.copy_exchange.specs.Endpoints.{PushesMarks, sender_to};
 ghost use Rattle.copy_exchange.specs.Inboxes.{HasNoMarks};
+ghost use Rattle.copy_exchange.specs.Delivers.{PushesWindow};
 ghost use Rattle.copy_exchange.specs.Steps.{MarksOne};
 
 use copy_inbox::{Inbox, InboxError, Sender, Taker};
@@ -88,11 +89,35 @@ impl Endpoint {
         Ok(())
     }
 
+    /// Pushes the copies of a window, each to the worker of its receiver, and then the mark of the window to each
+    /// other worker. `owners` is the worker of each mote. The inboxes must have marks.
+    ///
+    /// # Errors
+    /// [`InboxError::Memory`] if a push fails. The items before it have been pushed.
+    pub fn deliver_window<R: Wait>(
+        &mut self,
+        rt: &R,
+        inboxes: &[Inbox],
+        owners: &[u16],
+        copies: &[RadioCopy],
+        window: u64,
+    ) -> Result<(), InboxError>
+        requires on_inboxes { IsOnInboxes inboxes.now self.old }
+        requires marked { HasMarks self.old }
+        requires leaves { Each (Leaves owners.now (length inboxes.now) self.old.worker) copies.now }
+        ensures pushes { OnOk result
+            (PushesWindow owners.now (length inboxes.now) window self.old self.new copies.now) }
+        ensures on_inboxes { OnOk result (IsOnInboxes inboxes.now self.new) }
+    {
+        self.deliver(rt, inboxes, owners, copies)?;
+        self.push_marks(rt, inboxes, window)
+    }
+
     /// Pushes the mark of a window to each other worker. The inboxes must have marks.
     ///
     /// # Errors
     /// [`InboxError::Memory`] if a push fails. The marks before it have been pushed.
-    pub fn push_marks<R: Wait>(
+    fn push_marks<R: Wait>(
         &mut self,
         rt: &R,
         inboxes: &[Inbox],

@@ -8,14 +8,11 @@ mod endpoint;
 mod heard;
 mod inboxes;
 pub mod laws;
-mod mark_endpoint;
 mod take;
 mod wait;
 mod window;
 
 pub use endpoint::Endpoint;
 pub use inboxes::{known, make_inboxes, pair_inboxes, split_pairs};
-pub use mark_endpoint::MarkEndpoint;
-pub use take::{MarkError, WindowPosition};
-pub use wait::Waiting;
+pub use take::{MarkError, MarkTaker, WindowPosition};
 pub use window::{endpoints, gather_back, gather_window};

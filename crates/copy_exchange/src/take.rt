@@ -1,6 +1,6 @@
 //! Takes items until the marks of a window have arrived.
 
-ghost use Rattle.std.specs.Prelude.{◌≡◌, ◌↔◌, true, IfOk, IfErr, OnOk, OnErr, IsTrue};
+ghost use Rattle.std.specs.Prelude.{◌≡◌, ◌↔◌, true, [], IfOk, IfErr, OnOk, IsTrue};
 ghost use Rattle.copy_inbox.specs.declared.rule.TakerState.{TakerState};
 ghost use Rattle.copy_inbox.specs.Handles.{IsNextTaken, state_with};
 ghost use Rattle.copy_exchange.specs.declared.take.MarkError.TheVariants.{Stopped, Unexpected};
@@ -8,7 +8,7 @@ ghost use Rattle.copy_exchange.specs.Expected.{AddsCopy, IsExpectedAt, Refuses, 
 ghost use Rattle.copy_exchange.specs.Expected.{position_of};
 ghost use Rattle.copy_exchange.specs.Marks.{AreTakersCounts, AllPast};
 
-use crate::heard::all_past;
+use crate::heard::{all_past, no_marks};
 use crate::wait::{Waiting, wait};
 use copy_inbox::{Carried, Inbox, Item, Taker};
 use fork_join::Watch;
@@ -101,78 +101,80 @@ fn hear(
     Ok(())
 }
 
-/// Continues a wait of [`take_marks`] that has begun.
-fn take_waiting<R: Wait, L: Ledger>(
-    rt: &R,
-    alloc: Global,
-    inbox: &Inbox,
-    watch: &mut Watch<'_, L>,
-    window_position: &WindowPosition<'_>,
-    taker: &mut Taker,
-    marks: &mut Vec<u64>,
-    window: u64,
-    waiting: &mut Waiting,
-) -> Result<Vec<RadioCopy>, MarkError>
-    requires of_inbox { taker.old.inbox ≡ inbox.now }
-    requires counts { AreTakersCounts marks.old.items taker.old.state }
-    ensures took { IfOk result
-        (λ copies. TakesExpected (position_of window_position.now) taker.old taker.new copies.items) }
-    ensures counts { OnOk result (AreTakersCounts marks.new.items taker.new.state) }
-    ensures marked { OnOk result (AllPast window marks.new.items) }
-    ensures stopped { IfErr result (λ error. error ≡ Stopped → watch.new.seen ≡ true) }
-    ensures unexpected { IfErr result
-        (λ error. error ≡ Unexpected → TakesUnexpected (position_of window_position.now) taker.old taker.new) }
-{
-    let mut arrived = Vec::new(alloc);
-    for _ in rt.forever() {
-        if all_past(marks, window) {
-            return Ok(arrived);
-        }
-        match inbox.take_next(rt, taker) {
-            Some(item) => hear(window_position, marks, &mut arrived, item)?,
-            None => wait(rt, inbox, watch, marks, window, waiting)?,
-        }
-    }
-    unreachable!()
+/// Takes the copies and the marks of one window after another.
+pub struct MarkTaker {
+    /// The number of marks from each sender, by the sender's number.
+    pub counts: Vec<u64>,
+    /// The state of the wait for marks.
+    waiting: Waiting,
 }
 
-/// Takes items until the mark of the window numbered `window`, counted from 0, has arrived from each sender: that is,
-/// until more than `window` marks have arrived from each sender. It returns the copies among the items.
-///
-/// # Errors
-/// `Memory` if an allocation fails; `Stopped` if the flag was set while a mark was missing; `Unexpected` if a copy
-/// arrived that isn't expected.
-pub fn take_marks<R: Wait, L: Ledger>(
-    rt: &R,
-    alloc: Global,
-    inbox: &Inbox,
-    watch: &mut Watch<'_, L>,
-    window_position: &WindowPosition<'_>,
-    taker: &mut Taker,
-    marks: &mut Vec<u64>,
-    window: u64,
-    waiting: &mut Waiting,
-) -> Result<Vec<RadioCopy>, MarkError>
-    requires of_inbox { taker.old.inbox ≡ inbox.now }
-    requires counts { AreTakersCounts marks.old.items taker.old.state }
-    ensures took { IfOk result
-        (λ copies. TakesExpected (position_of window_position.now) taker.old taker.new copies.items) }
-    ensures counts { OnOk result (AreTakersCounts marks.new.items taker.new.state) }
-    ensures marked { OnOk result (AllPast window marks.new.items) }
-    ensures stopped { IfErr result (λ error. error ≡ Stopped → watch.new.seen ≡ true) }
-    ensures unexpected { IfErr result
-        (λ error. error ≡ Unexpected → TakesUnexpected (position_of window_position.now) taker.old taker.new) }
-{
-    waiting.begin();
-    take_waiting(
-        rt,
-        alloc,
-        inbox,
-        watch,
-        window_position,
-        taker,
-        marks,
-        window,
-        waiting,
-    )
+/// Implemented by hand: for the checker, each function that owns a value then drops it with a single call.
+impl Drop for MarkTaker {
+    fn drop(self) {
+        let MarkTaker {
+            counts: _,
+            waiting: _,
+        } = self;
+    }
+}
+
+impl MarkTaker {
+    /// Makes the counts of a taker that has made this many senders, and has taken nothing yet.
+    ///
+    /// # Errors
+    /// `AllocError` if an allocation fails.
+    pub fn new(alloc: Global, senders: usize, _taker: &Taker) -> Result<MarkTaker, AllocError>
+        requires made { _taker.now.state.made ≡ senders }
+        requires taken { _taker.now.state.taken ≡ [] }
+        ensures counts { IfOk result (λ made. AreTakersCounts made.counts.items _taker.now.state) }
+    {
+        let counts = no_marks(alloc, senders)?;
+        Ok(MarkTaker {
+            counts,
+            waiting: Waiting::new(),
+        })
+    }
+
+    /// Takes items until the mark of the window numbered `window`, counted from 0, has arrived from each sender: that
+    /// is, until more than `window` marks have arrived from each sender. It returns the copies among the items. It also
+    /// takes items of a later window that arrive earlier. `watch` reads the flag that a failing worker sets.
+    ///
+    /// # Errors
+    /// `Memory` if an allocation fails; `Stopped` if the flag was set while a mark was missing; `Unexpected` if a copy
+    /// arrived that isn't from a mote of another worker to a mote of this worker, or that arrives before this worker's
+    /// next window.
+    pub fn take_window<R: Wait, L: Ledger>(
+        &mut self,
+        rt: &R,
+        alloc: Global,
+        inbox: &Inbox,
+        taker: &mut Taker,
+        watch: &mut Watch<'_, L>,
+        window_position: &WindowPosition<'_>,
+        window: u64,
+    ) -> Result<Vec<RadioCopy>, MarkError>
+        requires of_inbox { taker.old.inbox ≡ inbox.now }
+        requires counts { AreTakersCounts self.old.counts.items taker.old.state }
+        ensures took { IfOk result
+            (λ copies. TakesExpected (position_of window_position.now) taker.old taker.new copies.items) }
+        ensures counts { OnOk result (AreTakersCounts self.new.counts.items taker.new.state) }
+        ensures marked { OnOk result (AllPast window self.new.counts.items) }
+        ensures stopped { IfErr result (λ error. error ≡ Stopped → watch.new.seen ≡ true) }
+        ensures unexpected { IfErr result
+            (λ error. error ≡ Unexpected → TakesUnexpected (position_of window_position.now) taker.old taker.new) }
+    {
+        let mut arrived = Vec::new(alloc);
+        self.waiting.begin();
+        for _ in rt.forever() {
+            if all_past(&self.counts, window) {
+                return Ok(arrived);
+            }
+            match inbox.take_next(rt, taker) {
+                Some(item) => hear(window_position, &mut self.counts, &mut arrived, item)?,
+                None => wait(rt, inbox, watch, &self.counts, window, &mut self.waiting)?,
+            }
+        }
+        unreachable!()
+    }
 }

@@ -50,12 +50,6 @@ module _ (width end windows : ℕ) (are : AreWindows width end windows) where
       let m = suc-mul k width in
       omega arith
 
-  pub few_windows : (k : ℕ) → k < windows → k ≤ end
-  few_windows k h =
-      let b = are.begin k h in
-      let m = le-mul_of_pos_right {m = width} k are.wide in
-      omega arith
-
   -- later windows end later
   pub no_sooner : (k m : ℕ) → k + m < windows → bound width end (suc k) ≤ bound width end (suc (k + m))
   no_sooner k zero h = let e : k + zero ≡ k = omega arith in rw e (omega arith)

@@ -6,7 +6,7 @@ use denote.RattleType.{RattleType}
 use Rattle.copy_inbox.proofs.inbox.Inbox.TheSendSync as inbox
 use Rattle.mote_net.proofs.NetCrossing.{net_sync}
 use Rattle.marked_workers.specs.contracts.thread.MarkRunner as MarkRunner
-use Rattle.marked_workers.specs.contracts.worker.WorkersRun as WorkersRun
+use Rattle.marked_workers.specs.contracts.thread.WorkersRun as WorkersRun
 
 run_sync : (κ : NamedLft) → IsSync (WorkersRun.the_row κ)
 run_sync κ = declared_sync (WorkersRun.the_type κ) (search (net_sync, sendable), (search sendable, (search (inbox.the_sync, sendable), (search sendable, tt))))

@@ -116,15 +116,6 @@ module _ (n : NetModel) (owners : List ℕ) (width windows : ℕ) (group : Worke
     begun = λ u low. (parts.1 u low).begun;
   }
 
-  is_of_takers : IsOfTakers all group.takers.items
-  is_of_takers v low t is =
-      let p = parts.1 v low in
-      subst (GatheredSenders (all.made v) (all.taken v) (all.senders v)) (same_found (slice_get group.takers.items v) p.taker t p.taker_at is) p.gathers
-
-  -- the actions of all workers
-  pub all_ran : (a : AllRan n owners width windows (length group.inboxes.items)) × IsOfTakers a group.takers.items
-  all_ran = (all, is_of_takers)
-
   module _ (fine : RunsForward (system_of n)) (short : width ≤ (system_of n).lookahead) (are : AreWindows width n.end windows) where
     abbrev motes : Motes
     motes = stage n fine owners width windows workers all h.cut are short windows

@@ -12,4 +12,3 @@ pub mod Seen
 pub mod Settles
 pub mod Stages
 pub mod Windows
-pub mod Refusals

@@ -13,12 +13,12 @@ use Rattle.copy_inbox.specs.declared.rule.Gathered.{Gathered}
 use Rattle.copy_inbox.specs.Items.{copies_of, Packets, part, HasPrefix, OfMade}
 use Rattle.copy_inbox.specs.Gathered.{is_gathered, untaken_of, Whole}
 use Rattle.copy_inbox.specs.Handles.{TakerView, SenderView, after_gather, AllGathered, PacketsLeft}
-use Rattle.copy_inbox.proofs.Parts.{part-not_nil}
 use Rattle.copy_exchange.specs.Endpoints.{AreOpen, pushed_list}
 use Rattle.copy_exchange.specs.Takers.{copies_gathered, copies_in, IsOrderly}
 use Rattle.copy_exchange.proofs.Gathers.{OneOf, copies_by, as_gathered, joined, with_joined, all_gathered}
 use Rattle.copy_exchange.proofs.Gathers.{orderly_then}
 use Rattle.copy_exchange.proofs.Parts.{from}
+use Rattle.copy_exchange.proofs.Windows.{none_left}
 use Rattle.copy_exchange.specs.Pushes.{pushes, marks_in}
 use Rattle.copy_exchange.proofs.Early.{copies_pushes}
 use Rattle.copy_exchange.proofs.Whole.{all_is_taken}
@@ -104,10 +104,6 @@ module _ (n : NetModel) (owners : List ℕ) (width windows workers : ℕ) (all :
       of_case (Some v) e = of_worker v e (cases_eq v u)
 
 -- ---- the taker of one inbox
-none_left : (rest : List Item) → ((s : ℕ) → part s rest ≡ []) → rest ≡ []
-none_left [] h = refl
-none_left (x ∷ xs) h = absurd (part-not_nil x xs (h x.sender))
-
 -- a taker that has taken and gathered nothing, with any number of senders
 abbrev before_all : TakerState → TakerState
 before_all d = record d { taken = []; gathered = [] }

@@ -17,21 +17,16 @@ use Rattle.copy_inbox.specs.Handles.{InboxId, TakerView, after_taking}
 use Rattle.copy_inbox.proofs.Parts.{part-append, part-else}
 use Rattle.copy_exchange.specs.Endpoints.{IsOnInboxes, Stays, pushed_list, pushed_to}
 use Rattle.copy_exchange.proofs.Delivered.{stays_on}
-use Rattle.copy_exchange.proofs.Marked.{marks_stay, stays_same}
-use Rattle.copy_exchange.specs.declared.endpoint.Endpoint.{Endpoint}
-use Rattle.copy_exchange.specs.declared.mark_endpoint.MarkEndpoint.{MarkEndpoint}
-use Rattle.copy_exchange.specs.Marks.{AreTakersCounts}
+use Rattle.copy_exchange.proofs.Marked.{stays_same}
 use Rattle.copy_exchange.specs.Pushes.{marks_in}
 use Rattle.copy_exchange.proofs.MarksDelivered.{takes_stays, takes_on_inboxes}
 use Rattle.worker_window.specs.Share.{IsWholeShare}
 use Rattle.worker_window.specs.Window.{CanRun, IsOutgoing, RunsWindow}
 use Rattle.all_workers.specs.WorkerGroup.{IsCut}
 use Rattle.all_workers.specs.declared.worker.Worker.{Worker}
-use Rattle.marked_workers.specs.declared.worker.MarkWorker.{MarkWorker}
 use Rattle.marked_workers.specs.Bounds.{bound, windows_of, AreWindows}
 use Rattle.marked_workers.specs.WorkerHistory.{WorkerRunsMarked}
-use Rattle.marked_workers.specs.Thread.{IsFirst, IsStarted, IsSame, SendsWindow, TakesWindow, HasRun}
-use Rattle.marked_workers.specs.Thread.{WorkerRunsAllWindows}
+use Rattle.marked_workers.specs.Thread.{IsFirst, SendsWindow, TakesWindow, WorkerRunsAllWindows}
 use Rattle.marked_workers.proofs.Bounds.{are_windows, begins_before, no_wider}
 use Rattle.marked_workers.proofs.Promise.{promise_first, promise_next}
 
@@ -45,75 +40,35 @@ none_of_others made (x ∷ xs) h s le =
 of_made_more : (made : ℕ) (xs ys : List Item) → OfMade made xs → Each (λ (x : Item). x.sender < made) ys → OfMade made (xs ++ ys)
 of_made_more made xs ys h more s le = part-append s xs ys ∙ (ap (λ l. l ++ part s ys) (h s le) ∙ none_of_others made ys more s le)
 
--- a worker before its first window, with its counts of marks
-pub started : (n : NetModel) (owners : List ℕ) (inboxes : List InboxId) (w : Worker) (m : MarkEndpoint) → IsFirst n owners inboxes w → m.base ≡ w.endpoint
-    → AreTakersCounts m.marks.items w.endpoint.taker.state → IsStarted n owners inboxes (record { share = w.share; endpoint = m })
-started n owners inboxes w m first same counts =
-    subst (λ (x : Endpoint). IsStarted n owners inboxes (record { share = w.share; endpoint = record m { base = x } })) (sym same) (record {
-      cut = first.cut;
-      keeps = first.keeps;
-      on_inboxes = first.on_inboxes;
-      marked = first.marked;
-      counts = counts;
-      none_taken = first.none_taken;
-      none_gathered = first.none_gathered;
-      none_pushed = first.none_pushed;
-    })
-
--- a worker after all its windows, without the counts
-pub reported_of : (n : NetModel) (owners : List ℕ) (width windows : ℕ) (inboxes : List InboxId) (w d : Worker) (m e : MarkWorker) → IsSame w m → IsSame d e
-    → HasRun n owners width windows inboxes m e → WorkerRunsAllWindows n owners width windows inboxes w d
-reported_of n owners width windows inboxes w d m e before after ran = record {
-  stays = subst (λ x. Stays x d.endpoint) before.endpoint (subst (Stays m.endpoint.base) after.endpoint ran.stays);
-  promise = subst (λ (x : Endpoint). WorkerRunsMarked n owners width windows (length inboxes) x.worker d.share d.endpoint.taker.state (pushed_to d.endpoint)) before.endpoint
-      (subst (λ (x : Endpoint). WorkerRunsMarked n owners width windows (length inboxes) m.endpoint.base.worker d.share x.taker.state (pushed_to x)) after.endpoint
-      (subst (λ s. WorkerRunsMarked n owners width windows (length inboxes) m.endpoint.base.worker s e.endpoint.base.taker.state (pushed_to e.endpoint.base)) after.share ran.promise));
-  on_inboxes = subst (IsOnInboxes inboxes) after.endpoint ran.on_inboxes;
-}
-
 -- the promise before the first window
-pub no_window : (n : NetModel) (owners : List ℕ) (width : ℕ) (inboxes : List InboxId) (w : MarkWorker) → IsStarted n owners inboxes w → HasRun n owners width 0 inboxes w w
+pub no_window : (n : NetModel) (owners : List ℕ) (width : ℕ) (inboxes : List InboxId) (w : Worker)
+    → IsFirst n owners inboxes w → WorkerRunsAllWindows n owners width 0 inboxes w w
 no_window n owners width inboxes w m = record {
-  stays = stays_same w.endpoint.base;
-  promise = subst (λ (p : ℕ → List Carried). WorkerRunsMarked n owners width 0 (length inboxes) w.endpoint.base.worker w.share w.endpoint.base.taker.state p)
+  stays = stays_same w.endpoint;
+  promise = subst (λ (p : ℕ → List Carried). WorkerRunsMarked n owners width 0 (length inboxes) w.endpoint.worker w.share
+      w.endpoint.taker.state p)
       (λ i v. sym (m.none_pushed v) i)
-      (promise_first n owners width (length inboxes) w.endpoint.base.worker w.share w.endpoint.base.taker.state m.none_taken m.none_gathered m.keeps);
+      (promise_first n owners width (length inboxes) w.endpoint.worker w.share w.endpoint.taker.state m.none_taken
+      m.none_gathered m.keeps);
   on_inboxes = m.on_inboxes;
-  marked = m.marked;
-  counts = m.counts;
 }
 
 -- a worker after some windows
-module _ (n : NetModel) (owners : List ℕ) (width k until : ℕ) (inboxes : List InboxId) (wide : 0 < width) (low : k < windows_of width n.end) (at : until ≡ bound width n.end (suc k)) (first old : MarkWorker)
-    (in_state : HasRun n owners width k inboxes first old) where
+module _ (n : NetModel) (owners : List ℕ) (width k until : ℕ) (inboxes : List InboxId) (wide : 0 < width) (low : k < windows_of width n.end) (at : until ≡ bound width n.end (suc k)) (first old : Worker)
+    (in_state : WorkerRunsAllWindows n owners width k inboxes first old) where
   are : AreWindows width n.end (windows_of width n.end)
   are = are_windows width n.end wide
 
   up : bound width n.end k ≤ until
   up = let b = begins_before width n.end (windows_of width n.end) are k low in let e = at in omega arith
 
-  -- the worker can run through the next window
-  pub can_run : CanRun n owners until old.share []
-  can_run = record {
-    worker = first.endpoint.base.worker;
-    from = bound width n.end k;
-    motes = in_state.promise.history.motes k;
-    taken = copies_of old.endpoint.base.taker.state.taken;
-    keeps = in_state.promise.keeps;
-    order = up;
-    expected = tt;
-  }
-
-  pub same : old.share.worker ≡ old.endpoint.base.worker
-  same = in_state.promise.keeps.is_worker ∙ sym in_state.stays.worker
-
   -- after that, the worker has run one more window
-  module _ (short : width ≤ (system_of n).lookahead) (between new : MarkWorker) (sends : SendsWindow n owners (length inboxes) k until old between) (on_inboxes : IsOnInboxes inboxes between.endpoint.base) (takes : TakesWindow owners k until between new) where
+  module _ (short : width ≤ (system_of n).lookahead) (between new : Worker) (marks : List ℕ) (sends : SendsWindow n owners (length inboxes) k until old between) (on_inboxes : IsOnInboxes inboxes between.endpoint) (takes : TakesWindow owners k until between new marks) where
     abbrev worker : ℕ
-    worker = first.endpoint.base.worker
+    worker = first.endpoint.worker
 
     abbrev state : TakerState
-    state = old.endpoint.base.taker.state
+    state = old.endpoint.taker.state
 
     abbrev more : List Item
     more = takes.took.items
@@ -128,10 +83,10 @@ module _ (n : NetModel) (owners : List ℕ) (width k until : ℕ) (inboxes : Lis
     goes : Each (IsOutgoing n owners worker) sends.outgoing
     goes = subst (λ w. Each (IsOutgoing n owners w) sends.outgoing) in_state.promise.keeps.is_worker sends.out
 
-    taker_is : new.endpoint.base.taker ≡ after_taking old.endpoint.base.taker more
+    taker_is : new.endpoint.taker ≡ after_taking old.endpoint.taker more
     taker_is = takes.took.taker ∙ ap (λ t. after_taking t more) sends.pushes.taker
 
-    between_made : between.endpoint.base.taker.state.made ≡ state.made
+    between_made : between.endpoint.taker.state.made ≡ state.made
     between_made = ap (λ (t : TakerView). t.state.made) sends.pushes.taker
 
     of_made : OfMade state.made (state.taken ++ more)
@@ -139,14 +94,14 @@ module _ (n : NetModel) (owners : List ℕ) (width k until : ℕ) (inboxes : Lis
 
     lead : (s : ℕ) → s < state.made → suc k ≤ marks_in (part s (state.taken ++ more))
     lead s there =
-        let made : new.endpoint.base.taker.state.made ≡ state.made = ap (λ (t : TakerView). t.state.made) taker_is in
-        let taken : new.endpoint.base.taker.state.taken ≡ state.taken ++ more = ap (λ (t : TakerView). t.state.taken) taker_is in
+        let made : new.endpoint.taker.state.made ≡ state.made = ap (λ (t : TakerView). t.state.made) taker_is in
+        let taken : new.endpoint.taker.state.taken ≡ state.taken ++ more = ap (λ (t : TakerView). t.state.taken) taker_is in
         let all = takes.counts.all in
         let counted = takes.counts.each s 0 (omega arith) ∙ ap (λ l. marks_in (part s l)) taken in
         let past = takes.past s 0 (omega arith) in
         omega arith
 
-    pushes_more : (v : ℕ) → v < length inboxes → v ≢ worker → pushed_to new.endpoint.base v ≡ pushed_to old.endpoint.base v ++ (map Packet (filter (is_to owners v) sends.outgoing) ++ Mark k ∷ [])
+    pushes_more : (v : ℕ) → v < length inboxes → v ≢ worker → pushed_to new.endpoint v ≡ pushed_to old.endpoint v ++ (map Packet (filter (is_to owners v) sends.outgoing) ++ Mark k ∷ [])
     pushes_more v there other =
         ap (λ s. pushed_list (get_or s.items v None)) takes.senders
         ∙ sends.pushes.pushes v there (ap (λ w. v == w) in_state.stays.worker ∙ ne_eqb v worker other)
@@ -158,17 +113,15 @@ module _ (n : NetModel) (owners : List ℕ) (width k until : ℕ) (inboxes : Lis
     keeps = subst (λ l. IsWholeShare n owners worker until ran.next (copies_of state.taken ++ l) new.share) takes.took.arrived
         (takes.keeps n owners worker until ran.next (copies_of state.taken) ran.keeps arrived_come)
 
-    stays : Stays old.endpoint.base new.endpoint.base
-    stays = stays_on old.endpoint.base between.endpoint.base new.endpoint.base sends.pushes.stays
-        (takes_stays owners until between.endpoint.base new.endpoint.base takes.arrived takes.took takes.worker takes.senders)
+    stays : Stays old.endpoint new.endpoint
+    stays = stays_on old.endpoint between.endpoint new.endpoint sends.pushes.stays
+        (takes_stays owners until between.endpoint new.endpoint takes.arrived takes.took takes.worker takes.senders)
 
-    pub one_more : HasRun n owners width (suc k) inboxes first new
+    pub one_more : WorkerRunsAllWindows n owners width (suc k) inboxes first new
     one_more = record {
-      stays = stays_on first.endpoint.base old.endpoint.base new.endpoint.base in_state.stays stays;
-      promise = subst (λ (t : TakerView). WorkerRunsMarked n owners width (suc k) (length inboxes) worker new.share t.state (pushed_to new.endpoint.base)) (sym taker_is) promise;
-      on_inboxes = takes_on_inboxes inboxes owners until between.endpoint.base new.endpoint.base takes.arrived takes.took takes.worker takes.senders on_inboxes;
-      marked = marks_stay old.endpoint.base new.endpoint.base stays in_state.marked;
-      counts = takes.counts;
+      stays = stays_on first.endpoint old.endpoint new.endpoint in_state.stays stays;
+      promise = subst (λ (t : TakerView). WorkerRunsMarked n owners width (suc k) (length inboxes) worker new.share t.state (pushed_to new.endpoint)) (sym taker_is) promise;
+      on_inboxes = takes_on_inboxes inboxes owners until between.endpoint new.endpoint takes.arrived takes.took takes.worker takes.senders on_inboxes;
     }
       where
         Ran : ℕ → Type 0
@@ -178,5 +131,5 @@ module _ (n : NetModel) (owners : List ℕ) (width k until : ℕ) (inboxes : Lis
         ran_to : Ran (bound width n.end (suc k))
         ran_to = subst Ran at (ran, keeps)
 
-        promise : WorkerRunsMarked n owners width (suc k) (length inboxes) worker new.share (after_taking old.endpoint.base.taker more).state (pushed_to new.endpoint.base)
-        promise = promise_next n owners width (length inboxes) worker k old.share between.share new.share state (pushed_to old.endpoint.base) (pushed_to new.endpoint.base) more sends.outgoing in_state.promise ran_to.0 goes lead of_made pushes_more ran_to.1
+        promise : WorkerRunsMarked n owners width (suc k) (length inboxes) worker new.share (after_taking old.endpoint.taker more).state (pushed_to new.endpoint)
+        promise = promise_next n owners width (length inboxes) worker k old.share between.share new.share state (pushed_to old.endpoint) (pushed_to new.endpoint) more sends.outgoing in_state.promise ran_to.0 goes lead of_made pushes_more ran_to.1

@@ -4,8 +4,6 @@
 pub mod laws;
 mod run;
 mod thread;
-mod worker;
 
 pub use run::run_by_marks;
-pub use thread::MarkRunner;
-pub use worker::{MarkWorker, WorkersRun};
+pub use thread::{MarkRunner, WorkersRun};

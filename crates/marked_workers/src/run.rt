@@ -11,8 +11,7 @@ ghost use Rattle.all_workers.specs.WindowLength.{HasSoundMedium, length_of_windo
 ghost use Rattle.all_workers.specs.Start.{AreReady};
 ghost use Rattle.marked_workers.specs.Run.{GroupRunsMarked};
 
-use crate::thread::MarkRunner;
-use crate::worker::WorkersRun;
+use crate::thread::{MarkRunner, WorkersRun};
 use all_workers::{WorkerGroup, lookahead_of, run_threads, split_workers, window_length};
 use copy_exchange::gather_back;
 use fork_join::WorkerError;

@@ -3,8 +3,8 @@
 ghost use Rattle.std.specs.Prelude.{◌≡◌, true, IfSome, IsTrue};
 ghost use Rattle.copy_exchange.specs.Marks.{AreTakersCounts};
 
-use super::windows::Scene;
-use copy_exchange::{MarkEndpoint, WindowPosition};
+use super::windows::{Receiver, Scene};
+use copy_exchange::WindowPosition;
 use copy_inbox::{Inbox, Sender};
 use fork_join::{Watch, Work, WorkerError, fork_join};
 use std::alloc::Global;
@@ -27,22 +27,23 @@ fn write_window<R: Wait, L: Ledger>(
     alloc: Global,
     text: &mut String,
     inbox: &Inbox,
-    worker_2: &mut MarkEndpoint,
+    worker_2: &mut Receiver,
     watch: &mut Watch<'_, L>,
     from: u64,
     window: u64,
 ) -> bool
-    requires of_inbox { worker_2.old.base.taker.inbox ≡ inbox.now }
-    requires counts { AreTakersCounts worker_2.old.marks.items worker_2.old.base.taker.state }
-    ensures of_inbox { IsTrue result → worker_2.new.base.taker.inbox ≡ inbox.now }
-    ensures counts { IsTrue result → AreTakersCounts worker_2.new.marks.items worker_2.new.base.taker.state }
+    requires of_inbox { worker_2.old.taker.inbox ≡ inbox.now }
+    requires counts { AreTakersCounts worker_2.old.marks.counts.items worker_2.old.taker.state }
+    ensures of_inbox { IsTrue result → worker_2.new.taker.inbox ≡ inbox.now }
+    ensures counts { IsTrue result → AreTakersCounts worker_2.new.marks.counts.items worker_2.new.taker.state }
 {
     let window_position = WindowPosition {
         worker: 2,
         owners: &OF,
         from,
     };
-    match worker_2.take_window(rt, alloc, inbox, watch, &window_position, window) {
+    let Receiver { taker, marks } = worker_2;
+    match marks.take_window(rt, alloc, inbox, taker, watch, &window_position, window) {
         Ok(copies) => {
             let _ = write_copies(text, copies.as_slice());
             let _ = text.push_str("marks|");
@@ -55,10 +56,10 @@ fn write_window<R: Wait, L: Ledger>(
     }
 }
 
-/// The data of a worker: the endpoint of worker 2, or the sender of worker 1.
+/// The data of a worker: what worker 2 receives with, or the sender of worker 1.
 #[derive(Drop)]
 struct Member {
-    worker_2: Option<MarkEndpoint>,
+    worker_2: Option<Receiver>,
     second: Option<Sender>,
 }
 
@@ -90,9 +91,9 @@ impl<R> Drop for Team<'_, R> {
 impl<R: Wait + Clock> Team<'_, R> {
     /// Receives the windows of the scene as worker 2, until a window doesn't arrive. If worker 1 fails at once, worker
     /// 2 begins only after the flag is set.
-    fn take<L: Ledger>(&self, mut worker_2: MarkEndpoint, watch: &mut Watch<'_, L>)
-        requires of_inbox { worker_2.base.taker.inbox ≡ self.now.inbox.now }
-        requires counts { AreTakersCounts worker_2.marks.items worker_2.base.taker.state }
+    fn take<L: Ledger>(&self, mut worker_2: Receiver, watch: &mut Watch<'_, L>)
+        requires of_inbox { worker_2.taker.inbox ≡ self.now.inbox.now }
+        requires counts { AreTakersCounts worker_2.marks.counts.items worker_2.taker.state }
     {
         let mut text = String::new(self.alloc);
         if matches!(self.scene, Scene::Windows | Scene::Stopped) {
@@ -149,8 +150,8 @@ impl<R: Wait + Clock> Team<'_, R> {
 }
 
 impl<R: Wait + Clock> Work<Member> for Team<'_, R> {
-    ghost ready = { λ team member. IfSome member.worker_2 (λ worker_2. (worker_2.base.taker.inbox ≡ team.inbox.now)
-        × AreTakersCounts worker_2.marks.items worker_2.base.taker.state)
+    ghost ready = { λ team member. IfSome member.worker_2 (λ worker_2. (worker_2.taker.inbox ≡ team.inbox.now)
+        × AreTakersCounts worker_2.marks.counts.items worker_2.taker.state)
         × IfSome member.second (λ second. (second.inbox ≡ team.inbox.now) × (second.state.marked ≡ true)) };
 
     ghost makes = { λ _ _ _. Unit {0} };
@@ -196,11 +197,11 @@ pub(crate) fn write_team<R: Threads + Wait + Clock + Sync>(
     text: &mut String,
     scene: Scene,
     inbox: &Inbox,
-    worker_2: MarkEndpoint,
+    worker_2: Receiver,
     second: Sender,
 )
-    requires taker { worker_2.base.taker.inbox ≡ inbox.now }
-    requires counts { AreTakersCounts worker_2.marks.items worker_2.base.taker.state }
+    requires taker { worker_2.taker.inbox ≡ inbox.now }
+    requires counts { AreTakersCounts worker_2.marks.counts.items worker_2.taker.state }
     requires sender { (second.inbox ≡ inbox.now) × (second.state.marked ≡ true) }
 {
     let taken = Mutex::new(String::new(alloc));

@@ -7,7 +7,7 @@ ghost use Rattle.copy_exchange.specs.Marks.{AreTakersCounts};
 
 use super::team::write_team;
 use super::{push, push_mark, with_two};
-use copy_exchange::{Endpoint, MarkEndpoint};
+use copy_exchange::MarkTaker;
 use copy_inbox::{Inbox, InboxError, Sender, Taker};
 use radio_packet::RadioCopy;
 use std::alloc::{AllocGlobal, Global};
@@ -56,18 +56,21 @@ fn copy(at: u64, number: u64) -> RadioCopy {
     }
 }
 
-/// The endpoint of worker 2.
-fn make_worker_2(alloc: Global, taker: Taker) -> Result<MarkEndpoint, InboxError>
+/// The taker of worker 2, and the marks that it took.
+#[derive(Drop)]
+pub(crate) struct Receiver {
+    pub(crate) taker: Taker,
+    pub(crate) marks: MarkTaker,
+}
+
+/// The taker of worker 2, on whose inbox two senders were made.
+fn make_worker_2(alloc: Global, taker: Taker) -> Result<Receiver, InboxError>
     requires taker { taker.state ≡ make_taker_state true 2 [] [] }
-    ensures taker { IfOk result (λ worker_2. worker_2.base.taker ≡ taker) }
-    ensures counts { IfOk result (λ worker_2. AreTakersCounts worker_2.marks.items worker_2.base.taker.state) }
+    ensures taker { IfOk result (λ worker_2. worker_2.taker ≡ taker) }
+    ensures counts { IfOk result (λ worker_2. AreTakersCounts worker_2.marks.counts.items worker_2.taker.state) }
 {
-    let endpoint = Endpoint {
-        worker: 2,
-        taker,
-        senders: Vec::new(alloc),
-    };
-    MarkEndpoint::new(alloc, endpoint, 2)
+    let marks = MarkTaker::new(alloc, 2, &taker)?;
+    Ok(Receiver { taker, marks })
 }
 
 /// Pushes a copy, and the mark of the window in which it was sent.

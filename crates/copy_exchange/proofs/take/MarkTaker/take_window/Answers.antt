@@ -7,7 +7,7 @@ use Rattle.copy_exchange.specs.declared.take.MarkError.TheVariants.{Stopped, Une
 use Rattle.copy_exchange.specs.Expected.{position_of, Refuses, TakesExpected}
 use Rattle.copy_exchange.specs.Marks.{AreTakersCounts}
 use Rattle.copy_exchange.proofs.MarksCounted.{takes_none, takes_more, takes_unexpected}
-use Rattle.copy_exchange.proofs.take.take_waiting.Goals as goal
+use Rattle.copy_exchange.proofs.take.MarkTaker.take_window.Goals as goal
 
 -- a property of this error is a property of the error that was passed on
 of_error : {T : Type 0} (r : Result T MarkError) (e this : MarkError) (Q : Type 0) → IsErrAnd r (λ x. x ≡ e)
@@ -42,7 +42,7 @@ loop-preserved g c =
     record {
       took = subst (λ (t : TakerView). TakesExpected p c.args.taker.now t c.loop.arrived.items)
           same c.loop.invariant.took;
-      counts = subst (λ (t : TakerView). AreTakersCounts c.loop.marks.items t.state) same c.loop.invariant.counts;
+      counts = subst (λ (t : TakerView). AreTakersCounts c.loop.self.counts.items t.state) same c.loop.invariant.counts;
     }
 
 pub returns-in_err-hear-in-Some-take_next-clause-unexpected :

@@ -4,20 +4,20 @@ use Rattle.radio_packet.specs.declared.copy.RadioCopy.{RadioCopy}
 use Rattle.mote_net.specs.Meaning.{net_of}
 use Rattle.worker_window.specs.Window.{IsOutgoing, RunsWindow}
 use Rattle.all_workers.proofs.Sent.{leaves_sent}
-use Rattle.marked_workers.proofs.thread.send_window.Goals as goal
+use Rattle.marked_workers.proofs.thread.MarkRunner.send_window.Goals as goal
 
 pub deliver_window-requires-clause-leaves : goal.deliver_window-requires-clause-leaves
 deliver_window-requires-clause-leaves g c =
-    let n = net_of c.args.run.now.net.now in
-    let owners = c.args.run.now.owners.now in
+    let n = net_of c.args.self.now.run.net.now in
+    let owners = c.args.self.now.run.owners.now in
     rw c.deref.ensures.value
-    (leaves_sent n owners (length c.args.run.now.inboxes.now) c.args.worker.now.endpoint.base.worker c.in_ok-outgoing.outgoing.items c.requires.cut
+    (leaves_sent n owners (length c.args.self.now.run.inboxes.now) c.args.worker.now.endpoint.worker c.in_ok-outgoing.outgoing.items c.requires.cut
     (subst (λ w. Each (IsOutgoing n owners w) c.in_ok-outgoing.outgoing.items) c.requires.same c.in_ok-outgoing.ensures.out))
 
 pub returns-clause-sends : goal.returns-clause-sends
 returns-clause-sends g c =
-    let n = net_of c.args.run.now.net.now in
-    let owners = c.args.run.now.owners.now in
+    let n = net_of c.args.self.now.run.net.now in
+    let owners = c.args.self.now.run.owners.now in
     let none = c.new-none.ensures.items in
     let window = rw none at c.in_ok-outgoing.ensures.window in
     record {
@@ -26,5 +26,4 @@ returns-clause-sends g c =
           subst (λ (l : List RadioCopy). RunsWindow n owners worker from c.args.until motes l c.run_window.new.self c.in_ok-outgoing.outgoing.items) (append-nil taken) (window worker from motes taken keeps up short tt);
       out = c.in_ok-outgoing.ensures.out;
       pushes = rw c.deref.ensures.value at c.in-Ok.ensures.pushes;
-      marks = c.in-Ok.ensures.counts;
     }
