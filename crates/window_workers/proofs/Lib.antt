@@ -3,7 +3,6 @@ pub mod Fitting
 pub mod Joined
 pub mod Logs
 pub mod Marked
-pub mod MergedLogs
 pub mod Pairs
 pub mod Sums
 pub mod Waiting

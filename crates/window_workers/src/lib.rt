@@ -4,7 +4,6 @@
 mod ended;
 mod fits;
 mod medium_log;
-mod merge;
 mod refusal;
 mod sync;
 mod traces;
