@@ -1,6 +1,6 @@
 """Sessions with the tools, as tables in sessions/: the files that there are, the commands, and what they say and make.
 
-    program = "stub"                    # that of stub.py; without this line, the built program; "none": neither
+    program = "stub"                    # that of stub.py; "file": the file `motesim`; "none": none; else the built one
     texts.net = '...'                   # {{net}} in a later text, a file, or a command is this text
     files."a.toml" = '...'              # all sessions of the table begin with these files
 
@@ -96,6 +96,9 @@ def play(table: Table, session: dict[str, Any], room: Path) -> None:
         need_built()
     table.write(room, table.files)
     table.write(room, session.get('files', {}))
+    if program == 'file':
+        (room / 'motesim').chmod(0o755)
+        environment |= {'MOTESIM': str(room / 'motesim'), 'MOTECHECK': ''}
     for step in steps(session):
         for name in listed(step.get('remove', [])):
             shutil.rmtree(room / name) if (room / name).is_dir() else (room / name).unlink()

@@ -18,7 +18,7 @@ from motesim.scenario import Scenario
 from page_judge import PageJudge
 from page_sentences import Sentences, running_net_of
 from skips import need_program
-from test_relations import SCENARIO
+from test_expect import RELAY as SCENARIO
 
 # Sentences as comments, each with its claims, as the tool writes them for `SCENARIO` without the link from 2 to 3.
 NOTES = ('# no claim', '# without a distance')
