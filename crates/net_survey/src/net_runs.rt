@@ -4,7 +4,7 @@ ghost use Rattle.std.specs.Prelude.{◌≡◌, length, None};
 ghost use Rattle.mote_net.specs.Meaning.{net_of};
 ghost use Rattle.radio_medium.specs.Medium.{medium_fault};
 
-use faulty_run::run_with_faults;
+use serial_run::run_with_faults;
 use mote_net::{Net, Report};
 use radio_faults::Fault;
 use report_survey::FaultyRun;
@@ -18,8 +18,8 @@ pub(crate) struct NetRuns<'a> {
 
 impl<'a> FaultyRun for NetRuns<'a> {
     ghost use Rattle.mote_net.specs.Meaning.{net_of};
-    ghost use Rattle.faulty_run.specs.NetFaults.{net_with};
-    ghost use Rattle.faulty_run.proofs.OneReport.{report_with};
+    ghost use Rattle.serial_run.specs.NetFaults.{net_with};
+    ghost use Rattle.serial_run.proofs.OneReport.{report_with};
 
     ghost report = { λ runs faults. report_with (net_with faults (net_of runs.net.now)) };
 

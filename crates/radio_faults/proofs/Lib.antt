@@ -1,3 +1,4 @@
 pub mod AnyOf
 pub mod Broken
+pub mod NoFaults
 pub mod Valid

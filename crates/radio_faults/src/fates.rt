@@ -15,14 +15,15 @@ use std::alloc::AllocError;
 ///
 /// # Errors
 /// If an allocation failed.
-#[tactic(auto, using(crate::proofs::Broken::fates_are))]
 pub fn fates_with(medium: &Medium, faults: &[Fault], sent: &Sent) -> Result<Vec<Fate>, AllocError>
     requires sender { sent.now.sender < length medium.now.places }
     requires moment { sent.now.at ≤ 2 ^ 40 }
     ensures value { IfOk result (λ all. all.items ≡ fates (radio_with faults.now medium.now) sent.now) }
 {
     let mut all = medium.fates(sent)?;
-    lose_broken(&mut all, faults, sent.sender);
+    if !faults.is_empty() {
+        lose_broken(&mut all, faults, sent.sender);
+    }
     Ok(all)
 }
 

@@ -9,9 +9,11 @@ use Rattle.std.proofs.lemmas.List.{map-append}
 use Rattle.trace_lines.specs.declared.line.Line.{Line}
 use Rattle.mote_net.specs.Net.{NetModel}
 use Rattle.mote_net.specs.declared.report.Report.{Report}
-use Rattle.mote_net.specs.Report.{trace_lines_in, report_of}
+use Rattle.mote_net.specs.Report.{ReportModel, trace_lines_in, report_of}
+use Rattle.radio_faults.proofs.NoFaults.{no_faults}
 use Rattle.serial_run.specs.declared.engine.Engine.{Engine}
 use Rattle.window_laws.specs.Agenda.{packets, up_to}
+use Rattle.serial_run.specs.NetFaults.{net_with}
 use Rattle.serial_run.specs.NetRun.{report_at, IsReportOf}
 use Rattle.serial_run.specs.IsInState.{IsWhole}
 use Rattle.serial_run.specs.Ended.{HasEnded}
@@ -52,3 +54,7 @@ pub all_in_order : (n : NetModel) (engine : Engine) → IsWhole n engine → Has
 all_in_order n engine whole at k d h =
     let there : k < length n.motes = (let e = whole.traces in omega arith) in
     subst IsInOrder (sym (at.in_state.traces k there d)) (traces_hand_on n (report_at n at.last) (record { last = at.last; run = at.run; matches = refl }) k there)
+
+-- a net without faults is the same net
+pub without_faults : (n : NetModel) (r : ReportModel) → IsReportOf (net_with [] n) r → IsReportOf n r
+without_faults n r = subst (λ radio. IsReportOf (record { end = n.end; collide = n.collide; radio = radio; motes = n.motes }) r) (no_faults n.radio)

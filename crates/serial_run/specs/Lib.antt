@@ -1,6 +1,7 @@
 pub mod Counted
 pub mod Ended
 pub mod Laws
+pub mod NetFaults
 pub mod NetRun
 pub mod OnTime
 pub mod RunErrors

@@ -1,16 +1,16 @@
-//! A net during its run: its motes, their traces, the medium's log, and the pending events.
+//! A net during its run with faults: its motes, their traces, the medium's log, and the pending events.
 
-ghost use Rattle.std.specs.Prelude.{◌≡◌, ◌<◌, ◌≤◌, ◌^◌, length, Some, OnOk, IfOk};
+ghost use Rattle.std.specs.Prelude.{◌≡◌, ◌<◌, ◌≤◌, ◌^◌, length, OnOk, IfOk};
 ghost use Rattle.program_tree.specs.Program.{tree_of};
 ghost use Rattle.mote_node.specs.Public.{turn_out_of};
-ghost use Rattle.trace_lines.specs.declared.line.Line.{Line};
 ghost use Rattle.kernel_laws.specs.Stamps.{PacketsBear};
 ghost use Rattle.mote_net.specs.Meaning.{net_of};
 ghost use Rattle.net_agenda.specs.Buckets.{wake_but_at};
 ghost use Rattle.net_agenda.specs.NetSystem.{system_of, tree_at};
 ghost use Rattle.window_laws.specs.NetStep.{boot};
-ghost use Rattle.serial_run.specs.IsInState.{IsEngineAt, IsWhole, TurnLeads, CanTurnAt, HasNumberAt, IsWakeAt};
-ghost use Rattle.serial_run.specs.IsInState.{OneTakesTurn};
+ghost use Rattle.serial_run.specs.IsInState.{CanTurnAt, HasNumberAt, IsEngineAt, IsWakeAt, IsWhole, OneTakesTurn};
+ghost use Rattle.serial_run.specs.IsInState.{TurnLeads};
+ghost use Rattle.serial_run.specs.NetFaults.{net_with};
 
 use crate::sends::send_all;
 use mote_net::{LogLine, Net};
@@ -18,6 +18,7 @@ use mote_node::{Mote, MoteError};
 use net_agenda::{Agenda, add_lines, new_mote};
 use process_kernel::{Line, Out};
 use program_tree::Program;
+use radio_faults::Fault;
 use radio_packet::Arrival;
 use std::alloc::{AllocError, Global};
 
@@ -114,13 +115,20 @@ impl Engine {
     ///
     /// # Errors
     /// `AllocError` if an allocation fails. In that case some parts of the engine may have changed.
-    pub fn turn(&mut self, net: &Net, moment: u64, number: u16) -> Result<(), AllocError>
+    pub fn turn(
+        &mut self,
+        net: &Net,
+        faults: &[Fault],
+        moment: u64,
+        number: u16,
+    ) -> Result<(), AllocError>
         requires mote_exists { number < length (net_of net.now).motes }
         requires moment_bounded { moment ≤ 2 ^ 40 }
         requires is_whole { IsWhole (net_of net.now) self.old }
         requires ready { CanTurnAt (tree_at (net_of net.now) number) moment self.old.motes.items number }
         requires numbered { HasNumberAt (tree_at (net_of net.now) number) self.old.motes.items number }
-        ensures in_state { OnOk result (TurnLeads (net_of net.now) moment number self.old self.new) }
+        ensures in_state { OnOk result (TurnLeads (net_with faults.now (net_of net.now)) moment number
+            self.old self.new) }
         ensures is_whole { OnOk result (IsWhole (net_of net.now) self.new) }
     {
         self.agenda
@@ -137,6 +145,7 @@ impl Engine {
         self.agenda.move_wake(wake, next, number)?;
         send_all(
             net.medium(),
+            faults,
             &self.out.sends,
             &mut self.agenda,
             &mut self.log,

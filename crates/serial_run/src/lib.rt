@@ -1,5 +1,6 @@
-//! The run of a net on one thread, which takes all turns in the order of moment, then mote number; and the laws of
-//! such a run.
+//! The run of a net on one thread, which takes all turns in the order of moment, then mote number; the same run with
+//! faults of the medium; and the laws of such runs. Nothing in the net is changed for a fault: the medium tells the fates
+//! of a packet, and then the copies on broken links are lost.
 #![tactic(auto)]
 
 mod engine;
@@ -10,4 +11,4 @@ mod serial;
 
 pub use error::RunError;
 pub use mote_net::{LogLine, Report};
-pub use serial::run_serial;
+pub use serial::{run_serial, run_with_faults};

@@ -1,10 +1,11 @@
-//! The run of a net on one thread: all turns, in the order of moment, then mote number.
+//! The run of a net on one thread, with and without faults: all turns, in the order of moment, then mote number.
 
 ghost use Rattle.std.specs.Prelude.{◌≡◌, ◌<◌, length, vec_len, All, IfOk, OnOk, IfErr};
 ghost use Rattle.kernel_laws.specs.Going.{IsInOrder};
 ghost use Rattle.mote_net.specs.Meaning.{net_of};
 ghost use Rattle.net_agenda.specs.NetSystem.{system_of};
 ghost use Rattle.mote_net.specs.Report.{report_of};
+ghost use Rattle.serial_run.specs.NetFaults.{net_with};
 ghost use Rattle.serial_run.specs.NetRun.{IsReportOf};
 ghost use Rattle.window_laws.specs.NetStep.{boot};
 ghost use Rattle.serial_run.specs.IsInState.{IsEngineAt, IsWhole};
@@ -13,14 +14,15 @@ ghost use Rattle.serial_run.specs.Ended.{HasEnded};
 use crate::engine::Engine;
 use crate::error::RunError;
 use mote_net::{Net, Report};
+use radio_faults::Fault;
 use std::alloc::{AllocError, Global};
 
 /// Takes turns until no event is pending at or before the end.
-fn run_to_end(engine: &mut Engine, net: &Net) -> Result<(), AllocError>
+fn run_to_end(engine: &mut Engine, net: &Net, faults: &[Fault]) -> Result<(), AllocError>
     requires is_whole { IsWhole (net_of net.now) engine.old }
     requires boot { let model = net_of net.now in IsEngineAt model engine.old (boot (system_of model)) }
     ensures is_whole { OnOk result (IsWhole (net_of net.now) engine.new) }
-    ensures ended { OnOk result (HasEnded (net_of net.now) engine.new) }
+    ensures ended { OnOk result (HasEnded (net_with faults.now (net_of net.now)) engine.new) }
 {
     let end = net.end();
     // Called only for its clause `no_fault`, which the proof needs.
@@ -29,27 +31,25 @@ fn run_to_end(engine: &mut Engine, net: &Net) -> Result<(), AllocError>
         if moment > end {
             break;
         }
-        engine.turn(net, moment, number)?;
+        engine.turn(net, faults, moment, number)?;
     }
     Ok(())
 }
 
-/// Runs a net on one thread, and returns its report. The thread takes all turns in the order of moment, then mote
-/// number. In each turn the mote gets its packets in the order of sender and number.
+/// Runs a net with faults on one thread, and returns the report: that of the same net in the medium with these faults.
 ///
 /// # Errors
-/// Only `Memory`.
-pub fn run_serial(alloc: Global, net: &Net) -> Result<Report, RunError>
-    ensures report { IfOk result (λ r. IsReportOf (net_of net.now) (report_of r)) }
+/// `AllocError` if an allocation fails.
+pub fn run_with_faults(alloc: Global, net: &Net, faults: &[Fault]) -> Result<Report, AllocError>
+    ensures report { IfOk result (λ r. IsReportOf (net_with faults.now (net_of net.now)) (report_of r)) }
     // There is a trace for each mote.
     ensures traces { IfOk result (λ r. vec_len r.traces ≡ length (net_of net.now).motes) }
     // Each trace delivers events in the order in which they were accepted, nothing follows a halt in it, and a process
     // starts only if it isn't listed.
     ensures handed_on { IfOk result (λ r. All (λ trace. IsInOrder trace.items) r.traces.items) }
-    ensures err { IfErr result (λ e. e ≡ RunError.Memory) }
 {
     let mut engine = Engine::boot(alloc, net)?;
-    run_to_end(&mut engine, net)?;
+    run_to_end(&mut engine, net, faults)?;
     let Engine {
         motes: _,
         traces,
@@ -64,4 +64,20 @@ pub fn run_serial(alloc: Global, net: &Net) -> Result<Report, RunError>
         medium: log,
         left,
     })
+}
+
+/// Runs a net on one thread, and returns its report. The thread takes all turns in the order of moment, then mote
+/// number. In each turn the mote gets its packets in the order of sender and number.
+///
+/// # Errors
+/// Only `Memory`.
+#[tactic(auto, using(crate::proofs::Reports::without_faults))]
+pub fn run_serial(alloc: Global, net: &Net) -> Result<Report, RunError>
+    ensures report { IfOk result (λ r. IsReportOf (net_of net.now) (report_of r)) }
+    // The clauses `traces` and `handed_on` of `run_with_faults`.
+    ensures traces { IfOk result (λ r. vec_len r.traces ≡ length (net_of net.now).motes) }
+    ensures handed_on { IfOk result (λ r. All (λ trace. IsInOrder trace.items) r.traces.items) }
+    ensures err { IfErr result (λ e. e ≡ RunError.Memory) }
+{
+    Ok(run_with_faults(alloc, net, &[])?)
 }

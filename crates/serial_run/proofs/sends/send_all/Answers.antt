@@ -3,6 +3,7 @@ use Rattle.std.specs.List.{filter_map, flat_map}
 use Rattle.std.proofs.lemmas.List.{map-append, take_all, take_more}
 use Rattle.std.proofs.lemmas.List.Concat.{flat_map-append}
 use Rattle.radio_medium.specs.Medium.{copies, copy_of}
+use Rattle.radio_faults.specs.Faults.{radio_with}
 use Rattle.radio_packet.specs.declared.copy.RadioCopy.{RadioCopy}
 use Rattle.radio_packet.specs.declared.fate.Fate.{Fate}
 use Rattle.radio_packet.specs.declared.sent.Sent.{Sent}
@@ -29,7 +30,7 @@ pub loop-sent-preserved : goal.loop-sent-preserved
 unfolding copies
 loop-sent-preserved c =
     let inv = c.loop-sent.invariant in
-    let radio = c.args.medium.now in
+    let radio = radio_with c.args.faults.now c.args.medium.now in
     let sends = c.args.sends.now in
     let i = c.loop-sent.sent-index in
     let sent = get_or sends i none in
@@ -51,5 +52,5 @@ loop-sent-preserved c =
 
 pub returns-clause-agenda : goal.returns-clause-agenda
 returns-clause-agenda c = λ items holds.
-    subst (λ l. HoldsItems c.loop-sent.agenda.buckets (items ++ map Packet (flat_map (copies c.args.medium.now) l))) (take_all c.loop-sent.sent-index c.args.sends.now c.loop-sent-test.false)
+    subst (λ l. HoldsItems c.loop-sent.agenda.buckets (items ++ map Packet (flat_map (copies (radio_with c.args.faults.now c.args.medium.now)) l))) (take_all c.loop-sent.sent-index c.args.sends.now c.loop-sent-test.false)
     (c.loop-sent.invariant.agenda items holds)

@@ -10,6 +10,7 @@ use Rattle.mote_node.specs.Node.{Node}
 use Rattle.mote_node.specs.Public.{node_in, turn_out_of, wake_in}
 use Rattle.mote_net.specs.Meaning.{net_of}
 use Rattle.radio_medium.specs.Medium.{Radio, copies}
+use Rattle.radio_faults.specs.Faults.{radio_with}
 use Rattle.radio_packet.specs.declared.sent.Sent.{Sent}
 use Rattle.window_laws.specs.Agenda.{Item, Packet, comes_at, is_wake_of, wake_items}
 use Rattle.net_agenda.specs.Buckets.{HoldsItems}
@@ -18,6 +19,7 @@ use Rattle.serial_run.specs.NetRun.{packet_with_fates}
 use Rattle.net_agenda.proofs.Systems.{tree_is}
 use Rattle.serial_run.specs.OnTime.{CanTurn}
 use Rattle.serial_run.proofs.Steps.{in_state_turn, wake_to_drop, sent_of}
+use Rattle.serial_run.specs.NetFaults.{net_with}
 use Rattle.serial_run.proofs.engine.Engine.turn.Goals as goal
 
 pub turn_mote-requires-clause-ready : goal.turn_mote-requires-clause-ready
@@ -47,7 +49,7 @@ send_all-requires c =
 
 pub returns-clause-in_state : goal.returns-clause-in_state
 returns-clause-in_state c = λ state at kept.
-    let n = net_of c.args.net.now in
+    let n = net_with c.args.faults.now (net_of c.args.net.now) in
     let t = c.args.moment in
     let m = c.args.number in
     let takes = c.in_ok-next.ensures.one_takes_turn in
@@ -60,5 +62,5 @@ returns-clause-in_state c = λ state at kept.
     in_state_turn n t m state c.args.self.now _ (tree_of c.program.result.now) c.deref-2.result.now (turn_out_of c.turn_mote.new.out next) c.requires.mote_exists c.requires.is_whole.motes c.requires.is_whole.traces at
     (tree_is n.motes m (tree_of c.program.result.now) c.program.ensures.tree) (c.deref-2.ensures.value ∙ c.in_ok-take_due_into.ensures.copies state.agenda at.agenda)
     takes c.in_ok-next.ensures.stamped c.in_ok-add_lines.ensures.adds_lines
-    (sent_of (λ (r : Radio) (s : List Sent). HoldsItems c.send_all.new.agenda.buckets (base ++ map Packet (flat_map (copies r) s))) c.medium.ensures.value c.deref-3.ensures.value sent)
-    (sent_of (λ (r : Radio) (s : List Sent). map line_model c.send_all.new.log.items ≡ map line_model c.args.self.now.log.items ++ map (packet_with_fates r) s) c.medium.ensures.value c.deref-3.ensures.value c.in_ok-send_all.ensures.log)
+    (sent_of (λ (r : Radio) (s : List Sent). HoldsItems c.send_all.new.agenda.buckets (base ++ map Packet (flat_map (copies (radio_with c.args.faults.now r)) s))) c.medium.ensures.value c.deref-3.ensures.value sent)
+    (sent_of (λ (r : Radio) (s : List Sent). map line_model c.send_all.new.log.items ≡ map line_model c.args.self.now.log.items ++ map (packet_with_fates (radio_with c.args.faults.now r)) s) c.medium.ensures.value c.deref-3.ensures.value c.in_ok-send_all.ensures.log)

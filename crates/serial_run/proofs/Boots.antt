@@ -6,7 +6,7 @@ use Rattle.window_laws.specs.NetStep.{boot}
 use Rattle.serial_run.specs.declared.engine.Engine.{Engine}
 use Rattle.serial_run.specs.IsInState.{IsEngineAt}
 use Rattle.radio_faults.specs.declared.fault.Fault.{Fault}
-use Rattle.faulty_run.specs.NetFaults.{net_with}
+use Rattle.serial_run.specs.NetFaults.{net_with}
 
 pub boots : (faults : List Fault) (n : NetModel) (engine : Engine) → IsEngineAt n engine (boot (system_of n))
     → IsEngineAt (net_with faults n) engine (boot (system_of (net_with faults n)))

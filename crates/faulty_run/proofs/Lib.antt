@@ -1,2 +1,0 @@
-mod Boots
-pub mod OneReport
