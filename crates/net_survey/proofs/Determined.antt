@@ -8,7 +8,7 @@ use Rattle.mote_net.specs.Report.{ReportModel, report_of}
 use Rattle.mote_net.specs.declared.report.Report.{Report}
 use Rattle.serial_run.specs.NetRun.{IsReportOf}
 use Rattle.serial_run.proofs.Unique.{report_is_one}
-use Rattle.fault_sets.specs.FaultSet.{IsSet}
+use Rattle.survey.specs.FaultSet.{IsSet}
 use Rattle.survey.specs.Breaks.{breaks_of, IsCovered, IsComplete, IsSound, IsMinimal, IsListedOnce, IsCount}
 use Rattle.survey.specs.declared.broken.Survey.{Survey}
 use Rattle.survey.specs.declared.search.Limits.{Limits}

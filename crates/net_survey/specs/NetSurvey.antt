@@ -4,7 +4,7 @@ use Rattle.std.specs.Option.{IfSome}
 use Rattle.mote_net.specs.Net.{NetModel}
 use Rattle.mote_net.specs.Report.{ReportModel}
 use Rattle.serial_run.specs.NetRun.{IsReportOf}
-use Rattle.fault_sets.specs.FaultSet.{IsSet}
+use Rattle.survey.specs.FaultSet.{IsSet}
 use Rattle.survey.specs.Breaks.{breaks_of, IsCovered, IsComplete, IsSound, IsMinimal, IsListedOnce, IsCount}
 use Rattle.survey.specs.declared.broken.Survey.{Survey}
 use Rattle.survey.specs.declared.search.Limits.{Limits}

@@ -1,6 +1,6 @@
 -- The numbers of a set of candidates are numbers of candidates.
 use Rattle.std.proofs.Common.{ℕ, zero, suc, ◌+◌, ◌<◌, List, [], ◌∷◌, length, get_or, arith}
-use Rattle.fault_sets.specs.FaultSet.{IsSetFrom}
+use Rattle.survey.specs.FaultSet.{IsSetFrom}
 
 pub below_count : (low n : ℕ) (set : List ℕ) → IsSetFrom low n set → (i d : ℕ) → i < length set → get_or set i d < n
 below_count low n [] is i d there = absurd (omega arith)

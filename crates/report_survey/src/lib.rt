@@ -13,4 +13,4 @@ pub use judge::Judge;
 pub use radio_faults::Fault;
 pub use search::survey_reports;
 pub use survey::{Broken, Limits, Survey};
-pub use survey_workers::{NoProgress, Progress};
+pub use survey::{NoProgress, Progress};

@@ -1,7 +1,7 @@
 //! The verdicts on the report of a run with a set of faults.
 
 ghost use Rattle.std.specs.Prelude.{◌≡◌, ◌<◌, ◌^◌, length, slice_index_or, IfOk};
-ghost use Rattle.fault_sets.specs.FaultSet.{IsSet};
+ghost use Rattle.survey.specs.FaultSet.{IsSet};
 ghost use Rattle.mote_net.specs.Report.{report_of};
 ghost use Rattle.radio_faults.specs.declared.fault.Fault.TheVariants.{Silent};
 ghost use Rattle.report_survey.specs.Chosen.{faults_at};

@@ -2,7 +2,7 @@
 
 ghost use Rattle.std.specs.Prelude.{◌≡◌, ◌<◌, ◌≤◌, ◌^◌, length, IfOk};
 ghost use Rattle.std.specs.Option.{IfSome};
-ghost use Rattle.fault_sets.specs.FaultSet.{IsSet};
+ghost use Rattle.survey.specs.FaultSet.{IsSet};
 ghost use Rattle.survey.specs.Breaks.{breaks_of, IsCovered, IsComplete, IsSound, IsMinimal, IsListedOnce, IsCount};
 ghost use Rattle.report_survey.specs.Chosen.{holds_with};
 
@@ -13,7 +13,7 @@ use radio_faults::Fault;
 use std::alloc::{AllocError, Global};
 use std::thread::Threads;
 use survey::{Limits, Survey};
-use survey_workers::{Progress, survey_in_threads};
+use survey::{Progress, survey_in_threads};
 
 /// Finds the minimal sets of these faults with which a claim about the report doesn't hold, within the limits. So
 /// many workers, each with a thread of its own, share the runs. The function joins the threads, so it may wait.

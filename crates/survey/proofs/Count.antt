@@ -3,10 +3,10 @@ use Rattle.std.proofs.Common.{◌≡◌, ℕ, ◌+◌, ◌<◌, ◌≤◌, ◌�
 use Rattle.std.specs.Bool.{MatchBool}
 use Rattle.std.specs.List.{Contains}
 use Rattle.std.proofs.lemmas.List.Elements.{Contains-append_left, Contains-append_right, Contains-append_cases}
-use Rattle.fault_sets.specs.FaultSet.{IsSet, ComesBefore, IsTriedBefore}
-use Rattle.fault_sets.proofs.Rank.{before_trans}
-use Rattle.fault_sets.proofs.Rising.{below_or_at}
-use Rattle.fault_sets.proofs.Within.{within_length}
+use Rattle.survey.specs.FaultSet.{IsSet, ComesBefore, IsTriedBefore}
+use Rattle.survey.proofs.Rank.{before_trans}
+use Rattle.survey.proofs.Rising.{below_or_at}
+use Rattle.survey.proofs.Within.{within_length}
 use Rattle.survey.specs.Breaks.{IsComplete, IsWorthRun, IsOnce, HasWorthRun, IsCount}
 use Rattle.survey.specs.Search.{IsKept, IsSeen, AreSeen, IsFresh, IsUnpruned, ListsOnly, IsCounted, items_of}
 use Rattle.survey.proofs.Gather.{never_before_itself, once_append}

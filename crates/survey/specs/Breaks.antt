@@ -3,7 +3,7 @@ use Rattle.std.specs.Prelude.{◌≡◌, ◌≢◌, ℕ, ◌<◌, ◌≤◌, ◌
 use Rattle.std.specs.Prelude.{Option, Vec, MatchOption}
 use Rattle.std.specs.Global.{Global}
 use Rattle.std.specs.List.{Contains}
-use Rattle.fault_sets.specs.FaultSet.{IsSet, IsWithin, IsTriedBefore}
+use Rattle.survey.specs.FaultSet.{IsSet, IsWithin, IsTriedBefore}
 use Rattle.survey.specs.declared.broken.Broken.{Broken}
 
 -- the breaks of a list: each a set and a claim

@@ -5,7 +5,7 @@ use Rattle.std.specs.Global.{Global}
 use Rattle.std.specs.Bool.{MatchBool}
 use Rattle.std.specs.List.{All, Contains}
 use Rattle.std.specs.declared.alloc.AllocError.{AllocError}
-use Rattle.fault_sets.specs.FaultSet.{IsSet, ComesBefore}
+use Rattle.survey.specs.FaultSet.{IsSet, ComesBefore}
 use Rattle.survey.specs.Answers.{AreAnswersOf}
 use Rattle.survey.specs.Breaks.{HasBreak, IsSettled, IsSound, IsMinimal, IsListedOnce, HasWorthRun}
 

@@ -2,13 +2,13 @@
 
 ghost use Rattle.std.specs.Prelude.{◌≡◌, ℕ, ◌<◌, ◌≤◌, ◌⊎◌, length, true, List, IfOk};
 ghost use Rattle.std.specs.List.{All, Contains};
-ghost use Rattle.fault_sets.specs.FaultSet.{IsSet, ComesBefore};
+ghost use Rattle.survey.specs.FaultSet.{IsSet, ComesBefore};
 ghost use Rattle.survey.specs.Breaks.{breaks_of, IsOnce};
 ghost use Rattle.survey.specs.Search.{IsSeen, AreSeen, IsFresh, TakesSet, items_of};
 
 use crate::broken::Broken;
 use crate::record::is_pruned;
-use fault_sets::advance;
+use crate::sets::advance;
 use std::alloc::{AllocError, Global};
 
 /// Some sets of one size that are to be tried.

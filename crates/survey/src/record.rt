@@ -3,14 +3,14 @@
 ghost use Rattle.std.specs.Prelude.{◌≡◌, ℕ, ◌<◌, ◌≤◌, [], ◌∷◌, ◌↔◌, length, List, IsTrue, OnOk};
 ghost use Rattle.std.specs.Bool.{MatchBool};
 ghost use Rattle.std.specs.List.{All, Contains};
-ghost use Rattle.fault_sets.specs.FaultSet.{IsSet, IsWithin};
+ghost use Rattle.survey.specs.FaultSet.{IsSet, IsWithin};
 ghost use Rattle.survey.specs.Answers.{AreAnswers, AreAnswersOf};
 ghost use Rattle.survey.specs.Breaks.{breaks_of, HasBreak, IsSettled};
 ghost use Rattle.survey.specs.Search.{IsKept, AreSmallerSettled, Grows, IsPruned, IsUnpruned, ListsOnly, AddsBreak, items_of};
 
 use crate::broken::Broken;
+use crate::sets::is_within;
 use crate::trial::Trial;
-use fault_sets::is_within;
 use std::alloc::{AllocError, Global};
 
 /// Whether a set within this one is listed for the claim.

@@ -3,15 +3,15 @@
 ghost use Rattle.std.specs.Prelude.{◌≡◌, ℕ, ◌+◌, ◌<◌, ◌≤◌, length, true, List, IfOk, OnOk};
 ghost use Rattle.std.specs.Bool.{MatchBool};
 ghost use Rattle.std.specs.Option.{IfSome};
-ghost use Rattle.fault_sets.specs.FaultSet.{IsSet, ComesBefore, IsTriedBefore};
+ghost use Rattle.survey.specs.FaultSet.{IsSet, ComesBefore, IsTriedBefore};
 ghost use Rattle.survey.specs.Breaks.{breaks_of, IsCovered, IsComplete, IsSound, IsMinimal, IsListedOnce, IsCount};
 ghost use Rattle.survey.specs.Search.{IsKept, MayTry, GivesAnswers, IsCounted};
 
 use crate::batch::gather;
 use crate::broken::{Broken, Survey};
 use crate::record::record_all;
+use crate::sets::first_set;
 use crate::trial::{Trial, try_in_turn};
-use fault_sets::first_set;
 use std::alloc::{AllocError, Global};
 
 /// How much a survey may do.

@@ -2,7 +2,7 @@
 
 ghost use Rattle.std.specs.Prelude.{◌≡◌, ℕ, Bool, List, IfOk};
 ghost use Rattle.std.specs.List.{All};
-ghost use Rattle.fault_sets.specs.FaultSet.{IsSet};
+ghost use Rattle.survey.specs.FaultSet.{IsSet};
 ghost use Rattle.survey.specs.Answers.{AreAnswers, AreAnswersOf};
 
 use std::alloc::{AllocError, Global};

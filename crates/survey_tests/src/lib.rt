@@ -1,5 +1,5 @@
-//! Tests of surveys: `fault_sets`, `survey`, `survey_workers` and `radio_faults`. They are in a crate above these crates,
-//! because a crate with tests is proved twice.
+//! Tests of `survey` and `radio_faults`. They are in a crate above these crates, because a crate with tests is proved
+//! twice.
 #![tactic(auto)]
 
 mod case;

@@ -1,9 +1,9 @@
 //! The order in which sets are tried.
 
 ghost use Rattle.std.specs.Prelude.{◌≡◌};
-ghost use Rattle.fault_sets.specs.FaultSet.{IsSet};
+ghost use Rattle.survey.specs.FaultSet.{IsSet};
 
-use fault_sets::{advance, first_set, is_within};
+use survey::{advance, first_set, is_within};
 use std::test::Fail;
 use test_helpers::same_text;
 

@@ -2,8 +2,7 @@
 
 use crate::Case;
 use std::test::Fail;
-use survey::{Limits, Survey, survey};
-use survey_workers::{NoProgress, survey_in_threads};
+use survey::{Limits, NoProgress, Survey, survey, survey_in_threads};
 use test_helpers::same_text;
 
 /// The limits of a survey of at most two faults.

@@ -1,7 +1,7 @@
 use Rattle.std.proofs.Common.{rules, ◌≤◌, ◌+◌, Some, None, Bool, ◌≡◌, ◌<◌, ◌-◌, ◌^◌, sym, List, ℕ, length, arith, ◌∙◌, ap, subst, inl, inr}
 use Rattle.std.proofs.lemmas.List.{with_items_is}
-use Rattle.fault_sets.proofs.Rank.{value, left_falls}
-use Rattle.fault_sets.specs.FaultSet.{IsSet, ComesBefore, IsTriedBefore}
+use Rattle.survey.proofs.Rank.{value, left_falls}
+use Rattle.survey.specs.FaultSet.{IsSet, ComesBefore, IsTriedBefore}
 use Rattle.survey.specs.Breaks.{breaks_of, IsCovered, IsComplete}
 use Rattle.survey.specs.Search.{IsCounted}
 use Rattle.std.specs.Bool.{MatchBool}

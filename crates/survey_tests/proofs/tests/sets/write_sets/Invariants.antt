@@ -1,4 +1,4 @@
-use Rattle.fault_sets.specs.FaultSet.{IsSet}
+use Rattle.survey.specs.FaultSet.{IsSet}
 use Rattle.survey_tests.proofs.tests.sets.write_sets.Given as goal
 
 abbrev pub invariant-loop-step : goal.invariant-loop-step
