@@ -7,7 +7,7 @@ use Rattle.clap.specs.declared.error.kind.ErrorKind.{ErrorKind}
 use Rattle.trace_printer.specs.Output.{AppendsFront}
 use Rattle.window_workers.specs.declared.sync.SyncKind.TheVariants as sync
 use Rattle.simulation.specs.Command.{status_of_words}
-use Rattle.net_faults.specs.declared.candidates.Kinds.{Kinds}
+use Rattle.net_survey.specs.declared.candidates.Kinds.{Kinds}
 use Rattle.simulation.specs.Simulation.{way_by}
 use Rattle.claim_check.specs.Check.{Checks}
 use Rattle.claim_check.specs.Survey.{Surveys}

@@ -4,13 +4,13 @@ use Rattle.mote_net.specs.Net.{NetModel}
 use Rattle.claims.specs.declared.claim.Claim.{Claim}
 use Rattle.claim_text.specs.ClaimText.{text_of}
 use Rattle.claim_text.specs.ClaimLines.{claim_lines}
-use Rattle.claim_judge.specs.Judged.{claim_holds}
-use Rattle.net_faults.specs.Candidates.{candidates_of}
+use Rattle.net_survey.specs.Judged.{claim_holds}
+use Rattle.net_survey.specs.Candidates.{candidates_of}
 use Rattle.radio_faults.specs.declared.fault.Fault.{Fault}
 use Rattle.survey.specs.declared.broken.Survey.{Survey}
 use Rattle.survey.specs.declared.search.Limits.{Limits}
 use Rattle.net_survey.specs.NetSurvey.{IsSurveyOf}
-use Rattle.survey_text.specs.SurveyText.{survey_text}
+use Rattle.net_survey.specs.SurveyText.{survey_text}
 use Rattle.simulation.specs.Simulation.{IsScenario, MayRun, RefusesRun, RefusesText, Way}
 use Rattle.simulation.specs.declared.error.SimError.TheVariants as fault
 use Rattle.claim_check.specs.Names.{AreNames}

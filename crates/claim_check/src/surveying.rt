@@ -15,12 +15,13 @@ use claim_text::read_claims;
 use claims::Claim;
 use mote_net::Net;
 use net_scenario::read_scenario;
-use net_survey::{Claims, Fault, Kinds, Limits, Progress, Survey, candidates_of, survey_net};
+use net_survey::{
+    Claims, Fault, Kinds, Limits, Progress, Survey, candidates_of, survey_net, write_survey,
+};
 use program_tree::Names;
 use simulation::RunError;
 use std::alloc::{AllocError, Global};
 use std::thread::Threads;
-use survey_text::write_survey;
 use window_workers::MOST_WORKERS;
 
 /// The most claims of a survey, and the most faults that its net may have.

@@ -14,7 +14,7 @@ use Rattle.survey.specs.declared.broken.Survey.{Survey}
 use Rattle.survey.specs.declared.search.Limits.{Limits}
 use Rattle.radio_faults.specs.declared.fault.Fault.{Fault}
 use Rattle.radio_faults.proofs.Valid.{faults_keep_the_medium}
-use Rattle.report_survey.specs.Chosen.{holds_with}
+use Rattle.net_survey.specs.Chosen.{holds_with}
 use Rattle.serial_run.specs.NetFaults.{net_with}
 use Rattle.serial_run.proofs.OneReport.{report_with, report_with_is}
 use Rattle.net_survey.specs.NetSurvey.{IsSurveyOf}

@@ -1,1 +1,5 @@
+pub mod Candidates
+pub mod Chosen
+pub mod Judged
 pub mod NetSurvey
+pub mod SurveyText

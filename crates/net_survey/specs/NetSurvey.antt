@@ -9,7 +9,7 @@ use Rattle.survey.specs.Breaks.{breaks_of, IsCovered, IsComplete, IsSound, IsMin
 use Rattle.survey.specs.declared.broken.Survey.{Survey}
 use Rattle.survey.specs.declared.search.Limits.{Limits}
 use Rattle.radio_faults.specs.declared.fault.Fault.{Fault}
-use Rattle.report_survey.specs.Chosen.{holds_with}
+use Rattle.net_survey.specs.Chosen.{holds_with}
 use Rattle.serial_run.specs.NetFaults.{net_with}
 
 -- this is a survey of a net, with so many claims, of which each holds in a report or doesn't; and with these candidates

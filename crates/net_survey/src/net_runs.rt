@@ -4,10 +4,10 @@ ghost use Rattle.std.specs.Prelude.{◌≡◌, length, None};
 ghost use Rattle.mote_net.specs.Meaning.{net_of};
 ghost use Rattle.radio_medium.specs.Medium.{medium_fault};
 
-use serial_run::run_with_faults;
+use crate::faulty_run::FaultyRun;
 use mote_net::{Net, Report};
 use radio_faults::Fault;
-use report_survey::FaultyRun;
+use serial_run::run_with_faults;
 use std::alloc::{AllocError, Global};
 
 /// A net that is run with faults.

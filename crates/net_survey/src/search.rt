@@ -4,12 +4,14 @@ ghost use Rattle.std.specs.Prelude.{◌<◌, ◌^◌, length, IfOk};
 ghost use Rattle.mote_net.specs.Meaning.{net_of};
 ghost use Rattle.net_survey.specs.NetSurvey.{IsSurveyOf};
 
+use crate::judge::Judge;
 use crate::net_runs::{NetRuns, check_medium};
+use crate::report_search::survey_reports;
 use mote_net::Net;
 use radio_faults::Fault;
-use report_survey::{Judge, Limits, Progress, Survey, survey_reports};
 use std::alloc::{AllocError, Global};
 use std::thread::Threads;
+use survey::{Limits, Progress, Survey};
 
 /// Finds the minimal sets of these faults with which a claim doesn't hold in the report of the net's run, within the
 /// limits. So many workers, each with a thread of its own, share the runs. The function joins the threads, so it may

@@ -1,6 +1,6 @@
 use Rattle.std.proofs.Common.{length, subst}
 use Rattle.mote_net.specs.Meaning.{net_of}
-use Rattle.claim_judge.specs.Judged.{claim_holds}
+use Rattle.net_survey.specs.Judged.{claim_holds}
 use Rattle.net_survey.specs.NetSurvey.{IsSurveyOf}
 use Rattle.claim_check.proofs.surveying.answers_with.Goals as goal
 

@@ -1,9 +1,0 @@
-use Rattle.std.proofs.Common.{◌≡◌, ◌++◌, drop, string_bytes}
-use Rattle.survey_text.specs.SurveyText.{claims_text}
-use Rattle.survey_text.proofs.report.put_claims.Given as goal
-
--- the text, followed by the text of what is left, is the final text
-abbrev pub invariant-loop-place : goal.invariant-loop-place
-invariant-loop-place l =
-    string_bytes l.text ++ claims_text l.names l.candidates l.broken l.place (drop l.place l.claims)
-    ≡ string_bytes l.initial.text ++ claims_text l.names l.candidates l.broken 0 l.claims
