@@ -8,10 +8,8 @@ use Rattle.program_tree.specs.declared.event.Proc.TheVariants.{Own, Etimer, Ctim
 use Rattle.process_kernel.specs.declared.process.ProcessState.{ProcessState}
 use Rattle.process_kernel.specs.declared.process.ProcessState.TheVariants.{Off, Running, Called}
 use Rattle.process_kernel.specs.declared.process.Member.{Member}
-use Rattle.process_kernel.specs.Members.{place_of, is_same, holds_member}
+use Rattle.process_kernel.specs.ProcessList.{place_of, is_same, holds_member, is_alive, process_state, is_listed, is_on_list, has_process, with_state, with_exiting, with_needs_poll, exiting_of, unlisted_of}
 use Rattle.process_kernel.specs.State.{KernelState}
-use Rattle.process_kernel.specs.Processes.{is_alive, process_state, is_listed, is_on_list, has_process, with_state, with_exiting, with_needs_poll}
-use Rattle.process_kernel.specs.ProcessList.{exiting_of, unlisted_of}
 use Rattle.kernel_laws.specs.Own.{IsOwnProcess}
 use Rattle.kernel_laws.specs.Poll.{CanBePolled}
 use Rattle.kernel_laws.proofs.Steps.{any_or, others_stay}

@@ -23,22 +23,13 @@ use Rattle.trace_lines.specs.declared.line.What.{What}
 use Rattle.trace_lines.specs.declared.line.What.TheVariants as what
 use Rattle.process_kernel.specs.declared.process.ProcessState.TheVariants.{Off, Running, Called}
 use Rattle.process_kernel.specs.declared.process.Member.{Member}
-use Rattle.process_kernel.specs.Members.{place_of, is_same}
-use Rattle.process_kernel.specs.State.{KernelState, Outcome, Ends, Goes, ◌>>=◌}
-use Rattle.process_kernel.specs.Processes.{is_running_state, has_process, is_busy, is_listed, is_running, with_state}
-use Rattle.process_kernel.specs.ProcessList.{put_remainder, with_fresh_body, enlist_of, exiting_of, leave_of}
-use Rattle.process_kernel.specs.Posts.{post_of}
-use Rattle.process_kernel.specs.Writes.{with_line, write_of, halted_of, spend_of}
-use Rattle.process_kernel.specs.Calls.{Calls, Answer, own_event, is_system_event, walk_of}
+use Rattle.process_kernel.specs.ProcessList.{place_of, is_same, is_running_state, has_process, is_busy, is_listed, is_running, with_state, put_remainder, with_fresh_body, enlist_of, exiting_of, leave_of}
+use Rattle.process_kernel.specs.State.{KernelState, Outcome, Ends, Goes, ◌>>=◌, with_line, write_of, halted_of, spend_of, Calls, Answer}
+use Rattle.process_kernel.specs.Posts.{process_post, own_event, is_system_event}
+use Rattle.process_kernel.specs.Process.{walk_of, process_number, last_run_of, exit_process, process_start, process_exit, answered, call_process}
 use Rattle.process_kernel.specs.Radio.{packet_of}
-use Rattle.process_kernel.specs.Reaction.{remainder_at, handler_of, resume_of, own_of, react_of}
-use Rattle.process_kernel.specs.Exit.{process_number, last_run_of, exit_of}
-use Rattle.process_kernel.specs.Start.{start_of}
-use Rattle.process_kernel.specs.Kill.{kill_of}
-use Rattle.process_kernel.specs.Thread.{stepped_with, stepped_of}
-use Rattle.process_kernel.specs.Looks.{looks_of}
-use Rattle.process_kernel.specs.Operation.{posted, answered_with, answer_of, act_of, perform_of, after_step, run_of}
-use Rattle.process_kernel.specs.Call.{has_ended, answered, call_of, calls_of}
+use Rattle.process_kernel.specs.Thread.{remainder_at, handler_of, resume_of, own_of, react_of, stepped_with, stepped_of, looks_of, has_ended}
+use Rattle.process_kernel.specs.Operations.{posted, answered_with, answer_of, act_of, perform_of, after_step, run_of, calls_of}
 use Rattle.kernel_laws.specs.Printed.{IsQuietApart, LivesSoFar, OnRecord, HasStarted}
 use Rattle.kernel_laws.specs.Telling as telling
 use Rattle.kernel_laws.specs.Telling.{ProcessInMote, process_in_mote, IsOut, Next, AtStart, AtCall, CanCome}
@@ -408,8 +399,8 @@ module _ (program : Tree) (mote p : ℕ) (code : Code) (earlier : List Line) whe
       last s t true h same = subst (λ v. IsGone v) (sym same) (record { of_program = h.of_program; of_mote = h.of_mote; has = h.has; room = h.room; state = refl; now = h.now; rest = h.rest; left = h.left; vars = h.vars; lived = h.lived })
       last s t false h same = last_runs s t h same
 
-      exits : (s : KernelState) (f : Proc) → IsLeaving (process_in_mote p s) (is_same (Own p) f) → Settles (exit_of calls s (Own p) f)
-      unfolding exit_of
+      exits : (s : KernelState) (f : Proc) → IsLeaving (process_in_mote p s) (is_same (Own p) f) → Settles (exit_process calls s (Own p) f)
+      unfolding exit_process
       exits s f h =
           subst (λ b. Settles (if b then (walk_of calls (own_event Exited (process_number (Own p))) (Own p) s.members (exiting_of s (Own p)) >>= λ _ s1. (if is_same (Own p) f then Goes tt s1 else last_run_of calls s1 (Own p)) >>= λ _ s2. leave_of s2 (Own p)) else Goes tt s)) (sym h.listed)
           (gives_bind (Unit {0}) (Unit {0}) Stopped (λ a t. At (on_its_way (process_in_mote p s)) t) (λ a t. IsInState (process_in_mote p t)) (walk_of calls (own_event Exited (process_number (Own p))) (Own p) s.members (exiting_of s (Own p))) _ (walked s _ _ s.members h) (λ a t same.
@@ -425,7 +416,7 @@ module _ (program : Tree) (mote p : ℕ) (code : Code) (earlier : List Line) whe
           not_ended true c e = e
           not_ended false c e = refl
 
-          by : (b : Bool) → (has_ended a || exit) ≡ b → Settles {A = Unit {0}} (if b then exit_of calls s (Own p) (Own p) else Goes tt (with_state s (Own p) Running))
+          by : (b : Bool) → (has_ended a || exit) ≡ b → Settles {A = Unit {0}} (if b then exit_process calls s (Own p) (Own p) else Goes tt (with_state s (Own p) Running))
           by true e = exits s (Own p) (record {
             of_program = ap (λ x. x.program) r.same ∙ h.of_program;
             of_mote = ap (λ x. x.mote) r.same ∙ h.of_mote;
@@ -454,8 +445,8 @@ module _ (program : Tree) (mote p : ℕ) (code : Code) (earlier : List Line) whe
                 where_it_is = inr (record { has = has; state = refl; listed = ap (λ x. x.listed) r.same ∙ h.is_in.listed; comes = r.comes (not_ended (has_ended a) exit e) });
               })
 
-      is_called : (s : KernelState) (e : Event) → IsReady (process_in_mote p s) e → Settles (call_of calls s (Own p) e)
-      unfolding call_of
+      is_called : (s : KernelState) (e : Event) → IsReady (process_in_mote p s) e → Settles (call_process calls s (Own p) e)
+      unfolding call_process
       is_called s e h =
           let runs : is_running s (Own p) ≡ true = ap is_running_state h.is_in.state in
           subst (λ b. Settles (if b then (spend_of s >>= λ _ s1. react_of calls (with_state s1 (Own p) Called) (Own p) e >>= λ answer s2. answered calls s2 (Own p) (has_ended answer || is_system_event Exit e)) else Goes tt s)) (sym runs)
@@ -516,22 +507,22 @@ module _ (program : Tree) (mote p : ℕ) (code : Code) (earlier : List Line) whe
       busy_away : (s : KernelState) → IsAway program mote (process_in_mote p s) → is_busy s (Own p) ≡ false → ⊥
       busy_away s a e = let f : true ≡ false = sym a.busy ∙ e in cc
 
-      own_start : (s : KernelState) → Leads (Unit {0}) s (start_of calls s (Own p))
-      unfolding start_of
+      own_start : (s : KernelState) → Leads (Unit {0}) s (process_start calls s (Own p))
+      unfolding process_start
       own_start s = by (is_busy s (Own p)) refl
         where
           by : (b : Bool) → is_busy s (Own p) ≡ b → Leads (Unit {0}) s (if b then write_of s (what.Busy (Own p)) else (if has_process s (Own p) && not (is_listed s (Own p)) then (enlist_of s (Own p) >>= λ _ s1. calls.call s1 (Own p) (own_event Init 0)) else Goes tt s))
           by true e = writes s _ (line_quiet p s (what.Busy (Own p)) refl)
           by false e = lead_of s _ (λ a. absurd (busy_away s a e)) (λ h. own_start_if s _ h refl)
 
-      unlisted_exit : (s : KernelState) (f : Proc) → IsInState (process_in_mote p s) → is_listed s (Own p) ≡ false → Settles (exit_of calls s (Own p) f)
-      unfolding exit_of
+      unlisted_exit : (s : KernelState) (f : Proc) → IsInState (process_in_mote p s) → is_listed s (Own p) ≡ false → Settles (exit_process calls s (Own p) f)
+      unfolding exit_process
       unlisted_exit s f h e = rw e h
 
-      own_exit : (s : KernelState) (f : Proc) → IsInState (process_in_mote p s) → Settles (exit_of calls s (Own p) f)
+      own_exit : (s : KernelState) (f : Proc) → IsInState (process_in_mote p s) → Settles (exit_process calls s (Own p) f)
       own_exit s f h = by h.where_it_is
         where
-          by : IsOut (process_in_mote p s) ⊎ IsIn AtCall (process_in_mote p s) h.still h.left → Settles (exit_of calls s (Own p) f)
+          by : IsOut (process_in_mote p s) ⊎ IsIn AtCall (process_in_mote p s) h.still h.left → Settles (exit_process calls s (Own p) f)
           by (inl out) = unlisted_exit s f h out.listed
           by (inr is_in) = exits s f (record {
             of_program = h.of_program;
@@ -547,26 +538,26 @@ module _ (program : Tree) (mote p : ℕ) (code : Code) (earlier : List Line) whe
             comes = λ q. is_in.comes;
           })
 
-      own_kill : (s : KernelState) (current : ℕ) → Leads (Unit {0}) s (kill_of calls s (Own p) current)
-      unfolding kill_of
+      own_kill : (s : KernelState) (current : ℕ) → Leads (Unit {0}) s (process_exit calls s (Own p) current)
+      unfolding process_exit
       own_kill s current = by (is_busy s (Own p)) refl
         where
-          by : (b : Bool) → is_busy s (Own p) ≡ b → Leads (Unit {0}) s (if b then write_of s (what.Busy (Own p)) else exit_of calls s (Own p) (Own current))
+          by : (b : Bool) → is_busy s (Own p) ≡ b → Leads (Unit {0}) s (if b then write_of s (what.Busy (Own p)) else exit_process calls s (Own p) (Own current))
           by true e = writes s _ (line_quiet p s (what.Busy (Own p)) refl)
           by false e = lead_of s _ (λ a. absurd (busy_away s a e)) (λ h. own_exit s (Own current) h)
 
-      pub start_led : (s : KernelState) (q : Proc) → Leads (Unit {0}) s (start_of calls s q)
+      pub start_led : (s : KernelState) (q : Proc) → Leads (Unit {0}) s (process_start calls s q)
       start_led s q = by (which p q)
         where
-          by : (q ≡ Own p) ⊎ IsOther p q → Leads (Unit {0}) s (start_of calls s q)
-          by (inl e) = subst (λ k. Leads (Unit {0}) s (start_of calls s k)) (sym e) (own_start s)
+          by : (q ≡ Own p) ⊎ IsOther p q → Leads (Unit {0}) s (process_start calls s q)
+          by (inl e) = subst (λ k. Leads (Unit {0}) s (process_start calls s k)) (sym e) (own_start s)
           by (inr n) = each.start_led Keeps Stops chain AnyProcess Others steps calls led s q (is_ours q n)
 
-      kill_led : (s : KernelState) (q : Proc) (current : ℕ) → Leads (Unit {0}) s (kill_of calls s q current)
+      kill_led : (s : KernelState) (q : Proc) (current : ℕ) → Leads (Unit {0}) s (process_exit calls s q current)
       kill_led s q current = by (which p q)
         where
-          by : (q ≡ Own p) ⊎ IsOther p q → Leads (Unit {0}) s (kill_of calls s q current)
-          by (inl e) = subst (λ k. Leads (Unit {0}) s (kill_of calls s k current)) (sym e) (own_kill s current)
+          by : (q ≡ Own p) ⊎ IsOther p q → Leads (Unit {0}) s (process_exit calls s q current)
+          by (inl e) = subst (λ k. Leads (Unit {0}) s (process_exit calls s k current)) (sym e) (own_kill s current)
           by (inr n) = each.kill_led Keeps Stops chain AnyProcess Others steps calls led s q current (is_ours q n) tt
 
       -- operations, except for prints
@@ -603,7 +594,7 @@ module _ (program : Tree) (mote p : ℕ) (code : Code) (earlier : List Line) whe
       performed_beside : (s : KernelState) (r : Remainder) (e : Event) (o : Op) → IsNoPrint o → IsQuietRest code r → Leads Answer s (perform_of calls s r p o >>= λ r1 s1. calls.run s1 code r1 p e)
       unfolding perform_of
       performed_beside s r e (op.Post t number word) f h =
-          bind_twice Keeps Stops chain _ _ _ s (post_of s t (posted number word)) _ _ (bind s _ _ (quietly s _ (post_quiet p s t (posted number word))) (λ full u. traced_next_to u r e full h))
+          bind_twice Keeps Stops chain _ _ _ s (process_post s t (posted number word)) _ _ (bind s _ _ (quietly s _ (post_quiet p s t (posted number word))) (λ full u. traced_next_to u r e full h))
       performed_beside s r e o f h = bind_twice Keeps Stops chain _ _ _ s (act_of calls s p o) _ _ (bind s _ _ (act_led s p o f) (λ a u. are.beside u r e h))
 
       after_beside : (s : KernelState) (r : Remainder) (e : Event) (x : Step) → IsNoPrintStep x → IsQuietRest code r → Leads Answer s (after_step calls code p e x r s)
@@ -625,22 +616,22 @@ module _ (program : Tree) (mote p : ℕ) (code : Code) (earlier : List Line) whe
 
       -- a call
 
-      lost : (s : KernelState) (e : Event) → is_running s (Own p) ≡ false → call_of calls s (Own p) e ≡ Goes tt s
-      unfolding call_of
+      lost : (s : KernelState) (e : Event) → is_running s (Own p) ≡ false → call_process calls s (Own p) e ≡ Goes tt s
+      unfolding call_process
       lost s e r = rw r refl
 
-      own_called : (s : KernelState) (e : Event) → Leads (Unit {0}) s (call_of calls s (Own p) e)
+      own_called : (s : KernelState) (e : Event) → Leads (Unit {0}) s (call_process calls s (Own p) e)
       own_called s e = lead_of s _ (λ a. subst (λ o. Always (λ t. IsQuiet p s t) o) (sym (lost s e a.not_running)) refl) (λ h. by h h.where_it_is)
         where
-          by : (h : IsInState (process_in_mote p s)) → IsOut (process_in_mote p s) ⊎ IsIn AtCall (process_in_mote p s) h.still h.left → Settles (call_of calls s (Own p) e)
+          by : (h : IsInState (process_in_mote p s)) → IsOut (process_in_mote p s) ⊎ IsIn AtCall (process_in_mote p s) h.still h.left → Settles (call_process calls s (Own p) e)
           by h (inl out) = subst (λ o. Settles o) (sym (lost s e (ap is_running_state out.state))) h
           by h (inr is_in) = is_called s e (record { of_program = h.of_program; of_mote = h.of_mote; tables = h.tables; free = h.free; still = h.still; rest = h.rest; left = h.left; vars = h.vars; coming = AtCall; can = tt; is_in = is_in; so_far = OnRecord h.lived })
 
-      call_led : (s : KernelState) (q : Proc) (e : Event) → Leads (Unit {0}) s (call_of calls s q e)
+      call_led : (s : KernelState) (q : Proc) (e : Event) → Leads (Unit {0}) s (call_process calls s q e)
       call_led s q e = by (which p q)
         where
-          by : (q ≡ Own p) ⊎ IsOther p q → Leads (Unit {0}) s (call_of calls s q e)
-          by (inl i) = subst (λ k. Leads (Unit {0}) s (call_of calls s k e)) (sym i) (own_called s e)
+          by : (q ≡ Own p) ⊎ IsOther p q → Leads (Unit {0}) s (call_process calls s q e)
+          by (inl i) = subst (λ k. Leads (Unit {0}) s (call_process calls s k e)) (sym i) (own_called s e)
           by (inr n) = each.call_led Keeps Stops chain AnyProcess Others steps calls led s q e (is_ours q n) (λ z. tt)
 
     pub all_calls_traced : (k : ℕ) → AreTraced (calls_of k)

@@ -15,14 +15,12 @@ use Rattle.trace_lines.specs.declared.line.What.{What}
 use Rattle.trace_lines.specs.declared.line.What.TheVariants as what
 use Rattle.process_kernel.specs.declared.process.ProcessState.{ProcessState}
 use Rattle.process_kernel.specs.declared.process.ProcessState.TheVariants.{Off, Running, Called}
-use Rattle.process_kernel.specs.Members.{place_of}
-use Rattle.process_kernel.specs.State.{KernelState, Outcome, Ends, Goes}
-use Rattle.process_kernel.specs.Calls.{Calls, own_event}
-use Rattle.process_kernel.specs.Call.{calls_of}
-use Rattle.process_kernel.specs.Run.{begun_of, kernel_of, most_units}
-use Rattle.process_kernel.specs.Boot.{boot_of}
-use Rattle.process_kernel.specs.KernelModel.{KernelModel, unbooted, with_poll, with_packet}
-use Rattle.process_kernel.specs.Given.{given, begun, boot_given, run_given}
+use Rattle.process_kernel.specs.ProcessList.{place_of}
+use Rattle.process_kernel.specs.State.{KernelState, Outcome, Ends, Goes, Calls}
+use Rattle.process_kernel.specs.Posts.{own_event}
+use Rattle.process_kernel.specs.Operations.{calls_of}
+use Rattle.process_kernel.specs.KernelModel.{begun_of, most_units, KernelModel, unbooted, with_poll, with_packet, given, begun, boot_given, run_given}
+use Rattle.process_kernel.specs.Process.{process_run, boot_of}
 use Rattle.kernel_laws.specs.Going.{IsNote}
 use Rattle.kernel_laws.specs.InStep.{AreInStep, state_at_place, exiting_at, listed_in}
 use Rattle.kernel_laws.specs.Traces.{KernelCall, RunAt, PollOf, Accepts, Notes, Traced, traced_after_call, traced_after_calls}
@@ -58,7 +56,7 @@ module _ (program : Tree) (mote p : ℕ) (code : Code) (is_code : slice_get prog
       drops = λ s n q. quietly s _ (line_quiet p s (what.Drop n q) refl);
     }
 
-    run_leads : (s : KernelState) → Lead K S ℕ s (kernel_of calls s)
+    run_leads : (s : KernelState) → Lead K S ℕ s (process_run calls s)
     run_leads s = kernel_led K S (chain program mote p code earlier) calls run_steps are.call s
 
     boot_leads : (s : KernelState) → Lead K S ℕ s (boot_of calls s)

@@ -21,15 +21,11 @@ use Rattle.protothread.specs.Reading.{Sight, operates, Completion, in_state}
 use Rattle.protothread.specs.Runs.{Steps}
 use Rattle.trace_lines.specs.declared.line.Line.{Line}
 use Rattle.trace_lines.specs.declared.line.What.TheVariants as what
-use Rattle.process_kernel.specs.State.{KernelState, Outcome, Ends, Goes, ◌>>=◌}
-use Rattle.process_kernel.specs.Processes.{is_running_state, is_called_state}
-use Rattle.process_kernel.specs.Looks.{looks_of}
-use Rattle.process_kernel.specs.Posts.{post_of}
-use Rattle.process_kernel.specs.Writes.{with_line, write_of, halted_of}
-use Rattle.process_kernel.specs.Calls.{Calls, Answer}
-use Rattle.process_kernel.specs.Call.{has_ended}
-use Rattle.process_kernel.specs.Thread.{stepped_with, stepped_of}
-use Rattle.process_kernel.specs.Operation.{posted, act_of, answered_with, answer_of, perform_of, after_step, run_of}
+use Rattle.process_kernel.specs.State.{KernelState, Outcome, Ends, Goes, ◌>>=◌, with_line, write_of, halted_of, Calls, Answer}
+use Rattle.process_kernel.specs.ProcessList.{is_running_state, is_called_state}
+use Rattle.process_kernel.specs.Thread.{looks_of, has_ended, stepped_with, stepped_of}
+use Rattle.process_kernel.specs.Posts.{process_post}
+use Rattle.process_kernel.specs.Operations.{posted, act_of, answered_with, answer_of, perform_of, after_step, run_of}
 use Rattle.kernel_laws.specs.Printed.{printed, left_by, starts_and_prints, starts_or_prints, lines_of_life, Lives}
 use Rattle.kernel_laws.specs.Printed.{LivesAgain, LivesSoFar, OnRecord}
 use Rattle.kernel_laws.specs.Telling as telling
@@ -244,7 +240,7 @@ module _ (program : Tree) (mote p : ℕ) (code : Code) (earlier : List Line) whe
       unfolding perform_of
       posted_on after changed left t number word takes =
           gives_bind _ _ Stopped (IsFirstFault after changed) _ (perform_of calls (stepped changed left) after p (op.Post t number word)) _
-          (gives_bind _ _ Stopped (λ full u. process_in_mote p u ≡ process_in_mote p (stepped changed left)) _ (post_of (stepped changed left) t (posted number word)) _ (from_always Bool Stopped (λ u. process_in_mote p u ≡ process_in_mote p (stepped changed left)) (λ u. process_in_mote p u ≡ process_in_mote p (stepped changed left)) (post_of (stepped changed left) t (posted number word)) (post_quiet p (stepped changed left) t (posted number word)) (λ u same. stepped_so_far changed left u same) (λ u same. same))
+          (gives_bind _ _ Stopped (λ full u. process_in_mote p u ≡ process_in_mote p (stepped changed left)) _ (process_post (stepped changed left) t (posted number word)) _ (from_always Bool Stopped (λ u. process_in_mote p u ≡ process_in_mote p (stepped changed left)) (λ u. process_in_mote p u ≡ process_in_mote p (stepped changed left)) (process_post (stepped changed left) t (posted number word)) (post_quiet p (stepped changed left) t (posted number word)) (λ u same. stepped_so_far changed left u same) (λ u same. same))
           (λ full u same. answer_passed after changed u full (same ∙ stepped_in_mote changed left)))
           (λ r1 u h. subst (λ x. IfGives Stopped (RanFrom (process_in_mote p s)) (calls.run u code x p e)) (sym h.2) (goes_on (op.Post t number word) after changed h.0 h.1 takes u (h.3 ∙ ap (λ l. record (process_in_mote p s) { vars = Some (answered_of after changed h.0).variables; lines_so_far = l }) (sym (append-nil (process_in_mote p s).lines_so_far)))))
 

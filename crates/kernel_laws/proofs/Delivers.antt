@@ -19,17 +19,11 @@ use Rattle.event_queue.specs.declared.queue.Posted.{Posted}
 use Rattle.trace_lines.specs.declared.line.Line.{Line}
 use Rattle.trace_lines.specs.declared.line.What.TheVariants as what
 use Rattle.process_kernel.specs.declared.process.Member.{Member}
-use Rattle.process_kernel.specs.Members.{place_of, holds_member, is_found_in}
-use Rattle.process_kernel.specs.State.{KernelState, Outcome, Ends, Goes, ◌>>=◌}
-use Rattle.process_kernel.specs.Processes.{with_needs_poll, has_process, is_busy, is_listed, is_on_list}
-use Rattle.process_kernel.specs.ProcessList.{numbered_from, enlist_of}
-use Rattle.process_kernel.specs.Writes.{with_line, write_of}
-use Rattle.process_kernel.specs.Calls.{Calls, own_event}
-use Rattle.process_kernel.specs.Polls.{polls_due_of}
-use Rattle.process_kernel.specs.Delivery.{give_of, visit_of, walk_broadcast, deliver_to, deliver_of}
-use Rattle.process_kernel.specs.Run.{begun_of, deliver_front, kernel_of}
-use Rattle.process_kernel.specs.Start.{start_of}
-use Rattle.process_kernel.specs.Boot.{starts_of, boot_of}
+use Rattle.process_kernel.specs.ProcessList.{place_of, holds_member, is_found_in, with_needs_poll, has_process, is_busy, is_listed, is_on_list, numbered_from, enlist_of}
+use Rattle.process_kernel.specs.State.{KernelState, Outcome, Ends, Goes, ◌>>=◌, with_line, write_of, Calls}
+use Rattle.process_kernel.specs.Posts.{own_event}
+use Rattle.process_kernel.specs.Process.{do_poll_if_requested, give_of, visit_of, walk_broadcast, deliver_to, deliver_of, do_event, process_run, process_start, autostart_start, boot_of}
+use Rattle.process_kernel.specs.KernelModel.{begun_of}
 use Rattle.kernel_laws.specs.Own.{IsOwnProcess, FitsTarget}
 use Rattle.kernel_laws.specs.Seen.{seen_lines, seen_member, seen_posted, view_of}
 use Rattle.kernel_laws.specs.Going.{SystemStays}
@@ -137,7 +131,7 @@ unfolding begun_of
 begun_sound s moment h = record { stays = listed_again 0 s.members Etimer ∙ h.stays; fits = h.fits }
 
 module _ (calls : Calls) (are : AreRuns calls) where
-  pub polls_due_run : (s : KernelState) → Reach (Unit {0}) s (polls_due_of calls s)
+  pub polls_due_run : (s : KernelState) → Reach (Unit {0}) s (do_poll_if_requested calls s)
   unfolding with_needs_poll
   polls_due_run s =
       polls_due_led GoesOn Stops chain calls (λ t. quiet t _ (record { lines = refl; members = refl; started = refl; queue = refl })) (λ t p. quiet t _ (record { lines = refl; members = refl; started = refl; queue = refl }))
@@ -159,7 +153,7 @@ module _ (calls : Calls) (are : AreRuns calls) where
   unfolding visit_of
   walk_run x [] s f h = rests_now s x.serial h
   walk_run x (m ∷ ms) s f h =
-      rests_twice (Unit {0}) (Unit {0}) (Unit {0}) _ s (polls_due_of calls s) _ _ (rests_after (Unit {0}) (Unit {0}) s x.serial (m ∷ ms) (polls_due_of calls s) _ (polls_due_run s) h (λ a t i.
+      rests_twice (Unit {0}) (Unit {0}) (Unit {0}) _ s (do_poll_if_requested calls s) _ _ (rests_after (Unit {0}) (Unit {0}) s x.serial (m ∷ ms) (do_poll_if_requested calls s) _ (polls_due_run s) h (λ a t i.
       given_run (Unit {0}) (machine_of t x.serial (m ∷ ms)) t x m.process (is_on_list t m) x.serial ms _ (λ q. absurd (f q)) i (walks (view_of t) x.serial (seen_member m) (map seen_member ms) (is_on_list t m) (on_alike t.members m)) (λ u j. walk_run x ms u f j)))
 
   -- the front event was taken, and is delivered
@@ -182,24 +176,24 @@ module _ (calls : Calls) (are : AreRuns calls) where
       (begins (view_of s) walked x.serial (map seen_posted q) queue (some_listed s.members h.stays))
       (walk_run x s.members u (subst (λ t. FitsTarget t x.event.number) e first) (record { stays = h.stays; fits = All-tail (λ y. FitsTarget y.target y.event.number) x q fits })))
 
-  front_run : (q : List Posted) (s : KernelState) (walked : ℕ) → s.queue.events ≡ q → SystemStays s → RestsAt (machine_of s walked []) s (deliver_front calls q s)
+  front_run : (q : List Posted) (s : KernelState) (walked : ℕ) → s.queue.events ≡ q → SystemStays s → RestsAt (machine_of s walked []) s (do_event calls q s)
   unfolding deliver_of
   front_run [] s walked e h = rests_now s walked h
   front_run (x ∷ q) s walked e h = target_run x.target x q s _ walked refl e (rw e refl) h
 
   -- a kernel run, from any moment when no walk is in progress
-  pub kernel_run : (s : KernelState) (walked : ℕ) → SystemStays s → RestsAt (machine_of s walked []) s (kernel_of calls s)
-  unfolding kernel_of
+  pub kernel_run : (s : KernelState) (walked : ℕ) → SystemStays s → RestsAt (machine_of s walked []) s (process_run calls s)
+  unfolding process_run
   kernel_run s walked h =
-      rests_after (Unit {0}) ℕ s walked [] (polls_due_of calls s) _ (polls_due_run s) h (λ a t i. rests_then (Unit {0}) ℕ _ t _ _ (front_run t.queue.events t walked refl i) (λ b u w j. rests_now u w j))
+      rests_after (Unit {0}) ℕ s walked [] (do_poll_if_requested calls s) _ (polls_due_run s) h (λ a t i. rests_then (Unit {0}) ℕ _ t _ _ (front_run t.queue.events t walked refl i) (λ b u w j. rests_now u w j))
 
-  starts_run : (ps : List Proc) (s : KernelState) (walked : ℕ) → SystemStays s → RestsAt (machine_of s walked []) s (starts_of calls ps s)
+  starts_run : (ps : List Proc) (s : KernelState) (walked : ℕ) → SystemStays s → RestsAt (machine_of s walked []) s (autostart_start calls ps s)
   starts_run [] s walked h = rests_now s walked h
   starts_run (p ∷ ps) s walked h = rests_after (Unit {0}) (Unit {0}) s walked [] _ _ (start_all GoesOn Stops chain IsOwnProcess steps calls are s p) h (λ a t i. starts_run ps t walked i)
 
   -- the etimer process starts on an empty list
-  pub first_start : (s : KernelState) → is_busy s Etimer ≡ false → has_process s Etimer ≡ true → is_listed s Etimer ≡ false → start_of calls s Etimer ≡ (enlist_of s Etimer >>= λ _ s1. calls.call s1 Etimer (own_event Init 0))
-  unfolding start_of
+  pub first_start : (s : KernelState) → is_busy s Etimer ≡ false → has_process s Etimer ≡ true → is_listed s Etimer ≡ false → process_start calls s Etimer ≡ (enlist_of s Etimer >>= λ _ s1. calls.call s1 Etimer (own_event Init 0))
+  unfolding process_start
   first_start s b t n = rw (b, t, n) refl
 
   -- a boot, from a state in which no process was started and no event posted
@@ -209,8 +203,8 @@ module _ (calls : Calls) (are : AreRuns calls) where
       let l : is_listed s Etimer ≡ false = rw m refl in
       let f = first_start s b t l in
       let others = Ctimer ∷ Radio ∷ map Own s.program.autostart in
-      let r : RestsAt (machine_of s walked []) s ((enlist_of s Etimer >>= λ _ s1. calls.call s1 Etimer (own_event Init 0)) >>= λ _ s1. starts_of calls others s1) =
+      let r : RestsAt (machine_of s walked []) s ((enlist_of s Etimer >>= λ _ s1. calls.call s1 Etimer (own_event Init 0)) >>= λ _ s1. autostart_start calls others s1) =
       rests_twice (Unit {0}) (Unit {0}) (Unit {0}) (machine_of s walked []) s (enlist_of s Etimer) _ _ (rests_first (Unit {0}) (Unit {0}) s walked [] (enlist_of s Etimer) _ (enlist_led GoesOn Stops chain IsOwnProcess Every steps s Etimer tt b t l) (λ a t g i.
       rests_after (Unit {0}) (Unit {0}) t walked [] _ _ (are.call t Etimer (own_event Init 0) (fits_other Etimer _ refl)) (first_sound s a t q g) (λ b u j. starts_run others u walked j))) in
-      let r' : RestsAt (machine_of s walked []) s (start_of calls s Etimer >>= λ _ s1. starts_of calls others s1) = rw f r in
+      let r' : RestsAt (machine_of s walked []) s (process_start calls s Etimer >>= λ _ s1. autostart_start calls others s1) = rw f r in
       rests_then (Unit {0}) ℕ (machine_of s walked []) s _ _ r' (λ a t w i. rests_now t w i)

@@ -9,22 +9,14 @@ use Rattle.protothread.specs.declared.step.Step.TheVariants as step
 use Rattle.protothread.specs.Step.{PaysFor}
 use Rattle.protothread.specs.Remainder.{Remainder}
 use Rattle.protothread.proofs.Units.{costs}
-use Rattle.process_kernel.specs.State.{KernelState, Outcome, Ends, Goes, ◌>>=◌}
+use Rattle.process_kernel.specs.State.{KernelState, Outcome, Ends, Goes, ◌>>=◌, halted_of, spend_of, Calls}
 use Rattle.process_kernel.specs.declared.process.ProcessState.TheVariants.{Called}
-use Rattle.process_kernel.specs.Processes.{is_running, with_state, with_exiting, with_needs_poll}
-use Rattle.process_kernel.specs.ProcessList.{put_remainder, exiting_of, unlisted_of}
-use Rattle.process_kernel.specs.Posts.{poll_of}
-use Rattle.process_kernel.specs.Start.{start_of}
-use Rattle.process_kernel.specs.Kill.{kill_of}
-use Rattle.process_kernel.specs.Writes.{halted_of, spend_of}
-use Rattle.process_kernel.specs.Calls.{Calls, is_system_event}
-use Rattle.process_kernel.specs.Looks.{looks_of}
-use Rattle.process_kernel.specs.Thread.{stepped_with, stepped_of}
-use Rattle.process_kernel.specs.Reaction.{react_of}
-use Rattle.process_kernel.specs.Operation.{after_step, run_of}
-use Rattle.process_kernel.specs.Call.{has_ended, answered, call_of, calls_of}
-use Rattle.process_kernel.specs.Run.{begun_of, most_units}
-use Rattle.process_kernel.specs.Given.{begun, given, unless_halted, boot_given, run_given}
+use Rattle.process_kernel.specs.ProcessList.{is_running, with_state, with_exiting, with_needs_poll, put_remainder, exiting_of, unlisted_of}
+use Rattle.process_kernel.specs.Posts.{process_poll, is_system_event}
+use Rattle.process_kernel.specs.Process.{process_start, process_exit, answered, call_process}
+use Rattle.process_kernel.specs.Thread.{looks_of, stepped_with, stepped_of, react_of, has_ended}
+use Rattle.process_kernel.specs.Operations.{after_step, run_of, calls_of}
+use Rattle.process_kernel.specs.KernelModel.{begun_of, most_units, begun, given, unless_halted, boot_given, run_given}
 use Rattle.kernel_laws.specs.Depth.{CallsAreAnyDepth, ThreadsAreAnyDepth, BootsAreAnyDepth, RunsAreAnyDepth}
 use Rattle.kernel_laws.proofs.Fits.{FitsStep}
 use Rattle.kernel_laws.proofs.EachStep.{Every, AnyProcess, Whatever, AreJoined, AreSteps, AreRunSteps, AreBoth, Both, brackets_of, keeps_poll, keeps_set, ours, start_both, kill_both, called_both, step_both, all_fits, kernel_both, boot_both, calls_led}
@@ -36,7 +28,7 @@ Less s t = t.units ≤ s.units
 chain : AreJoined Less Whatever
 chain = record { same = λ s. omega arith; joined = λ a b c h i. omega (arith, h, i); ended = λ a b c h i. tt }
 
-polled : (s : KernelState) (p : Proc) → Less s (poll_of s p)
+polled : (s : KernelState) (p : Proc) → Less s (process_poll s p)
 unfolding with_needs_poll
 polled s p = keeps_poll Less Whatever chain s p (omega arith)
 
@@ -95,10 +87,10 @@ unfolding exiting_of with_exiting with_state
 exits n s p l = l
 
 module _ (n : ℕ) (a b : Calls) (agree : Agree n a b) where
-  starts : (s : KernelState) (p : Proc) → Both Less Whatever chain (Within n) (Unit {0}) s (start_of a s p) (start_of b s p)
+  starts : (s : KernelState) (p : Proc) → Both Less Whatever chain (Within n) (Unit {0}) s (process_start a s p) (process_start b s p)
   starts s p = start_both Less Whatever chain AnyProcess Every steps (Within n) (within n) (opens n) (exits n) a b agree s p (ours Less Whatever chain AnyProcess steps p)
 
-  kills : (s : KernelState) (p : Proc) (current : ℕ) → AnyProcess p → Both Less Whatever chain (Within n) (Unit {0}) s (kill_of a s p current) (kill_of b s p current)
+  kills : (s : KernelState) (p : Proc) (current : ℕ) → AnyProcess p → Both Less Whatever chain (Within n) (Unit {0}) s (process_exit a s p current) (process_exit b s p current)
   kills s p current l = kill_both Less Whatever chain AnyProcess Every steps (Within n) (within n) (opens n) (exits n) a b agree s p current (ours Less Whatever chain AnyProcess steps p) l
 
 -- After a unit of work is spent, fewer units are left.
@@ -129,8 +121,8 @@ module _ (n : ℕ) (a b : Calls) (below : (j : ℕ) → j < n → Agree j a b) w
       let j = s.units - 1 in
       (called_both Less Whatever chain AnyProcess Every steps (Within j) (within j) (opens j) (exits j) a b (below j (few refl)) (record s { units = j }) p e (ours Less Whatever chain AnyProcess steps p) r (λ q. tt)).same (omega arith)
 
-  same_call : (s : KernelState) (p : Proc) (e : Event) → s.units ≤ n → call_of a s p e ≡ call_of b s p e
-  unfolding call_of spend_of
+  same_call : (s : KernelState) (p : Proc) (e : Event) → s.units ≤ n → call_process a s p e ≡ call_process b s p e
+  unfolding call_process spend_of
   same_call s p e l = same_if (is_running s p) _ _ _ (λ r. spent s p e (s.units == 0) (λ z. one_fewer s.units n z l) r)
 
   after : (code : Code) (p : ℕ) (e : Event) (x : Step) (r : Remainder) (t : KernelState) (units : ℕ) → units ≤ n → FitsStep x → PaysFor x units t.units → after_step a code p e x r t ≡ after_step b code p e x r t

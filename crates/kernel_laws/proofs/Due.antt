@@ -12,15 +12,12 @@ use Rattle.program_tree.specs.Events.{system_number}
 use Rattle.mote_timers.specs.TimerLists.{new_timers}
 use Rattle.trace_lines.specs.declared.line.Line.{Line}
 use Rattle.radio_packet.specs.declared.sent.Sent.{Sent}
-use Rattle.process_kernel.specs.State.{KernelState, Outcome, Ends, Goes, ◌>>=◌}
-use Rattle.process_kernel.specs.Processes.{process_needs_poll, is_listed, has_process, with_needs_poll}
-use Rattle.process_kernel.specs.Calls.{Calls, own_event}
-use Rattle.process_kernel.specs.Call.{calls_of}
-use Rattle.process_kernel.specs.Polls.{walk_polls}
-use Rattle.process_kernel.specs.Run.{begun_of, kernel_of, most_units}
-use Rattle.process_kernel.specs.Boot.{boot_of}
-use Rattle.process_kernel.specs.KernelModel.{KernelModel, unbooted}
-use Rattle.process_kernel.specs.Given.{Given, given, begun, unless_halted, boot_given, run_given}
+use Rattle.process_kernel.specs.State.{KernelState, Outcome, Ends, Goes, ◌>>=◌, Calls}
+use Rattle.process_kernel.specs.ProcessList.{process_needs_poll, is_listed, has_process, with_needs_poll}
+use Rattle.process_kernel.specs.Posts.{own_event}
+use Rattle.process_kernel.specs.Operations.{calls_of}
+use Rattle.process_kernel.specs.Process.{walk_polls, process_run, boot_of}
+use Rattle.process_kernel.specs.KernelModel.{begun_of, most_units, KernelModel, unbooted, Given, given, begun, unless_halted, boot_given, run_given}
 use Rattle.kernel_laws.specs.Own.{IsOwnProcess}
 use Rattle.kernel_laws.specs.Going.{SystemStays}
 use Rattle.kernel_laws.specs.InStep.{IsInStep, IsIdle}
@@ -268,8 +265,8 @@ module _ (calls : Calls) (are : AreWatched calls) (written : stamps.AreKept call
         record { telling = k.telling; tells = k.tells; before = k.before; after = k.after ++ i.more; split = rw (k.split) (append_assoc k.before _ i.more) };
   }
 
-  run_polled : (moment : ℕ) (s t : KernelState) (n : ℕ) → s.moment ≡ moment → IsInState true s → PollWaits Etimer s → kernel_of calls s ≡ Goes n t → Polled calls moment (record s { poll_requested = false }) t
-  unfolding kernel_of
+  run_polled : (moment : ℕ) (s t : KernelState) (n : ℕ) → s.moment ≡ moment → IsInState true s → PollWaits Etimer s → process_run calls s ≡ Goes n t → Polled calls moment (record s { poll_requested = false }) t
+  unfolding process_run
   run_polled moment s t n e h w goes =
       let a = through _ _ _ _ _ _ goes in
       let b = through _ _ _ _ _ _ a.second in
@@ -280,7 +277,7 @@ module _ (calls : Calls) (are : AreWatched calls) (written : stamps.AreKept call
 
 -- a run
 
-given_polled : (moment : ℕ) (m : KernelModel) (lines : List Line) (sends : List Sent) (o : Outcome ℕ) → IsAtRest m.state → PollWaits Etimer m.state → kernel_of (calls_of (most_units + 1)) (begun m moment lines sends) ≡ o → (given o).mote.halted ≡ false → PollsEtimer moment (begun m moment lines sends) lines (given o).lines
+given_polled : (moment : ℕ) (m : KernelModel) (lines : List Line) (sends : List Sent) (o : Outcome ℕ) → IsAtRest m.state → PollWaits Etimer m.state → process_run (calls_of (most_units + 1)) (begun m moment lines sends) ≡ o → (given o).mote.halted ≡ false → PollsEtimer moment (begun m moment lines sends) lines (given o).lines
 unfolding begun_of
 given_polled moment m lines sends (Ends t) rest w e h = absurd (cc)
 given_polled moment m lines sends (Goes n t) rest w e h =

@@ -30,32 +30,16 @@ use Rattle.radio_packet.specs.declared.arrival.Arrival.{Arrival}
 use Rattle.trace_lines.specs.declared.line.What.TheVariants as what
 use Rattle.process_kernel.specs.declared.process.ProcessState.TheVariants.{Running, Called}
 use Rattle.process_kernel.specs.declared.process.Member.{Member}
-use Rattle.process_kernel.specs.Members.{is_same}
-use Rattle.process_kernel.specs.State.{KernelState, Outcome, Went, Ends, Goes, ◌>>=◌}
-use Rattle.process_kernel.specs.Processes.{is_alive, process_state, has_process, is_busy, is_listed, is_running, is_on_list, with_state, with_exiting, with_needs_poll}
-use Rattle.process_kernel.specs.ProcessList.{put_remainder, fresh_at, with_fresh_body, enlist_of, exiting_of, unlisted_of, leave_of}
-use Rattle.process_kernel.specs.Posts.{post_of, poll_of, send_of}
-use Rattle.process_kernel.specs.Operation.{take_of, signal_of}
-use Rattle.process_kernel.specs.TimerOperations.{has_timer, timer_is_set, set_of, reset_of, restart_of, stop_of}
-use Rattle.process_kernel.specs.Writes.{with_line, write_of, halted_of, spend_of}
-use Rattle.process_kernel.specs.Calls.{Calls, Answer, own_event, is_system_event, walk_of}
-use Rattle.process_kernel.specs.Etimer.{fired_of, purge_of, post_due, walk_timers, walks_of, pass_of, etimer_of}
-use Rattle.process_kernel.specs.Ctimer.{callback_of, waits_for, ctimer_of}
-use Rattle.process_kernel.specs.Radio.{packet_of, hand_to, empty_ring, radio_of}
-use Rattle.process_kernel.specs.Reaction.{handler_of, resume_of, own_of, react_of}
-use Rattle.process_kernel.specs.Exit.{process_number, last_run_of, exit_of}
-use Rattle.process_kernel.specs.Start.{start_of}
-use Rattle.process_kernel.specs.Kill.{kill_of}
-use Rattle.process_kernel.specs.Operation.{answered_with, answer_of, act_of, perform_of, after_step, run_of}
-use Rattle.process_kernel.specs.Call.{has_ended, answered, call_of, calls_of}
-use Rattle.process_kernel.specs.Thread.{stepped_with, stepped_of}
-use Rattle.process_kernel.specs.Looks.{looks_of}
-use Rattle.process_kernel.specs.Polls.{walk_polls, polls_of, polls_due_of, poll_turn_of}
-use Rattle.process_kernel.specs.Delivery.{give_of, visit_of, walk_broadcast, deliver_to, deliver_of}
-use Rattle.process_kernel.specs.Run.{deliver_front, kernel_of}
-use Rattle.process_kernel.specs.Boot.{starts_of, boot_of}
-use Rattle.process_kernel.specs.KernelModel.{KernelModel}
-use Rattle.process_kernel.specs.Given.{Given, unless_halted}
+use Rattle.process_kernel.specs.ProcessList.{is_same, is_alive, process_state, has_process, is_busy, is_listed, is_running, is_on_list, with_state, with_exiting, with_needs_poll, put_remainder, fresh_at, with_fresh_body, enlist_of, exiting_of, unlisted_of, leave_of}
+use Rattle.process_kernel.specs.State.{KernelState, Outcome, Went, Ends, Goes, ◌>>=◌, with_line, write_of, halted_of, spend_of, Calls, Answer}
+use Rattle.process_kernel.specs.Posts.{process_post, process_poll, own_event, is_system_event}
+use Rattle.process_kernel.specs.Radio.{send_of, packet_of, hand_to, empty_ring, radio_process}
+use Rattle.process_kernel.specs.Operations.{take_of, signal_of, answered_with, answer_of, act_of, perform_of, after_step, run_of, calls_of}
+use Rattle.process_kernel.specs.Etimer.{has_timer, add_timer, etimer_set, etimer_reset, etimer_restart, etimer_stop, fired_of, purge_of, post_due, walk_timers, walks_of, pass_of, etimer_process}
+use Rattle.process_kernel.specs.Process.{walk_of, process_number, last_run_of, exit_process, process_start, process_exit, answered, call_process, walk_polls, do_poll, do_poll_if_requested, poll_turn_of, give_of, visit_of, walk_broadcast, deliver_to, deliver_of, do_event, process_run, autostart_start, boot_of}
+use Rattle.process_kernel.specs.Ctimer.{callback_of, waits_for, ctimer_process}
+use Rattle.process_kernel.specs.Thread.{handler_of, resume_of, own_of, react_of, has_ended, stepped_with, stepped_of, looks_of}
+use Rattle.process_kernel.specs.KernelModel.{KernelModel, Given, unless_halted}
 use Rattle.process_kernel.specs.declared.kernel.Ran.TheVariants as ran
 use Rattle.trace_lines.specs.declared.line.Line.{Line}
 use Rattle.radio_packet.specs.declared.sent.Sent.{Sent}
@@ -117,8 +101,8 @@ unfolding stepped_of
 all_fits s code r p e = stepped_fits _ s code r p e
 
 -- a poll is requested, or nothing happens
-pub polled_or_not : (P : KernelState → Type 0) (s : KernelState) (p : Proc) → P (record (with_needs_poll s p true) { poll_requested = true }) → P s → P (poll_of s p)
-unfolding poll_of
+pub polled_or_not : (P : KernelState → Type 0) (s : KernelState) (p : Proc) → P (record (with_needs_poll s p true) { poll_requested = true }) → P s → P (process_poll s p)
+unfolding process_poll
 polled_or_not P s p h i = by (is_alive (process_state s p))
   where
     by : (b : Bool) → P (if b then record (with_needs_poll s p true) { poll_requested = true } else s)
@@ -250,8 +234,8 @@ module _ (Keeps Stops : KernelState → KernelState → Type 0) where
 
     -- A post, a packet, and a timer that is set, if each of their parts is a step.
 
-    pub lead_post : (s : KernelState) (t : Target) (e : Event) → Stops s (halted_of s) → Keeps s (with_line s (what.Full t e.number e.word)) → Keeps s (with_event s t e) → Lead Bool s (post_of s t e)
-    unfolding post_of write_of
+    pub lead_post : (s : KernelState) (t : Target) (e : Event) → Stops s (halted_of s) → Keeps s (with_line s (what.Full t e.number e.word)) → Keeps s (with_event s t e) → Lead Bool s (process_post s t e)
+    unfolding process_post write_of
     lead_post s t e halts full accepted =
         lead_if _ s (nat_le (2 ^ 62) s.queue.accepted) _ _ (record { leads = halts })
         (lead_if _ s (nat_le s.queue.capacity (length s.queue.events)) _ _ (record { leads = full }) (record { leads = accepted }))
@@ -260,12 +244,12 @@ module _ (Keeps Stops : KernelState → KernelState → Type 0) where
     unfolding send_of write_of
     lead_send s v halts sent = lead_if _ s (nat_le (2 ^ 62) s.sent) _ _ (record { leads = halts }) (record { leads = sent })
 
-    pub keeps_poll : (s : KernelState) (p : Proc) → Keeps s (record (with_needs_poll s p true) { poll_requested = true }) → Keeps s (poll_of s p)
+    pub keeps_poll : (s : KernelState) (p : Proc) → Keeps s (record (with_needs_poll s p true) { poll_requested = true }) → Keeps s (process_poll s p)
     keeps_poll s p polled = polled_or_not (Keeps s) s p polled (chain.same s)
 
-    pub keeps_set : (s : KernelState) (timers : TimerLists) (timer : ℕ) → ((callbacks : List ℕ) → Keeps s (record s { timers = timers; callbacks = callbacks })) → ((t : KernelState) → Keeps t (poll_of t Etimer))
-        → Keeps s (timer_is_set (record s { timers = timers }) timer)
-    unfolding timer_is_set
+    pub keeps_set : (s : KernelState) (timers : TimerLists) (timer : ℕ) → ((callbacks : List ℕ) → Keeps s (record s { timers = timers; callbacks = callbacks })) → ((t : KernelState) → Keeps t (process_poll t Etimer))
+        → Keeps s (add_timer (record s { timers = timers }) timer)
+    unfolding add_timer
     keeps_set s timers timer changed polled = chain.joined s _ _ (changed _) (polled _)
 
     -- the radio's poll: the packet in front leaves the ring, and its line is written
@@ -277,7 +261,7 @@ module _ (Keeps Stops : KernelState → KernelState → Type 0) where
 
     module _ (steps : AreRingSteps) where
       hand_led : (receiver : Option ℕ) (a : Arrival) (later : List Arrival) (s : KernelState) → s.ring ≡ a ∷ later → s.program.receiver ≡ receiver → Lead (Unit {0}) s (hand_to receiver (record s { ring = later }) a)
-      unfolding hand_to post_of write_of
+      unfolding hand_to process_post write_of
       hand_led (Some p) a later s ring r =
           lead_bind _ _ s _ _ (lead_if Bool s (nat_le (2 ^ 62) s.queue.accepted) _ _ (record { leads = steps.halts s later })
           (lead_if Bool s (nat_le s.queue.capacity (length s.queue.events)) _ _ (record { leads = steps.refused s a later p ring r })
@@ -299,8 +283,8 @@ module _ (Keeps Stops : KernelState → KernelState → Type 0) where
       polls_both (m ∷ ms) s =
           both_bind Holds on _ _ s _ _ _ _ (both_if Holds _ s _ _ _ _ _ (both_from Holds on _ s _ _ _ (cleared s m.process) (polled _ m.process)) (both_still Holds _ s tt)) (λ a t. polls_both ms t)
 
-      pub polls_due_both : (s : KernelState) → Both Holds (Unit {0}) s (polls_due_of a s) (polls_due_of b s)
-      unfolding polls_due_of polls_of
+      pub polls_due_both : (s : KernelState) → Both Holds (Unit {0}) s (do_poll_if_requested a s) (do_poll_if_requested b s)
+      unfolding do_poll_if_requested do_poll
       polls_due_both s = both_if Holds _ s s.poll_requested _ _ _ _ (both_from Holds on _ s _ _ _ (unrequested s) (polls_both s.members _)) (both_still Holds _ s tt)
 
     -- the steps of boots and kernel runs outside of calls
@@ -314,7 +298,7 @@ module _ (Keeps Stops : KernelState → KernelState → Type 0) where
     -- boots and kernel runs, if each call consists of steps
     module _ (Holds : KernelState → Type 0) (on : (s t : KernelState) → Keeps s t → Holds s → Holds t) (steps : AreRunSteps) (a b : Calls)
         (called : (s : KernelState) (p : Proc) (e : Event) → Both Holds (Unit {0}) s (a.call s p e) (b.call s p e)) where
-      due_polls_both : (s : KernelState) → Both Holds (Unit {0}) s (polls_due_of a s) (polls_due_of b s)
+      due_polls_both : (s : KernelState) → Both Holds (Unit {0}) s (do_poll_if_requested a s) (do_poll_if_requested b s)
       due_polls_both s = polls_due_both Holds on steps.unrequested steps.cleared a b (λ t p. called t p _) s
 
       pub give_both : (s : KernelState) (x : Posted) (p : Proc) (there : Bool) → Both Holds (Unit {0}) s (give_of a s x p there) (give_of b s x p there)
@@ -332,18 +316,18 @@ module _ (Keeps Stops : KernelState → KernelState → Type 0) where
       target_both (One p) s x = give_both s x p (is_listed s p)
       target_both ToEach s x = walk_broadcast_both x s.members s
 
-      pub front_both : (q : List Posted) (s : KernelState) → Both Holds (Unit {0}) s (deliver_front a q s) (deliver_front b q s)
+      pub front_both : (q : List Posted) (s : KernelState) → Both Holds (Unit {0}) s (do_event a q s) (do_event b q s)
       unfolding deliver_of
       front_both [] s = both_still Holds _ s tt
       front_both (x ∷ q) s = both_from Holds on _ s _ _ _ (steps.front s) (target_both x.target _ x)
 
-      pub kernel_both : (s : KernelState) → Both Holds ℕ s (kernel_of a s) (kernel_of b s)
-      unfolding kernel_of
+      pub kernel_both : (s : KernelState) → Both Holds ℕ s (process_run a s) (process_run b s)
+      unfolding process_run
       kernel_both s =
           both_bind Holds on _ _ s _ _ _ _ (due_polls_both s) (λ a t. both_bind Holds on _ _ t _ _ _ _ (front_both t.queue.events t) (λ b u. both_still Holds _ u _))
 
-    module _ (Holds : KernelState → Type 0) (on : (s t : KernelState) → Keeps s t → Holds s → Holds t) (a b : Calls) (started : (s : KernelState) (p : Proc) → Both Holds (Unit {0}) s (start_of a s p) (start_of b s p)) where
-      starts_both : (ps : List Proc) (s : KernelState) → Both Holds (Unit {0}) s (starts_of a ps s) (starts_of b ps s)
+    module _ (Holds : KernelState → Type 0) (on : (s t : KernelState) → Keeps s t → Holds s → Holds t) (a b : Calls) (started : (s : KernelState) (p : Proc) → Both Holds (Unit {0}) s (process_start a s p) (process_start b s p)) where
+      starts_both : (ps : List Proc) (s : KernelState) → Both Holds (Unit {0}) s (autostart_start a ps s) (autostart_start b ps s)
       starts_both [] s = both_still Holds _ s tt
       starts_both (p ∷ ps) s = both_bind Holds on _ _ s _ _ _ _ (started s p) (λ u t. starts_both ps t)
 
@@ -358,10 +342,10 @@ module _ (Keeps Stops : KernelState → KernelState → Type 0) where
       polls_led unrequested cleared polled ms s = single _ s _ (polls_both Anywhere anywhere unrequested cleared calls calls (λ t p. both_plain Anywhere _ t _ (polled t p)) ms s).leads
 
       pub polls_due_led : ((s : KernelState) → Keeps s (record s { poll_requested = false })) → ((s : KernelState) (p : Proc) → Keeps s (with_needs_poll s p false)) → ((s : KernelState) (p : Proc) → Lead (Unit {0}) s (calls.call s p (own_event Poll 0)))
-          → (s : KernelState) → Lead (Unit {0}) s (polls_due_of calls s)
+          → (s : KernelState) → Lead (Unit {0}) s (do_poll_if_requested calls s)
       polls_due_led unrequested cleared polled s = single _ s _ (polls_due_both Anywhere anywhere unrequested cleared calls calls (λ t p. both_plain Anywhere _ t _ (polled t p)) s).leads
 
-      pub boot_led : ((s : KernelState) (p : Proc) → Lead (Unit {0}) s (start_of calls s p)) → (s : KernelState) → Lead ℕ s (boot_of calls s)
+      pub boot_led : ((s : KernelState) (p : Proc) → Lead (Unit {0}) s (process_start calls s p)) → (s : KernelState) → Lead ℕ s (boot_of calls s)
       boot_led started s = single _ s _ (boot_both Anywhere anywhere calls calls (λ t p. both_plain Anywhere _ t _ (started t p)) s).leads
 
       module _ (steps : AreRunSteps) (called : (s : KernelState) (p : Proc) (e : Event) → Lead (Unit {0}) s (calls.call s p e)) where
@@ -371,10 +355,10 @@ module _ (Keeps Stops : KernelState → KernelState → Type 0) where
         pub give_led : (s : KernelState) (x : Posted) (p : Proc) (there : Bool) → Lead (Unit {0}) s (give_of calls s x p there)
         give_led s x p there = single _ s _ (give_both Anywhere anywhere steps calls calls called_twice s x p there).leads
 
-        pub front_led : (q : List Posted) (s : KernelState) → Lead (Unit {0}) s (deliver_front calls q s)
+        pub front_led : (q : List Posted) (s : KernelState) → Lead (Unit {0}) s (do_event calls q s)
         front_led q s = single _ s _ (front_both Anywhere anywhere steps calls calls called_twice q s).leads
 
-        pub kernel_led : (s : KernelState) → Lead ℕ s (kernel_of calls s)
+        pub kernel_led : (s : KernelState) → Lead ℕ s (process_run calls s)
         kernel_led s = single _ s _ (kernel_both Anywhere anywhere steps calls calls called_twice s).leads
 
     -- the processes that may be exited, and the processes of the program that are observed
@@ -416,12 +400,12 @@ module _ (Keeps Stops : KernelState → KernelState → Type 0) where
         pub units : (s : KernelState) (n : ℕ) → n ≤ s.units → Keeps s (record s { units = n })
         pub busy : (s : KernelState) (p : Proc) → Keeps s (with_line s (what.Busy p))
         pub prints : (s : KernelState) (p v : ℕ) → Ours p → Keeps s (with_line s (what.Print (Own p) v))
-        pub polled : (s : KernelState) (p : Proc) → Keeps s (poll_of s p)
+        pub polled : (s : KernelState) (p : Proc) → Keeps s (process_poll s p)
         pub remainder : (s : KernelState) (p : ℕ) (r : Remainder) → Ours p → Keeps s (put_remainder s p r)
         pub fresh : (s : KernelState) (p : ℕ) → Ours p → Keeps s (with_fresh_body s p)
         pub variables : (s : KernelState) (p : ℕ) (vs : List ℕ) (units : ℕ) → Ours p → units ≤ s.units → Keeps s (record s { variables = slice_set s.variables p vs; units = units })
         pub sets : (s : KernelState) (timer start interval : ℕ) (owner : Proc) → has_timer s timer ≡ true
-            → Keeps s (timer_is_set (record s { timers = with_timer s.timers timer (record { start = start; interval = interval; owner = Some owner }) }) timer)
+            → Keeps s (add_timer (record s { timers = with_timer s.timers timer (record { start = start; interval = interval; owner = Some owner }) }) timer)
         pub stops : (s : KernelState) (timer : ℕ) → Keeps s (record s { timers = stop_timer s.timers timer })
         pub purges : (s : KernelState) (p : Proc) → Keeps s (record s { timers = purge_timers s.timers p })
         pub callbacks : (s : KernelState) (ts : List ℕ) → Keeps s (record s { callbacks = ts })
@@ -472,7 +456,7 @@ module _ (Keeps Stops : KernelState → KernelState → Type 0) where
         unfolding spend_of
         spend_led s = lead_if _ s (s.units == 0) _ _ (lead_halts _ s) (lead_goes _ s tt _ (steps.units s _ (omega arith)))
 
-        pub post_led : (s : KernelState) (t : Target) (e : Event) → FitsTarget t e.number → Lead Bool s (post_of s t e)
+        pub post_led : (s : KernelState) (t : Target) (e : Event) → FitsTarget t e.number → Lead Bool s (process_post s t e)
         post_led s t e f = lead_post s t e (steps.halts s) (steps.full s t e) (steps.posts s t e f)
 
         pub send_led : (s : KernelState) (v : ℕ) → Lead (Unit {0}) s (send_of s v)
@@ -481,20 +465,20 @@ module _ (Keeps Stops : KernelState → KernelState → Type 0) where
         pub enlist_led : (s : KernelState) (p : Proc) → IsOurs p → is_busy s p ≡ false → has_process s p ≡ true → is_listed s p ≡ false → Lead (Unit {0}) s (enlist_of s p)
         enlist_led s p o b h l = subst (λ o. Lead (Unit {0}) s o) (sym (enlist_is s p)) (lead_goes _ s tt _ (steps.starts s p o b h l))
 
-        sets_kept : (s : KernelState) (t n p : ℕ) → Keeps s (set_of s t n p)
-        unfolding set_of set_timer
+        sets_kept : (s : KernelState) (t n p : ℕ) → Keeps s (etimer_set s t n p)
+        unfolding etimer_set set_timer
         sets_kept s t n p = keeps_cases s (has_timer s t) _ s (λ there. steps.sets s t _ _ _ there) (λ none. chain.same s)
 
-        resets_kept : (s : KernelState) (t p : ℕ) → Keeps s (reset_of s t p)
-        unfolding reset_of reset_timer
+        resets_kept : (s : KernelState) (t p : ℕ) → Keeps s (etimer_reset s t p)
+        unfolding etimer_reset reset_timer
         resets_kept s t p = keeps_cases s (has_timer s t) _ s (λ there. steps.sets s t _ _ _ there) (λ none. chain.same s)
 
-        restarts_kept : (s : KernelState) (t p : ℕ) → Keeps s (restart_of s t p)
-        unfolding restart_of restart_timer
+        restarts_kept : (s : KernelState) (t p : ℕ) → Keeps s (etimer_restart s t p)
+        unfolding etimer_restart restart_timer
         restarts_kept s t p = keeps_cases s (has_timer s t) _ s (λ there. steps.sets s t _ _ _ there) (λ none. chain.same s)
 
-        stops_kept : (s : KernelState) (t : ℕ) → Keeps s (stop_of s t)
-        unfolding stop_of
+        stops_kept : (s : KernelState) (t : ℕ) → Keeps s (etimer_stop s t)
+        unfolding etimer_stop
         stops_kept s t = keeps_if s (has_timer s t) _ s (chain.joined s _ _ (steps.stops s t) (steps.callbacks _ _)) (chain.same s)
 
         fired_kept : (s : KernelState) (t : ℕ) → Keeps s (fired_of s t)
@@ -550,14 +534,14 @@ module _ (Keeps Stops : KernelState → KernelState → Type 0) where
         walks_led zero s = lead_still _ s tt
         walks_led (suc k) s = walk_timers_led (walks_of k) (walks_led k) s.timers.listed s
 
-        pub etimer_led : (s : KernelState) (e : Event) → Lead (Unit {0}) s (etimer_of s e)
-        unfolding etimer_of pass_of
+        pub etimer_led : (s : KernelState) (e : Event) → Lead (Unit {0}) s (etimer_process s e)
+        unfolding etimer_process pass_of
         etimer_led s e =
             lead_if _ s (is_system_event Poll e) _ _ (walks_led _ s) (lead_if _ s (is_system_event Exited e) _ _ (lead_goes _ s tt _ (purged_kept s e.word)) (lead_still _ s tt))
 
         -- the radio process
-        pub radio_led : (s : KernelState) (e : Event) → Lead (Unit {0}) s (radio_of s e)
-        unfolding radio_of
+        pub radio_led : (s : KernelState) (e : Event) → Lead (Unit {0}) s (radio_process s e)
+        unfolding radio_process
         radio_led s e = lead_if _ s (is_system_event Poll e) _ _ (empty_led steps.ring s.program.receiver s.ring s refl refl) (lead_still _ s tt)
 
         module _ (Holds : KernelState → Type 0) (on : (s t : KernelState) → Keeps s t → Holds s → Holds t) (opens : (s : KernelState) (p : Proc) → Holds s → Holds (with_state s p Called)) (exits : (s : KernelState) (p : Proc) → Holds s → Holds (exiting_of s p))
@@ -592,8 +576,8 @@ module _ (Keeps Stops : KernelState → KernelState → Type 0) where
           callback_both s e =
               both_option Holds (Unit {0}) TimerOfProgram s (slice_get s.program.timers e.word) (Goes tt s) (Goes tt s) _ _ (both_still Holds _ s tt) (λ t. code_both s e t.process (slice_get s.program.codes t.process) refl)
 
-          ctimer_both : (s : KernelState) (e : Event) → Both Holds (Unit {0}) s (ctimer_of a s e) (ctimer_of b s e)
-          unfolding ctimer_of
+          ctimer_both : (s : KernelState) (e : Event) → Both Holds (Unit {0}) s (ctimer_process a s e) (ctimer_process b s e)
+          unfolding ctimer_process
           ctimer_both s e =
               both_if Holds _ s (is_system_event Timer e && waits_for s e.word) _ _ _ _ (both_from Holds on _ s _ _ _ (steps.callbacks s _) (callback_both _ e)) (both_still Holds _ s tt)
 
@@ -624,8 +608,8 @@ module _ (Keeps Stops : KernelState → KernelState → Type 0) where
               both_nested Holds (Unit {0}) (Unit {0}) (Unit {0}) s (walk_of a (own_event Exited (process_number p)) p ms t) (walk_of b (own_event Exited (process_number p)) p ms t) (λ _ u. if is_same p f then Goes tt u else last_run_of a u p) (λ _ u. if is_same p f then Goes tt u else last_run_of b u p) (λ _ v. leave_of v p) (λ _ v. leave_of v p)
               (let h = exiting_both t p f ms o in record { leads = left_led s t p _ h.leads kept stopped; same = λ x. ap (λ y. y >>= λ _ v. leave_of v p) (h.same (holds x)) })
 
-          pub exit_both : (s : KernelState) (p f : Proc) → IsOurs p → Leaves p → is_busy s p ≡ false → Both Holds (Unit {0}) s (exit_of a s p f) (exit_of b s p f)
-          unfolding exit_of
+          pub exit_both : (s : KernelState) (p f : Proc) → IsOurs p → Leaves p → is_busy s p ≡ false → Both Holds (Unit {0}) s (exit_process a s p f) (exit_process b s p f)
+          unfolding exit_process
           exit_both s p f o l b =
               both_cases Holds _ s (is_listed s p) _ _ _ _ (λ i. leaves_both s (exiting_of s p) p f s.members o (exits s p) (λ u k. steps.brackets.exit s u p o l b i k) (λ u k. steps.brackets.exit_stops s u p o l b i k)) (λ i. both_still Holds _ s tt)
 
@@ -634,19 +618,19 @@ module _ (Keeps Stops : KernelState → KernelState → Type 0) where
           parts true true e = absurd (cc)
           parts false c e = absurd (cc)
 
-          pub start_both : (s : KernelState) (p : Proc) → IsOurs p → Both Holds (Unit {0}) s (start_of a s p) (start_of b s p)
-          unfolding start_of
+          pub start_both : (s : KernelState) (p : Proc) → IsOurs p → Both Holds (Unit {0}) s (process_start a s p) (process_start b s p)
+          unfolding process_start
           start_both s p o =
               both_cases Holds _ s (is_busy s p) _ _ _ _ (λ b. both_plain Holds _ s _ (busy_led s p)) (λ b. both_cases Holds _ s (has_process s p && not (is_listed s p)) _ _ _ _ (λ l.
               let h = parts (has_process s p) _ l in
               both_bind Holds on _ _ s _ _ _ _ (both_plain Holds _ _ _ (enlist_led s p o b h.0 h.1)) (λ a t. are.call t p _ (fits_no_exit p _ refl))) (λ l. both_still Holds _ s tt))
 
-          pub kill_both : (s : KernelState) (p : Proc) (current : ℕ) → IsOurs p → Leaves p → Both Holds (Unit {0}) s (kill_of a s p current) (kill_of b s p current)
-          unfolding kill_of
+          pub kill_both : (s : KernelState) (p : Proc) (current : ℕ) → IsOurs p → Leaves p → Both Holds (Unit {0}) s (process_exit a s p current) (process_exit b s p current)
+          unfolding process_exit
           kill_both s p current o l = both_cases Holds _ s (is_busy s p) _ _ _ _ (λ b. both_plain Holds _ s _ (busy_led s p)) (λ b. exit_both s p (Own current) o l b)
 
           -- the operations of a thread, if each start and each kill consists of steps
-          module _ (started : (s : KernelState) (p : Proc) → Both Holds (Unit {0}) s (start_of a s p) (start_of b s p)) (killed : (s : KernelState) (p : Proc) (current : ℕ) → Leaves p → Both Holds (Unit {0}) s (kill_of a s p current) (kill_of b s p current)) where
+          module _ (started : (s : KernelState) (p : Proc) → Both Holds (Unit {0}) s (process_start a s p) (process_start b s p)) (killed : (s : KernelState) (p : Proc) (current : ℕ) → Leaves p → Both Holds (Unit {0}) s (process_exit a s p current) (process_exit b s p current)) where
             pub act_both : (s : KernelState) (current : ℕ) (o : Op) → Allowed current o → Both Holds (Unit {0}) s (act_of a s current o) (act_of b s current o)
             unfolding act_of write_of
             act_both s current (op.Post t e w) f = both_still Holds _ s tt
@@ -685,7 +669,7 @@ module _ (Keeps Stops : KernelState → KernelState → Type 0) where
 
           -- a call that has led from s to t
           answered_both : (s t : KernelState) (p : Proc) (ends : Bool) → IsOurs p → is_running s p ≡ true → (ends ≡ true → Leaves p) → Keeps (with_state s p Called) t → Both Holds (Unit {0}) s (answered a t p ends) (answered b t p ends)
-          unfolding answered exit_of
+          unfolding answered exit_process
           answered_both s t p true o r l k =
               both_cases Holds _ s (is_listed t p) _ _ _ _ (λ i. leaves_both s (exiting_of t p) p p t.members o (λ x. exits t p (on _ t k (opens s p x))) (λ u h. steps.brackets.last s t u p o (l refl) r k i h) (λ u h. steps.brackets.last_stops s t u p o (l refl) r k i h))
               (λ i. both_goes Holds _ s tt t (steps.brackets.gone s t p o r k i))
@@ -722,8 +706,8 @@ module _ (Keeps Stops : KernelState → KernelState → Type 0) where
           spent_both s p e true o r f = both_plain Holds _ s _ (lead_halts _ s)
           spent_both s p e false o r f = both_from Holds on _ s _ _ _ (steps.units s _ (omega arith)) (called_both _ p e o r f)
 
-          pub call_both : (s : KernelState) (p : Proc) (e : Event) → IsOurs p → Fits p e.number → Both Holds (Unit {0}) s (call_of a s p e) (call_of b s p e)
-          unfolding call_of spend_of
+          pub call_both : (s : KernelState) (p : Proc) (e : Event) → IsOurs p → Fits p e.number → Both Holds (Unit {0}) s (call_process a s p e) (call_process b s p e)
+          unfolding call_process spend_of
           call_both s p e o f = both_cases Holds _ s (is_running s p) _ _ _ _ (λ r. spent_both s p e _ o r f) (λ r. both_still Holds _ s tt)
 
         -- the same with one set of calls
@@ -735,20 +719,20 @@ module _ (Keeps Stops : KernelState → KernelState → Type 0) where
             callback = λ s code p e is. both_plain Anywhere _ s _ (are.callback s code p e is);
           }
 
-          pub start_led : (s : KernelState) (p : Proc) → IsOurs p → Lead (Unit {0}) s (start_of calls s p)
+          pub start_led : (s : KernelState) (p : Proc) → IsOurs p → Lead (Unit {0}) s (process_start calls s p)
           start_led s p o = single _ s _ (start_both Anywhere anywhere (λ t q x. tt) (λ t q x. tt) calls calls twice s p o).leads
 
-          pub kill_led : (s : KernelState) (p : Proc) (current : ℕ) → IsOurs p → Leaves p → Lead (Unit {0}) s (kill_of calls s p current)
+          pub kill_led : (s : KernelState) (p : Proc) (current : ℕ) → IsOurs p → Leaves p → Lead (Unit {0}) s (process_exit calls s p current)
           kill_led s p current o l = single _ s _ (kill_both Anywhere anywhere (λ t q x. tt) (λ t q x. tt) calls calls twice s p current o l).leads
 
-          pub call_led : (s : KernelState) (p : Proc) (e : Event) → IsOurs p → Fits p e.number → Lead (Unit {0}) s (call_of calls s p e)
+          pub call_led : (s : KernelState) (p : Proc) (e : Event) → IsOurs p → Fits p e.number → Lead (Unit {0}) s (call_process calls s p e)
           call_led s p e o f = single _ s _ (call_both Anywhere anywhere (λ t q x. tt) (λ t q x. tt) calls calls twice s p e o f).leads
 
-          module _ (started : (s : KernelState) (p : Proc) → Lead (Unit {0}) s (start_of calls s p)) (killed : (s : KernelState) (p : Proc) (current : ℕ) → Leaves p → Lead (Unit {0}) s (kill_of calls s p current)) where
-            starts_twice : (s : KernelState) (p : Proc) → Both Anywhere (Unit {0}) s (start_of calls s p) (start_of calls s p)
+          module _ (started : (s : KernelState) (p : Proc) → Lead (Unit {0}) s (process_start calls s p)) (killed : (s : KernelState) (p : Proc) (current : ℕ) → Leaves p → Lead (Unit {0}) s (process_exit calls s p current)) where
+            starts_twice : (s : KernelState) (p : Proc) → Both Anywhere (Unit {0}) s (process_start calls s p) (process_start calls s p)
             starts_twice s p = both_plain Anywhere _ s _ (started s p)
 
-            kills_twice : (s : KernelState) (p : Proc) (current : ℕ) → Leaves p → Both Anywhere (Unit {0}) s (kill_of calls s p current) (kill_of calls s p current)
+            kills_twice : (s : KernelState) (p : Proc) (current : ℕ) → Leaves p → Both Anywhere (Unit {0}) s (process_exit calls s p current) (process_exit calls s p current)
             kills_twice s p current l = both_plain Anywhere _ s _ (killed s p current l)
 
             pub act_led : (s : KernelState) (current : ℕ) (x : Op) → Allowed current x → Lead (Unit {0}) s (act_of calls s current x)
@@ -765,7 +749,7 @@ module _ (Keeps Stops : KernelState → KernelState → Type 0) where
       ours Ctimer = tt
       ours Radio = tt
 
-      pub start_all : (calls : Calls) → AreLed Leaves Every calls → (s : KernelState) (p : Proc) → Lead (Unit {0}) s (start_of calls s p)
+      pub start_all : (calls : Calls) → AreLed Leaves Every calls → (s : KernelState) (p : Proc) → Lead (Unit {0}) s (process_start calls s p)
       start_all calls are s p = start_led Leaves Every steps calls are s p (ours p)
 
       run_all : (calls : Calls) → AreLed Leaves Every calls → (s : KernelState) (code : Code) (r : Remainder) (p : ℕ) (e : Event) → Lead Answer s (run_of calls s code r p e)
@@ -785,7 +769,7 @@ module _ (Keeps Stops : KernelState → KernelState → Type 0) where
       called_at : (s : KernelState) (p : Proc) (e : Event) → Lead (Unit {0}) s ((calls_of depth).call s p e)
       called_at s p e = (calls_led AnyProcess steps depth).call s p e (λ q. tt)
 
-      pub runs_led : (s : KernelState) → Lead ℕ s (kernel_of (calls_of depth) s)
+      pub runs_led : (s : KernelState) → Lead ℕ s (process_run (calls_of depth) s)
       runs_led s = kernel_led (calls_of depth) run_steps called_at s
 
       pub boots_led : (s : KernelState) → Lead ℕ s (boot_of (calls_of depth) s)

@@ -9,17 +9,14 @@ use Rattle.radio_packet.specs.declared.arrival.Arrival.{Arrival}
 use Rattle.trace_lines.specs.declared.line.Line.{Line}
 use Rattle.radio_packet.specs.declared.sent.Sent.{Sent}
 use Rattle.process_kernel.specs.declared.kernel.Ran.TheVariants as ran
-use Rattle.process_kernel.specs.State.{KernelState, Outcome, Went, Ends, Goes, ◌>>=◌}
-use Rattle.process_kernel.specs.Processes.{is_running, process_needs_poll, process_state, with_state, with_needs_poll}
-use Rattle.process_kernel.specs.Calls.{Calls, own_event, is_system_event}
-use Rattle.process_kernel.specs.Radio.{radio_of}
-use Rattle.process_kernel.specs.Reaction.{react_of}
-use Rattle.process_kernel.specs.Call.{has_ended, answered, call_of, calls_of}
-use Rattle.process_kernel.specs.Polls.{walk_polls}
-use Rattle.process_kernel.specs.Run.{begun_of, kernel_of, most_units}
-use Rattle.process_kernel.specs.Writes.{spend_of}
-use Rattle.process_kernel.specs.KernelModel.{KernelModel}
-use Rattle.process_kernel.specs.Given.{given, begun, run_given}
+use Rattle.process_kernel.specs.State.{KernelState, Outcome, Went, Ends, Goes, ◌>>=◌, Calls, spend_of}
+use Rattle.process_kernel.specs.ProcessList.{is_running, process_needs_poll, process_state, with_state, with_needs_poll}
+use Rattle.process_kernel.specs.Posts.{own_event, is_system_event}
+use Rattle.process_kernel.specs.Radio.{radio_process}
+use Rattle.process_kernel.specs.Thread.{react_of, has_ended}
+use Rattle.process_kernel.specs.Process.{answered, call_process, walk_polls, process_run}
+use Rattle.process_kernel.specs.Operations.{calls_of}
+use Rattle.process_kernel.specs.KernelModel.{begun_of, most_units, KernelModel, given, begun, run_given}
 use Rattle.kernel_laws.specs.Own.{IsOwnProcess}
 use Rattle.kernel_laws.specs.Going.{IsNote}
 use Rattle.kernel_laws.specs.Poll.{PollWaits, members_before}
@@ -55,8 +52,8 @@ emptied_by : (s : KernelState) (o : Went) → IfGoes (Empties s.program.receiver
 emptied_by s (Ends t) h = tt
 emptied_by s (Goes a t) h = h.empty
 
-radio_empties : (s : KernelState) → IfGoes (λ t. t.ring ≡ []) (radio_of s (own_event Poll 0))
-unfolding radio_of
+radio_empties : (s : KernelState) → IfGoes (λ t. t.ring ≡ []) (radio_process s (own_event Poll 0))
+unfolding radio_process
 radio_empties s = emptied_by s _ (ring_empties s.program.receiver s.ring s refl)
 
 answers_empty : (calls : Calls) (o : Went) → IfGoes (λ t. t.ring ≡ []) o → IfGoes (λ t. t.ring ≡ []) ((o >>= λ _ s1. Goes Yielded s1) >>= λ answer s2. answered calls s2 Radio (has_ended answer || is_system_event Exit (own_event Poll 0)))
@@ -64,13 +61,13 @@ unfolding answered with_state
 answers_empty calls (Ends t) h = tt
 answers_empty calls (Goes a t) h = h
 
-call_empties : (calls : Calls) (s : KernelState) → is_running s Radio ≡ true → IfGoes (λ t. t.ring ≡ []) (call_of calls s Radio (own_event Poll 0))
-unfolding call_of spend_of react_of
+call_empties : (calls : Calls) (s : KernelState) → is_running s Radio ≡ true → IfGoes (λ t. t.ring ≡ []) (call_process calls s Radio (own_event Poll 0))
+unfolding call_process spend_of react_of
 call_empties calls s running = rw running (by (s.units == 0))
   where
     by : (b : Bool) → IfGoes (λ t. t.ring ≡ []) (spent s b >>= λ _ s1. react_of calls (with_state s1 Radio Called) Radio (own_event Poll 0) >>= λ answer s2. answered calls s2 Radio (has_ended answer || is_system_event Exit (own_event Poll 0)))
     by true = tt
-    by false = let t = with_state (record s { units = s.units - 1 }) Radio Called in answers_empty calls (radio_of t (own_event Poll 0)) (radio_empties t)
+    by false = let t = with_state (record s { units = s.units - 1 }) Radio Called in answers_empty calls (radio_process t (own_event Poll 0)) (radio_empties t)
 
 -- the properties of the calls that nest one less deep
 record AreHeard (calls : Calls) : Type 0 where
@@ -118,8 +115,8 @@ module _ (calls : Calls) (are : AreHeard calls) where
       let none : b.midst.ring ≡ [] = subst (IfGoes (λ v. v.ring ≡ [])) call (are.empties (with_needs_poll u Radio false) running) in
       empty_by _ b.midst t tt _ b.second (polls_led RingGoes RingHalts ring.chain calls ring.run_steps.unrequested ring.run_steps.cleared (λ v q. are.rings.call v q _ (λ x. tt)) k.after b.midst) none
 
-  run_emptied : (s t : KernelState) (n : ℕ) → IsInState true s → PollWaits Radio s → kernel_of calls s ≡ Goes n t → t.ring ≡ []
-  unfolding kernel_of
+  run_emptied : (s t : KernelState) (n : ℕ) → IsInState true s → PollWaits Radio s → process_run calls s ≡ Goes n t → t.ring ≡ []
+  unfolding process_run
   run_emptied s t n h w goes =
       let a = through _ _ _ _ _ _ goes in
       let b = through _ _ _ _ _ _ a.second in
@@ -127,7 +124,7 @@ module _ (calls : Calls) (are : AreHeard calls) where
       let last : b.midst.ring ≡ t.ring = cc in
       sym last ∙ empty_by _ a.midst b.midst tt _ b.first (front_led RingGoes RingHalts ring.chain calls ring.run_steps (λ v q e. are.rings.call v q e (λ x. tt)) a.midst.queue.events a.midst) none
 
-given_emptied : (moment : ℕ) (m : KernelModel) (lines : List Line) (sends : List Sent) (o : Outcome ℕ) → IsAtRest m.state → PollWaits Radio m.state → kernel_of (calls_of (most_units + 1)) (begun m moment lines sends) ≡ o → (given o).mote.halted ≡ false → (given o).mote.state.ring ≡ []
+given_emptied : (moment : ℕ) (m : KernelModel) (lines : List Line) (sends : List Sent) (o : Outcome ℕ) → IsAtRest m.state → PollWaits Radio m.state → process_run (calls_of (most_units + 1)) (begun m moment lines sends) ≡ o → (given o).mote.halted ≡ false → (given o).mote.state.ring ≡ []
 unfolding begun_of
 given_emptied moment m lines sends (Ends t) rest w e h = absurd (cc)
 given_emptied moment m lines sends (Goes n t) rest w e h =
@@ -141,7 +138,7 @@ still_running : (moment : ℕ) (m : KernelModel) (lines : List Line) (sends : Li
 unfolding run_given
 still_running moment m lines sends = by m.halted refl
   where
-    by : (b : Bool) → m.halted ≡ b → (if b then record { ran = ran.Halted; mote = m; lines = lines; sends = sends } else given (kernel_of (calls_of (most_units + 1)) (begun m moment lines sends))).mote.halted ≡ false → m.halted ≡ false
+    by : (b : Bool) → m.halted ≡ b → (if b then record { ran = ran.Halted; mote = m; lines = lines; sends = sends } else given (process_run (calls_of (most_units + 1)) (begun m moment lines sends))).mote.halted ≡ false → m.halted ≡ false
     by true e h = h
     by false e h = e
 

@@ -8,15 +8,11 @@ use Rattle.event_queue.specs.declared.queue.Posted.{Posted}
 use Rattle.process_kernel.specs.declared.process.ProcessState.{ProcessState}
 use Rattle.process_kernel.specs.declared.process.ProcessState.TheVariants.{Off, Running, Called}
 use Rattle.process_kernel.specs.declared.process.Member.{Member}
-use Rattle.process_kernel.specs.Members.{place_of}
-use Rattle.process_kernel.specs.State.{KernelState, Outcome}
-use Rattle.process_kernel.specs.Processes.{process_state, has_process, is_busy, is_running, is_running_state, is_called_state, at_process, with_state, with_exiting, with_needs_poll}
-use Rattle.process_kernel.specs.ProcessList.{put_remainder, exiting_of, unlisted_of}
-use Rattle.process_kernel.specs.Calls.{Calls}
-use Rattle.process_kernel.specs.Call.{calls_of}
-use Rattle.process_kernel.specs.Polls.{walk_polls}
-use Rattle.process_kernel.specs.Delivery.{give_of}
-use Rattle.process_kernel.specs.Posts.{poll_of}
+use Rattle.process_kernel.specs.ProcessList.{place_of, process_state, has_process, is_busy, is_running, is_running_state, is_called_state, at_process, with_state, with_exiting, with_needs_poll, put_remainder, exiting_of, unlisted_of}
+use Rattle.process_kernel.specs.State.{KernelState, Outcome, Calls}
+use Rattle.process_kernel.specs.Operations.{calls_of}
+use Rattle.process_kernel.specs.Process.{walk_polls, give_of}
+use Rattle.process_kernel.specs.Posts.{process_poll}
 use Rattle.kernel_laws.specs.InStep.{state_at_place, exiting_at, listed_in, AreInStep, IsInStep, IsAsBusy}
 use Rattle.kernel_laws.proofs.EachStep.{Every, AnyProcess, Whatever, Lead, AreJoined, AreBrackets, AreSteps, AreRunSteps, AreLed, with_started, without_process, keeps_set, calls_led, polls_led, give_led, polled_or_not}
 use Rattle.kernel_laws.proofs.Tables.{set_same, set_other, is_entry, is_equal, left_out, left_in, first_listed, others_listed, DiffersAt, in_step_but, state_differs, exiting_differs, differs_twice, state_set, exiting_set, below_of}
@@ -61,7 +57,7 @@ chain = record {
 steps_still : (s t : KernelState) → IsStill s t → KeepsStep s t
 steps_still s t q = record { kept = keeps_still s t q }
 
-pub poll_still : (s : KernelState) (p : Proc) → IsStill s (poll_of s p)
+pub poll_still : (s : KernelState) (p : Proc) → IsStill s (process_poll s p)
 unfolding with_needs_poll
 poll_still s p = polled_or_not (IsStill s) s p (record { states = refl; exiting = refl; members = refl }) (still s)
 

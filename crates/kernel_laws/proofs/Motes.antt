@@ -8,16 +8,14 @@ use Rattle.program_tree.specs.declared.event.Proc.{Proc}
 use Rattle.trace_lines.specs.declared.line.Line.{Line}
 use Rattle.trace_lines.specs.declared.line.What.{What}
 use Rattle.trace_lines.specs.declared.line.What.TheVariants as what
-use Rattle.process_kernel.specs.Processes.{is_alive, process_state, with_needs_poll}
+use Rattle.process_kernel.specs.ProcessList.{is_alive, process_state, with_needs_poll}
 use Rattle.radio_packet.specs.declared.sent.Sent.{Sent}
 use Rattle.radio_packet.specs.declared.arrival.Arrival.{Arrival}
 use Rattle.process_kernel.specs.State.{KernelState, Outcome, Ends, Goes}
-use Rattle.process_kernel.specs.KernelModel.{KernelModel, with_packet, with_poll}
-use Rattle.process_kernel.specs.Call.{calls_of}
-use Rattle.process_kernel.specs.Run.{begun_of, kernel_of, most_units}
-use Rattle.process_kernel.specs.Boot.{boot_of}
-use Rattle.process_kernel.specs.Posts.{poll_of}
-use Rattle.process_kernel.specs.Given.{Given, given, begun, boot_given, run_given}
+use Rattle.process_kernel.specs.KernelModel.{KernelModel, with_packet, with_poll, begun_of, most_units, Given, given, begun, boot_given, run_given}
+use Rattle.process_kernel.specs.Operations.{calls_of}
+use Rattle.process_kernel.specs.Process.{process_run, boot_of}
+use Rattle.process_kernel.specs.Posts.{process_poll}
 use Rattle.kernel_laws.specs.Seen.{seen_what, seen_lines, view_of}
 use Rattle.kernel_laws.specs.Going.{SystemStays, IsBlank, GoesWithAs, GoesWith, AppendsLines, IsNote, IsInOrder}
 use Rattle.kernel_laws.proofs.Steps.{IsQuiet, quiet, view_quiet, poll_quiet, calls_run}
@@ -40,7 +38,7 @@ traced_more lines s before sends g (Goes a t) r = record {
   };
 }
 
-pub run_rests : (m : KernelModel) (moment : ℕ) (before : List Line) (sends : List Sent) (walked : ℕ) → SystemStays m.state → RestsAt (machine_of m.state walked []) (record (m.state) { lines = before; sends = sends }) (kernel_of (calls_of (most_units + 1)) (begun m moment before sends))
+pub run_rests : (m : KernelModel) (moment : ℕ) (before : List Line) (sends : List Sent) (walked : ℕ) → SystemStays m.state → RestsAt (machine_of m.state walked []) (record (m.state) { lines = before; sends = sends }) (process_run (calls_of (most_units + 1)) (begun m moment before sends))
 run_rests m moment before sends walked h =
     let s = record (m.state) { lines = before; sends = sends } in
     let k : SystemStays s = record { stays = h.stays; fits = h.fits } in
@@ -83,8 +81,8 @@ boot_adds lines m moment before sends b g = boot_first lines m moment before sen
 
 -- polls and packets
 
-blank_poll : (s : KernelState) (p : Proc) → IsBlank s → IsBlank (poll_of s p)
-unfolding poll_of with_needs_poll
+blank_poll : (s : KernelState) (p : Proc) → IsBlank s → IsBlank (process_poll s p)
+unfolding process_poll with_needs_poll
 blank_poll s p k = elim (is_alive (process_state s p)) as (λ b. IsBlank (if b then record (with_needs_poll s p true) { poll_requested = true } else s)) [ true ↦ record { members = k.members; events = k.events; idle = k.idle; there = k.there } | false ↦ k ]
 
 traced_quiet : (lines : List Line) (s t : KernelState) → IsQuiet s t → view.GoesWithView (seen_lines lines) (view_of s) → view.GoesWithView (seen_lines lines) (view_of t)

@@ -9,11 +9,8 @@ use Rattle.protothread.specs.Remainder.{Remainder, fresh_of}
 use Rattle.trace_lines.specs.declared.line.What.TheVariants as what
 use Rattle.process_kernel.specs.declared.process.ProcessState.{ProcessState}
 use Rattle.process_kernel.specs.declared.process.ProcessState.TheVariants.{Off, Running}
-use Rattle.process_kernel.specs.Members.{place_of, is_found_in}
-use Rattle.process_kernel.specs.State.{KernelState}
-use Rattle.process_kernel.specs.Processes.{with_state, with_exiting, at_process, process_state}
-use Rattle.process_kernel.specs.ProcessList.{put_remainder, with_fresh_body, enlist_of, exiting_of, unlisted_of, leave_of}
-use Rattle.process_kernel.specs.Writes.{with_line, write_of}
+use Rattle.process_kernel.specs.ProcessList.{place_of, is_found_in, with_state, with_exiting, at_process, process_state, put_remainder, with_fresh_body, enlist_of, exiting_of, unlisted_of, leave_of}
+use Rattle.process_kernel.specs.State.{KernelState, with_line, write_of}
 use Rattle.kernel_laws.specs.Printed.{starts_and_prints}
 use Rattle.kernel_laws.specs.Telling.{ProcessInMote, process_in_mote}
 use Rattle.kernel_laws.proofs.Tables.{set_same, left_out, below_of}

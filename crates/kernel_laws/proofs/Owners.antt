@@ -12,15 +12,11 @@ use Rattle.mote_timers.specs.Timer.{unset, is_owned_by}
 use Rattle.mote_timers.specs.TimerLists.{TimerLists, timer_at, with_timer, stop_timer, purge_timers}
 use Rattle.trace_lines.specs.declared.line.Line.{Line}
 use Rattle.radio_packet.specs.declared.sent.Sent.{Sent}
-use Rattle.process_kernel.specs.State.{KernelState, Outcome, Ends, Goes}
-use Rattle.process_kernel.specs.Processes.{with_state, with_exiting, with_needs_poll}
-use Rattle.process_kernel.specs.ProcessList.{put_remainder, exiting_of, unlisted_of}
-use Rattle.process_kernel.specs.Posts.{poll_of}
-use Rattle.process_kernel.specs.TimerOperations.{has_timer, timer_is_set}
-use Rattle.process_kernel.specs.Writes.{halted_of}
-use Rattle.process_kernel.specs.Run.{begun_of, most_units}
-use Rattle.process_kernel.specs.KernelModel.{KernelModel}
-use Rattle.process_kernel.specs.Given.{given, begun, boot_given, run_given}
+use Rattle.process_kernel.specs.State.{KernelState, Outcome, Ends, Goes, halted_of}
+use Rattle.process_kernel.specs.ProcessList.{with_state, with_exiting, with_needs_poll, put_remainder, exiting_of, unlisted_of}
+use Rattle.process_kernel.specs.Posts.{process_poll}
+use Rattle.process_kernel.specs.Etimer.{has_timer, add_timer}
+use Rattle.process_kernel.specs.KernelModel.{begun_of, most_units, KernelModel, given, begun, boot_given, run_given}
 use Rattle.kernel_laws.specs.Due.{HaveOwners, BootKeepsOwners, RunKeepsOwners}
 use Rattle.kernel_laws.proofs.Timers.{further, other_timer}
 use Rattle.kernel_laws.proofs.Watch.{is_left}
@@ -66,11 +62,11 @@ owned_purged : (l : TimerLists) (p : Proc) → HaveOwners l → HaveOwners (purg
 unfolding purge_timers
 owned_purged l p h j listed = h j (is_left (λ k. not (is_owned_by p (timer_at l.timers k))) j l.listed listed).0
 
-pub poll_timers : (s : KernelState) (p : Proc) → (poll_of s p).timers ≡ s.timers
+pub poll_timers : (s : KernelState) (p : Proc) → (process_poll s p).timers ≡ s.timers
 unfolding with_needs_poll
 poll_timers s p = polled_or_not (λ t. t.timers ≡ s.timers) s p refl refl
 
-sets_own : (s : KernelState) (timer start interval : ℕ) (owner : Proc) → has_timer s timer ≡ true → Owns s (timer_is_set (record s { timers = with_timer s.timers timer (record { start = start; interval = interval; owner = Some owner }) }) timer)
+sets_own : (s : KernelState) (timer start interval : ℕ) (owner : Proc) → has_timer s timer ≡ true → Owns s (add_timer (record s { timers = with_timer s.timers timer (record { start = start; interval = interval; owner = Some owner }) }) timer)
 sets_own s timer start interval owner there =
     keeps_set Owns Owns chain s _ timer (λ callbacks. record { owns = owned_with s.timers timer _ there refl }) (λ t. owns_still t _ (poll_timers t Etimer))
 

@@ -9,11 +9,9 @@ use Rattle.program_tree.specs.Events.{system_number}
 use Rattle.radio_packet.specs.declared.arrival.Arrival.{Arrival}
 use Rattle.trace_lines.specs.declared.line.What.{What}
 use Rattle.trace_lines.specs.declared.line.What.TheVariants as what
-use Rattle.process_kernel.specs.State.{KernelState, Outcome, Went, Ends, Goes, ◌>>=◌}
-use Rattle.process_kernel.specs.Calls.{is_system_event}
-use Rattle.process_kernel.specs.Posts.{post_of}
-use Rattle.process_kernel.specs.Radio.{packet_of, hand_to, empty_ring, radio_of}
-use Rattle.process_kernel.specs.Writes.{write_of}
+use Rattle.process_kernel.specs.State.{KernelState, Outcome, Went, Ends, Goes, ◌>>=◌, write_of}
+use Rattle.process_kernel.specs.Posts.{is_system_event, process_post}
+use Rattle.process_kernel.specs.Radio.{packet_of, hand_to, empty_ring, radio_process}
 use Rattle.kernel_laws.specs.Polled.{TellsPost, Accepted, Refused, TellsPacket, TellEach, NoneLeft, TellsNext, lines_at, PacketsAreHanded}
 
 -- one line was written, and otherwise only the queue and the ring may have changed
@@ -37,8 +35,8 @@ pub goes_if : (A : Type 0) (P : KernelState → Type 0) (b : Bool) (o p : Outcom
 goes_if A P true o p h i = h
 goes_if A P false o p h i = i
 
-pub post_offers : (s : KernelState) (target : Target) (e : Event) → IfGoes (Offered target e.number e.word s) (post_of s target e)
-unfolding post_of write_of
+pub post_offers : (s : KernelState) (target : Target) (e : Event) → IfGoes (Offered target e.number e.word s) (process_post s target e)
+unfolding process_post write_of
 post_offers s target e =
     goes_if Bool (Offered target e.number e.word s) (nat_le (2 ^ 62) s.queue.accepted) _ _ tt
     (goes_if Bool (Offered target e.number e.word s) (nat_le s.queue.capacity (length s.queue.events)) _ _
@@ -55,7 +53,7 @@ goes_bind A B P Q (Goes a t) f h go = go a t h
 pub hand_tells : (receiver : Option ℕ) (s : KernelState) (a : Arrival) → IfGoes (Handed receiver s a) (hand_to receiver s a)
 unfolding hand_to write_of
 hand_tells (Some p) s a =
-    goes_bind Bool (Unit {0}) (Offered (One (Own p)) (system_number Packet) a.value s) (Handed (Some p) s a) (post_of s (One (Own p)) (packet_of a)) _ (post_offers s (One (Own p)) (packet_of a)) (λ full t h. h)
+    goes_bind Bool (Unit {0}) (Offered (One (Own p)) (system_number Packet) a.value s) (Handed (Some p) s a) (process_post s (One (Own p)) (packet_of a)) _ (post_offers s (One (Own p)) (packet_of a)) (λ full t h. h)
 hand_tells None s a = (record { telling = what.Deaf a.sender a.number; wrote = refl; moment = refl; program = refl; ring = refl; timers = refl }, refl)
 
 -- the ring of the first state holds these packets
@@ -83,8 +81,8 @@ ring_empties receiver (a ∷ later) s r =
     goes_on receiver a later s t h (Ends u) e = tt
     goes_on receiver a later s t h (Goes x u) e = empties_next receiver a later s t u h e
 
-polled : (s t : KernelState) (e : Event) → is_system_event Poll e ≡ true → radio_of s e ≡ Goes tt t → empty_ring s.program.receiver s.ring s ≡ Goes tt t
-unfolding radio_of
+polled : (s t : KernelState) (e : Event) → is_system_event Poll e ≡ true → radio_process s e ≡ Goes tt t → empty_ring s.program.receiver s.ring s ≡ Goes tt t
+unfolding radio_process
 polled s t e poll goes = sym (rw poll refl) ∙ goes
 
 pub packets_are_handed : PacketsAreHanded

@@ -13,14 +13,12 @@ use Rattle.mote_timers.specs.Timer.{is_due}
 use Rattle.mote_timers.specs.TimerLists.{timer_at}
 use Rattle.protothread.specs.declared.answer.PtState.TheVariants.{Yielded}
 use Rattle.process_kernel.specs.declared.process.ProcessState.TheVariants.{Running, Called}
-use Rattle.process_kernel.specs.State.{KernelState, Outcome, Went, Ends, Goes, ◌>>=◌}
-use Rattle.process_kernel.specs.Processes.{is_running, with_state}
-use Rattle.process_kernel.specs.Posts.{post_of, poll_of}
-use Rattle.process_kernel.specs.Writes.{write_of, spend_of, halted_of}
-use Rattle.process_kernel.specs.Calls.{Calls, own_event, is_system_event}
-use Rattle.process_kernel.specs.Etimer.{fired_of, post_due, walk_timers, walks_of, pass_of, etimer_of}
-use Rattle.process_kernel.specs.Reaction.{react_of}
-use Rattle.process_kernel.specs.Call.{has_ended, answered, call_of}
+use Rattle.process_kernel.specs.State.{KernelState, Outcome, Went, Ends, Goes, ◌>>=◌, write_of, spend_of, halted_of, Calls}
+use Rattle.process_kernel.specs.ProcessList.{is_running, with_state}
+use Rattle.process_kernel.specs.Posts.{process_post, process_poll, own_event, is_system_event}
+use Rattle.process_kernel.specs.Etimer.{fired_of, post_due, walk_timers, walks_of, pass_of, etimer_process}
+use Rattle.process_kernel.specs.Thread.{react_of, has_ended}
+use Rattle.process_kernel.specs.Process.{answered, call_process}
 use Rattle.kernel_laws.specs.Own.{IsOwnProcess}
 use Rattle.kernel_laws.specs.Polled.{TellsOfPost}
 use Rattle.kernel_laws.specs.Poll.{PollWaits, CanBePolled}
@@ -47,8 +45,8 @@ calls_forget_none depth s t p e fits can none goes =
 abbrev pub Forgets : KernelState → Type 0
 Forgets t = ForgetsNone t.moment t
 
-post_still : (s : KernelState) (t : Target) (e : Event) → IfGoes (IsStill s) (post_of s t e)
-unfolding post_of write_of
+post_still : (s : KernelState) (t : Target) (e : Event) → IfGoes (IsStill s) (process_post s t e)
+unfolding process_post write_of
 post_still s t e =
     goes_if Bool (IsStill s) (nat_le (2 ^ 62) s.queue.accepted) _ _ tt
     (goes_if Bool (IsStill s) (nat_le s.queue.capacity (length s.queue.events)) _ _
@@ -77,9 +75,9 @@ ahead_later s x ts not ahead id owner d = by (id == x) refl
 module _ (few : ℕ) (again : KernelState → Went) (led : (s : KernelState) → Watched (Unit {0}) s (again s)) (begins : (s : KernelState) → CanBePolled Etimer s → length s.timers.listed ≤ few → IfGoes Forgets (again s)) where
   -- the event was accepted, and the walk begins again; or the queue was full, and a poll of etimer is requested
   offered : (on : KernelState → Went) → ((s : KernelState) → Watched (Unit {0}) s (on s)) → (s u : KernelState) (x : ℕ) (full : Bool) → IsStill s u → CanBePolled Etimer s → length s.timers.listed ≤ suc few → is_member x s.timers.listed ≡ true
-      → IfGoes Forgets (if full then on (poll_of u Etimer) else again (fired_of u x))
+      → IfGoes Forgets (if full then on (process_poll u Etimer) else again (fired_of u x))
   unfolding fired_of
-  offered on led_on s u x true q can within there = waits_on (poll_of u Etimer) _ (waits_now Etimer u ((watches_still Etimer s u q).etimer.can can)) (led_on (poll_of u Etimer))
+  offered on led_on s u x true q can within there = waits_on (process_poll u Etimer) _ (waits_now Etimer u ((watches_still Etimer s u q).etimer.can can)) (led_on (process_poll u Etimer))
   offered on led_on s u x false q can within there = begins (fired_of u x) (can_fired u x ((watches_still Etimer s u q).etimer.can can)) (less_fired u x (rw (q.timers) there) (rw (q.timers) within))
     where
       can_fired : (u : KernelState) (x : ℕ) → CanBePolled Etimer u → CanBePolled Etimer (fired_of u x)
@@ -92,7 +90,7 @@ module _ (few : ℕ) (again : KernelState → Went) (led : (s : KernelState) →
       → (owner ≡ None → IfGoes Forgets (walk_timers again ts s)) → IfGoes Forgets (post_due again (walk_timers again ts) s x owner)
   due_forgets s x ts None o can within listed later = later refl
   due_forgets s x ts (Some p) o can within listed later =
-      goes_bind Bool (Unit {0}) (IsStill s) Forgets (post_of s (One p) (own_event Timer x)) _ (post_still s (One p) (own_event Timer x))
+      goes_bind Bool (Unit {0}) (IsStill s) Forgets (process_post s (One p) (own_event Timer x)) _ (post_still s (One p) (own_event Timer x))
       (λ full u q. offered (walk_timers again ts) (walk_timers_led (Watches Etimer) Whatever (chain Etimer) IsOwnProcess Every (steps Etimer) again led ts) s u x full q can within (listed x (first_member x ts)))
 
   walk_forgets : (ts : List ℕ) (s : KernelState) → CanBePolled Etimer s → length s.timers.listed ≤ suc few → AreListed ts s → AreAhead ts s → IfGoes Forgets (walk_timers again ts s)
@@ -119,8 +117,8 @@ pub record Serves (s t : KernelState) : Type 0 where
   pub forgets : ForgetsNone t.moment t
   pub tells : (timer : ℕ) (owner : Proc) → IsDueFor s.moment s.timers timer owner → TellsOfPost s t (One owner) (system_number Timer) timer
 
-pass_serves : (s : KernelState) (o : Went) → CanBePolled Etimer s → etimer_of s (own_event Poll 0) ≡ o → IfGoes (Serves s) o
-unfolding etimer_of pass_of
+pass_serves : (s : KernelState) (o : Went) → CanBePolled Etimer s → etimer_process s (own_event Poll 0) ≡ o → IfGoes (Serves s) o
+unfolding etimer_process pass_of
 pass_serves s (Ends t) can e = tt
 pass_serves s (Goes a t) can e = record {
   forgets = subst (IfGoes Forgets) e (walks_forget (length s.timers.listed) s can (omega arith));
@@ -151,12 +149,12 @@ answers_serve calls s s' (Goes a t) lines moment timers h = serves_like s s' t l
 abbrev pub spent : KernelState → (none : Bool) → Went
 spent s none = if none then Ends (halted_of s) else Goes tt (record s { units = s.units - 1 })
 
-pub call_serves : (calls : Calls) (s : KernelState) → is_running s Etimer ≡ true → CanBePolled Etimer s → IfGoes (Serves s) (call_of calls s Etimer (own_event Poll 0))
-unfolding call_of spend_of react_of with_state
+pub call_serves : (calls : Calls) (s : KernelState) → is_running s Etimer ≡ true → CanBePolled Etimer s → IfGoes (Serves s) (call_process calls s Etimer (own_event Poll 0))
+unfolding call_process spend_of react_of with_state
 call_serves calls s running can = rw running (by (s.units == 0))
   where
     by : (b : Bool) → IfGoes (Serves s) (spent s b >>= λ _ s1. react_of calls (with_state s1 Etimer Called) Etimer (own_event Poll 0) >>= λ answer s2. answered calls s2 Etimer (has_ended answer || is_system_event Exit (own_event Poll 0)))
     by true = tt
     by false =
         let s' = with_state (record s { units = s.units - 1 }) Etimer Called in
-        answers_serve calls s s' (etimer_of s' (own_event Poll 0)) refl refl refl (pass_serves s' _ ((alive_state Etimer etimer_system (record s { units = s.units - 1 }) Etimer Called refl).can (record { alive = can.alive; can_need_poll = can.can_need_poll })) refl)
+        answers_serve calls s s' (etimer_process s' (own_event Poll 0)) refl refl refl (pass_serves s' _ ((alive_state Etimer etimer_system (record s { units = s.units - 1 }) Etimer Called refl).can (record { alive = can.alive; can_need_poll = can.can_need_poll })) refl)

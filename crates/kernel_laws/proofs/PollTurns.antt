@@ -5,11 +5,10 @@ use Rattle.program_tree.specs.declared.event.Proc.{Proc}
 use Rattle.program_tree.specs.declared.event.Proc.TheVariants.{Own, Etimer, Ctimer, Radio}
 use Rattle.program_tree.specs.declared.event.SystemEvent.TheVariants.{Poll}
 use Rattle.process_kernel.specs.declared.process.Member.{Member}
-use Rattle.process_kernel.specs.Members.{place_of, is_same, is_found_in, holds_member}
-use Rattle.process_kernel.specs.State.{KernelState, Went, Ends, Goes, ◌>>=◌}
-use Rattle.process_kernel.specs.Processes.{process_needs_poll, is_on_list, with_needs_poll}
-use Rattle.process_kernel.specs.Calls.{Calls, own_event}
-use Rattle.process_kernel.specs.Polls.{walk_polls, polls_of, polls_due_of, poll_turn_of}
+use Rattle.process_kernel.specs.ProcessList.{place_of, is_same, is_found_in, holds_member, process_needs_poll, is_on_list, with_needs_poll}
+use Rattle.process_kernel.specs.State.{KernelState, Went, Ends, Goes, ◌>>=◌, Calls}
+use Rattle.process_kernel.specs.Posts.{own_event}
+use Rattle.process_kernel.specs.Process.{walk_polls, do_poll, do_poll_if_requested, poll_turn_of}
 use Rattle.kernel_laws.specs.Own.{IsOwnProcess}
 use Rattle.kernel_laws.specs.Poll.{members_before}
 use Rattle.kernel_laws.proofs.EachStep.{Every, Whatever, Lead, AreLed, fits_no_exit, lead_bind, lead_from, lead_if, lead_still}
@@ -49,8 +48,8 @@ walk_joined calls (x ∷ xs) ys s = by (poll_turn_of calls s x) (λ t. walk_join
     by (Goes a t) later = later t
 
 -- the polls, if a poll is requested
-pub polls_are : (calls : Calls) (s : KernelState) → s.poll_requested ≡ true → polls_due_of calls s ≡ walk_polls calls s.members (record s { poll_requested = false })
-unfolding polls_due_of polls_of
+pub polls_are : (calls : Calls) (s : KernelState) → s.poll_requested ≡ true → do_poll_if_requested calls s ≡ walk_polls calls s.members (record s { poll_requested = false })
+unfolding do_poll_if_requested do_poll
 polls_are calls s e = rw e refl
 
 module _ (p : Proc) where

@@ -18,13 +18,9 @@ use Rattle.trace_lines.specs.declared.line.What.{What}
 use Rattle.trace_lines.specs.declared.line.What.TheVariants as what
 use Rattle.process_kernel.specs.declared.process.ProcessState.{ProcessState}
 use Rattle.process_kernel.specs.declared.process.ProcessState.TheVariants.{Off, Running}
-use Rattle.process_kernel.specs.Members.{place_of, is_same}
-use Rattle.process_kernel.specs.State.{KernelState, Outcome, Ends, Goes}
-use Rattle.process_kernel.specs.Processes.{process_state, at_process, with_state, with_exiting, with_needs_poll}
-use Rattle.process_kernel.specs.ProcessList.{put_remainder, fresh_at, with_fresh_body, with_fresh_process, enlist_of}
-use Rattle.process_kernel.specs.ProcessList.{exiting_of, unlisted_of, leave_of}
-use Rattle.process_kernel.specs.Posts.{post_of, poll_of}
-use Rattle.process_kernel.specs.Writes.{with_line, write_of, halted_of}
+use Rattle.process_kernel.specs.ProcessList.{place_of, is_same, process_state, at_process, with_state, with_exiting, with_needs_poll, put_remainder, fresh_at, with_fresh_body, with_fresh_process, enlist_of, exiting_of, unlisted_of, leave_of}
+use Rattle.process_kernel.specs.State.{KernelState, Outcome, Ends, Goes, with_line, write_of, halted_of}
+use Rattle.process_kernel.specs.Posts.{process_post, process_poll}
 use Rattle.kernel_laws.specs.Printed.{starts_or_prints, starts_and_prints}
 use Rattle.kernel_laws.specs.Telling.{process_in_mote}
 use Rattle.kernel_laws.proofs.Steps.{others_stay}
@@ -134,7 +130,7 @@ module _ (p : ℕ) where
   unfolding with_needs_poll
   needs_poll_quiet s q b = refl
 
-  pub poll_quiet : (s : KernelState) (q : Proc) → IsQuiet s (poll_of s q)
+  pub poll_quiet : (s : KernelState) (q : Proc) → IsQuiet s (process_poll s q)
   unfolding with_needs_poll
   poll_quiet s q = polled_or_not (λ t. IsQuiet s t) s q refl refl
 
@@ -179,8 +175,8 @@ module _ (p : ℕ) where
   unfolding halted_of
   halted_quiet s = line_quiet s what.Halt refl
 
-  pub post_quiet : (s : KernelState) (t : Target) (e : Event) → Always (λ u. IsQuiet s u) (post_of s t e)
-  unfolding post_of write_of
+  pub post_quiet : (s : KernelState) (t : Target) (e : Event) → Always (λ u. IsQuiet s u) (process_post s t e)
+  unfolding process_post write_of
   post_quiet s t e =
       always_if (λ u. IsQuiet s u) (nat_le (2 ^ 62) s.queue.accepted) _ _ (halted_quiet s)
       (always_if (λ u. IsQuiet s u) (nat_le s.queue.capacity (length s.queue.events)) _ _ (line_quiet s _ refl) (line_quiet (record s { queue = with_posted s.queue t e }) _ refl))

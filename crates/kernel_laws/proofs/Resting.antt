@@ -9,15 +9,11 @@ use Rattle.program_tree.specs.Code.{Tree}
 use Rattle.process_kernel.specs.declared.process.ProcessState.{ProcessState}
 use Rattle.process_kernel.specs.declared.process.ProcessState.TheVariants.{Off, Running, Called}
 use Rattle.process_kernel.specs.declared.process.Member.{Member}
-use Rattle.process_kernel.specs.Members.{place_of}
-use Rattle.process_kernel.specs.State.{KernelState, Outcome, Went, Ends, Goes}
-use Rattle.process_kernel.specs.Processes.{is_running, is_running_state, is_called_state}
-use Rattle.process_kernel.specs.ProcessList.{numbered_from}
-use Rattle.process_kernel.specs.Calls.{Calls}
-use Rattle.process_kernel.specs.Call.{call_of, calls_of}
-use Rattle.process_kernel.specs.Run.{begun_of, most_units}
-use Rattle.process_kernel.specs.KernelModel.{KernelModel, at_rest, unbooted, with_packet, with_poll}
-use Rattle.process_kernel.specs.Given.{given, begun, boot_given, run_given}
+use Rattle.process_kernel.specs.ProcessList.{place_of, is_running, is_running_state, is_called_state, numbered_from}
+use Rattle.process_kernel.specs.State.{KernelState, Outcome, Went, Ends, Goes, Calls}
+use Rattle.process_kernel.specs.Process.{call_process}
+use Rattle.process_kernel.specs.Operations.{calls_of}
+use Rattle.process_kernel.specs.KernelModel.{begun_of, most_units, KernelModel, at_rest, unbooted, with_packet, with_poll, given, begun, boot_given, run_given}
 use Rattle.kernel_laws.specs.InStep.{state_at_place, exiting_at, listed_in, AreInStep, IsInStep, IsIdle}
 use Rattle.kernel_laws.specs.Traces.{KernelCall, RunAt, PollOf, Accepts, Notes, Traced, traced_after_call, traced_after_calls, booted_at}
 use Rattle.kernel_laws.specs.Laws.{OnlyTheRunningAreCalled, CallsKeepStep, ListedAreRunning}
@@ -124,8 +120,8 @@ out_of s t o e k = let l : Kept (Unit {0}) s (Goes tt t) = subst (λ x. Kept (Un
 pub calls_keep_step : CallsKeepStep
 calls_keep_step depth s t p e i q = let k = (out_of s t _ q ((calls_kept depth).call s p e (λ x. tt))).kept i in (k.step, k.busy)
 
-call_lost : (calls : Calls) (s : KernelState) (p : Proc) (e : Event) → is_running s p ≡ false → call_of calls s p e ≡ Goes tt s
-unfolding call_of
+call_lost : (calls : Calls) (s : KernelState) (p : Proc) (e : Event) → is_running s p ≡ false → call_process calls s p e ≡ Goes tt s
+unfolding call_process
 call_lost calls s p e r = rw r refl
 
 pub only_the_running : OnlyTheRunningAreCalled

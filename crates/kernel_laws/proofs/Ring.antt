@@ -9,15 +9,11 @@ use Rattle.trace_lines.specs.declared.line.Line.{Line}
 use Rattle.radio_packet.specs.declared.sent.Sent.{Sent}
 use Rattle.trace_lines.specs.declared.line.What.{What}
 use Rattle.trace_lines.specs.declared.line.What.TheVariants as what
-use Rattle.process_kernel.specs.State.{KernelState, Outcome, Ends, Goes}
-use Rattle.process_kernel.specs.Processes.{with_state, with_exiting, with_needs_poll}
-use Rattle.process_kernel.specs.ProcessList.{put_remainder, exiting_of, unlisted_of}
-use Rattle.process_kernel.specs.Posts.{poll_of}
-use Rattle.process_kernel.specs.TimerOperations.{timer_is_set}
-use Rattle.process_kernel.specs.Writes.{with_line, halted_of}
-use Rattle.process_kernel.specs.Run.{begun_of, most_units}
-use Rattle.process_kernel.specs.KernelModel.{KernelModel}
-use Rattle.process_kernel.specs.Given.{given, begun, unless_halted, boot_given, run_given}
+use Rattle.process_kernel.specs.State.{KernelState, Outcome, Ends, Goes, with_line, halted_of}
+use Rattle.process_kernel.specs.ProcessList.{with_state, with_exiting, with_needs_poll, put_remainder, exiting_of, unlisted_of}
+use Rattle.process_kernel.specs.Posts.{process_poll}
+use Rattle.process_kernel.specs.Etimer.{add_timer}
+use Rattle.process_kernel.specs.KernelModel.{begun_of, most_units, KernelModel, given, begun, unless_halted, boot_given, run_given}
 use Rattle.std.specs.List.{All}
 use Rattle.std.proofs.lemmas.List.Elements.{All-nil, All-cons, All-append}
 use Rattle.kernel_laws.specs.Going.{IsNote}
@@ -112,11 +108,11 @@ halts_from s u lines program = record {
   program = program;
 }
 
-polls_still : (s : KernelState) (p : Proc) → RingGoes s (poll_of s p)
+polls_still : (s : KernelState) (p : Proc) → RingGoes s (process_poll s p)
 unfolding with_needs_poll
 polls_still s p = keeps_poll RingGoes RingHalts chain s p (goes_still s _ (record { lines = refl; ring = refl; program = refl }))
 
-sets_still : (s : KernelState) (timers : TimerLists) (timer : ℕ) → RingGoes s (timer_is_set (record s { timers = timers }) timer)
+sets_still : (s : KernelState) (timers : TimerLists) (timer : ℕ) → RingGoes s (add_timer (record s { timers = timers }) timer)
 sets_still s timers timer = keeps_set RingGoes RingHalts chain s timers timer (λ callbacks. goes_still s _ (record { lines = refl; ring = refl; program = refl })) (λ t. polls_still t Etimer)
 
 -- the radio's poll

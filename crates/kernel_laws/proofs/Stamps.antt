@@ -6,11 +6,9 @@ use Rattle.program_tree.specs.declared.event.Proc.{Proc}
 use Rattle.program_tree.specs.declared.event.Proc.TheVariants.{Own, Etimer}
 use Rattle.trace_lines.specs.declared.line.What.{What}
 use Rattle.trace_lines.specs.declared.line.What.TheVariants as what
-use Rattle.process_kernel.specs.State.{KernelState, Outcome, Ends, Goes}
-use Rattle.process_kernel.specs.Processes.{with_state, with_exiting, with_needs_poll}
-use Rattle.process_kernel.specs.ProcessList.{put_remainder, exiting_of, unlisted_of}
-use Rattle.process_kernel.specs.Posts.{poll_of}
-use Rattle.process_kernel.specs.Writes.{with_line, halted_of}
+use Rattle.process_kernel.specs.State.{KernelState, Outcome, Ends, Goes, with_line, halted_of, Calls}
+use Rattle.process_kernel.specs.ProcessList.{with_state, with_exiting, with_needs_poll, put_remainder, exiting_of, unlisted_of}
+use Rattle.process_kernel.specs.Posts.{process_poll}
 use Rattle.std.specs.List.{range_with_len}
 use Rattle.std.proofs.lemmas.List.Elements.{All-nil, All-cons, All-append}
 use Rattle.radio_packet.specs.declared.sent.Sent.{Sent}
@@ -18,11 +16,8 @@ use Rattle.trace_lines.specs.declared.line.What.TheVariants.{Halt}
 use Rattle.kernel_laws.specs.Stamps.{PacketsBear, AreNumberedFrom, Stamped, state_after, GivesStamped}
 use Rattle.kernel_laws.proofs.Steps.{lines_joined}
 use Rattle.kernel_laws.proofs.EachStep.{Every, AnyProcess, Lead, AreJoined, AreSteps, AreRunSteps, keeps_set, brackets_of, AreLed, calls_led, runs_led, boots_led, unless_halts, polled_or_not}
-use Rattle.process_kernel.specs.Calls.{Calls}
-use Rattle.process_kernel.specs.Call.{calls_of}
-use Rattle.process_kernel.specs.Run.{begun_of, most_units}
-use Rattle.process_kernel.specs.KernelModel.{KernelModel}
-use Rattle.process_kernel.specs.Given.{given, begun, unless_halted, boot_given, run_given}
+use Rattle.process_kernel.specs.Operations.{calls_of}
+use Rattle.process_kernel.specs.KernelModel.{begun_of, most_units, KernelModel, given, begun, unless_halted, boot_given, run_given}
 use Rattle.trace_lines.specs.declared.line.Line.{Line}
 use Rattle.kernel_laws.specs.Laws.{CallsStamp, BootStamps, RunStamps}
 
@@ -135,7 +130,7 @@ keeps_written s u w q = keeps_twice s u _ (keeps_still s u q) (keeps_line u w)
 
 -- steps without output
 
-pub poll_still : (s : KernelState) (p : Proc) → IsStill s (poll_of s p)
+pub poll_still : (s : KernelState) (p : Proc) → IsStill s (process_poll s p)
 unfolding with_needs_poll
 poll_still s p = polled_or_not (IsStill s) s p (record { lines = refl; sends = refl; sent = refl; moment = refl; mote = refl; program = refl }) (still s)
 

@@ -20,14 +20,10 @@ use Rattle.trace_lines.specs.declared.line.Line.{Line}
 use Rattle.trace_lines.specs.declared.line.What.{What}
 use Rattle.trace_lines.specs.declared.line.What.TheVariants as what
 use Rattle.process_kernel.specs.declared.process.Member.{Member}
-use Rattle.process_kernel.specs.Members.{place_of, is_same, is_found_in}
-use Rattle.process_kernel.specs.State.{KernelState, Outcome, Goes}
-use Rattle.process_kernel.specs.Processes.{is_listed, with_state, with_exiting, with_needs_poll}
-use Rattle.process_kernel.specs.ProcessList.{put_remainder, enlist_of, exiting_of, unlisted_of}
-use Rattle.process_kernel.specs.Posts.{poll_of}
-use Rattle.process_kernel.specs.Writes.{with_line, halted_of}
-use Rattle.process_kernel.specs.Calls.{Calls}
-use Rattle.process_kernel.specs.Call.{calls_of}
+use Rattle.process_kernel.specs.ProcessList.{place_of, is_same, is_found_in, is_listed, with_state, with_exiting, with_needs_poll, put_remainder, enlist_of, exiting_of, unlisted_of}
+use Rattle.process_kernel.specs.State.{KernelState, Outcome, Goes, with_line, halted_of, Calls}
+use Rattle.process_kernel.specs.Posts.{process_poll}
+use Rattle.process_kernel.specs.Operations.{calls_of}
 use Rattle.kernel_laws.specs.Own.{IsOwnProcess, FitsTarget}
 use Rattle.kernel_laws.specs.Seen.{seen_what, seen_lines, seen_target, seen_member, seen_posted, view_of}
 use Rattle.kernel_laws.specs.Going.{SystemStays}
@@ -116,7 +112,7 @@ halts s = record { added = record { at = s.moment; what = what.Halt } ∷ []; wr
 
 -- steps without a change that the delivery of events sees
 
-pub poll_quiet : (s : KernelState) (p : Proc) → IsQuiet s (poll_of s p)
+pub poll_quiet : (s : KernelState) (p : Proc) → IsQuiet s (process_poll s p)
 unfolding with_needs_poll
 poll_quiet s p = polled_or_not (IsQuiet s) s p (record { lines = refl; members = refl; started = refl; queue = refl }) (quiet_same s)
 

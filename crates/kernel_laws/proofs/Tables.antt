@@ -8,9 +8,8 @@ use Rattle.program_tree.specs.declared.event.Proc.{Proc}
 use Rattle.process_kernel.specs.declared.process.ProcessState.{ProcessState}
 use Rattle.process_kernel.specs.declared.process.ProcessState.TheVariants.{Off}
 use Rattle.process_kernel.specs.declared.process.Member.{Member}
-use Rattle.process_kernel.specs.Members.{place_of, is_same}
+use Rattle.process_kernel.specs.ProcessList.{place_of, is_same, with_state, with_exiting}
 use Rattle.process_kernel.specs.State.{KernelState}
-use Rattle.process_kernel.specs.Processes.{with_state, with_exiting}
 use Rattle.kernel_laws.specs.InStep.{state_at_place, exiting_at, listed_in, AreInStep, IsInStep}
 
 pub set_same : {X : Type 0} (xs : List X) (i : ℕ) (v d : X) → i < length xs → unwrap_or (slice_get (slice_set xs i v) i) d ≡ v

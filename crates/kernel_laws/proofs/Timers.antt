@@ -16,10 +16,9 @@ use Rattle.mote_timers.specs.TimerLists.{TimerLists, timer_at, stop_timer}
 use Rattle.mote_timers.proofs.NumberLists.{is_member-filter}
 use Rattle.trace_lines.specs.declared.line.Line.{Line}
 use Rattle.process_kernel.specs.State.{KernelState, Went, Ends, Goes}
-use Rattle.process_kernel.specs.Calls.{own_event, is_system_event}
-use Rattle.process_kernel.specs.Etimer.{fired_of, post_due, walk_timers, walks_of, pass_of, etimer_of}
-use Rattle.process_kernel.specs.Posts.{post_of, poll_of}
-use Rattle.process_kernel.specs.Processes.{is_alive, process_state, with_needs_poll}
+use Rattle.process_kernel.specs.Posts.{own_event, is_system_event, process_post, process_poll}
+use Rattle.process_kernel.specs.Etimer.{fired_of, post_due, walk_timers, walks_of, pass_of, etimer_process}
+use Rattle.process_kernel.specs.ProcessList.{is_alive, process_state, with_needs_poll}
 use Rattle.kernel_laws.specs.Polled.{TellsPost, TellsOfPost, DueTimersArePosted}
 use Rattle.kernel_laws.proofs.Packets.{IfGoes, Offered, WritesOne, post_offers, goes_bind}
 use Rattle.kernel_laws.specs.Own.{IsOwnProcess}
@@ -63,24 +62,24 @@ pub fewer : (l : TimerLists) (x k : ℕ) → is_member x l.listed ≡ true → l
 unfolding stop_timer
 fewer l x k h few = let less = less_without x l.listed h in omega arith
 
-pub poll_lines : (s : KernelState) → (poll_of s Etimer).lines ≡ s.lines
-unfolding poll_of with_needs_poll
+pub poll_lines : (s : KernelState) → (process_poll s Etimer).lines ≡ s.lines
+unfolding process_poll with_needs_poll
 poll_lines s = if_same (is_alive (process_state s Etimer))
   where
     if_same : (b : Bool) → (if b then record (with_needs_poll s Etimer true) { poll_requested = true } else s).lines ≡ s.lines
     if_same true = refl
     if_same false = refl
 
-pub poll_timers : (s : KernelState) → (poll_of s Etimer).timers ≡ s.timers
-unfolding poll_of with_needs_poll
+pub poll_timers : (s : KernelState) → (process_poll s Etimer).timers ≡ s.timers
+unfolding process_poll with_needs_poll
 poll_timers s = if_same (is_alive (process_state s Etimer))
   where
     if_same : (b : Bool) → (if b then record (with_needs_poll s Etimer true) { poll_requested = true } else s).timers ≡ s.timers
     if_same true = refl
     if_same false = refl
 
-pub poll_moment : (s : KernelState) → (poll_of s Etimer).moment ≡ s.moment
-unfolding poll_of with_needs_poll
+pub poll_moment : (s : KernelState) → (process_poll s Etimer).moment ≡ s.moment
+unfolding process_poll with_needs_poll
 poll_moment s = if_same (is_alive (process_state s Etimer))
   where
     if_same : (b : Bool) → (if b then record (with_needs_poll s Etimer true) { poll_requested = true } else s).moment ≡ s.moment
@@ -156,13 +155,13 @@ module _ (id : ℕ) (owner : Proc) where
 
   -- the event of a timer was offered to this owner, and the walk continues
   offered : (few : ℕ) (again on : KernelState → Went) → Goes_on again → Again few again → Goes_on on → (s u : KernelState) (x : ℕ) (q : Proc) (full : Bool) → (h : Offered (One q) (system_number Timer) x s u) → Waits (suc few) s → is_member x s.timers.listed ≡ true
-      → ((id == x) ≡ true → q ≡ owner) → ((id == x) ≡ false → IfGoes (Tells (poll_of u Etimer)) (on (poll_of u Etimer)))
-      → IfGoes (Tells s) (if full then on (poll_of u Etimer) else again (fired_of u x))
+      → ((id == x) ≡ true → q ≡ owner) → ((id == x) ≡ false → IfGoes (Tells (process_poll u Etimer)) (on (process_poll u Etimer)))
+      → IfGoes (Tells s) (if full then on (process_poll u Etimer) else again (fired_of u x))
   offered few again on goes_again again_tells goes_on s u x q true h w there own on_tells = by (id == x) refl
     where
-      by : (b : Bool) → (id == x) ≡ b → IfGoes (Tells s) (on (poll_of u Etimer))
-      by true e = traced_first s u (poll_of u Etimer) _ h.0 (subst (λ j. TellsPost (One owner) (system_number Timer) j h.0.telling) (sym (eqb-true id x e)) (subst (λ p. TellsPost (One p) (system_number Timer) x h.0.telling) (own e) h.1)) (poll_lines u) (goes_on (poll_of u Etimer)).leads
-      by false e = goes_behind s (poll_of u Etimer) _ _ (poll_lines u ∙ h.0.wrote) (poll_moment u ∙ h.0.moment) (on_tells e)
+      by : (b : Bool) → (id == x) ≡ b → IfGoes (Tells s) (on (process_poll u Etimer))
+      by true e = traced_first s u (process_poll u Etimer) _ h.0 (subst (λ j. TellsPost (One owner) (system_number Timer) j h.0.telling) (sym (eqb-true id x e)) (subst (λ p. TellsPost (One p) (system_number Timer) x h.0.telling) (own e) h.1)) (poll_lines u) (goes_on (process_poll u Etimer)).leads
+      by false e = goes_behind s (process_poll u Etimer) _ _ (poll_lines u ∙ h.0.wrote) (poll_moment u ∙ h.0.moment) (on_tells e)
   offered few again on goes_again again_tells goes_on s u x q false h w there own on_tells = by (id == x) refl
     where
       by : (b : Bool) → (id == x) ≡ b → IfGoes (Tells s) (again (fired_of u x))
@@ -191,9 +190,9 @@ module _ (id : ℕ) (owner : Proc) where
     due_tells s x ts None o w there all later =
         later s w (further id x ts there (not_owned s _ x w o (id == x) refl)) (λ j h. all j (later_member j x ts h))
     due_tells s x ts (Some q) o w there all later =
-        goes_bind Bool (Unit {0}) (Offered (One q) (system_number Timer) x s) (Tells s) (post_of s (One q) (own_event Timer x)) _ (post_offers s (One q) (own_event Timer x))
+        goes_bind Bool (Unit {0}) (Offered (One q) (system_number Timer) x s) (Tells s) (process_post s (One q) (own_event Timer x)) _ (post_offers s (One q) (own_event Timer x))
         (λ full u h. offered few again (walk_timers again ts) goes_again again_tells (walk_timers_led GoesOn Stops chain IsOwnProcess Every steps again goes_again ts) s u x q full h w (all x (first_member x ts)) (same_owner s _ x q w o)
-        (λ e. later (poll_of u Etimer) (waits_same (suc few) s _ (poll_timers u ∙ h.0.timers) (poll_moment u ∙ h.0.moment) w) (further id x ts there e) (λ j k. rw (poll_timers u ∙ h.0.timers) (all j (later_member j x ts k)))))
+        (λ e. later (process_poll u Etimer) (waits_same (suc few) s _ (poll_timers u ∙ h.0.timers) (poll_moment u ∙ h.0.moment) w) (further id x ts there e) (λ j k. rw (poll_timers u ∙ h.0.timers) (all j (later_member j x ts k)))))
 
     walk_tells : (ts : List ℕ) (s : KernelState) → Waits (suc few) s → is_member id ts ≡ true → AllListed ts s → IfGoes (Tells s) (walk_timers again ts s)
     walk_tells [] s w there all = absurd (cc)
@@ -213,8 +212,8 @@ module _ (id : ℕ) (owner : Proc) where
   walks_tell zero s w = none_waits s w (walks_of 0 s)
   walks_tell (suc k) s w = walk_tells k (walks_of k) (walks_led GoesOn Stops chain IsOwnProcess Every steps k) (walks_tell k) s.timers.listed s w w.listed (λ j h. h)
 
-passed : (s t : KernelState) (e : Event) → is_system_event Poll e ≡ true → etimer_of s e ≡ Goes tt t → walks_of (length s.timers.listed) s ≡ Goes tt t
-unfolding etimer_of pass_of
+passed : (s t : KernelState) (e : Event) → is_system_event Poll e ≡ true → etimer_process s e ≡ Goes tt t → walks_of (length s.timers.listed) s ≡ Goes tt t
+unfolding etimer_process pass_of
 passed s t e poll goes = sym (rw poll refl) ∙ goes
 
 pub timers_are_traced : DueTimersArePosted

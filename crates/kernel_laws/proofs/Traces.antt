@@ -10,8 +10,7 @@ use Rattle.process_kernel.specs.declared.process.ProcessState.TheVariants.{Off}
 use Rattle.trace_lines.specs.declared.line.Line.{Line}
 use Rattle.radio_packet.specs.declared.sent.Sent.{Sent}
 use Rattle.process_kernel.specs.State.{KernelState, Outcome, Ends, Goes}
-use Rattle.process_kernel.specs.KernelModel.{KernelModel, unbooted, with_poll, with_packet}
-use Rattle.process_kernel.specs.Given.{Given, given, boot_given, run_given}
+use Rattle.process_kernel.specs.KernelModel.{KernelModel, unbooted, with_poll, with_packet, Given, given, boot_given, run_given}
 use Rattle.kernel_laws.specs.Going.{GoesWithAs, GoesWith, AppendsLines, IsNote}
 use Rattle.kernel_laws.specs.Traces.{KernelCall, RunAt, PollOf, Accepts, Notes, Traced, with_given, traced_after_call, traced_after_calls, booted_at}
 use Rattle.kernel_laws.specs.Laws.{KernelsHandOn, NoLinesGoFirst}

@@ -13,13 +13,10 @@ use Rattle.process_kernel.specs.declared.process.ProcessState.TheVariants.{Runni
 use Rattle.process_kernel.specs.declared.process.Member.{Member}
 use Rattle.trace_lines.specs.declared.line.What.{What}
 use Rattle.trace_lines.specs.declared.line.What.TheVariants as what
-use Rattle.process_kernel.specs.Members.{place_of}
-use Rattle.process_kernel.specs.State.{KernelState}
-use Rattle.process_kernel.specs.Processes.{is_alive, process_state, process_needs_poll, with_state, with_exiting, with_needs_poll}
-use Rattle.process_kernel.specs.ProcessList.{put_remainder, exiting_of, unlisted_of}
-use Rattle.process_kernel.specs.Posts.{poll_of}
-use Rattle.process_kernel.specs.TimerOperations.{timer_is_set}
-use Rattle.process_kernel.specs.Writes.{with_line}
+use Rattle.process_kernel.specs.ProcessList.{place_of, is_alive, process_state, process_needs_poll, with_state, with_exiting, with_needs_poll, put_remainder, exiting_of, unlisted_of}
+use Rattle.process_kernel.specs.State.{KernelState, with_line}
+use Rattle.process_kernel.specs.Posts.{process_poll}
+use Rattle.process_kernel.specs.Etimer.{add_timer}
 use Rattle.kernel_laws.specs.Own.{IsOwnProcess}
 use Rattle.kernel_laws.specs.Poll.{PollWaits, CanBePolled}
 use Rattle.kernel_laws.specs.Due.{IsDueFor, NoneIsDue, ForgetsNone}
@@ -64,8 +61,8 @@ pub radio_system : place_of Radio < 3
 radio_system = omega arith
 
 -- a poll is requested
-pub waits_now : (p : Proc) (s : KernelState) → CanBePolled p s → PollWaits p (poll_of s p)
-unfolding poll_of with_needs_poll
+pub waits_now : (p : Proc) (s : KernelState) → CanBePolled p s → PollWaits p (process_poll s p)
+unfolding process_poll with_needs_poll
 waits_now p s c = rw (c.alive) (record { needs_poll = set_same s.needs_poll (place_of p) true false (below_of (place_of p) (length s.needs_poll) c.can_need_poll); poll_requested = refl })
 
 -- timers that are left
@@ -147,8 +144,8 @@ module _ (p : Proc) where
     due = λ is c n. inl n;
   }
 
-  pub watches_poll : (s : KernelState) (q : Proc) → Watches p s (poll_of s q)
-  unfolding poll_of with_needs_poll
+  pub watches_poll : (s : KernelState) (q : Proc) → Watches p s (process_poll s q)
+  unfolding process_poll with_needs_poll
   watches_poll s q = by (is_alive (process_state s q))
     where
       by : (b : Bool) → Watches p s (if b then record (with_needs_poll s q true) { poll_requested = true } else s)
@@ -178,8 +175,8 @@ module _ (p : Proc) where
 
   -- timers
 
-  watches_set : (s : KernelState) (timers : TimerLists) (timer : ℕ) → Watches p s (timer_is_set (record s { timers = timers }) timer)
-  unfolding timer_is_set
+  watches_set : (s : KernelState) (timers : TimerLists) (timer : ℕ) → Watches p s (add_timer (record s { timers = timers }) timer)
+  unfolding add_timer
   watches_set s timers timer =
       let h = watches_poll _ Etimer in record {
         moment = h.moment;

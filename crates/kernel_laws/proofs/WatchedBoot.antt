@@ -7,13 +7,10 @@ use Rattle.program_tree.specs.declared.event.SystemEvent.TheVariants.{Init}
 use Rattle.process_kernel.specs.declared.process.ProcessState.{ProcessState}
 use Rattle.process_kernel.specs.declared.process.ProcessState.TheVariants.{Off, Running, Called}
 use Rattle.trace_lines.specs.declared.line.What.TheVariants as what
-use Rattle.process_kernel.specs.State.{KernelState, Went, Ends, Goes}
-use Rattle.process_kernel.specs.Processes.{is_alive, is_listed, is_busy, has_process, with_state}
-use Rattle.process_kernel.specs.ProcessList.{with_fresh_process, enlist_of}
-use Rattle.process_kernel.specs.Writes.{with_line, write_of}
-use Rattle.process_kernel.specs.Calls.{Calls, own_event}
-use Rattle.process_kernel.specs.Start.{start_of}
-use Rattle.process_kernel.specs.Boot.{starts_of, boot_of}
+use Rattle.process_kernel.specs.State.{KernelState, Went, Ends, Goes, with_line, write_of, Calls}
+use Rattle.process_kernel.specs.ProcessList.{is_alive, is_listed, is_busy, has_process, with_state, with_fresh_process, enlist_of}
+use Rattle.process_kernel.specs.Posts.{own_event}
+use Rattle.process_kernel.specs.Process.{process_start, autostart_start, boot_of}
 use Rattle.kernel_laws.specs.Own.{IsOwnProcess}
 use Rattle.kernel_laws.specs.InStep.{state_at_place, exiting_at, listed_in, AreInStep, IsInStep, IsIdle}
 use Rattle.kernel_laws.specs.Due.{NoneIsDue, ForgetsNone}
@@ -69,16 +66,16 @@ pub record IsUnstarted (moment : ℕ) (s : KernelState) : Type 0 where
   pub none : NoneIsDue moment s.timers
 
 module _ (calls : Calls) (are : AreWatched calls) where
-  start_good : (r : Bool) (moment : ℕ) (s : KernelState) (p : Proc) → Good r moment s → IfGoes (Good r moment) (start_of calls s p)
+  start_good : (r : Bool) (moment : ℕ) (s : KernelState) (p : Proc) → Good r moment s → IfGoes (Good r moment) (process_start calls s p)
   start_good r moment s p g = good_leads _ r moment s _ g (start_all (Watches Etimer) Whatever (chain Etimer) IsOwnProcess (steps Etimer) calls are.led s p) (start_all tables.KeepsStep Whatever tables.chain AnyProcess tables.steps calls are.kept s p)
 
-  starts_good : (r : Bool) (moment : ℕ) (ps : List Proc) (s : KernelState) → Good r moment s → IfGoes (Good r moment) (starts_of calls ps s)
+  starts_good : (r : Bool) (moment : ℕ) (ps : List Proc) (s : KernelState) → Good r moment s → IfGoes (Good r moment) (autostart_start calls ps s)
   starts_good r moment [] s g = g
-  starts_good r moment (p ∷ ps) s g = goes_bind _ _ (Good r moment) (Good r moment) (start_of calls s p) _ (start_good r moment s p g) (λ a t h. starts_good r moment ps t h)
+  starts_good r moment (p ∷ ps) s g = goes_bind _ _ (Good r moment) (Good r moment) (process_start calls s p) _ (start_good r moment s p g) (λ a t h. starts_good r moment ps t h)
 
   -- etimer starts first
 
-  first_goes : (s : KernelState) → is_busy s Etimer ≡ false → has_process s Etimer ≡ true → is_listed s Etimer ≡ false → start_of calls s Etimer ≡ calls.call (enlisted s Etimer) Etimer (own_event Init 0)
+  first_goes : (s : KernelState) → is_busy s Etimer ≡ false → has_process s Etimer ≡ true → is_listed s Etimer ≡ false → process_start calls s Etimer ≡ calls.call (enlisted s Etimer) Etimer (own_event Init 0)
   unfolding enlisted enlist_of write_of
   first_goes s b t n = first_start calls are.reach s b t n
 
@@ -104,7 +101,7 @@ module _ (calls : Calls) (are : AreWatched calls) where
         forgets = subst (λ n. ForgetsNone n t) later (w.leads.due refl can before);
       }
 
-  first_good : (moment : ℕ) (s : KernelState) → IsUnstarted moment s → IfGoes (Good false moment) (start_of calls s Etimer)
+  first_good : (moment : ℕ) (s : KernelState) → IsUnstarted moment s → IfGoes (Good false moment) (process_start calls s Etimer)
   first_good moment s h =
       let q = first_goes s h.busy h.there (rw (h.members) refl) in
       let room = enlisted_room s h.radio_state h.radio_can_need_poll in
@@ -118,8 +115,8 @@ module _ (calls : Calls) (are : AreWatched calls) where
   still_listed u (Ends t) h w = tt
   still_listed u (Goes a t) h w = w.leads.radio.listed h
 
-  radio_listed : (s : KernelState) → is_busy s Radio ≡ false → has_process s Radio ≡ true → IfGoes (λ t. is_listed t Radio ≡ true) (start_of calls s Radio)
-  unfolding start_of enlist_of write_of enlisted
+  radio_listed : (s : KernelState) → is_busy s Radio ≡ false → has_process s Radio ≡ true → IfGoes (λ t. is_listed t Radio ≡ true) (process_start calls s Radio)
+  unfolding process_start enlist_of write_of enlisted
   radio_listed s busy there = rw (busy, there) (by (is_listed s Radio) refl)
     where
       by : (b : Bool) → is_listed s Radio ≡ b → IfGoes (λ t. is_listed t Radio ≡ true) (if not b then calls.call (enlisted s Radio) Radio (own_event Init 0) else Goes tt s)
@@ -144,7 +141,7 @@ module _ (calls : Calls) (are : AreWatched calls) where
         forgets = g.forgets;
       }
 
-  radio_good : (moment : ℕ) (s : KernelState) → Good false moment s → IfGoes (Good true moment) (start_of calls s Radio)
+  radio_good : (moment : ℕ) (s : KernelState) → Good false moment s → IfGoes (Good true moment) (process_start calls s Radio)
   radio_good moment s g =
       let h = g.in_state in
       now_radio moment _ (start_good false moment s Radio g) (radio_listed s (rw (h.idle.called 2, h.idle.exiting 2) refl) h.radio_state)
@@ -153,8 +150,8 @@ module _ (calls : Calls) (are : AreWatched calls) where
   unfolding boot_of
   boot_good moment s h =
       let own = map Own s.program.autostart in
-      goes_bind _ _ (Good true moment) (Good true moment) (starts_of calls (Etimer ∷ Ctimer ∷ Radio ∷ own) s) _
-      (goes_bind _ _ (Good false moment) (Good true moment) (start_of calls s Etimer) _ (first_good moment s h) (λ a t g.
-      goes_bind _ _ (Good false moment) (Good true moment) (start_of calls t Ctimer) _ (start_good false moment t Ctimer g) (λ b u i.
-      goes_bind _ _ (Good true moment) (Good true moment) (start_of calls u Radio) _ (radio_good moment u i) (λ c v j. starts_good true moment own v j))))
+      goes_bind _ _ (Good true moment) (Good true moment) (autostart_start calls (Etimer ∷ Ctimer ∷ Radio ∷ own) s) _
+      (goes_bind _ _ (Good false moment) (Good true moment) (process_start calls s Etimer) _ (first_good moment s h) (λ a t g.
+      goes_bind _ _ (Good false moment) (Good true moment) (process_start calls t Ctimer) _ (start_good false moment t Ctimer g) (λ b u i.
+      goes_bind _ _ (Good true moment) (Good true moment) (process_start calls u Radio) _ (radio_good moment u i) (λ c v j. starts_good true moment own v j))))
       (λ a t g. g)

@@ -14,14 +14,10 @@ use Rattle.process_kernel.specs.declared.process.ProcessState.{ProcessState}
 use Rattle.process_kernel.specs.declared.process.ProcessState.TheVariants.{Off, Running, Called}
 use Rattle.process_kernel.specs.declared.process.Member.{Member}
 use Rattle.trace_lines.specs.declared.line.What.TheVariants as what
-use Rattle.process_kernel.specs.Members.{place_of}
-use Rattle.process_kernel.specs.State.{KernelState, Outcome, Went, Ends, Goes}
-use Rattle.process_kernel.specs.Processes.{is_alive, is_running, is_running_state, is_called_state, process_state, process_needs_poll, is_listed, is_on_list, has_process, with_needs_poll}
-use Rattle.process_kernel.specs.Writes.{write_of}
-use Rattle.process_kernel.specs.Calls.{Calls, own_event}
-use Rattle.process_kernel.specs.Polls.{walk_polls, polls_of, polls_due_of, poll_turn_of}
-use Rattle.process_kernel.specs.Delivery.{give_of, visit_of, walk_broadcast, deliver_to, deliver_of}
-use Rattle.process_kernel.specs.Run.{deliver_front, kernel_of}
+use Rattle.process_kernel.specs.ProcessList.{place_of, is_alive, is_running, is_running_state, is_called_state, process_state, process_needs_poll, is_listed, is_on_list, has_process, with_needs_poll}
+use Rattle.process_kernel.specs.State.{KernelState, Outcome, Went, Ends, Goes, write_of, Calls}
+use Rattle.process_kernel.specs.Posts.{own_event}
+use Rattle.process_kernel.specs.Process.{walk_polls, do_poll, do_poll_if_requested, poll_turn_of, give_of, visit_of, walk_broadcast, deliver_to, deliver_of, do_event, process_run}
 use Rattle.kernel_laws.specs.Own.{IsOwnProcess, FitsTarget}
 use Rattle.kernel_laws.specs.Going.{SystemStays}
 use Rattle.kernel_laws.specs.InStep.{IsInStep, IsIdle}
@@ -204,8 +200,8 @@ module _ (calls : Calls) (are : AreWatched calls) where
       (goes_bind _ _ (Comes r moment k.member) (Good r moment) (walk_polls calls (members_before Etimer s.members) s) _ (comes r moment k.member s e h k.is_it k.holds due)
       (λ a u c. goes_bind _ _ (Good r moment) (Good r moment) (poll_turn_of calls u k.member) _ (at_turn r moment k.member u k.is_it c) (λ b v g. polls_good r moment k.after v g)))
 
-  polls_due_good : (r : Bool) (moment : ℕ) (s : KernelState) → Good r moment s → IfGoes (Good r moment) (polls_due_of calls s)
-  unfolding polls_due_of polls_of
+  polls_due_good : (r : Bool) (moment : ℕ) (s : KernelState) → Good r moment s → IfGoes (Good r moment) (do_poll_if_requested calls s)
+  unfolding do_poll_if_requested do_poll
   polls_due_good r moment s g =
       goes_cases (Good r moment) s.poll_requested _ _ (λ e. walk_good r moment (record s { poll_requested = false }) g.now_is (unrequested r s g.in_state) (weaker g.forgets)) (λ e. g)
     where
@@ -228,7 +224,7 @@ module _ (calls : Calls) (are : AreWatched calls) where
   walk_broadcast_good r moment x [] s f g = g
   walk_broadcast_good r moment x (m ∷ ms) s f g =
       goes_bind _ _ (Good r moment) (Good r moment) (visit_of calls s x m) _
-      (goes_bind _ _ (Good r moment) (Good r moment) (polls_due_of calls s) _ (polls_due_good r moment s g) (λ a t h. give_good r moment t x m.process (is_on_list t m) (λ q. absurd (f q)) h))
+      (goes_bind _ _ (Good r moment) (Good r moment) (do_poll_if_requested calls s) _ (polls_due_good r moment s g) (λ a t h. give_good r moment t x m.process (is_on_list t m) (λ q. absurd (f q)) h))
       (λ a t h. walk_broadcast_good r moment x ms t f h)
 
   target_good : (r : Bool) (moment : ℕ) (target : Target) (s : KernelState) (x : Posted) → FitsTarget target x.event.number → Good r moment s → IfGoes (Good r moment) (deliver_to target calls s x)
@@ -238,7 +234,7 @@ module _ (calls : Calls) (are : AreWatched calls) where
   untaken_good : (r : Bool) (moment : ℕ) (s : KernelState) → Good r moment s → Good r moment (record s { queue = without_front s.queue })
   untaken_good r moment s g = good_on r moment s _ g (watches_still Etimer s _ (record { moment = refl; states = refl; needs_poll = refl; poll_requested = refl; members = refl; timers = refl })) (tables.keeps_still s _ (record { states = refl; exiting = refl; members = refl }) g.in_state.step)
 
-  front_good : (r : Bool) (moment : ℕ) (q : List Posted) (s : KernelState) → s.queue.events ≡ q → SystemStays s → Good r moment s → IfGoes (Good r moment) (deliver_front calls q s)
+  front_good : (r : Bool) (moment : ℕ) (q : List Posted) (s : KernelState) → s.queue.events ≡ q → SystemStays s → Good r moment s → IfGoes (Good r moment) (do_event calls q s)
   unfolding deliver_of
   front_good r moment [] s e h g = g
   front_good r moment (x ∷ q) s e h g =
@@ -251,8 +247,8 @@ module _ (calls : Calls) (are : AreWatched calls) where
   also_sound r moment s (Ends t) h k g = tt
   also_sound r moment s (Goes a t) h k g = (g, k.leads.sound h)
 
-  pub kernel_good : (r : Bool) (moment : ℕ) (s : KernelState) → SystemStays s → Good r moment s → IfGoes (Good r moment) (kernel_of calls s)
-  unfolding kernel_of
+  pub kernel_good : (r : Bool) (moment : ℕ) (s : KernelState) → SystemStays s → Good r moment s → IfGoes (Good r moment) (process_run calls s)
+  unfolding process_run
   kernel_good r moment s h g =
-      goes_bind _ _ (λ t. Good r moment t × SystemStays t) (Good r moment) (polls_due_of calls s) _ (also_sound r moment s _ h (polls_due_run calls are.reach s) (polls_due_good r moment s g))
-      (λ a t k. goes_bind _ _ (Good r moment) (Good r moment) (deliver_front calls t.queue.events t) _ (front_good r moment t.queue.events t refl k.1 k.0) (λ b u i. i))
+      goes_bind _ _ (λ t. Good r moment t × SystemStays t) (Good r moment) (do_poll_if_requested calls s) _ (also_sound r moment s _ h (polls_due_run calls are.reach s) (polls_due_good r moment s g))
+      (λ a t k. goes_bind _ _ (Good r moment) (Good r moment) (do_event calls t.queue.events t) _ (front_good r moment t.queue.events t refl k.1 k.0) (λ b u i. i))

@@ -7,11 +7,10 @@ use Rattle.protothread.specs.Remainder.{Remainder}
 use Rattle.radio_packet.specs.declared.sent.Sent.{Sent}
 use Rattle.trace_lines.specs.declared.line.Line.{Line}
 use Rattle.process_kernel.specs.State.{KernelState}
-use Rattle.process_kernel.specs.Call.{calls_of}
-use Rattle.process_kernel.specs.KernelModel.{KernelModel}
-use Rattle.process_kernel.specs.Run.{kernel_of, most_units}
-use Rattle.process_kernel.specs.Boot.{boot_of}
-use Rattle.process_kernel.specs.Given.{begun, given, unless_halted, boot_given, run_given}
+use Rattle.process_kernel.specs.Operations.{calls_of}
+use Rattle.process_kernel.specs.KernelModel.{KernelModel, most_units, begun, given, unless_halted, boot_given}
+use Rattle.process_kernel.specs.KernelModel.{run_given}
+use Rattle.process_kernel.specs.Process.{process_run, boot_of}
 
 -- the outcome of a call is the same at each depth above the number of units of work that are left
 abbrev pub CallsAreAnyDepth : Type 0
@@ -38,4 +37,4 @@ abbrev pub RunsAreAnyDepth : Type 0
 RunsAreAnyDepth =
     (depth moment : ℕ) (m : KernelModel) (lines : List Line) (sends : List Sent) → most_units < depth
     → run_given moment m lines sends
-    ≡ unless_halted m lines sends (given (kernel_of (calls_of depth) (begun m moment lines sends)))
+    ≡ unless_halted m lines sends (given (process_run (calls_of depth) (begun m moment lines sends)))

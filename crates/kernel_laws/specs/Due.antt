@@ -14,12 +14,10 @@ use Rattle.mote_timers.specs.TimerLists.{TimerLists, timer_at}
 use Rattle.trace_lines.specs.declared.line.Line.{Line}
 use Rattle.radio_packet.specs.declared.sent.Sent.{Sent}
 use Rattle.trace_lines.specs.declared.line.What.{What}
-use Rattle.process_kernel.specs.Run.{most_units}
+use Rattle.process_kernel.specs.KernelModel.{most_units, KernelModel, unbooted, begun, boot_given, run_given}
 use Rattle.process_kernel.specs.State.{KernelState, Goes}
-use Rattle.process_kernel.specs.Processes.{is_listed}
-use Rattle.process_kernel.specs.Call.{calls_of}
-use Rattle.process_kernel.specs.KernelModel.{KernelModel, unbooted}
-use Rattle.process_kernel.specs.Given.{begun, boot_given, run_given}
+use Rattle.process_kernel.specs.ProcessList.{is_listed}
+use Rattle.process_kernel.specs.Operations.{calls_of}
 use Rattle.kernel_laws.specs.Going.{SystemStays}
 use Rattle.kernel_laws.specs.InStep.{IsInStep, IsIdle}
 use Rattle.kernel_laws.specs.Own.{FitsTarget}

@@ -10,9 +10,8 @@ use Rattle.trace_lines.specs.declared.line.Line.{Line}
 use Rattle.trace_lines.specs.declared.line.What.{What}
 use Rattle.trace_lines.specs.declared.line.What.TheVariants as what
 use Rattle.process_kernel.specs.State.{KernelState}
-use Rattle.process_kernel.specs.Processes.{has_process, is_busy, is_listed}
-use Rattle.process_kernel.specs.KernelModel.{KernelModel}
-use Rattle.process_kernel.specs.Given.{Given}
+use Rattle.process_kernel.specs.ProcessList.{has_process, is_busy, is_listed}
+use Rattle.process_kernel.specs.KernelModel.{KernelModel, Given}
 use Rattle.kernel_laws.specs.Own.{FitsTarget}
 use Rattle.kernel_laws.specs.Seen.{seen_lines, view_of}
 

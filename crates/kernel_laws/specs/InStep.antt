@@ -4,9 +4,8 @@ use Rattle.std.specs.List.{list_any}
 use Rattle.process_kernel.specs.declared.process.ProcessState.{ProcessState}
 use Rattle.process_kernel.specs.declared.process.ProcessState.TheVariants.{Off, Running, Called}
 use Rattle.process_kernel.specs.declared.process.Member.{Member}
-use Rattle.process_kernel.specs.Members.{place_of}
+use Rattle.process_kernel.specs.ProcessList.{place_of, is_called_state}
 use Rattle.process_kernel.specs.State.{KernelState}
-use Rattle.process_kernel.specs.Processes.{is_called_state}
 
 -- for the process at this place: its state, whether it is being exited, and whether it is on the process list
 abbrev pub state_at_place : KernelState → (place : ℕ) → ProcessState

@@ -7,10 +7,9 @@ use Rattle.radio_packet.specs.declared.arrival.Arrival.{Arrival}
 use Rattle.trace_lines.specs.declared.line.Line.{Line}
 use Rattle.radio_packet.specs.declared.sent.Sent.{Sent}
 use Rattle.process_kernel.specs.State.{KernelState, Goes}
-use Rattle.process_kernel.specs.Processes.{is_running, is_listed}
-use Rattle.process_kernel.specs.Call.{calls_of}
-use Rattle.process_kernel.specs.KernelModel.{KernelModel, unbooted, with_packet, with_poll}
-use Rattle.process_kernel.specs.Given.{boot_given, run_given}
+use Rattle.process_kernel.specs.ProcessList.{is_running, is_listed}
+use Rattle.process_kernel.specs.Operations.{calls_of}
+use Rattle.process_kernel.specs.KernelModel.{KernelModel, unbooted, with_packet, with_poll, boot_given, run_given}
 use Rattle.kernel_laws.specs.Going.{GoesWith, AppendsLines, IsNote, IsInOrder}
 use Rattle.kernel_laws.specs.InStep.{IsInStep, IsAsBusy}
 use Rattle.kernel_laws.specs.Stamps.{Stamped, state_after, GivesStamped}

@@ -2,11 +2,9 @@
 use Rattle.std.specs.Prelude.{◌≡◌, nat_lt, true, false, if◌then◌else◌, List, [], ◌∷◌, length}
 use Rattle.program_tree.specs.declared.event.Proc.{Proc}
 use Rattle.process_kernel.specs.declared.process.Member.{Member}
-use Rattle.process_kernel.specs.Members.{place_of, is_same}
-use Rattle.process_kernel.specs.State.{KernelState, Went}
-use Rattle.process_kernel.specs.Processes.{is_alive, process_needs_poll, process_state}
-use Rattle.process_kernel.specs.Calls.{Calls}
-use Rattle.process_kernel.specs.Polls.{walk_polls}
+use Rattle.process_kernel.specs.ProcessList.{place_of, is_same, is_alive, process_needs_poll, process_state}
+use Rattle.process_kernel.specs.State.{KernelState, Went, Calls}
+use Rattle.process_kernel.specs.Process.{walk_polls}
 
 -- a poll of the process waits: the process needs a poll, and a poll is requested
 pub record PollWaits (p : Proc) (s : KernelState) : Type 0 where

@@ -16,9 +16,9 @@ use Rattle.trace_lines.specs.declared.line.Line.{Line}
 use Rattle.trace_lines.specs.declared.line.What.{What}
 use Rattle.trace_lines.specs.declared.line.What.TheVariants as what
 use Rattle.process_kernel.specs.State.{KernelState, Goes}
-use Rattle.process_kernel.specs.Calls.{is_system_event}
-use Rattle.process_kernel.specs.Etimer.{etimer_of}
-use Rattle.process_kernel.specs.Radio.{radio_of}
+use Rattle.process_kernel.specs.Posts.{is_system_event}
+use Rattle.process_kernel.specs.Etimer.{etimer_process}
+use Rattle.process_kernel.specs.Radio.{radio_process}
 
 -- the line of a post: the event was accepted, or the queue was full
 pub data TellsPost (t : Target) (number word : ℕ) : What → Type 0 where
@@ -50,7 +50,7 @@ pub record EmptiesRing (s t : KernelState) : Type 0 where
 -- at a poll of the radio process each packet in the ring gets its line, in order, and the ring is empty afterwards,
 -- unless the mote halts
 abbrev pub PacketsAreHanded : Type 0
-PacketsAreHanded = (s t : KernelState) (e : Event) → is_system_event Poll e ≡ true → radio_of s e ≡ Goes tt t
+PacketsAreHanded = (s t : KernelState) (e : Event) → is_system_event Poll e ≡ true → radio_process s e ≡ Goes tt t
     → EmptiesRing s t
 
 -- one of the lines between the two states is about this post
@@ -66,7 +66,7 @@ pub record TellsOfPost (s t : KernelState) (target : Target) (number word : ℕ)
 abbrev pub DueTimersArePosted : Type 0
 DueTimersArePosted =
     (s t : KernelState) (e : Event) (timer : ℕ) (owner : Proc) → is_system_event Poll e ≡ true
-    → etimer_of s e ≡ Goes tt t
+    → etimer_process s e ≡ Goes tt t
     → is_member timer s.timers.listed ≡ true → is_due s.moment (timer_at s.timers.timers timer) ≡ true
     → (timer_at s.timers.timers timer).owner ≡ Some owner
     → TellsOfPost s t (One owner) (system_number Timer) timer

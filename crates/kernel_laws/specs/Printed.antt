@@ -15,8 +15,8 @@ use Rattle.protothread.specs.Reading.{ReadsThread}
 use Rattle.trace_lines.specs.declared.line.Line.{Line}
 use Rattle.trace_lines.specs.declared.line.What.{What}
 use Rattle.trace_lines.specs.declared.line.What.TheVariants as what
-use Rattle.process_kernel.specs.Members.{is_same}
-use Rattle.process_kernel.specs.Calls.{own_event}
+use Rattle.process_kernel.specs.ProcessList.{is_same}
+use Rattle.process_kernel.specs.Posts.{own_event}
 use Rattle.kernel_laws.specs.Traces.{KernelCall, traced_after_calls, booted_at}
 
 -- A quiet statement or block: it prints nothing, sets no variable and spawns no thread.

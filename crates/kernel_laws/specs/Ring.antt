@@ -10,9 +10,8 @@ use Rattle.radio_packet.specs.declared.sent.Sent.{Sent}
 use Rattle.trace_lines.specs.declared.line.What.{What}
 use Rattle.trace_lines.specs.declared.line.What.TheVariants as what
 use Rattle.process_kernel.specs.State.{KernelState, Outcome, Ends, Goes}
-use Rattle.process_kernel.specs.Call.{calls_of}
-use Rattle.process_kernel.specs.KernelModel.{KernelModel}
-use Rattle.process_kernel.specs.Given.{Given, boot_given, run_given}
+use Rattle.process_kernel.specs.Operations.{calls_of}
+use Rattle.process_kernel.specs.KernelModel.{KernelModel, Given, boot_given, run_given}
 use Rattle.kernel_laws.specs.Due.{IsAtRest}
 use Rattle.kernel_laws.specs.Going.{IsNote}
 use Rattle.kernel_laws.specs.Poll.{PollWaits}

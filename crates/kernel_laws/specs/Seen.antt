@@ -11,7 +11,7 @@ use Rattle.trace_lines.specs.declared.line.Line.{Line}
 use Rattle.trace_lines.specs.declared.line.What.{What}
 use Rattle.trace_lines.specs.declared.line.What.TheVariants as what
 use Rattle.process_kernel.specs.declared.process.Member.{Member}
-use Rattle.process_kernel.specs.Members.{place_of}
+use Rattle.process_kernel.specs.ProcessList.{place_of}
 use Rattle.process_kernel.specs.State.{KernelState}
 
 abbrev pub seen_target : Target → handed.Target

@@ -4,8 +4,7 @@ use Rattle.std.specs.List.{range_with_len}
 use Rattle.trace_lines.specs.declared.line.Line.{Line}
 use Rattle.radio_packet.specs.declared.sent.Sent.{Sent}
 use Rattle.process_kernel.specs.State.{KernelState, Outcome, Ends, Goes}
-use Rattle.process_kernel.specs.KernelModel.{KernelModel}
-use Rattle.process_kernel.specs.Given.{Given}
+use Rattle.process_kernel.specs.KernelModel.{KernelModel, Given}
 
 -- each of these lines is stamped with the moment
 abbrev pub LinesBear : (moment : ℕ) → List Line → Type 0

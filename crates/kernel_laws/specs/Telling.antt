@@ -15,12 +15,10 @@ use Rattle.trace_lines.specs.declared.line.Line.{Line}
 use Rattle.radio_packet.specs.declared.sent.Sent.{Sent}
 use Rattle.process_kernel.specs.declared.process.ProcessState.{ProcessState}
 use Rattle.process_kernel.specs.declared.process.ProcessState.TheVariants.{Off, Running}
-use Rattle.process_kernel.specs.Members.{place_of}
+use Rattle.process_kernel.specs.ProcessList.{place_of, process_state, at_process, has_process, is_listed}
 use Rattle.process_kernel.specs.State.{KernelState}
-use Rattle.process_kernel.specs.Processes.{process_state, at_process, has_process, is_listed}
-use Rattle.process_kernel.specs.Calls.{own_event}
-use Rattle.process_kernel.specs.KernelModel.{KernelModel, unbooted, with_packet, with_poll}
-use Rattle.process_kernel.specs.Given.{boot_given, run_given}
+use Rattle.process_kernel.specs.Posts.{own_event}
+use Rattle.process_kernel.specs.KernelModel.{KernelModel, unbooted, with_packet, with_poll, boot_given, run_given}
 use Rattle.kernel_laws.specs.Going.{IsNote}
 use Rattle.kernel_laws.specs.Printed.{IsQuietApart, starts_and_prints, prints, AreShown, Life, lines_of_life, Lives}
 use Rattle.kernel_laws.specs.Printed.{LivesSoFar, TellsLives}

@@ -4,8 +4,8 @@ use Rattle.program_tree.specs.declared.event.Proc.{Proc}
 use Rattle.program_tree.specs.Code.{Tree}
 use Rattle.radio_packet.specs.declared.arrival.Arrival.{Arrival}
 use Rattle.trace_lines.specs.declared.line.Line.{Line}
-use Rattle.process_kernel.specs.KernelModel.{KernelModel, unbooted, with_packet, with_poll}
-use Rattle.process_kernel.specs.Given.{Given, boot_given, run_given}
+use Rattle.process_kernel.specs.KernelModel.{KernelModel, unbooted, with_packet, with_poll, Given, boot_given}
+use Rattle.process_kernel.specs.KernelModel.{run_given}
 use Rattle.kernel_laws.specs.Going.{IsNote}
 
 -- A call of a kernel after its boot: a kernel run at a moment, the request of a poll of a process, or a packet for the

@@ -16,12 +16,10 @@ use Rattle.process_kernel.specs.declared.kernel.Ran.TheVariants as ran
 use Rattle.radio_packet.specs.declared.arrival.Arrival.{Arrival}
 use Rattle.trace_lines.specs.declared.line.Line.{Line}
 use Rattle.radio_packet.specs.declared.sent.Sent.{Sent}
-use Rattle.process_kernel.specs.Run.{most_units}
+use Rattle.process_kernel.specs.KernelModel.{most_units, KernelModel, unbooted, has_room, with_packet, with_poll, begun, boot_given, run_given, Underway, underway_after, follow, runs_of}
 use Rattle.process_kernel.specs.State.{KernelState, Goes}
-use Rattle.process_kernel.specs.Call.{calls_of}
-use Rattle.process_kernel.specs.Posts.{poll_of}
-use Rattle.process_kernel.specs.KernelModel.{KernelModel, unbooted, has_room, with_packet, with_poll}
-use Rattle.process_kernel.specs.Given.{begun, boot_given, run_given}
+use Rattle.process_kernel.specs.Operations.{calls_of}
+use Rattle.process_kernel.specs.Posts.{process_poll}
 use Rattle.kernel_laws.specs.Poll.{PollWaits, polls_before}
 use Rattle.kernel_laws.specs.Due.{IsDueFor, NoneIsDue, ForgetsNone, IsAtRest, HasTelling}
 use Rattle.kernel_laws.proofs.Steps.{quiet, poll_quiet}
@@ -30,11 +28,7 @@ use Rattle.kernel_laws.proofs.Watch.{watches_poll, waits_now}
 use Rattle.kernel_laws.proofs.Due.{boot_forgets_none, run_forgets_none, run_tells_due}
 use Rattle.kernel_laws.proofs.Owners.{poll_timers}
 use Rattle.kernel_laws.proofs.Traces.{boot_booted, run_booted, no_lines_first}
-use Rattle.mote_node.specs.Node.{Node, new_node}
-use Rattle.mote_node.specs.Underway.{Underway, with_mote, with_lines, underway_after}
-use Rattle.mote_node.specs.Arrivals.{received_line, lost_line, hear, hear_each, took_some, hear_all, is_collision, with_collisions}
-use Rattle.mote_node.specs.Turn.{most_runs, boot_due, is_some_due, poll_due, follow, runs_of, work_of, mote_turn, net_turn, turn_of}
-use Rattle.mote_node.specs.Wake.{wake_of, wake_after}
+use Rattle.mote_node.specs.Turn.{Node, new_node, with_mote, with_lines, received_line, lost_line, hear, hear_each, took_some, hear_all, is_collision, with_collisions, most_runs, boot_due, is_some_due, poll_due, work_of, mote_turn, net_turn, turn_of, wake_of, wake_after}
 use Rattle.mote_node.specs.Laws as turns
 use Rattle.mote_node.specs.Laws.{Turns}
 use Rattle.mote_laws.specs.Laws.{first_node}
@@ -70,10 +64,10 @@ packet_rested m a r = record { booted = r.booted; rest = λ h. again (r.rest h) 
       radio_stays = k.radio_stays;
     }
 
-poll_rests : (s : KernelState) (p : Proc) → IsAtRest s → IsAtRest (poll_of s p)
+poll_rests : (s : KernelState) (p : Proc) → IsAtRest s → IsAtRest (process_poll s p)
 poll_rests s p k =
-    let t = tables.keeps_still s (poll_of s p) (tables.poll_still s p) k.step in record {
-      sound = (quiet s (poll_of s p) (poll_quiet s p)).sound k.sound;
+    let t = tables.keeps_still s (process_poll s p) (tables.poll_still s p) k.step in record {
+      sound = (quiet s (process_poll s p) (poll_quiet s p)).sound k.sound;
       step = t.step;
       idle = record { called = λ j. t.busy.called j ∙ k.idle.called j; exiting = λ j. t.busy.exiting j ∙ k.idle.exiting j };
       can = (watches_poll Etimer s p).etimer.can k.can;

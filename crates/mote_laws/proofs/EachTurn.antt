@@ -7,12 +7,8 @@ use Rattle.process_kernel.specs.declared.kernel.Ran.{Ran}
 use Rattle.process_kernel.specs.declared.kernel.Ran.TheVariants as ran
 use Rattle.radio_packet.specs.declared.arrival.Arrival.{Arrival}
 use Rattle.trace_lines.specs.declared.line.Line.{Line}
-use Rattle.process_kernel.specs.KernelModel.{has_room, with_packet, with_poll}
-use Rattle.process_kernel.specs.Given.{boot_given, run_given}
-use Rattle.mote_node.specs.Node.{Node}
-use Rattle.mote_node.specs.Underway.{Underway, with_mote, with_lines, underway_after}
-use Rattle.mote_node.specs.Arrivals.{received_line, lost_line, collision_line, hear, hear_each, took_some, hear_all, is_collision, with_collisions}
-use Rattle.mote_node.specs.Turn.{most_runs, boot_due, is_some_due, poll_due, follow, runs_of, work_of, mote_turn, net_turn, turn_of}
+use Rattle.process_kernel.specs.KernelModel.{has_room, with_packet, with_poll, boot_given, run_given, Underway, underway_after, follow, runs_of}
+use Rattle.mote_node.specs.Turn.{Node, with_mote, with_lines, received_line, lost_line, collision_line, hear, hear_each, took_some, hear_all, is_collision, with_collisions, most_runs, boot_due, is_some_due, poll_due, work_of, mote_turn, net_turn, turn_of}
 use Rattle.mote_node.specs.Laws.{TurnInput, Turns, Rests, Takes}
 
 pub either : (P : Underway → Type 0) (b : Bool) (u v : Underway) → P u → P v → P (if b then u else v)

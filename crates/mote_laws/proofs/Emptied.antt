@@ -6,18 +6,14 @@ use Rattle.program_tree.specs.Code.{Tree}
 use Rattle.mote_timers.specs.TimerLists.{next_expiration_of}
 use Rattle.radio_packet.specs.declared.arrival.Arrival.{Arrival}
 use Rattle.trace_lines.specs.declared.line.Line.{Line}
-use Rattle.process_kernel.specs.Posts.{poll_of}
-use Rattle.process_kernel.specs.KernelModel.{KernelModel, unbooted, with_poll}
-use Rattle.process_kernel.specs.Given.{boot_given, run_given}
+use Rattle.process_kernel.specs.Posts.{process_poll}
+use Rattle.process_kernel.specs.KernelModel.{KernelModel, unbooted, with_poll, boot_given, run_given, Underway, underway_after, runs_of}
 use Rattle.kernel_laws.specs.Poll.{PollWaits}
 use Rattle.kernel_laws.specs.Ring.{GivesPackets}
 use Rattle.kernel_laws.proofs.Ring.{boot_tells_packets}
 use Rattle.kernel_laws.proofs.Emptied.{empty_stays, run_empties_ring}
 use Rattle.kernel_laws.proofs.Watch.{watches_poll, still_waits, waits_now}
-use Rattle.mote_node.specs.Node.{Node, new_node}
-use Rattle.mote_node.specs.Underway.{Underway, with_mote, underway_after}
-use Rattle.mote_node.specs.Arrivals.{hear_each, took_some, hear_all, is_collision, with_collisions}
-use Rattle.mote_node.specs.Turn.{boot_due, is_some_due, poll_due, runs_of, work_of, mote_turn, net_turn, turn_of}
+use Rattle.mote_node.specs.Turn.{Node, new_node, with_mote, hear_each, took_some, hear_all, is_collision, with_collisions, boot_due, is_some_due, poll_due, work_of, mote_turn, net_turn, turn_of}
 use Rattle.mote_node.specs.Laws as turns
 use Rattle.mote_node.specs.Laws.{Turns}
 use Rattle.mote_laws.specs.Laws.{first_node}
@@ -59,9 +55,9 @@ poll_due_ready : (moment : ℕ) (m : KernelModel) → Ready m → Ready (poll_du
 unfolding poll_due with_poll
 poll_due_ready moment m r = by (is_some_due moment (next_expiration_of m.state.timers))
   where
-    again : (m.state.ring ≡ []) ⊎ PollWaits Radio m.state → ((poll_of m.state Etimer).ring ≡ []) ⊎ PollWaits Radio (poll_of m.state Etimer)
+    again : (m.state.ring ≡ []) ⊎ PollWaits Radio m.state → ((process_poll m.state Etimer).ring ≡ []) ⊎ PollWaits Radio (process_poll m.state Etimer)
     again (inl e) = inl ((poll_same m.state Etimer).0 ∙ e)
-    again (inr w) = inr (still_waits Radio m.state (poll_of m.state Etimer) (watches_poll Radio m.state Etimer) w)
+    again (inr w) = inr (still_waits Radio m.state (process_poll m.state Etimer) (watches_poll Radio m.state Etimer) w)
 
     by : (b : Bool) → Ready (if b then with_poll m Etimer else m)
     by true = record { ready = λ h. again (r.ready h) }

@@ -7,14 +7,11 @@ use Rattle.radio_packet.specs.declared.arrival.Arrival.{Arrival}
 use Rattle.trace_lines.specs.declared.line.Line.{Line}
 use Rattle.trace_lines.specs.declared.line.What.{What}
 use Rattle.trace_lines.specs.declared.line.What.TheVariants as what
-use Rattle.process_kernel.specs.KernelModel.{has_room, with_packet, with_poll}
-use Rattle.process_kernel.specs.Given.{boot_given, run_given}
+use Rattle.process_kernel.specs.KernelModel.{has_room, with_packet, with_poll, boot_given, run_given, Underway, underway_after, runs_of}
 use Rattle.kernel_laws.specs.Going.{IsNote}
 use Rattle.kernel_laws.proofs.Steps.{lines_joined}
 use Rattle.kernel_laws.proofs.Ring.{boot_tells_packets, run_tells_packets}
-use Rattle.mote_node.specs.Underway.{Underway, with_mote, with_lines, underway_after}
-use Rattle.mote_node.specs.Arrivals.{received_line, lost_line, collision_line, hear, hear_each, took_some, hear_all, is_collision, with_collisions}
-use Rattle.mote_node.specs.Turn.{most_runs, boot_due, poll_due, runs_of, work_of, mote_turn, net_turn, turn_of}
+use Rattle.mote_node.specs.Turn.{with_mote, with_lines, received_line, lost_line, collision_line, hear, hear_each, took_some, hear_all, is_collision, with_collisions, most_runs, boot_due, poll_due, work_of, mote_turn, net_turn, turn_of}
 use Rattle.mote_laws.specs.Ring.{note_of, notes_in, AreHeard, NoneCame, IsReceived, IsLost, BeginWithCollisions, TurnsCollide, TurnsHear}
 use Rattle.mote_laws.proofs.EachTurn.{either, runs_keep}
 

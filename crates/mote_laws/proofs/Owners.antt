@@ -6,8 +6,7 @@ use Rattle.radio_packet.specs.declared.arrival.Arrival.{Arrival}
 use Rattle.process_kernel.specs.KernelModel.{KernelModel, unbooted, with_packet, with_poll}
 use Rattle.kernel_laws.specs.Due.{HaveOwners}
 use Rattle.kernel_laws.proofs.Owners.{boot_keeps_owners, poll_timers, run_keeps_owners}
-use Rattle.mote_node.specs.Node.{Node, new_node}
-use Rattle.mote_node.specs.Turn.{turn_of}
+use Rattle.mote_node.specs.Turn.{Node, new_node, turn_of}
 use Rattle.mote_laws.specs.Laws.{first_node}
 use Rattle.mote_laws.specs.Due.{TurnsKeepOwners}
 use Rattle.mote_laws.proofs.EachTurn.{AreTurnSteps, net_turn_holds, nodes_keep}

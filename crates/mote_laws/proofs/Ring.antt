@@ -8,18 +8,14 @@ use Rattle.trace_lines.specs.declared.line.Line.{Line}
 use Rattle.trace_lines.specs.declared.line.What.{What}
 use Rattle.trace_lines.specs.declared.line.What.TheVariants as what
 use Rattle.process_kernel.specs.State.{KernelState}
-use Rattle.process_kernel.specs.Processes.{with_needs_poll}
-use Rattle.process_kernel.specs.Posts.{poll_of}
-use Rattle.process_kernel.specs.KernelModel.{KernelModel, unbooted, with_packet, with_poll}
-use Rattle.process_kernel.specs.Given.{Given, boot_given, run_given}
+use Rattle.process_kernel.specs.ProcessList.{with_needs_poll}
+use Rattle.process_kernel.specs.Posts.{process_poll}
+use Rattle.process_kernel.specs.KernelModel.{KernelModel, unbooted, with_packet, with_poll, Given, boot_given, run_given, Underway, underway_after}
 use Rattle.kernel_laws.specs.Polled.{Accepted, Refused, TellsPacket, TellEach, NoneLeft, TellsNext}
 use Rattle.kernel_laws.specs.Ring.{IsApart, RingRuns, NoneMore, Receives, Loses, Hands, Passes, GivesPackets}
 use Rattle.kernel_laws.proofs.Tables.{below_of}
 use Rattle.kernel_laws.proofs.Ring.{ring_runs_on, boot_tells_packets, run_tells_packets}
-use Rattle.mote_node.specs.Node.{Node, new_node}
-use Rattle.mote_node.specs.Underway.{Underway, with_mote, with_lines, underway_after}
-use Rattle.mote_node.specs.Arrivals.{received_line, lost_line, collision_line}
-use Rattle.mote_node.specs.Turn.{turn_of}
+use Rattle.mote_node.specs.Turn.{Node, new_node, with_mote, with_lines, received_line, lost_line, collision_line, turn_of}
 use Rattle.mote_node.specs.Laws as turns
 use Rattle.mote_node.specs.Laws.{Turns, Rests, Takes}
 use Rattle.mote_laws.specs.Laws.{first_node}
@@ -79,7 +75,7 @@ held program u before h running more left r = subst (λ x. RingRuns program.rece
 above_of : (n : ℕ) → nat_lt n 8 ≡ false → 8 ≤ n
 above_of n e = grind (arith, nat_tests)
 
-pub poll_same : (s : KernelState) (p : Proc) → ((poll_of s p).ring ≡ s.ring) × ((poll_of s p).program ≡ s.program)
+pub poll_same : (s : KernelState) (p : Proc) → ((process_poll s p).ring ≡ s.ring) × ((process_poll s p).program ≡ s.program)
 unfolding with_needs_poll
 poll_same s p = polled_or_not (λ t. (t.ring ≡ s.ring) × (t.program ≡ s.program)) s p (refl, refl) (refl, refl)
 

@@ -9,12 +9,8 @@ use Rattle.radio_packet.specs.declared.arrival.Arrival.{Arrival}
 use Rattle.trace_lines.specs.declared.line.Line.{Line}
 use Rattle.radio_packet.specs.declared.sent.Sent.{Sent}
 use Rattle.process_kernel.specs.State.{KernelState}
-use Rattle.process_kernel.specs.KernelModel.{unbooted, with_packet, with_poll}
-use Rattle.process_kernel.specs.Given.{boot_given, run_given}
-use Rattle.mote_node.specs.Node.{Node, new_node, is_past}
-use Rattle.mote_node.specs.Underway.{Underway, with_mote, with_lines, underway_after}
-use Rattle.mote_node.specs.Arrivals.{received_line, lost_line, collision_line}
-use Rattle.mote_node.specs.Turn.{runs_of, turn_of}
+use Rattle.process_kernel.specs.KernelModel.{unbooted, with_packet, with_poll, boot_given, run_given, Underway, underway_after, runs_of}
+use Rattle.mote_node.specs.Turn.{Node, new_node, is_past, with_mote, with_lines, received_line, lost_line, collision_line, turn_of}
 use Rattle.mote_node.specs.Laws.{TurnInput, Turns, Rests, Takes}
 use Rattle.kernel_laws.specs.Stamps.{LinesBear, PacketsBear, AreNumberedFrom, Stamped, with_output}
 use Rattle.kernel_laws.proofs.Stamps.{numbered_on, stamped_twice, stamped_still, poll_still, boot_stamps, run_stamps}

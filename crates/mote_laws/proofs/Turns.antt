@@ -1,12 +1,8 @@
 -- After each step of a turn, the lines still agree with the mote.
 use Rattle.std.proofs.Common.{ℕ, ◌≡◌, true, false, List, [], ◌∷◌, ◌++◌, sym, ap, ◌∙◌, subst, append_assoc, append-nil}
 use Rattle.trace_lines.specs.declared.line.Line.{Line}
-use Rattle.process_kernel.specs.KernelModel.{with_packet, with_poll}
-use Rattle.process_kernel.specs.Given.{Given}
-use Rattle.mote_node.specs.Node.{Node, new_node}
-use Rattle.mote_node.specs.Underway.{Underway, with_mote, with_lines, underway_after}
-use Rattle.mote_node.specs.Arrivals.{received_line, lost_line, collision_line}
-use Rattle.mote_node.specs.Turn.{turn_of}
+use Rattle.process_kernel.specs.KernelModel.{with_packet, with_poll, Given, Underway, underway_after}
+use Rattle.mote_node.specs.Turn.{Node, new_node, with_mote, with_lines, received_line, lost_line, collision_line, turn_of}
 use Rattle.mote_node.specs.Laws as turns
 use Rattle.mote_node.specs.Laws.{Turns, Rests, Takes}
 use Rattle.kernel_laws.specs.Going.{GoesWith, AppendsLines, IsNote}

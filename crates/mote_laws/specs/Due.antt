@@ -8,17 +8,13 @@ use Rattle.program_tree.specs.Events.{system_number}
 use Rattle.program_tree.specs.Code.{Tree}
 use Rattle.radio_packet.specs.declared.arrival.Arrival.{Arrival}
 use Rattle.trace_lines.specs.declared.line.Line.{Line}
-use Rattle.process_kernel.specs.Run.{most_units}
+use Rattle.process_kernel.specs.KernelModel.{most_units, begun, Underway}
 use Rattle.process_kernel.specs.State.{KernelState, Goes}
-use Rattle.process_kernel.specs.Call.{calls_of}
-use Rattle.process_kernel.specs.Given.{begun}
+use Rattle.process_kernel.specs.Operations.{calls_of}
 use Rattle.kernel_laws.specs.Poll.{PollWaits, polls_before}
 use Rattle.kernel_laws.specs.Due.{IsDueFor, NoneIsDue, HaveOwners, HasTelling}
-use Rattle.mote_node.specs.Node.{Node}
-use Rattle.mote_node.specs.Underway.{Underway, with_mote}
-use Rattle.mote_node.specs.Arrivals.{hear_all, is_collision, with_collisions}
-use Rattle.mote_node.specs.Turn.{boot_due, poll_due, turn_of}
-use Rattle.mote_node.specs.Wake.{wake_of}
+use Rattle.mote_node.specs.Turn.{Node, with_mote, hear_all, is_collision, with_collisions, boot_due, poll_due, turn_of}
+use Rattle.mote_node.specs.Turn.{wake_of}
 use Rattle.mote_node.specs.Laws.{TurnInput, Turns}
 use Rattle.mote_laws.specs.Laws.{first_node}
 

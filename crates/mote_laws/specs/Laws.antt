@@ -4,9 +4,7 @@ use Rattle.program_tree.specs.Code.{Tree}
 use Rattle.radio_packet.specs.declared.arrival.Arrival.{Arrival}
 use Rattle.trace_lines.specs.declared.line.Line.{Line}
 use Rattle.kernel_laws.specs.Going.{GoesWith, IsInOrder}
-use Rattle.mote_node.specs.Node.{Node, new_node}
-use Rattle.mote_node.specs.Node.{with_collide}
-use Rattle.mote_node.specs.Turn.{turn_of}
+use Rattle.mote_node.specs.Turn.{Node, new_node, with_collide, turn_of}
 use Rattle.mote_node.specs.Laws.{TurnInput, Turns}
 
 -- a node before its first turn; packets that arrive together either collide or don't

@@ -8,9 +8,7 @@ use Rattle.trace_lines.specs.declared.line.What.TheVariants as what
 use Rattle.process_kernel.specs.KernelModel.{KernelModel}
 use Rattle.kernel_laws.specs.Polled.{TellEach}
 use Rattle.kernel_laws.specs.Ring.{RingRuns}
-use Rattle.mote_node.specs.Node.{Node}
-use Rattle.mote_node.specs.Arrivals.{collision_line, is_collision}
-use Rattle.mote_node.specs.Turn.{turn_of}
+use Rattle.mote_node.specs.Turn.{Node, collision_line, is_collision, turn_of}
 use Rattle.mote_node.specs.Laws.{TurnInput, Turns}
 use Rattle.mote_laws.specs.Laws.{first_node}
 

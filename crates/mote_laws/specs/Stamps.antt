@@ -6,8 +6,7 @@ use Rattle.radio_packet.specs.declared.arrival.Arrival.{Arrival}
 use Rattle.trace_lines.specs.declared.line.Line.{Line}
 use Rattle.radio_packet.specs.declared.sent.Sent.{Sent}
 use Rattle.kernel_laws.specs.Stamps.{LinesBear, PacketsBear, AreNumberedFrom}
-use Rattle.mote_node.specs.Node.{Node}
-use Rattle.mote_node.specs.Turn.{TurnGiven, turn_of}
+use Rattle.mote_node.specs.Turn.{Node, TurnGiven, turn_of}
 use Rattle.mote_node.specs.Laws.{TurnInput, Turns}
 use Rattle.mote_laws.specs.Laws.{first_node}
 

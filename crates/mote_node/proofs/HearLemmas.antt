@@ -5,10 +5,9 @@ use Rattle.std.proofs.lemmas.Grind.{common_steps}
 use Rattle.program_tree.specs.declared.event.Proc.TheVariants.{Radio}
 use Rattle.radio_packet.specs.declared.arrival.Arrival.{Arrival}
 use Rattle.trace_lines.specs.declared.out.Out.{Out}
-use Rattle.process_kernel.specs.KernelModel.{KernelModel, has_room, with_packet, with_poll}
-use Rattle.mote_node.specs.Underway.{Underway, with_mote, with_lines}
-use Rattle.mote_node.specs.Arrivals.{received_line, lost_line, hear, hear_each, hear_all}
-use Rattle.mote_node.specs.Steps.{underway_in, GoesOn}
+use Rattle.process_kernel.specs.KernelModel.{KernelModel, has_room, with_packet, with_poll, Underway}
+use Rattle.mote_node.specs.Turn.{with_mote, with_lines, received_line, lost_line, hear, hear_each, hear_all}
+use Rattle.process_kernel.specs.Public.{underway_in, GoesOn}
 use Rattle.mote_node.proofs.StepLemmas.{underway}
 
 abbrev pub ring_of : Underway → ℕ

@@ -2,8 +2,8 @@
 use Rattle.std.proofs.Common.{◌≡◌, Bool, true, false, option_map, Option, Some, None, refl, if◌then◌else◌}
 use Rattle.trace_lines.specs.declared.out.Out.{Out}
 use Rattle.process_kernel.specs.KernelModel.{KernelModel}
-use Rattle.mote_node.specs.Underway.{with_mote}
-use Rattle.mote_node.specs.Steps.{GoesOn}
+use Rattle.mote_node.specs.Turn.{with_mote}
+use Rattle.process_kernel.specs.Public.{GoesOn}
 pub use Rattle.process_kernel.proofs.Steps.{underway, from_none, from_some, kernel_step}
 
 -- a condition whose value is known

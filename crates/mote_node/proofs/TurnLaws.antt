@@ -4,12 +4,8 @@ use Rattle.std.proofs.lemmas.Bool.Decides.{nat_tests}
 use Rattle.std.specs.List.Sorted.{IsStrictlyIncreasing}
 use Rattle.radio_packet.specs.declared.arrival.Arrival.{Arrival}
 use Rattle.trace_lines.specs.declared.line.Line.{Line}
-use Rattle.process_kernel.specs.Given.{boot_given}
-use Rattle.mote_node.specs.Node.{Node, is_past}
-use Rattle.mote_node.specs.Underway.{Underway, turn_goes_on, underway_after}
-use Rattle.mote_node.specs.Arrivals.{is_collision}
-use Rattle.mote_node.specs.Turn.{boot_due, work_of, mote_turn, net_turn, node_after, turned_to, turn_of}
-use Rattle.mote_node.specs.Wake.{wake_after}
+use Rattle.process_kernel.specs.KernelModel.{boot_given, Underway, underway_after}
+use Rattle.mote_node.specs.Turn.{Node, is_past, turn_goes_on, is_collision, boot_due, work_of, mote_turn, net_turn, node_after, turned_to, turn_of, wake_after}
 use Rattle.mote_node.proofs.StepLemmas.{if_true, if_false}
 use Rattle.mote_node.specs.Laws.{TurnInput, Turns, Rests, Takes, TurnsRise, HaltedRests}
 

@@ -4,15 +4,11 @@ use Rattle.program_tree.specs.Code.{Tree}
 use Rattle.process_kernel.specs.declared.kernel.Kernel.{Kernel}
 use Rattle.radio_packet.specs.declared.arrival.Arrival.{Arrival}
 use Rattle.trace_lines.specs.declared.out.Out.{Out}
-use Rattle.process_kernel.specs.KernelModel.{KernelModel}
-use Rattle.process_kernel.specs.Public.{kernel_in}
+use Rattle.process_kernel.specs.KernelModel.{KernelModel, Underway, runs_of}
+use Rattle.process_kernel.specs.Public.{kernel_in, underway_in, GoesOn}
 use Rattle.process_kernel.specs.Views.{kernel_model_of}
-use Rattle.mote_node.specs.Underway.{Underway}
-use Rattle.mote_node.specs.Arrivals.{hear_all}
-use Rattle.mote_node.specs.Steps.{underway_in, GoesOn}
-use Rattle.mote_node.specs.Wake.{wake_at}
+use Rattle.mote_node.specs.Turn.{hear_all, wake_at, boot_due, poll_due, most_runs, work_of, mote_turn}
 use Rattle.mote_node.specs.Public.{node_over, wake_in}
-use Rattle.mote_node.specs.Turn.{boot_due, poll_due, most_runs, runs_of, work_of, mote_turn}
 use Rattle.mote_node.proofs.StepLemmas.{underway, if_true, if_false, mote_step}
 
 -- if a kernel tells whether its mote has halted, the same is true of the mote in the turn

@@ -3,8 +3,7 @@ use Rattle.std.proofs.Common.{ℕ, ◌≡◌, ◌+◌, ◌<◌, max, Bool, true,
 use Rattle.std.specs.Prelude.{IfSome}
 use Rattle.mote_timers.specs.TimerLists.{next_expiration_of}
 use Rattle.process_kernel.specs.KernelModel.{KernelModel, is_pending}
-use Rattle.mote_node.specs.Wake.{wake_after}
-use Rattle.mote_node.specs.Turn.{turn_of}
+use Rattle.mote_node.specs.Turn.{wake_after, turn_of}
 use Rattle.mote_node.specs.Laws.{WakesLater, WakesBy, WakesInTime}
 
 later_choice : (pending : Bool) (moment : ℕ) (due : Option ℕ) → IfSome (if pending then Some (moment + 1) else option_map (λ d. max (moment + 1) d) due) (λ wake. moment < wake)

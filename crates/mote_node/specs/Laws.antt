@@ -5,8 +5,7 @@ use Rattle.std.specs.Prelude.{IfSome}
 use Rattle.mote_timers.specs.TimerLists.{next_expiration_of}
 use Rattle.radio_packet.specs.declared.arrival.Arrival.{Arrival}
 use Rattle.trace_lines.specs.declared.line.Line.{Line}
-use Rattle.mote_node.specs.Node.{Node, is_past}
-use Rattle.mote_node.specs.Turn.{turn_of}
+use Rattle.mote_node.specs.Turn.{Node, is_past, turn_of}
 
 -- the wake that a turn returns is later than the turn
 abbrev pub WakesLater : Type 0

@@ -6,9 +6,7 @@ use Rattle.process_kernel.specs.KernelModel.{KernelModel}
 use Rattle.process_kernel.specs.Public.{kernel_in}
 use Rattle.mote_node.specs.declared.mote.Mote.{Mote}
 use Rattle.mote_node.specs.declared.mote.TurnOut.{TurnOut}
-use Rattle.mote_node.specs.Node.{Node, is_past}
-use Rattle.mote_node.specs.Wake.{wake_of}
-use Rattle.mote_node.specs.Turn.{TurnGiven}
+use Rattle.mote_node.specs.Turn.{Node, is_past, wake_of, TurnGiven}
 
 abbrev pub node_over : (last : Option ℕ) → (collides : Bool) → KernelModel → Node
 node_over last collides m = record { mote = m; last = last; collides = collides }

@@ -1,18 +1,101 @@
--- A turn of a node.
-use Rattle.std.specs.Prelude.{ℕ, nat_le, Bool, false, ◌&&◌, List, [], Option, Some, None, if◌then◌else◌}
-use Rattle.program_tree.specs.declared.event.Proc.TheVariants.{Etimer}
+-- A turn of a node, and its next wake.
+use Rattle.std.specs.Prelude.{ℕ, nat_le, Bool, false, Option, Some, None, ◌+◌, max, if◌then◌else◌, option_map, List}
+use Rattle.std.specs.Prelude.{◌++◌, nat_lt, not, ◌&&◌, [], ◌∷◌, length, map}
+use Rattle.program_tree.specs.Code.{Tree}
+use Rattle.process_kernel.specs.KernelModel.{KernelModel, unbooted, is_pending, Underway, has_room, with_packet}
+use Rattle.process_kernel.specs.KernelModel.{with_poll, boot_given, runs_of, underway_after}
 use Rattle.mote_timers.specs.TimerLists.{next_expiration_of}
-use Rattle.radio_packet.specs.declared.arrival.Arrival.{Arrival}
 use Rattle.trace_lines.specs.declared.line.Line.{Line}
+use Rattle.program_tree.specs.declared.event.Proc.TheVariants.{Radio, Etimer}
+use Rattle.radio_packet.specs.declared.arrival.Arrival.{Arrival}
 use Rattle.radio_packet.specs.declared.sent.Sent.{Sent}
-use Rattle.process_kernel.specs.KernelModel.{KernelModel, with_poll}
-use Rattle.process_kernel.specs.Given.{boot_given}
-pub use Rattle.process_kernel.specs.Runs.{follow}
-unfoldable pub use Rattle.process_kernel.specs.Runs.{runs_of}
-use Rattle.mote_node.specs.Node.{Node}
-use Rattle.mote_node.specs.Wake.{wake_of}
-use Rattle.mote_node.specs.Underway.{Underway, turn_goes_on, with_mote, underway_after}
-use Rattle.mote_node.specs.Arrivals.{hear_all, is_collision, with_collisions}
+use Rattle.trace_lines.specs.declared.line.What.TheVariants as what
+
+-- the mote; the moment of its last turn, if it had one; and whether packets that arrive together are lost
+pub record Node : Type 0 where
+  pub mote : KernelModel
+  pub last : Option ℕ
+  pub collides : Bool
+
+-- a node before its first turn
+unfoldable pub new_node : Tree → (number queue : ℕ) → Node
+new_node t number queue = record { mote = unbooted t number queue; last = None; collides = false }
+
+-- the moment is not later than the last turn
+abbrev pub is_past : (moment : ℕ) → (last : Option ℕ) → Bool
+is_past moment None = false
+is_past moment (Some last) = nat_le moment last
+
+abbrev pub with_collide : Bool → Node → Node
+with_collide collides n = record n { collides = collides }
+
+-- The wake after a turn at this moment. If events or polls are left, it is the next moment. Otherwise it is the moment
+-- at which the first timer is due, but not before the next moment. Without timers there is no wake.
+unfoldable pub wake_after : (moment : ℕ) → KernelModel → Option ℕ
+wake_after moment m =
+    if is_pending m then Some (moment + 1) else option_map (λ due. max (moment + 1) due)
+    (next_expiration_of m.state.timers)
+
+-- the next wake: 0 before the first turn
+abbrev pub wake_since : (last : Option ℕ) → KernelModel → Option ℕ
+wake_since None m = Some 0
+wake_since (Some last) m = wake_after last m
+
+-- the next wake of a mote whose last turn was at this moment; a mote that has halted has none
+abbrev pub wake_at : (last : Option ℕ) → KernelModel → Option ℕ
+wake_at last m = if m.halted then None else wake_since last m
+
+-- the next wake of a node
+abbrev pub wake_of : Node → Option ℕ
+wake_of n = wake_at n.last n.mote
+
+-- a mote that has halted does nothing more
+abbrev pub turn_goes_on : Underway → Underway → Underway
+turn_goes_on u next = if u.mote.halted then u else next
+
+abbrev pub with_mote : Underway → KernelModel → Underway
+with_mote u m = record u { mote = m }
+
+abbrev pub with_lines : Underway → List Line → Underway
+with_lines u more = record u { lines = u.lines ++ more }
+
+abbrev pub received_line : (moment : ℕ) → Arrival → Line
+received_line moment a = record { at = moment; what = what.Recv a.sender a.number a.value }
+
+abbrev pub lost_line : (moment : ℕ) → Arrival → Line
+lost_line moment a = record { at = moment; what = what.Lost a.sender a.number }
+
+abbrev pub collision_line : (moment : ℕ) → Arrival → Line
+collision_line moment a = record { at = moment; what = what.Collide a.sender a.number }
+
+-- a packet goes into the receive ring, or is lost if the ring is full
+unfoldable pub hear : (moment : ℕ) → Arrival → Underway → Underway
+hear moment a u =
+    if has_room u.mote then with_lines (with_mote u (with_packet u.mote a)) (received_line moment a ∷ [])
+    else with_lines u (lost_line moment a ∷ [])
+
+-- the packets are heard one after another
+abbrev pub hear_each : (moment : ℕ) → List Arrival → Underway → Underway
+hear_each moment [] u = u
+hear_each moment (a ∷ later) u = hear_each moment later (hear moment a u)
+
+-- the ring holds more packets than before
+abbrev pub took_some : KernelModel → KernelModel → Bool
+took_some old new = nat_lt (length old.state.ring) (length new.state.ring)
+
+-- the packets are heard, and the radio process is polled if the ring accepted any of them
+unfoldable pub hear_all : (moment : ℕ) → List Arrival → Underway → Underway
+hear_all moment arrivals u =
+    let heard = hear_each moment arrivals u in
+    if took_some u.mote heard.mote then with_mote heard (with_poll heard.mote Radio) else heard
+
+-- two or more packets that arrive together collide, unless the mote has halted
+abbrev pub is_collision : KernelModel → List Arrival → Bool
+is_collision m arrivals = not m.halted && nat_le 2 (length arrivals)
+
+-- packets that collide are lost, and a line is written for each of them
+abbrev pub with_collisions : (moment : ℕ) → List Arrival → Underway → Underway
+with_collisions moment arrivals u = with_lines u (map (collision_line moment) arrivals)
 
 -- the first turn boots the mote
 unfoldable pub boot_due : (moment : ℕ) → Underway → Underway

@@ -5,8 +5,7 @@ ghost use Rattle.std.specs.Prelude.{Err, [], option_map, OnOk, OnErr};
 ghost use Rattle.program_tree.specs.Code.{Tree};
 ghost use Rattle.program_tree.specs.Program.{tree_of};
 ghost use Rattle.process_kernel.specs.Public.{kernel_in};
-ghost use Rattle.mote_node.specs.Node.{is_past};
-ghost use Rattle.mote_node.specs.Wake.{wake_at};
+ghost use Rattle.mote_node.specs.Turn.{is_past, wake_at};
 ghost use Rattle.std.proofs.Props.{props};
 
 use crate::turn::turn_in_net;
@@ -93,7 +92,7 @@ impl Drop for Mote {
 }
 
 /// The next wake of a mote after its turn at this moment; none if the mote has halted.
-#[tactic(auto, unfolding(crate::specs::Wake::wake_after))]
+#[tactic(auto, unfolding(crate::specs::Turn::wake_after))]
 fn wake_after(kernel: &Kernel, moment: u64) -> Option<u64>
     requires moment_bounded { moment ≤ 2 ^ 40 }
     ensures value { (t : Tree) → IfSome (kernel_in t kernel.now) (λ m. result ≡ wake_at (Some moment) m) }
@@ -121,18 +120,15 @@ fn is_past(moment: u64, last: Option<u64>) -> bool
 }
 
 impl Mote {
-    ghost use Rattle.mote_node.specs.Node.{new_node};
-    ghost use Rattle.mote_node.specs.Turn.{turn_of};
-    ghost use Rattle.mote_node.specs.Public.{node_in, wake_in, is_past_in, turn_given};
-    ghost use Rattle.mote_node.specs.Node.{with_collide};
-    ghost use Rattle.mote_node.specs.Public.{turn_out_of};
+    ghost use Rattle.mote_node.specs.Turn.{new_node, turn_of, with_collide};
+    ghost use Rattle.mote_node.specs.Public.{node_in, wake_in, is_past_in, turn_given, turn_out_of};
 
     /// The mote with this number and program, before its first turn. Its event queue has room for this many events, 1
     /// to 128.
     ///
     /// # Errors
     /// Only `Memory`.
-    #[tactic(auto, unfolding(crate::specs::Public::node_in, crate::specs::Node::new_node))]
+    #[tactic(auto, unfolding(crate::specs::Public::node_in, crate::specs::Turn::new_node))]
     pub fn new(alloc: Global, number: u16, program: &Program, queue: u16) -> Result<Mote, MoteError>
         requires some_room { 1 ≤ queue }
         requires limit { queue ≤ 128 }

@@ -3,11 +3,10 @@
 ghost use Rattle.std.specs.Prelude.{◌≡◌, ◌≤◌, ◌^◌, ◌++◌, map, option_map, OnOk, IfOk, IfSome};
 ghost use Rattle.program_tree.specs.Code.{Tree};
 ghost use Rattle.program_tree.specs.Program.{tree_of};
-ghost use Rattle.process_kernel.specs.KernelModel.{has_room};
-ghost use Rattle.process_kernel.specs.Public.{kernel_in};
-ghost use Rattle.mote_node.specs.Arrivals.{hear, hear_all, collision_line};
-ghost use Rattle.mote_node.specs.Steps.{GoesOn};
-ghost use Rattle.mote_node.specs.Turn.{boot_due, poll_due, most_runs, runs_of, mote_turn, net_turn};
+ghost use Rattle.process_kernel.specs.KernelModel.{has_room, runs_of};
+ghost use Rattle.process_kernel.specs.Public.{kernel_in, GoesOn};
+ghost use Rattle.mote_node.specs.Turn.{hear, hear_all, collision_line, boot_due, poll_due, most_runs, mote_turn};
+ghost use Rattle.mote_node.specs.Turn.{net_turn};
 
 use process_kernel::{Kernel, Line, Out, Ran, What};
 use program_tree::{Proc, Program};
@@ -38,7 +37,7 @@ fn boot(
 }
 
 /// Appends a packet to the receive ring, or loses it if the ring is full. Returns `true` if the packet was appended.
-#[tactic(auto, unfolding(crate::specs::Arrivals::hear))]
+#[tactic(auto, unfolding(crate::specs::Turn::hear))]
 fn hear_or_lose(
     kernel: &mut Kernel,
     moment: u64,

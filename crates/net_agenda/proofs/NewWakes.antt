@@ -1,8 +1,7 @@
 -- A mote wakes at 0 before its first turn.
 use Rattle.std.proofs.Common.{◌≡◌, ℕ, Some, refl}
 use Rattle.process_kernel.specs.KernelModel.{unbooted}
-use Rattle.mote_node.specs.Node.{new_node}
-use Rattle.mote_node.specs.Wake.{wake_of}
+use Rattle.mote_node.specs.Turn.{new_node, wake_of}
 use Rattle.mote_net.specs.Net.{NetModel}
 use Rattle.net_agenda.specs.NetSystem.{first_node_in}
 

@@ -2,9 +2,7 @@
 use Rattle.std.proofs.Common.{◌≡◌, ℕ, ◌<◌, List, length, map, subst, refl, Option, Some, None, option_map, unwrap_or}
 use Rattle.std.proofs.Common.{slice_get}
 use Rattle.program_tree.specs.Code.{Tree}
-use Rattle.mote_node.specs.Node.{Node}
-use Rattle.mote_node.specs.Turn.{turn_of}
-use Rattle.mote_node.specs.Wake.{wake_of}
+use Rattle.mote_node.specs.Turn.{Node, turn_of, wake_of}
 use Rattle.mote_node.proofs.WakeLaws.{wakes_later}
 use Rattle.radio_packet.specs.declared.copy.RadioCopy.{RadioCopy}
 use Rattle.radio_medium.specs.Medium.{medium_fault}

@@ -2,8 +2,7 @@
 use Rattle.std.specs.Prelude.{ℕ, List, length, map, slice_get, unwrap_or}
 use Rattle.program_tree.specs.Code.{Tree}
 use Rattle.trace_lines.specs.declared.line.Line.{Line}
-use Rattle.mote_node.specs.Node.{Node, new_node, with_collide}
-use Rattle.mote_node.specs.Turn.{turn_of}
+use Rattle.mote_node.specs.Turn.{Node, new_node, with_collide, turn_of}
 use Rattle.mote_node.specs.Turn as node
 use Rattle.radio_packet.specs.declared.copy.RadioCopy.{RadioCopy}
 use Rattle.radio_medium.specs.Medium.{copies, lookahead}

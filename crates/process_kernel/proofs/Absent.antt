@@ -12,12 +12,9 @@ use Rattle.protothread.specs.declared.thread.Mark.TheVariants.{AtRest, RunAway}
 use Rattle.protothread.specs.Looks.{Looks}
 use Rattle.protothread.specs.Remainder.{before, ended, Remainder, whole_of, fresh_of}
 use Rattle.protothread.specs.Step.{continued, advanced_of}
-use Rattle.process_kernel.specs.State.{KernelState, Goes, ◌>>=◌}
-use Rattle.process_kernel.specs.Looks.{looks_of}
-use Rattle.process_kernel.specs.Thread.{Stepped, stepped, stepped_with, stepped_of}
-use Rattle.process_kernel.specs.Calls.{Calls}
-use Rattle.process_kernel.specs.Operation.{after_step, run_of}
-use Rattle.process_kernel.specs.Call.{calls_of}
+use Rattle.process_kernel.specs.State.{KernelState, Goes, ◌>>=◌, Calls}
+use Rattle.process_kernel.specs.Thread.{looks_of, Stepped, stepped, stepped_with, stepped_of}
+use Rattle.process_kernel.specs.Operations.{after_step, run_of, calls_of}
 use Rattle.process_kernel.specs.Views.{part_of}
 use Rattle.process_kernel.proofs.Depth.{run_opens}
 

@@ -6,16 +6,14 @@ use Rattle.program_tree.specs.Code.{Code}
 use Rattle.protothread.specs.Remainder.{Remainder}
 use Rattle.process_kernel.specs.declared.machine.Stop.{Stop}
 use Rattle.process_kernel.specs.declared.machine.Stop.TheVariants.{Halted, Memory}
-use Rattle.process_kernel.specs.State.{KernelState, Ends}
-use Rattle.process_kernel.specs.Writes.{halted_of}
-use Rattle.process_kernel.specs.Calls.{Answer}
-use Rattle.process_kernel.specs.Operation.{run_of}
-use Rattle.process_kernel.specs.Call.{calls_of, call_of}
+use Rattle.process_kernel.specs.State.{KernelState, Ends, halted_of, Answer}
+use Rattle.process_kernel.specs.Operations.{run_of, calls_of}
+use Rattle.process_kernel.specs.Process.{call_process}
 use Rattle.process_kernel.specs.Views.{StepMatches}
 
 -- a step that follows the rule of a call, over any deep enough calls, follows the calls that nest one deeper
 pub deeper_call : (r : Result (Unit {0}) Stop) (new s : KernelState) (p : Proc) (e : Event) →
-    ((k : ℕ) → s.units ≤ k → StepMatches r new (call_of (calls_of k) s p e)) → (k : ℕ) → s.units < k
+    ((k : ℕ) → s.units ≤ k → StepMatches r new (call_process (calls_of k) s p e)) → (k : ℕ) → s.units < k
     → StepMatches r new ((calls_of k).call s p e)
 unfolding calls_of
 deeper_call r new s p e matches zero enough = absurd (omega arith)

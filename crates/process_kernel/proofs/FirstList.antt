@@ -3,7 +3,7 @@ use Rattle.std.proofs.Common.{ℕ, zero, suc, ◌≡◌, ◌+◌, ◌∙◌, tru
 use Rattle.std.specs.Prelude.{if◌then◌else◌, slice_get}
 use Rattle.process_kernel.specs.declared.machine.Machine.{Machine}
 use Rattle.process_kernel.specs.declared.process.Member.{Member}
-use Rattle.process_kernel.specs.Members.{holds_member}
+use Rattle.process_kernel.specs.ProcessList.{holds_member}
 use Rattle.process_kernel.specs.Views.{first_list_of}
 use Rattle.process_kernel.proofs.First.{drop_from}
 

@@ -14,11 +14,10 @@ use Rattle.process_kernel.specs.declared.kernel.KernelError.TheVariants as error
 use Rattle.process_kernel.specs.declared.machine.Stop.{Stop}
 use Rattle.process_kernel.specs.declared.machine.Stop.TheVariants.{Halted, Memory}
 use Rattle.process_kernel.specs.State.{KernelState, Outcome}
-use Rattle.process_kernel.specs.KernelModel.{KernelModel, at_rest}
+use Rattle.process_kernel.specs.KernelModel.{KernelModel, at_rest, Given, given}
 use Rattle.process_kernel.specs.Views as views
 use Rattle.process_kernel.specs.Views.{kernel_state_of, kernel_model_of, OutBegins}
 use Rattle.process_kernel.specs.Public.{kernel_in, BeginsWith, MatchesOutcome, FailsAs, Closes}
-use Rattle.process_kernel.specs.Given.{Given, given}
 
 -- a kernel that ran out of memory in an earlier call returns `Failed`
 pub failed : (t : Tree) (gives : KernelModel → List Line → List Sent → Given) (k : Kernel) (out : Out) → k.failed ≡ true

@@ -6,43 +6,39 @@ use Rattle.std.proofs.lemmas.Bool.Decides.{nat_tests}
 use Rattle.trace_lines.specs.declared.line.Line.{Line}
 use Rattle.radio_packet.specs.declared.sent.Sent.{Sent}
 use Rattle.process_kernel.specs.declared.kernel.Ran.TheVariants.{Left, Halted}
-use Rattle.process_kernel.specs.State.{KernelState, Outcome, Went, Ends, Goes, ◌>>=◌}
-use Rattle.process_kernel.specs.KernelModel.{KernelModel}
-use Rattle.process_kernel.specs.Calls.{Calls}
-use Rattle.process_kernel.specs.Run.{left_of, kernel_of, deliver_front}
-use Rattle.process_kernel.specs.Polls.{polls_due_of}
-use Rattle.process_kernel.specs.Boot.{boot_of}
-use Rattle.process_kernel.specs.Given.{Given, given, unless_halted, boot_given, run_given}
+use Rattle.process_kernel.specs.State.{KernelState, Outcome, Went, Ends, Goes, ◌>>=◌, Calls}
+use Rattle.process_kernel.specs.KernelModel.{KernelModel, Given, given, unless_halted, boot_given, run_given}
+use Rattle.process_kernel.specs.Process.{process_nevents, process_run, do_event, do_poll_if_requested, boot_of}
 use Rattle.process_kernel.specs.Laws.{TellsLeft, PendingIsLeft, StaysHalted}
 
-last : (o : Went) (n : ℕ) (s : KernelState) → (o >>= λ _ s1. Goes (left_of s1) s1) ≡ Goes n s → n ≡ left_of s
+last : (o : Went) (n : ℕ) (s : KernelState) → (o >>= λ _ s1. Goes (process_nevents s1) s1) ≡ Goes n s → n ≡ process_nevents s
 last (Ends t) n s is = cc
 last (Goes a t) n s is = cc
 
 last_of_two : (o : Went) (d : KernelState → Went) (n : ℕ) (s : KernelState)
-    → (o >>= λ _ s1. d s1 >>= λ _ s2. Goes (left_of s2) s2) ≡ Goes n s → n ≡ left_of s
+    → (o >>= λ _ s1. d s1 >>= λ _ s2. Goes (process_nevents s2) s2) ≡ Goes n s → n ≡ process_nevents s
 last_of_two (Ends t) d n s is = cc
 last_of_two (Goes a t) d n s is = last (d t) n s is
 
-kernel_left : (calls : Calls) (s : KernelState) (n : ℕ) (s1 : KernelState) → kernel_of calls s ≡ Goes n s1 → n ≡ left_of s1
-unfolding kernel_of
-kernel_left calls s n s1 is = last_of_two (polls_due_of calls s) (λ t. deliver_front calls t.queue.events t) n s1 is
+kernel_left : (calls : Calls) (s : KernelState) (n : ℕ) (s1 : KernelState) → process_run calls s ≡ Goes n s1 → n ≡ process_nevents s1
+unfolding process_run
+kernel_left calls s n s1 is = last_of_two (do_poll_if_requested calls s) (λ t. do_event calls t.queue.events t) n s1 is
 
-boot_left : (calls : Calls) (s : KernelState) (n : ℕ) (s1 : KernelState) → boot_of calls s ≡ Goes n s1 → n ≡ left_of s1
+boot_left : (calls : Calls) (s : KernelState) (n : ℕ) (s1 : KernelState) → boot_of calls s ≡ Goes n s1 → n ≡ process_nevents s1
 unfolding boot_of
 boot_left calls s n s1 is = last _ n s1 is
 
-given_left : (o : Outcome ℕ) (n : ℕ) → ((k : ℕ) (s : KernelState) → o ≡ Goes k s → k ≡ left_of s) → (given o).ran ≡ Left n
-    → n ≡ left_of (given o).mote.state
+given_left : (o : Outcome ℕ) (n : ℕ) → ((k : ℕ) (s : KernelState) → o ≡ Goes k s → k ≡ process_nevents s) → (given o).ran ≡ Left n
+    → n ≡ process_nevents (given o).mote.state
 given_left (Ends s) n tells is = cc
 given_left (Goes k s) n tells is = let same : n ≡ k = cc in same ∙ tells k s refl
 
 unless_left : (m : KernelModel) (ls : List Line) (ss : List Sent) (g : Given) (n : ℕ)
-    → (g.ran ≡ Left n → n ≡ left_of g.mote.state)
-    → (unless_halted m ls ss g).ran ≡ Left n → n ≡ left_of (unless_halted m ls ss g).mote.state
+    → (g.ran ≡ Left n → n ≡ process_nevents g.mote.state)
+    → (unless_halted m ls ss g).ran ≡ Left n → n ≡ process_nevents (unless_halted m ls ss g).mote.state
 unless_left m ls ss g n tells is =
     cond_both m.halted (record { ran = Halted; mote = m; lines = ls; sends = ss }) g
-    (λ (x : Given). x.ran ≡ Left n → n ≡ left_of x.mote.state) (λ _ h. cc) (λ _ h. tells h) is
+    (λ (x : Given). x.ran ≡ Left n → n ≡ process_nevents x.mote.state) (λ _ h. cc) (λ _ h. tells h) is
 
 pub run_tells : TellsLeft run_given
 unfolding run_given

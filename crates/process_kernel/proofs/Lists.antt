@@ -9,8 +9,7 @@ use Rattle.std.proofs.lemmas.Map.Steps.{length-le_from_distinct_below}
 use Rattle.std.proofs.lemmas.Map.Views.{Contains-from_any}
 use Rattle.program_tree.specs.declared.event.Proc.{Proc}
 use Rattle.process_kernel.specs.declared.process.Member.{Member}
-use Rattle.process_kernel.specs.Members.{place_of, is_same, is_found_in, are_once, AreMembers}
-use Rattle.process_kernel.specs.ProcessList.{numbered_from}
+use Rattle.process_kernel.specs.ProcessList.{place_of, is_same, is_found_in, are_once, AreMembers, numbered_from}
 
 -- both tests hold
 both : (a b : Bool) → a ≡ true → b ≡ true → (a && b) ≡ true

@@ -2,8 +2,7 @@
 use Rattle.std.proofs.Common.{ℕ, zero, suc, ◌≡◌, ◌+◌, ◌<◌, ◌≤◌, ◌==◌, ◌&&◌, ◌||◌, Bool, true, false, List, [], ◌∷◌, length, refl, ap, ◌∙◌, arith}
 use Rattle.std.specs.Prelude.{slice_index_or}
 use Rattle.process_kernel.specs.declared.process.Member.{Member}
-use Rattle.process_kernel.specs.Members.{is_same, holds_member}
-use Rattle.process_kernel.specs.ProcessList.{numbered_from}
+use Rattle.process_kernel.specs.ProcessList.{is_same, holds_member, numbered_from}
 
 and_false : (a : Bool) → (a && false) ≡ false
 and_false true = refl

@@ -14,8 +14,8 @@ use Rattle.mote_timers.specs.Timer.{unset}
 use Rattle.mote_timers.specs.TimerLists.{timer_at}
 use Rattle.process_kernel.specs.declared.process.ProcessState.{ProcessState}
 use Rattle.process_kernel.specs.declared.process.ProcessState.TheVariants.{Off}
-use Rattle.process_kernel.specs.Processes.{is_alive}
-use Rattle.process_kernel.specs.Looks.{places_from, is_unowned}
+use Rattle.process_kernel.specs.ProcessList.{is_alive}
+use Rattle.process_kernel.specs.Thread.{places_from, is_unowned}
 
 -- the result of the test at a place of the list, and false if there is no such place
 abbrev pub test_at : {A : Type 0} → (A → Bool) → Option A → Bool

@@ -3,12 +3,8 @@ use Rattle.std.proofs.Common.{ℕ, zero, suc, ◌≡◌, ◌<◌, Option, Some, 
 use Rattle.process_kernel.specs.declared.kernel.Ran.{Ran}
 use Rattle.process_kernel.specs.declared.kernel.Ran.TheVariants as ran
 use Rattle.trace_lines.specs.declared.out.Out.{Out}
-use Rattle.process_kernel.specs.KernelModel.{KernelModel}
-use Rattle.process_kernel.specs.Public.{MatchesOutcome}
-use Rattle.process_kernel.specs.Given.{Given, run_given}
-use Rattle.process_kernel.specs.Underway.{Underway, underway_after}
-use Rattle.process_kernel.specs.GoesOn.{underway_in}
-use Rattle.process_kernel.specs.Runs.{follow, runs_of}
+use Rattle.process_kernel.specs.KernelModel.{KernelModel, Given, run_given, Underway, underway_after, follow, runs_of}
+use Rattle.process_kernel.specs.Public.{MatchesOutcome, underway_in}
 use Rattle.process_kernel.proofs.Steps.{kernel_step, kernel_ran}
 
 -- a state between kernel runs: the remaining runs lead from it to the state to which all `most` runs lead from the

@@ -4,11 +4,8 @@ use Rattle.process_kernel.specs.declared.kernel.Ran.{Ran}
 use Rattle.trace_lines.specs.declared.line.Line.{Line}
 use Rattle.trace_lines.specs.declared.out.Out.{Out}
 use Rattle.radio_packet.specs.declared.sent.Sent.{Sent}
-use Rattle.process_kernel.specs.KernelModel.{KernelModel}
-use Rattle.process_kernel.specs.Public.{MatchesOutcome}
-use Rattle.process_kernel.specs.Given.{Given}
-use Rattle.process_kernel.specs.Underway.{Underway, underway_after}
-use Rattle.process_kernel.specs.GoesOn.{underway_in, GoesOn}
+use Rattle.process_kernel.specs.KernelModel.{KernelModel, Given, Underway, underway_after}
+use Rattle.process_kernel.specs.Public.{MatchesOutcome, underway_in, GoesOn}
 
 abbrev pub underway : KernelModel → Out → Underway
 underway m out = record { mote = m; lines = out.lines.items; sends = out.sends.items }

@@ -16,8 +16,7 @@ use Rattle.mote_timers.specs.DueTimers.{members_after, first_due}
 use Rattle.process_kernel.specs.declared.machine.Stop.{Stop}
 use Rattle.process_kernel.specs.declared.machine.Stop.TheVariants.{Halted, Memory}
 use Rattle.process_kernel.specs.State.{KernelState, Outcome, Went, Goes, ◌>>=◌}
-use Rattle.process_kernel.specs.Posts.{post_of, poll_of}
-use Rattle.process_kernel.specs.Calls.{own_event}
+use Rattle.process_kernel.specs.Posts.{process_post, process_poll, own_event}
 use Rattle.process_kernel.specs.Etimer.{fired_of, post_due, walk_timers, walks_of}
 use Rattle.process_kernel.specs.Views.{StepMatches}
 
@@ -144,17 +143,17 @@ pub record Found (s : KernelState) (after : Option ℕ) (x : ℕ) (o : Proc) : T
 
 module _ (s : KernelState) (after : Option ℕ) (x : ℕ) (o : Proc) (left : ℕ) (at : Found s after x o) where
   pub step : walk_timers (walks_of left) (members_after after s.timers.listed) s
-      ≡ (post_of s (One o) (own_event Timer x)
+      ≡ (process_post s (One o) (own_event Timer x)
       >>= λ full s1. if full
       then walk_timers (walks_of left) (after_first (λ y. y == x) (members_after after s.timers.listed))
-      (poll_of s1 Etimer) else walks_of left (fired_of s1 x))
+      (process_poll s1 Etimer) else walks_of left (fired_of s1 x))
   unfolding first_due
   step =
       walk_found (walks_of left) s (members_after after s.timers.listed) x (sym at.first)
       ∙ ap (post_due (walks_of left)
       (walk_timers (walks_of left) (after_first (λ y. y == x) (members_after after s.timers.listed))) s x) at.owner
 
-  pub full_step : (s1 s2 : KernelState) → post_of s (One o) (own_event Timer x) ≡ Goes true s1 → s2 ≡ poll_of s1 Etimer
+  pub full_step : (s1 s2 : KernelState) → process_post s (One o) (own_event Timer x) ≡ Goes true s1 → s2 ≡ process_poll s1 Etimer
       → s2.timers ≡ s.timers
       → length (members_after (Some x) s.timers.listed) < length (members_after after s.timers.listed)
       → walk_timers (walks_of left) (members_after after s.timers.listed) s
@@ -164,7 +163,7 @@ module _ (s : KernelState) (after : Option ℕ) (x : ℕ) (o : Proc) (left : ℕ
       ap (λ (t : TimerLists). members_after (Some x) t.listed) same ∙ behind_rest after s.timers.listed x nearer in
       step ∙ rw full (rw (rest, ← polled) refl)
 
-  pub fired_step : (s1 s2 : KernelState) → post_of s (One o) (own_event Timer x) ≡ Goes false s1 → s2 ≡ fired_of s1 x
+  pub fired_step : (s1 s2 : KernelState) → process_post s (One o) (own_event Timer x) ≡ Goes false s1 → s2 ≡ fired_of s1 x
       → length s2.timers.listed ≤ left
       → (more : ℕ) × (length s2.timers.listed ≤ more + 1)
       × (walk_timers (walks_of left) (members_after after s.timers.listed) s
@@ -172,9 +171,9 @@ module _ (s : KernelState) (after : Option ℕ) (x : ℕ) (o : Proc) (left : ℕ
   fired_step s1 s2 room fired fewer =
       let b = begin left s2 fewer in (b.left, b.enough, step ∙ rw (room, ← fired) b.walks)
 
-  pub halt_step : (stop : Stop) (new : KernelState) → StepMatches {A = Bool} (Err stop) new (post_of s (One o) (own_event Timer x))
+  pub halt_step : (stop : Stop) (new : KernelState) → StepMatches {A = Bool} (Err stop) new (process_post s (One o) (own_event Timer x))
       → StepMatches {A = Unit {0}} (Err stop) new (walk_timers (walks_of left) (members_after after s.timers.listed) s)
-  halt_step stop new is = rw step (halts_through Bool (Unit {0}) stop new (post_of s (One o) (own_event Timer x)) _ is)
+  halt_step stop new is = rw step (halts_through Bool (Unit {0}) stop new (process_post s (One o) (own_event Timer x)) _ is)
 
 few : (f : ℕ → Bool) (ks : List ℕ) → length (filter f ks) ≤ length ks
 few f [] = omega arith

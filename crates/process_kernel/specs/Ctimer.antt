@@ -1,16 +1,16 @@
--- The ctimer process (`ctimer_process` of `ctimer.c`).
+-- Callback timers (`ctimer.c`).
 use Rattle.std.specs.Prelude.{ℕ, Bool, ◌&&◌, slice_get, Some, None, if◌then◌else◌}
 use Rattle.program_tree.specs.declared.event.Event.{Event}
 use Rattle.program_tree.specs.declared.event.SystemEvent.TheVariants.{Timer}
 use Rattle.protothread.specs.declared.part.Part.TheVariants.{Callback}
 use Rattle.protothread.specs.Remainder.{fresh_of}
 use Rattle.mote_timers.specs.Numbers.{is_member, without_member}
-use Rattle.process_kernel.specs.State.{KernelState, Went, Goes, ◌>>=◌}
-use Rattle.process_kernel.specs.TimerOperations.{has_timer}
-use Rattle.process_kernel.specs.Calls.{Calls, is_system_event}
+use Rattle.process_kernel.specs.State.{KernelState, Went, Goes, ◌>>=◌, Calls}
+use Rattle.process_kernel.specs.Etimer.{has_timer}
+use Rattle.process_kernel.specs.Posts.{is_system_event}
 
--- `c->f(c->ptr)` between PROCESS_CONTEXT_BEGIN and PROCESS_CONTEXT_END: the callback of this timer runs on behalf of
--- the timer's process
+-- In `ctimer_process`, `c->f(c->ptr)` between PROCESS_CONTEXT_BEGIN and PROCESS_CONTEXT_END: the callback of this
+-- timer runs on behalf of the timer's process.
 unfoldable pub callback_of : Calls → KernelState → Event → Went
 callback_of calls s e =
     elim (slice_get s.program.timers e.word) [
@@ -25,9 +25,10 @@ callback_of calls s e =
 abbrev pub waits_for : KernelState → (timer : ℕ) → Bool
 waits_for s timer = has_timer s timer && is_member timer s.callbacks
 
--- `ctimer_process` at TIMER: a callback that waits for its timer is removed from the callback list and runs
-unfoldable pub ctimer_of : Calls → KernelState → Event → Went
-ctimer_of calls s e =
+-- `ctimer_process` in `ctimer.c`, at TIMER: a callback that waits for its timer is removed from the callback list and
+-- runs.
+unfoldable pub ctimer_process : Calls → KernelState → Event → Went
+ctimer_process calls s e =
     if is_system_event Timer e && waits_for s e.word
     then callback_of calls (record s { callbacks = without_member e.word s.callbacks }) e
     else Goes tt s

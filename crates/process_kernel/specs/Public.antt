@@ -1,5 +1,5 @@
 -- The promises of a `Kernel`'s calls.
-use Rattle.std.specs.Prelude.{ℕ, ◌≡◌, true, List, Option, Some, None, Result, Ok, Err, if◌then◌else◌}
+use Rattle.std.specs.Prelude.{ℕ, ◌≡◌, true, List, Option, Some, None, Result, Ok, Err, if◌then◌else◌, option_map}
 use Rattle.program_tree.specs.Code.{Tree}
 use Rattle.trace_lines.specs.declared.line.Line.{Line}
 use Rattle.radio_packet.specs.declared.sent.Sent.{Sent}
@@ -7,14 +7,13 @@ use Rattle.trace_lines.specs.declared.out.Out.{Out}
 pub use Rattle.trace_lines.specs.Out.{BeginsWith}
 use Rattle.process_kernel.specs.declared.kernel.Kernel.{Kernel}
 use Rattle.process_kernel.specs.declared.kernel.Ran.{Ran}
-use Rattle.process_kernel.specs.declared.kernel.Ran.TheVariants as ran
 use Rattle.process_kernel.specs.declared.kernel.KernelError.{KernelError}
-use Rattle.process_kernel.specs.declared.kernel.KernelError.TheVariants as error
 use Rattle.process_kernel.specs.declared.machine.Stop.{Stop}
-use Rattle.process_kernel.specs.declared.machine.Stop.TheVariants as stop
-use Rattle.process_kernel.specs.KernelModel.{KernelModel}
-use Rattle.process_kernel.specs.Given.{Given}
+use Rattle.process_kernel.specs.KernelModel.{KernelModel, Given, Underway}
 use Rattle.process_kernel.specs.Views.{kernel_model_of}
+use Rattle.process_kernel.specs.declared.kernel.Ran.TheVariants as ran
+use Rattle.process_kernel.specs.declared.kernel.KernelError.TheVariants as error
+use Rattle.process_kernel.specs.declared.machine.Stop.TheVariants as stop
 
 -- The mote that a kernel with this program represents. A kernel that ran out of memory represents none. The remainders
 -- of the kernel's threads depend on the program.
@@ -45,3 +44,13 @@ Closes old (Ok left) result new = (result ≡ Ok (ran.Left left)) × (new ≡ re
 Closes old (Err stop.Halted) result new = (result ≡ Ok ran.Halted) × (new ≡ record old { booted = true; halted = true })
 Closes old (Err stop.Memory) result new =
     (result ≡ Err error.Memory) × (new ≡ record old { booted = true; failed = true })
+
+-- the turn in progress of a mote, unless its kernel has failed
+abbrev pub underway_in : Option KernelModel → Out → Option Underway
+underway_in m out = option_map (λ x. record { mote = x; lines = out.lines.items; sends = out.sends.items }) m
+
+-- a mote whose kernel has not failed continues with this step
+pub record GoesOn (step : Underway → Underway) (old : Option KernelModel) (out : Out) (new : Option KernelModel)
+    (out' : Out)
+    : Type 0 where
+  pub leads : (u : Underway) → underway_in old out ≡ Some u → underway_in new out' ≡ Some (step u)

@@ -1,6 +1,6 @@
 -- The meaning of the types of `src/machine.rt` and `src/look.rt`, for a mote with a given program.
-use Rattle.std.specs.Prelude.{ℕ, ◌≡◌, ◌≤◌, ◌++◌, Bool, List, [], ◌∷◌, Result, Ok, Err}
-use Rattle.std.specs.Prelude.{Option, Some, None, if◌then◌else◌}
+use Rattle.std.specs.Prelude.{ℕ, ◌≡◌, ◌≤◌, ◌++◌, Bool, List, [], ◌∷◌, Result, Ok, Err, Option, Some, None}
+use Rattle.std.specs.Prelude.{if◌then◌else◌, ◌<◌, OnOk}
 use Rattle.std.specs.Global.{Box}
 use Rattle.program_tree.specs.Code.{Code, Tree}
 use Rattle.protothread.specs.declared.answer.PtState.{PtState}
@@ -19,10 +19,12 @@ use Rattle.process_kernel.specs.declared.machine.Stop.TheVariants.{Halted, Memor
 use Rattle.process_kernel.specs.declared.look.KernelView.{KernelView}
 use Rattle.program_tree.specs.declared.event.Event.{Event}
 use Rattle.protothread.specs.declared.part.Part.{Part}
-use Rattle.process_kernel.specs.Looks.{looks_at}
-use Rattle.process_kernel.specs.State.{KernelState, Outcome, Went, Ends, Goes, ◌>>=◌}
+use Rattle.process_kernel.specs.Thread.{looks_at}
+use Rattle.process_kernel.specs.State.{KernelState, Outcome, Went, Ends, Goes, ◌>>=◌, Calls, Answer}
 use Rattle.process_kernel.specs.KernelModel.{KernelModel, at_rest}
-use Rattle.process_kernel.specs.Calls.{Calls, Answer}
+use Rattle.program_tree.specs.declared.program.Program.{Program}
+use Rattle.program_tree.specs.Program.{tree_of}
+use Rattle.process_kernel.specs.Operations.{calls_of}
 
 -- the remainder of the body of a process with this code; the whole body, while the body is taken out of the table
 abbrev pub remainder_of_body : Code → Option (Box Thread) → Remainder
@@ -114,3 +116,14 @@ kernel_model_of program m booted halted = record {
 -- a handler or a callback runs from its beginning
 abbrev pub part_of : Calls → KernelState → Code → Part → (process : ℕ) → Event → Went
 part_of calls s code part p e = calls.run s code (fresh_of code part) p e >>= λ _ s1. Goes tt s1
+
+-- A step follows a rule. The step's result and the state after it are the outcome of the rule, for every bound on the
+-- depth of calls that is greater than the number of units of work. If memory runs out, nothing is claimed about result
+-- and state. The lines written before the step remain.
+pub record Follows {A : Type 0} (program : Program) (old : Machine) (result : Result A Stop) (new : Machine)
+    (rule : Calls → KernelState → Outcome A) : Type 0 where
+  pub exact : (k : ℕ) → old.fuel < k
+      → StepMatches result (kernel_state_of (tree_of program) new)
+      (rule (calls_of k) (kernel_state_of (tree_of program) old))
+  pub continues : OnOk result (Continues old new)
+  pub grows : Grows old.out new.out

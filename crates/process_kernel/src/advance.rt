@@ -6,7 +6,7 @@ ghost use Rattle.program_tree.specs.Program.{code_of};
 ghost use Rattle.protothread.specs.Places.{remainder_of};
 ghost use Rattle.protothread.specs.Step.{PaysFor};
 ghost use Rattle.process_kernel.specs.Thread.{stepped_of};
-ghost use Rattle.process_kernel.specs.Operation.{answer_of};
+ghost use Rattle.process_kernel.specs.Operations.{answer_of};
 ghost use Rattle.process_kernel.specs.State.{Goes};
 ghost use Rattle.process_kernel.specs.Views.{first_list_of, kernel_state_of, Grows, Continues};
 
@@ -50,7 +50,7 @@ impl Machine {
     }
 
     /// Informs a thread of the result of its post: whether the queue was full.
-    #[tactic(auto, unfolding(crate::specs::Operation::answer_of))]
+    #[tactic(auto, unfolding(crate::specs::Operations::answer_of))]
     pub fn answer(&mut self, thread: &mut Thread, process: u8, is_full: bool)
         ensures exact { (t : Tree) (code : Code)
             → answer_of (kernel_state_of t self.old) (remainder_of code thread.old) process is_full

@@ -1,8 +1,8 @@
 //! The boot of a mote.
 
 ghost use Rattle.std.specs.Prelude.{map};
-ghost use Rattle.process_kernel.specs.Boot.{starts_of, boot_of};
-ghost use Rattle.process_kernel.specs.Follows.{Follows};
+ghost use Rattle.process_kernel.specs.Process.{autostart_start, boot_of};
+ghost use Rattle.process_kernel.specs.Views.{Follows};
 
 use crate::machine::{Machine, Stop};
 use program_tree::{Proc, Program};
@@ -10,7 +10,7 @@ use program_tree::{Proc, Program};
 impl Machine {
     fn start_each(&mut self, program: &Program, processes: &[u8]) -> Result<(), Stop>
         ensures follows { Follows program.now self.old result self.new
-            (λ calls. starts_of calls (map Proc.Own processes.now)) }
+            (λ calls. autostart_start calls (map Proc.Own processes.now)) }
     {
         for process in processes {
             self.start(program, Proc::Own(*process))?;
@@ -22,7 +22,7 @@ impl Machine {
     ///
     /// # Errors
     /// `Halted` if the mote halts meanwhile; `Memory` if an allocation fails.
-    #[tactic(auto, unfolding(crate::specs::Boot::boot_of))]
+    #[tactic(auto, unfolding(crate::specs::Process::boot_of))]
     pub fn boot(&mut self, program: &Program) -> Result<u16, Stop>
         ensures follows { Follows program.now self.old result self.new boot_of }
     {

@@ -3,11 +3,9 @@
 ghost use Rattle.std.specs.Prelude.{◌≡◌, Some, slice_get};
 ghost use Rattle.program_tree.specs.Program.{tree_of, code_of};
 ghost use Rattle.protothread.specs.Places.{remainder_of};
-ghost use Rattle.process_kernel.specs.Call.{has_ended as is_an_end};
-ghost use Rattle.process_kernel.specs.Ctimer.{callback_of, ctimer_of};
-ghost use Rattle.process_kernel.specs.Follows.{Follows};
-ghost use Rattle.process_kernel.specs.Reaction.{handler_of, resume_of, own_of, react_of};
-ghost use Rattle.process_kernel.specs.Views.{answer_model, part_of};
+ghost use Rattle.process_kernel.specs.Thread.{has_ended as is_an_end, handler_of, resume_of, own_of, react_of};
+ghost use Rattle.process_kernel.specs.Ctimer.{callback_of, ctimer_process};
+ghost use Rattle.process_kernel.specs.Views.{Follows, answer_model, part_of};
 
 use crate::event::is_event;
 use crate::machine::{Machine, Stop};
@@ -32,7 +30,7 @@ impl Machine {
     /// # Errors
     /// `Halted` if no unit of work is left, or if the mote halts in the call; `Memory` if an allocation fails.
     #[cycle(kernel)]
-    #[tactic(auto, unfolding(crate::specs::Call::call_of, crate::specs::Call::answered))]
+    #[tactic(auto, unfolding(crate::specs::Process::call_process, crate::specs::Process::answered))]
     pub fn call(&mut self, program: &Program, process: Proc, event: &Event) -> Result<(), Stop>
         ensures follows { Follows program.now self.old result self.new
             (λ calls state. calls.call state process event.now) }
@@ -57,7 +55,7 @@ impl Machine {
     /// `Halted` if the mote halts meanwhile; `Memory` if an allocation fails.
     #[cycle(kernel)]
     #[inline(always)]
-    #[tactic(auto, unfolding(crate::specs::Reaction::react_of))]
+    #[tactic(auto, unfolding(crate::specs::Thread::react_of))]
     pub fn react(
         &mut self,
         program: &Program,
@@ -87,7 +85,7 @@ impl Machine {
     /// Runs the handler that a process of the program has for the event, and then resumes the body of this process.
     #[cycle(kernel)]
     #[inline(always)]
-    #[tactic(auto, unfolding(crate::specs::Reaction::own_of))]
+    #[tactic(auto, unfolding(crate::specs::Thread::own_of))]
     fn react_as_own(
         &mut self,
         program: &Program,
@@ -108,7 +106,7 @@ impl Machine {
     /// Runs the event's handler, if there is one.
     #[cycle(kernel)]
     #[inline(always)]
-    #[tactic(auto, unfolding(crate::specs::Reaction::handler_of))]
+    #[tactic(auto, unfolding(crate::specs::Thread::handler_of))]
     fn handle(
         &mut self,
         program: &Program,
@@ -131,7 +129,7 @@ impl Machine {
     /// Resumes the body of a process of the program.
     #[cycle(kernel)]
     #[inline(always)]
-    #[tactic(auto, unfolding(crate::specs::Reaction::resume_of))]
+    #[tactic(auto, unfolding(crate::specs::Thread::resume_of))]
     fn resume(
         &mut self,
         program: &Program,
@@ -152,10 +150,10 @@ impl Machine {
     /// Lets the ctimer process react to an event: a callback that waits for this timer is removed from the callback
     /// list and runs.
     #[cycle(kernel)]
-    #[tactic(auto, unfolding(crate::specs::Ctimer::ctimer_of))]
+    #[tactic(auto, unfolding(crate::specs::Ctimer::ctimer_process))]
     fn react_as_ctimer(&mut self, program: &Program, event: &Event) -> Result<(), Stop>
         ensures follows { Follows program.now self.old result self.new
-            (λ calls state. ctimer_of calls state event.now) }
+            (λ calls state. ctimer_process calls state event.now) }
     {
         if !is_event(SystemEvent::Timer, event) {
             return Ok(());
@@ -223,7 +221,7 @@ impl Machine {
 
     /// Runs a thread of a process until it waits, yields, exits or ends.
     #[cycle(kernel)]
-    #[tactic(auto, unfolding(crate::specs::Operation::run_of))]
+    #[tactic(auto, unfolding(crate::specs::Operations::run_of))]
     fn run(
         &mut self,
         program: &Program,

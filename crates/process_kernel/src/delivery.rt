@@ -1,9 +1,8 @@
 //! The delivery of events (`do_event` of `process.c`).
 
 ghost use Rattle.std.specs.Prelude.{◌≡◌, true};
-ghost use Rattle.process_kernel.specs.Delivery.{give_of, visit_of, walk_broadcast, deliver_of};
-ghost use Rattle.process_kernel.specs.Follows.{Follows};
-ghost use Rattle.process_kernel.specs.Run.{deliver_front};
+ghost use Rattle.process_kernel.specs.Process.{give_of, visit_of, walk_broadcast, deliver_of, do_event};
+ghost use Rattle.process_kernel.specs.Views.{Follows};
 
 use crate::machine::{Machine, Stop};
 use crate::process::Member;
@@ -18,7 +17,7 @@ impl Machine {
     /// `Halted` if the mote halts meanwhile; `Memory` if an allocation fails.
     pub fn deliver_front(&mut self, program: &Program) -> Result<(), Stop>
         ensures follows { Follows program.now self.old result self.new
-            (λ calls. deliver_front calls self.old.queue.events) }
+            (λ calls. do_event calls self.old.queue.events) }
     {
         match self.queue.take() {
             Some(posted) => self.deliver(program, &posted),
@@ -27,7 +26,7 @@ impl Machine {
     }
 
     /// Delivers an event to the process or processes to which it was posted.
-    #[tactic(auto, unfolding(crate::specs::Delivery::deliver_of))]
+    #[tactic(auto, unfolding(crate::specs::Process::deliver_of))]
     fn deliver(&mut self, program: &Program, posted: &Posted) -> Result<(), Stop>
         ensures follows { Follows program.now self.old result self.new
             (λ calls state. deliver_of calls state posted.now) }
@@ -97,7 +96,7 @@ impl Machine {
     /// requested. Then, if the incarnation is still on the list, its process gets the event; otherwise, only a line
     /// `drop` is written.
     #[inline(always)]
-    #[tactic(auto, unfolding(crate::specs::Delivery::visit_of))]
+    #[tactic(auto, unfolding(crate::specs::Process::visit_of))]
     fn give_in_turn(
         &mut self,
         program: &Program,
@@ -114,7 +113,7 @@ impl Machine {
 
     /// Gives an event to a process, or drops it if the process isn't on the list.
     #[inline(always)]
-    #[tactic(auto, unfolding(crate::specs::Delivery::give_of))]
+    #[tactic(auto, unfolding(crate::specs::Process::give_of))]
     fn give(
         &mut self,
         program: &Program,

@@ -1,7 +1,7 @@
 //! The events of the kernel itself.
 
 ghost use Rattle.std.specs.Prelude.{◌≡◌};
-ghost use Rattle.process_kernel.specs.Calls.{own_event, is_system_event as has_number_of};
+ghost use Rattle.process_kernel.specs.Posts.{own_event, is_system_event as has_number_of};
 
 use program_tree::{Event, SystemEvent};
 

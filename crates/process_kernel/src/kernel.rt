@@ -71,11 +71,8 @@ impl Drop for Kernel {
 }
 
 impl Kernel {
-    ghost use Rattle.process_kernel.specs.Public.{kernel_in, MatchesOutcome, FailsAs, BeginsWith};
-    ghost use Rattle.process_kernel.specs.Given.{boot_given, run_given};
-    ghost use Rattle.process_kernel.specs.Public.{Closes};
-    ghost use Rattle.process_kernel.specs.GoesOn.{GoesOn};
-    ghost use Rattle.process_kernel.specs.Runs.{runs_of};
+    ghost use Rattle.process_kernel.specs.Public.{kernel_in, MatchesOutcome, FailsAs, BeginsWith, Closes, GoesOn};
+    ghost use Rattle.process_kernel.specs.KernelModel.{boot_given, run_given, runs_of};
 
     /// Makes the kernel of the mote with this number. The kernel isn't booted, and its queue has room for this many
     /// events, 1 to 128.
@@ -219,7 +216,7 @@ impl Kernel {
     }
 
     /// Asks for a poll of a process if it is running or called.
-    #[tactic(auto, unfolding(crate::specs::Public::kernel_in, crate::specs::KernelModel::with_poll, crate::specs::Posts::poll_of, crate::specs::Processes::with_needs_poll))]
+    #[tactic(auto, unfolding(crate::specs::Public::kernel_in, crate::specs::KernelModel::with_poll, crate::specs::Posts::process_poll, crate::specs::ProcessList::with_needs_poll))]
     pub fn poll(&mut self, process: Proc)
         ensures model { (t : Tree)
             → kernel_in t self.new ≡ option_map (λ m. with_poll m process) (kernel_in t self.old) }

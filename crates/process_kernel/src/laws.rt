@@ -1,7 +1,7 @@
 //! Laws of kernels. Each is a theorem, stated as the contract of an empty function.
 
 ghost use Rattle.process_kernel.specs.Laws.{TellsLeft, PendingIsLeft, StaysHalted};
-ghost use Rattle.process_kernel.specs.Given.{boot_given, run_given};
+ghost use Rattle.process_kernel.specs.KernelModel.{boot_given, run_given};
 
 /// A boot or a run returns how much work the mote has left, and a kernel is pending if and only if this amount is not
 /// 0.

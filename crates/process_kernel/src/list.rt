@@ -3,12 +3,12 @@
 ghost use Rattle.std.specs.Prelude.{◌≡◌, ◌<◌, ◌+◌, ◌∷◌, false, not, OnOk, IfOk, Some, filter, length, slice_get};
 ghost use Rattle.program_tree.specs.Code.{Tree, Code};
 ghost use Rattle.protothread.specs.Places.{remainder_of};
-ghost use Rattle.process_kernel.specs.Members.{is_same as are_same, place_of, is_found_in};
-ghost use Rattle.process_kernel.specs.ProcessList.{put_remainder, enlist_of, exiting_of, unlisted_of, leave_of};
-ghost use Rattle.process_kernel.specs.ProcessList.{numbered_from, with_fresh_body, with_fresh_process};
-ghost use Rattle.process_kernel.specs.Reaction.{remainder_at};
-ghost use Rattle.process_kernel.specs.Views.{remainder_of_body, first_list_of, kernel_state_of};
-ghost use Rattle.process_kernel.specs.Views.{StepMatches, Grows, Continues};
+ghost use Rattle.process_kernel.specs.ProcessList.{is_same as are_same, place_of, is_found_in, put_remainder};
+ghost use Rattle.process_kernel.specs.ProcessList.{enlist_of, exiting_of, unlisted_of, leave_of, numbered_from};
+ghost use Rattle.process_kernel.specs.ProcessList.{with_fresh_body, with_fresh_process};
+ghost use Rattle.process_kernel.specs.Thread.{remainder_at};
+ghost use Rattle.process_kernel.specs.Views.{remainder_of_body, first_list_of, kernel_state_of, StepMatches, Grows};
+ghost use Rattle.process_kernel.specs.Views.{Continues};
 
 use crate::machine::{MOST_PROCESSES, Machine, Stop};
 use crate::process::{Member, ProcessState};

@@ -1,8 +1,7 @@
 //! The state of a kernel, and the reasons for which its run stops.
 
 ghost use Rattle.std.specs.Prelude.{◌≡◌, ◌≤◌, ◌^◌, true, length};
-ghost use Rattle.process_kernel.specs.Members.{AreMembers};
-ghost use Rattle.process_kernel.specs.ProcessList.{numbered_from};
+ghost use Rattle.process_kernel.specs.ProcessList.{AreMembers, numbered_from};
 ghost use Rattle.std.proofs.Props.{props};
 
 use crate::look::KernelView;

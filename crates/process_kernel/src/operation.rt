@@ -3,13 +3,10 @@
 ghost use Rattle.std.specs.Prelude.{◌≡◌};
 ghost use Rattle.program_tree.specs.Program.{code_of};
 ghost use Rattle.protothread.specs.Places.{remainder_of};
-ghost use Rattle.process_kernel.specs.Calls.{walk_of};
-ghost use Rattle.process_kernel.specs.Exit.{process_number as named_number, last_run_of, exit_of};
-ghost use Rattle.process_kernel.specs.Follows.{Follows};
-ghost use Rattle.process_kernel.specs.Start.{start_of};
-ghost use Rattle.process_kernel.specs.Kill.{kill_of};
-ghost use Rattle.process_kernel.specs.Operation.{posted, act_of, perform_of};
-ghost use Rattle.process_kernel.specs.Views.{remainder_model};
+ghost use Rattle.process_kernel.specs.Process.{walk_of, process_number as named_number, last_run_of, exit_process};
+ghost use Rattle.process_kernel.specs.Process.{process_start, process_exit};
+ghost use Rattle.process_kernel.specs.Views.{Follows, remainder_model};
+ghost use Rattle.process_kernel.specs.Operations.{posted, act_of, perform_of};
 
 use crate::event::system_event;
 use crate::machine::{Machine, Stop};
@@ -48,7 +45,7 @@ impl Machine {
     /// # Errors
     /// `Halted` if the mote halts meanwhile; `Memory` if an allocation fails.
     #[cycle(kernel)]
-    #[tactic(auto, unfolding(crate::specs::Operation::perform_of))]
+    #[tactic(auto, unfolding(crate::specs::Operations::perform_of))]
     pub fn perform(
         &mut self,
         program: &Program,
@@ -72,7 +69,7 @@ impl Machine {
 
     /// Performs an operation that has no result.
     #[cycle(kernel)]
-    #[tactic(auto, unfolding(crate::specs::Operation::act_of))]
+    #[tactic(auto, unfolding(crate::specs::Operations::act_of))]
     fn act(&mut self, program: &Program, current: u8, op: &Op) -> Result<(), Stop>
         ensures follows { Follows program.now self.old result self.new
             (λ calls state. act_of calls state current op.now) }
@@ -103,9 +100,10 @@ impl Machine {
     /// # Errors
     /// `Halted` if the mote halts meanwhile; `Memory` if an allocation fails.
     #[cycle(kernel)]
-    #[tactic(auto, unfolding(crate::specs::Start::start_of))]
+    #[tactic(auto, unfolding(crate::specs::Process::process_start))]
     pub fn start(&mut self, program: &Program, process: Proc) -> Result<(), Stop>
-        ensures follows { Follows program.now self.old result self.new (λ calls state. start_of calls state process) }
+        ensures follows { Follows program.now self.old result self.new
+            (λ calls state. process_start calls state process) }
     {
         if self.is_busy(process) {
             return self.write(What::Busy(process));
@@ -121,10 +119,10 @@ impl Machine {
     /// Kills a process: if it isn't busy, it is exited on behalf of the current process. If it is busy, the kernel only
     /// writes a line.
     #[cycle(kernel)]
-    #[tactic(auto, unfolding(crate::specs::Kill::kill_of))]
+    #[tactic(auto, unfolding(crate::specs::Process::process_exit))]
     fn kill(&mut self, program: &Program, process: Proc, current: u8) -> Result<(), Stop>
         ensures follows { Follows program.now self.old result self.new
-            (λ calls state. kill_of calls state process current) }
+            (λ calls state. process_exit calls state process current) }
     {
         if self.is_busy(process) {
             self.write(What::Busy(process))
@@ -139,10 +137,10 @@ impl Machine {
     /// # Errors
     /// `Halted` if the mote halts meanwhile; `Memory` if an allocation fails.
     #[cycle(kernel)]
-    #[tactic(auto, unfolding(crate::specs::Exit::exit_of))]
+    #[tactic(auto, unfolding(crate::specs::Process::exit_process))]
     pub fn exit(&mut self, program: &Program, process: Proc, behalf: Proc) -> Result<(), Stop>
         ensures follows { Follows program.now self.old result self.new
-            (λ calls state. exit_of calls state process behalf) }
+            (λ calls state. exit_process calls state process behalf) }
     {
         if !self.is_listed(process) {
             return Ok(());
@@ -159,7 +157,7 @@ impl Machine {
 
     /// Runs a process for the last time, with EXIT, because another process exits it.
     #[cycle(kernel)]
-    #[tactic(auto, unfolding(crate::specs::Exit::last_run_of))]
+    #[tactic(auto, unfolding(crate::specs::Process::last_run_of))]
     fn run_last(&mut self, program: &Program, process: Proc) -> Result<(), Stop>
         ensures follows { Follows program.now self.old result self.new
             (λ calls state. last_run_of calls state process) }

@@ -1,9 +1,9 @@
 //! Polls (`do_poll` of `process.c`).
 
 ghost use Rattle.std.specs.Prelude.{◌≡◌, true};
-ghost use Rattle.process_kernel.specs.Follows.{Follows};
-ghost use Rattle.process_kernel.specs.Members.{holds_member};
-ghost use Rattle.process_kernel.specs.Polls.{poll_turn_of, walk_polls, polls_of, polls_due_of};
+ghost use Rattle.process_kernel.specs.Views.{Follows};
+ghost use Rattle.process_kernel.specs.ProcessList.{holds_member};
+ghost use Rattle.process_kernel.specs.Process.{poll_turn_of, walk_polls, do_poll, do_poll_if_requested};
 
 use crate::event::system_event;
 use crate::machine::{Machine, Stop};
@@ -16,9 +16,9 @@ impl Machine {
     /// # Errors
     /// `Halted` if the mote halts meanwhile; `Memory` if an allocation fails.
     #[inline(always)]
-    #[tactic(auto, unfolding(crate::specs::Polls::polls_of, crate::specs::Polls::polls_due_of))]
+    #[tactic(auto, unfolding(crate::specs::Process::do_poll, crate::specs::Process::do_poll_if_requested))]
     pub fn poll_due(&mut self, program: &Program) -> Result<(), Stop>
-        ensures follows { Follows program.now self.old result self.new polls_due_of }
+        ensures follows { Follows program.now self.old result self.new do_poll_if_requested }
     {
         if !self.poll_requested {
             return Ok(());
@@ -79,7 +79,7 @@ impl Machine {
 
     /// Takes the turn of an incarnation in the polls: if it is on the list and needs a poll, it is called with POLL.
     #[inline(always)]
-    #[tactic(auto, unfolding(crate::specs::Polls::poll_turn_of))]
+    #[tactic(auto, unfolding(crate::specs::Process::poll_turn_of))]
     fn poll_in_turn(
         &mut self,
         program: &Program,

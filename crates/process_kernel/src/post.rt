@@ -2,13 +2,12 @@
 
 ghost use Rattle.std.specs.Prelude.{◌≡◌, ◌+◌, ◌^◌, ◌++◌, ◌∷◌, [], OnOk};
 ghost use Rattle.program_tree.specs.Code.{Tree};
-ghost use Rattle.process_kernel.specs.State.{Goes};
-ghost use Rattle.process_kernel.specs.Writes.{write_of, spend_of, halted_of};
-ghost use Rattle.process_kernel.specs.Posts.{post_of, poll_of, send_of};
-ghost use Rattle.process_kernel.specs.Operation.{take_of, signal_of};
-ghost use Rattle.process_kernel.specs.Views.{first_list_of, kernel_state_of};
-ghost use Rattle.process_kernel.specs.Views.{StepMatches, Grows, Continues, KeepsLists};
-ghost use Rattle.process_kernel.specs.Views.{OnlyAdds};
+ghost use Rattle.process_kernel.specs.State.{Goes, write_of, spend_of, halted_of};
+ghost use Rattle.process_kernel.specs.Posts.{process_post, process_poll};
+ghost use Rattle.process_kernel.specs.Radio.{send_of};
+ghost use Rattle.process_kernel.specs.Operations.{take_of, signal_of};
+ghost use Rattle.process_kernel.specs.Views.{first_list_of, kernel_state_of, StepMatches, Grows, Continues};
+ghost use Rattle.process_kernel.specs.Views.{KeepsLists, OnlyAdds};
 
 use crate::machine::{Machine, Stop};
 use crate::table::is_alive;
@@ -25,7 +24,7 @@ impl Machine {
     ///
     /// # Errors
     /// `Memory` if the allocation for the line fails. The error is never `Halted`.
-    #[tactic(auto, unfolding(crate::specs::Writes::write_of, crate::specs::Views::OutBegins))]
+    #[tactic(auto, unfolding(crate::specs::State::write_of, crate::specs::Views::OutBegins))]
     pub fn write(&mut self, what: What) -> Result<(), Stop>
         ensures exact { (t : Tree)
             → StepMatches result (kernel_state_of t self.new) (write_of (kernel_state_of t self.old) what) }
@@ -39,7 +38,7 @@ impl Machine {
 
     /// Writes a line about the mote's halt.
     #[inline(never)]
-    #[tactic(auto, unfolding(crate::specs::Writes::write_of, crate::specs::Writes::halted_of))]
+    #[tactic(auto, unfolding(crate::specs::State::write_of, crate::specs::State::halted_of))]
     pub fn halt(&mut self) -> Stop
         ensures exact { (t : Tree) → result ≡ Stop.Halted
             → kernel_state_of t self.new ≡ halted_of (kernel_state_of t self.old) }
@@ -56,7 +55,7 @@ impl Machine {
     /// # Errors
     /// `Halted` if no unit is left; `Memory` if the allocation for the line of the halt fails.
     #[inline(always)]
-    #[tactic(auto, unfolding(crate::specs::Writes::spend_of))]
+    #[tactic(auto, unfolding(crate::specs::State::spend_of))]
     pub fn spend(&mut self) -> Result<(), Stop>
         ensures exact { (t : Tree)
             → StepMatches result (kernel_state_of t self.new) (spend_of (kernel_state_of t self.old)) }
@@ -76,10 +75,10 @@ impl Machine {
     /// `Halted` if the mote has accepted 2^62 events; `Memory` if the allocation for the line fails. A full queue
     /// isn't an error.
     #[inline(always)]
-    #[tactic(auto, unfolding(crate::specs::Posts::post_of))]
+    #[tactic(auto, unfolding(crate::specs::Posts::process_post))]
     pub fn post(&mut self, target: Target, event: Event) -> Result<bool, Stop>
         ensures exact { (t : Tree) → StepMatches result (kernel_state_of t self.new)
-            (post_of (kernel_state_of t self.old) target event) }
+            (process_post (kernel_state_of t self.old) target event) }
         ensures continues { OnOk result (Continues self.old self.new) }
         ensures lists { OnOk result (KeepsLists self.old self.new) }
         ensures grows { Grows self.old.out self.new.out }
@@ -100,9 +99,9 @@ impl Machine {
     }
 
     /// Asks for a poll of a process if it is running or called.
-    #[tactic(auto, unfolding(crate::specs::Processes::with_needs_poll, crate::specs::Posts::poll_of))]
+    #[tactic(auto, unfolding(crate::specs::ProcessList::with_needs_poll, crate::specs::Posts::process_poll))]
     pub fn poll(&mut self, process: Proc)
-        ensures exact { (t : Tree) → kernel_state_of t self.new ≡ poll_of (kernel_state_of t self.old) process }
+        ensures exact { (t : Tree) → kernel_state_of t self.new ≡ process_poll (kernel_state_of t self.old) process }
         ensures continues { Continues self.old self.new }
         ensures adds { OnlyAdds self.old self.new }
     {
@@ -129,7 +128,7 @@ impl Machine {
     ///
     /// # Errors
     /// `Halted` if the mote has sent 2^62 packets; `Memory` if an allocation for the packet or for a line fails.
-    #[tactic(auto, unfolding(crate::specs::Posts::send_of))]
+    #[tactic(auto, unfolding(crate::specs::Radio::send_of))]
     pub fn send(&mut self, value: u16) -> Result<(), Stop>
         ensures exact { (t : Tree)
             → StepMatches result (kernel_state_of t self.new) (send_of (kernel_state_of t self.old) value) }
@@ -151,7 +150,7 @@ impl Machine {
     }
 
     /// Subtracts one from a semaphore's count if it is above 0. If the mote has no such semaphore, nothing changes.
-    #[tactic(auto, unfolding(crate::specs::Operation::take_of))]
+    #[tactic(auto, unfolding(crate::specs::Operations::take_of))]
     pub fn take_semaphore(&mut self, semaphore: u8)
         ensures exact { (t : Tree) → kernel_state_of t self.new ≡ take_of (kernel_state_of t self.old) semaphore }
         ensures continues { Continues self.old self.new }
@@ -164,7 +163,7 @@ impl Machine {
     }
 
     /// Adds one to a semaphore's count, modulo 65,536. If the mote has no such semaphore, nothing changes.
-    #[tactic(auto, unfolding(crate::specs::Operation::signal_of))]
+    #[tactic(auto, unfolding(crate::specs::Operations::signal_of))]
     pub fn signal_semaphore(&mut self, semaphore: u8)
         ensures exact { (t : Tree) → kernel_state_of t self.new ≡ signal_of (kernel_state_of t self.old) semaphore }
         ensures continues { Continues self.old self.new }

@@ -3,7 +3,7 @@
 ghost use Rattle.std.specs.Prelude.{◌≡◌, ◌++◌, [], ◌∷◌, if◌then◌else◌, drop, nat_lt, length, slice_get, OnOk};
 ghost use Rattle.program_tree.specs.Code.{Tree};
 ghost use Rattle.program_tree.specs.Program.{tree_of};
-ghost use Rattle.process_kernel.specs.Radio.{packet_of, hand_to, empty_ring, radio_of};
+ghost use Rattle.process_kernel.specs.Radio.{packet_of, hand_to, empty_ring, radio_process};
 ghost use Rattle.process_kernel.specs.Views.{kernel_state_of, StepMatches, Grows, Continues};
 
 use crate::event::is_event;
@@ -85,10 +85,10 @@ impl Machine {
     ///
     /// # Errors
     /// `Halted` if the mote halts meanwhile; `Memory` if an allocation fails.
-    #[tactic(auto, unfolding(crate::specs::Radio::radio_of))]
+    #[tactic(auto, unfolding(crate::specs::Radio::radio_process))]
     pub fn react_as_radio(&mut self, program: &Program, event: &Event) -> Result<(), Stop>
         ensures exact { StepMatches result (kernel_state_of (tree_of program.now) self.new)
-            (radio_of (kernel_state_of (tree_of program.now) self.old) event.now) }
+            (radio_process (kernel_state_of (tree_of program.now) self.old) event.now) }
         ensures continues { OnOk result (Continues self.old self.new) }
         ensures grows { Grows self.old.out self.new.out }
     {

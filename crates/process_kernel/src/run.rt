@@ -2,10 +2,10 @@
 
 ghost use Rattle.std.specs.Prelude.{◌≡◌, ◌≤◌, ◌+◌, ◌^◌, if◌then◌else◌, length};
 ghost use Rattle.program_tree.specs.Code.{Tree};
-ghost use Rattle.process_kernel.specs.Follows.{Follows};
+ghost use Rattle.process_kernel.specs.Views.{Follows, kernel_state_of, Grows};
 ghost use Rattle.process_kernel.specs.ProcessList.{numbered_from};
-ghost use Rattle.process_kernel.specs.Run.{begun_of, kernel_of};
-ghost use Rattle.process_kernel.specs.Views.{kernel_state_of, Grows};
+ghost use Rattle.process_kernel.specs.KernelModel.{begun_of};
+ghost use Rattle.process_kernel.specs.Process.{process_run};
 
 use crate::machine::{Machine, Stop};
 use crate::process::Member;
@@ -20,9 +20,9 @@ impl Machine {
     ///
     /// # Errors
     /// `Halted` if the mote halts meanwhile; `Memory` if an allocation fails.
-    #[tactic(auto, unfolding(crate::specs::Run::kernel_of))]
+    #[tactic(auto, unfolding(crate::specs::Process::process_run))]
     pub fn run_kernel(&mut self, program: &Program) -> Result<u16, Stop>
-        ensures follows { Follows program.now self.old result self.new kernel_of }
+        ensures follows { Follows program.now self.old result self.new process_run }
     {
         self.poll_due(program)?;
         self.deliver_front(program)?;
@@ -30,7 +30,7 @@ impl Machine {
     }
 
     /// Begins a boot or a run at this moment.
-    #[tactic(auto, unfolding(crate::specs::Run::begun_of))]
+    #[tactic(auto, unfolding(crate::specs::KernelModel::begun_of))]
     pub fn begin(&mut self, moment: u64)
         requires moment_bounded { moment ≤ 2 ^ 40 }
         ensures exact { (t : Tree) → kernel_state_of t self.new ≡ begun_of (kernel_state_of t self.old) moment }

@@ -2,10 +2,10 @@
 
 ghost use Rattle.std.specs.Prelude.{◌≡◌, ◌||◌, true, nat_lt, length, slice_get, unwrap_or};
 ghost use Rattle.program_tree.specs.Code.{Tree};
-ghost use Rattle.process_kernel.specs.Members.{place_of, is_same as are_same, holds_member, is_found_in};
-ghost use Rattle.process_kernel.specs.Processes.{state_at as state_of_process, at_process, is_running_state};
-ghost use Rattle.process_kernel.specs.Processes.{is_called_state, with_state, with_exiting, with_needs_poll};
-ghost use Rattle.process_kernel.specs.Processes.{is_alive as lives};
+ghost use Rattle.process_kernel.specs.ProcessList.{place_of, is_same as are_same, holds_member, is_found_in};
+ghost use Rattle.process_kernel.specs.ProcessList.{state_at as state_of_process, at_process, is_running_state};
+ghost use Rattle.process_kernel.specs.ProcessList.{is_called_state, with_state, with_exiting, with_needs_poll};
+ghost use Rattle.process_kernel.specs.ProcessList.{is_alive as lives};
 ghost use Rattle.process_kernel.specs.Views.{first_list_of, kernel_state_of, Grows, Continues, OnlyAdds};
 
 use crate::machine::Machine;
@@ -157,7 +157,7 @@ impl Machine {
     }
 
     /// Sets the state of a process. If the mote has no such process, nothing changes.
-    #[tactic(auto, unfolding(crate::specs::Processes::with_state))]
+    #[tactic(auto, unfolding(crate::specs::ProcessList::with_state))]
     pub fn set_state(&mut self, process: Proc, state: ProcessState)
         ensures exact { (t : Tree)
             → kernel_state_of t self.new ≡ with_state (kernel_state_of t self.old) process state }
@@ -171,7 +171,7 @@ impl Machine {
     }
 
     /// Records whether a process is being exited. If the mote has no such process, nothing changes.
-    #[tactic(auto, unfolding(crate::specs::Processes::with_exiting))]
+    #[tactic(auto, unfolding(crate::specs::ProcessList::with_exiting))]
     pub fn set_exiting(&mut self, process: Proc, exiting: bool)
         ensures exact { (t : Tree)
             → kernel_state_of t self.new ≡ with_exiting (kernel_state_of t self.old) process exiting }
@@ -185,7 +185,7 @@ impl Machine {
     }
 
     /// Records whether a process needs a poll. If the mote has no such process, nothing changes.
-    #[tactic(auto, unfolding(crate::specs::Processes::with_needs_poll))]
+    #[tactic(auto, unfolding(crate::specs::ProcessList::with_needs_poll))]
     pub fn set_needs_poll(&mut self, process: Proc, needs_poll: bool)
         ensures exact { (t : Tree)
             → kernel_state_of t self.new ≡ with_needs_poll (kernel_state_of t self.old) process needs_poll }

@@ -5,9 +5,9 @@ ghost use Rattle.program_tree.specs.Code.{Tree};
 ghost use Rattle.program_tree.specs.Program.{tree_of};
 ghost use Rattle.mote_timers.specs.Numbers.{with_member, without_member};
 ghost use Rattle.process_kernel.specs.Ctimer.{waits_for};
-ghost use Rattle.process_kernel.specs.TimerOperations.{is_callback as is_of_callback, owner_of, timer_is_set, set_of};
-ghost use Rattle.process_kernel.specs.TimerOperations.{reset_of, restart_of, stop_of};
-ghost use Rattle.process_kernel.specs.Etimer.{fired_of, pass_of, purge_of, etimer_of};
+ghost use Rattle.process_kernel.specs.Etimer.{is_callback as is_of_callback, owner_of, add_timer, etimer_set};
+ghost use Rattle.process_kernel.specs.Etimer.{etimer_reset, etimer_restart, etimer_stop, fired_of, pass_of, purge_of};
+ghost use Rattle.process_kernel.specs.Etimer.{etimer_process};
 ghost use Rattle.process_kernel.specs.Views.{kernel_state_of, StepMatches, Grows, Continues};
 
 use crate::event::{is_event, system_event};
@@ -52,11 +52,11 @@ impl Machine {
 
     /// Records that a timer was set: the timer's callback, if there is one, waits for the timer, and the etimer
     /// process is to be polled.
-    #[tactic(auto, unfolding(crate::specs::TimerOperations::timer_is_set))]
+    #[tactic(auto, unfolding(crate::specs::Etimer::add_timer))]
     fn timer_is_set(&mut self, program: &Program, timer: u16)
         requires is_timer { timer < self.old.view.timer_count }
         ensures exact { kernel_state_of (tree_of program.now) self.new
-            ≡ timer_is_set (kernel_state_of (tree_of program.now) self.old) timer }
+            ≡ add_timer (kernel_state_of (tree_of program.now) self.old) timer }
         ensures continues { Continues self.old self.new }
         ensures grows { Grows self.old.out self.new.out }
     {
@@ -67,10 +67,10 @@ impl Machine {
     /// Sets a timer to an interval in moments that begins now (`etimer_set` of `etimer.c`). The owner of an event
     /// timer is now the process `current`; the owner of a callback timer is the ctimer process. If the mote has no
     /// timer with this number, nothing changes.
-    #[tactic(auto, unfolding(crate::specs::TimerOperations::set_of))]
+    #[tactic(auto, unfolding(crate::specs::Etimer::etimer_set))]
     pub fn set_timer(&mut self, program: &Program, timer: u16, interval: u16, current: u8)
         ensures exact { kernel_state_of (tree_of program.now) self.new
-            ≡ set_of (kernel_state_of (tree_of program.now) self.old) timer interval current }
+            ≡ etimer_set (kernel_state_of (tree_of program.now) self.old) timer interval current }
         ensures continues { Continues self.old self.new }
         ensures grows { Grows self.old.out self.new.out }
     {
@@ -86,10 +86,10 @@ impl Machine {
     /// Sets a timer again. Its interval begins at the moment at which the timer was due or is due (`etimer_reset` of
     /// `etimer.c`). The process `current` becomes the timer's owner; for a callback timer, the ctimer process does. If
     /// the mote has no such timer, nothing changes.
-    #[tactic(auto, unfolding(crate::specs::TimerOperations::reset_of))]
+    #[tactic(auto, unfolding(crate::specs::Etimer::etimer_reset))]
     pub fn reset_timer(&mut self, program: &Program, timer: u16, current: u8)
         ensures exact { kernel_state_of (tree_of program.now) self.new
-            ≡ reset_of (kernel_state_of (tree_of program.now) self.old) timer current }
+            ≡ etimer_reset (kernel_state_of (tree_of program.now) self.old) timer current }
         ensures continues { Continues self.old self.new }
         ensures grows { Grows self.old.out self.new.out }
     {
@@ -104,10 +104,10 @@ impl Machine {
     /// Sets a timer again. Its interval, which doesn't change, begins now (`etimer_restart` of `etimer.c`). The
     /// process `current` becomes the timer's owner; for a callback timer, the ctimer process does. If the mote has no
     /// such timer, nothing changes.
-    #[tactic(auto, unfolding(crate::specs::TimerOperations::restart_of))]
+    #[tactic(auto, unfolding(crate::specs::Etimer::etimer_restart))]
     pub fn restart_timer(&mut self, program: &Program, timer: u16, current: u8)
         ensures exact { kernel_state_of (tree_of program.now) self.new
-            ≡ restart_of (kernel_state_of (tree_of program.now) self.old) timer current }
+            ≡ etimer_restart (kernel_state_of (tree_of program.now) self.old) timer current }
         ensures continues { Continues self.old self.new }
         ensures grows { Grows self.old.out self.new.out }
     {
@@ -120,9 +120,9 @@ impl Machine {
 
     /// Stops a timer, and removes its callback from the callback list (`etimer_stop` of `etimer.c`). If the mote has
     /// no such timer, nothing changes.
-    #[tactic(auto, unfolding(crate::specs::TimerOperations::stop_of))]
+    #[tactic(auto, unfolding(crate::specs::Etimer::etimer_stop))]
     pub fn stop_timer(&mut self, timer: u16)
-        ensures exact { (t : Tree) → kernel_state_of t self.new ≡ stop_of (kernel_state_of t self.old) timer }
+        ensures exact { (t : Tree) → kernel_state_of t self.new ≡ etimer_stop (kernel_state_of t self.old) timer }
         ensures continues { Continues self.old self.new }
         ensures grows { Grows self.old.out self.new.out }
     {
@@ -187,10 +187,10 @@ impl Machine {
     ///
     /// # Errors
     /// `Halted` if the mote has accepted 2^62 events; `Memory` if the allocation for a line fails.
-    #[tactic(auto, unfolding(crate::specs::Etimer::etimer_of))]
+    #[tactic(auto, unfolding(crate::specs::Etimer::etimer_process))]
     pub fn react_as_etimer(&mut self, event: &Event) -> Result<(), Stop>
         ensures exact { (t : Tree) → StepMatches result (kernel_state_of t self.new)
-            (etimer_of (kernel_state_of t self.old) event.now) }
+            (etimer_process (kernel_state_of t self.old) event.now) }
         ensures continues { OnOk result (Continues self.old self.new) }
         ensures grows { Grows self.old.out self.new.out }
     {

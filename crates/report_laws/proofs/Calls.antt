@@ -25,26 +25,15 @@ use Rattle.radio_packet.specs.declared.arrival.Arrival.{Arrival}
 use Rattle.trace_lines.specs.declared.line.What.TheVariants as what
 use Rattle.process_kernel.specs.declared.process.ProcessState.TheVariants.{Running, Called}
 use Rattle.process_kernel.specs.declared.process.Member.{Member}
-use Rattle.process_kernel.specs.Members.{is_same}
-use Rattle.process_kernel.specs.State.{KernelState, Outcome, Went, Goes, ◌>>=◌}
-use Rattle.process_kernel.specs.Processes.{has_process, is_busy, is_listed, is_running, is_on_list, process_needs_poll}
-use Rattle.process_kernel.specs.Operation.{take_of, signal_of}
-use Rattle.process_kernel.specs.Calls.{Calls, Answer, own_event, is_system_event, walk_of}
-use Rattle.process_kernel.specs.Etimer.{post_due, walk_timers, walks_of, pass_of, etimer_of}
-use Rattle.process_kernel.specs.Ctimer.{callback_of, waits_for, ctimer_of}
-use Rattle.process_kernel.specs.Radio.{packet_of, hand_to, empty_ring, radio_of}
-use Rattle.process_kernel.specs.Reaction.{remainder_at, handler_of, resume_of, own_of, react_of}
-use Rattle.process_kernel.specs.Exit.{process_number, last_run_of, exit_of}
-use Rattle.process_kernel.specs.Start.{start_of}
-use Rattle.process_kernel.specs.Kill.{kill_of}
-use Rattle.process_kernel.specs.Thread.{stepped_with, stepped_of}
-use Rattle.process_kernel.specs.Looks.{looks_of}
-use Rattle.process_kernel.specs.Operation.{answered_with, answer_of, act_of, perform_of, after_step, run_of}
-use Rattle.process_kernel.specs.Call.{answered, call_of, calls_of}
-use Rattle.process_kernel.specs.Polls.{walk_polls, polls_of, polls_due_of, poll_turn_of}
-use Rattle.process_kernel.specs.Delivery.{give_of, visit_of, walk_broadcast, deliver_to, deliver_of}
-use Rattle.process_kernel.specs.Run.{left_of, deliver_front, kernel_of}
-use Rattle.process_kernel.specs.Boot.{starts_of, boot_of}
+use Rattle.process_kernel.specs.ProcessList.{is_same, has_process, is_busy, is_listed, is_running, is_on_list, process_needs_poll}
+use Rattle.process_kernel.specs.State.{KernelState, Outcome, Went, Goes, ◌>>=◌, Calls, Answer}
+use Rattle.process_kernel.specs.Operations.{take_of, signal_of, answered_with, answer_of, act_of, perform_of, after_step, run_of, calls_of}
+use Rattle.process_kernel.specs.Posts.{own_event, is_system_event}
+use Rattle.process_kernel.specs.Process.{walk_of, process_number, last_run_of, exit_process, process_start, process_exit, answered, call_process, walk_polls, do_poll, do_poll_if_requested, poll_turn_of, give_of, visit_of, walk_broadcast, deliver_to, deliver_of, process_nevents, do_event, process_run, autostart_start, boot_of}
+use Rattle.process_kernel.specs.Etimer.{post_due, walk_timers, walks_of, pass_of, etimer_process}
+use Rattle.process_kernel.specs.Ctimer.{callback_of, waits_for, ctimer_process}
+use Rattle.process_kernel.specs.Radio.{packet_of, hand_to, empty_ring, radio_process}
+use Rattle.process_kernel.specs.Thread.{remainder_at, handler_of, resume_of, own_of, react_of, stepped_with, stepped_of, looks_of}
 use Rattle.trace_printer.specs.Named.{HasProcess, HasTarget}
 use Rattle.report_laws.proofs.Blocks.{FitsCode}
 use Rattle.report_laws.proofs.Threads.{FitsOp, FitsStep, fresh_fits, advanced_fits}
@@ -121,8 +110,8 @@ module _ (t : Tree) (whole : IsWhole t) where
   walks_led zero s h = rests s h
   walks_led (suc k) s h = walk_timers_led (walks_of k) (walks_led k) s.timers.listed s h
 
-  etimer_led : (s : KernelState) (e : Event) → Holds s → Ok (etimer_of s e)
-  unfolding etimer_of pass_of
+  etimer_led : (s : KernelState) (e : Event) → Holds s → Ok (etimer_process s e)
+  unfolding etimer_process pass_of
   etimer_led s e h = ok_if (is_system_event Poll e) _ _ (walks_led _ s h) (ok_if (is_system_event Exited e) _ _ (rests _ (is_purged t whole s e.word h)) (rests s h))
 
   -- the radio process
@@ -139,8 +128,8 @@ module _ (t : Tree) (whole : IsWhole t) where
   receiver_there : (s : KernelState) → Holds s → HasReceiver t s.program.receiver
   receiver_there s h = subst (λ (x : Tree). HasReceiver t x.receiver) (sym h.program) whole.receiver
 
-  radio_led : (s : KernelState) (e : Event) → Holds s → Ok (radio_of s e)
-  unfolding radio_of
+  radio_led : (s : KernelState) (e : Event) → Holds s → Ok (radio_process s e)
+  unfolding radio_process
   radio_led s e h = ok_if (is_system_event Poll e) _ _ (empty_led s.program.receiver s.ring s (receiver_there s h) h) (rests s h)
 
   module _ (calls : Calls) (are : AreLed calls) where
@@ -199,8 +188,8 @@ module _ (t : Tree) (whole : IsWhole t) where
     unfolding callback_of
     callback_led s e h = timer_with s e (slice_get s.program.timers e.word) h
 
-    ctimer_led : (s : KernelState) (e : Event) → Holds s → Ok (ctimer_of calls s e)
-    unfolding ctimer_of
+    ctimer_led : (s : KernelState) (e : Event) → Holds s → Ok (ctimer_process calls s e)
+    unfolding ctimer_process
     ctimer_led s e h = ok_if (is_system_event Timer e && waits_for s e.word) _ _ (callback_led _ e h) (rests s h)
 
     react_led : (s : KernelState) (p : Proc) (e : Event) → Holds s → Ok (react_of calls s p e)
@@ -214,19 +203,19 @@ module _ (t : Tree) (whole : IsWhole t) where
     unfolding last_run_of
     last_run_led s p h = chain _ _ (spends t whole s h) (λ d u i. chain _ _ (react_led u p _ i) (λ a v j. rests v j))
 
-    exit_led : (s : KernelState) (p behalf : Proc) → Holds s → HasProcess t p → Ok (exit_of calls s p behalf)
-    unfolding exit_of
+    exit_led : (s : KernelState) (p behalf : Proc) → Holds s → HasProcess t p → Ok (exit_process calls s p behalf)
+    unfolding exit_process
     exit_led s p behalf h n =
         ok_if (is_listed s p) _ _ (chain _ _ (walk_led (own_event Exited (process_number p)) p s.members _ h.members (is_exiting t whole s p h)) (λ a u i.
         chain _ _ (ok_if (is_same p behalf) _ _ (rests u i) (last_run_led u p i)) (λ b v j. leaves t whole v p j n))) (rests s h)
 
-    pub start_led : (s : KernelState) (p : Proc) → Holds s → HasProcess t p → Ok (start_of calls s p)
-    unfolding start_of
+    pub start_led : (s : KernelState) (p : Proc) → Holds s → HasProcess t p → Ok (process_start calls s p)
+    unfolding process_start
     start_led s p h n =
         ok_if (is_busy s p) _ _ (writes t whole s (what.Busy p) h n) (ok_if (has_process s p && not (is_listed s p)) _ _ (chain _ _ (enlists t whole s p h n) (λ a u i. are.call u p (own_event Init 0) i n)) (rests s h))
 
-    kill_led : (s : KernelState) (p : Proc) (current : ℕ) → Holds s → HasProcess t p → Ok (kill_of calls s p current)
-    unfolding kill_of
+    kill_led : (s : KernelState) (p : Proc) (current : ℕ) → Holds s → HasProcess t p → Ok (process_exit calls s p current)
+    unfolding process_exit
     kill_led s p current h n = ok_if (is_busy s p) _ _ (writes t whole s (what.Busy p) h n) (exit_led s p (Own current) h n)
 
     act_led : (s : KernelState) (current : ℕ) (o : Op) → Holds s → current < length t.processes → FitsOp t o → Ok (act_of calls s current o)
@@ -281,8 +270,8 @@ module _ (t : Tree) (whole : IsWhole t) where
     answered_led s p true h n = exit_led s p p h n
     answered_led s p false h n = rests _ (is_state t whole s p Running h)
 
-    call_led : (s : KernelState) (p : Proc) (e : Event) → Holds s → HasProcess t p → Ok (call_of calls s p e)
-    unfolding call_of
+    call_led : (s : KernelState) (p : Proc) (e : Event) → Holds s → HasProcess t p → Ok (call_process calls s p e)
+    unfolding call_process
     call_led s p e h n =
         ok_if (is_running s p) _ _ (chain _ _ (spends t whole s h) (λ a u i. chain _ _ (react_led _ p e (is_state t whole u p Called i)) (λ b v j. answered_led v p _ j n))) (rests s h)
 
@@ -300,8 +289,8 @@ module _ (t : Tree) (whole : IsWhole t) where
     polls_led (x ∷ ms) s m h =
         chain _ _ (ok_if (is_on_list s x && process_needs_poll s x.process) _ _ (are.call _ x.process (own_event Poll 0) (is_needing t whole s x.process false h) m.0) (rests s h)) (λ a u i. polls_led ms u m.1 i)
 
-    polls_due_led : (s : KernelState) → Holds s → Ok (polls_due_of calls s)
-    unfolding polls_due_of polls_of
+    polls_due_led : (s : KernelState) → Holds s → Ok (do_poll_if_requested calls s)
+    unfolding do_poll_if_requested do_poll
     polls_due_led s h = ok_if s.poll_requested _ _ (polls_led s.members _ h.members h) (rests s h)
 
     give_led : (s : KernelState) (x : Posted) (p : Proc) (there : Bool) → Holds s → HasProcess t p → Ok (give_of calls s x p there)
@@ -319,19 +308,19 @@ module _ (t : Tree) (whole : IsWhole t) where
     target_led (One p) s x h n = give_led s x p (is_listed s p) h n
     target_led All s x h n = walk_broadcast_led x s.members s h.members h
 
-    front_led : (q : List Posted) (s : KernelState) → s.queue.events ≡ q → Holds s → Ok (deliver_front calls q s)
+    front_led : (q : List Posted) (s : KernelState) → s.queue.events ≡ q → Holds s → Ok (do_event calls q s)
     unfolding deliver_of
     front_led [] s e h = rests s h
     front_led (x ∷ q) s e h =
         let f = subst (Each (FitsPosted t)) e h.events in
         target_led x.target _ x (record { program = h.program; events = subst (λ (l : List Posted). Each (FitsPosted t) (drop 1 l)) (sym e) f.1; members = h.members; remainders = h.remainders; timers = h.timers; lines = h.lines }) f.0.0
 
-    pub kernel_led : (s : KernelState) → Holds s → Ok (kernel_of calls s)
-    unfolding kernel_of
+    pub kernel_led : (s : KernelState) → Holds s → Ok (process_run calls s)
+    unfolding process_run
     kernel_led s h =
-        chain _ _ (polls_due_led s h) (λ a u i. chain _ _ (front_led u.queue.events u refl i) (λ b v j. still (left_of v) v j))
+        chain _ _ (polls_due_led s h) (λ a u i. chain _ _ (front_led u.queue.events u refl i) (λ b v j. still (process_nevents v) v j))
 
-    starts_led : (ps : List Proc) (s : KernelState) → Each (HasProcess t) ps → Holds s → Ok (starts_of calls ps s)
+    starts_led : (ps : List Proc) (s : KernelState) → Each (HasProcess t) ps → Holds s → Ok (autostart_start calls ps s)
     starts_led [] s n h = rests s h
     starts_led (p ∷ ps) s n h = chain _ _ (start_led calls are s p h n.0) (λ a u i. starts_led ps u n.1 i)
 
@@ -343,4 +332,4 @@ module _ (t : Tree) (whole : IsWhole t) where
     unfolding boot_of
     boot_led s h =
         let own = subst (λ (x : Tree). Each (HasProcess t) (map Own x.autostart)) (sym h.program) (own_each t.autostart whole.autostart) in
-        chain _ _ (starts_led (Etimer ∷ Ctimer ∷ Radio ∷ map Own s.program.autostart) s (tt, (tt, (tt, own))) h) (λ a u i. still (left_of u) u i)
+        chain _ _ (starts_led (Etimer ∷ Ctimer ∷ Radio ∷ map Own s.program.autostart) s (tt, (tt, (tt, own))) h) (λ a u i. still (process_nevents u) u i)

@@ -21,14 +21,11 @@ use Rattle.trace_lines.specs.declared.line.What.TheVariants as what
 use Rattle.process_kernel.specs.declared.process.ProcessState.{ProcessState}
 use Rattle.process_kernel.specs.declared.process.ProcessState.TheVariants.{Running}
 use Rattle.process_kernel.specs.declared.process.Member.{Member}
-use Rattle.process_kernel.specs.Members.{is_same}
-use Rattle.process_kernel.specs.State.{KernelState, Outcome, Ends, Goes, ◌>>=◌}
-use Rattle.process_kernel.specs.Processes.{is_alive, process_state, with_state, with_exiting, with_needs_poll}
-use Rattle.process_kernel.specs.ProcessList.{put_remainder, fresh_at, with_fresh_body, with_fresh_process, enlist_of, exiting_of, unlisted_of, leave_of, numbered_from}
-use Rattle.process_kernel.specs.Posts.{post_of, poll_of, send_of}
-use Rattle.process_kernel.specs.TimerOperations.{has_timer, is_callback, owner_of, timer_is_set, set_of, reset_of, restart_of, stop_of}
-use Rattle.process_kernel.specs.Writes.{with_line, write_of, halted_of, spend_of}
-use Rattle.process_kernel.specs.Etimer.{fired_of, purge_of}
+use Rattle.process_kernel.specs.ProcessList.{is_same, is_alive, process_state, with_state, with_exiting, with_needs_poll, put_remainder, fresh_at, with_fresh_body, with_fresh_process, enlist_of, exiting_of, unlisted_of, leave_of, numbered_from}
+use Rattle.process_kernel.specs.State.{KernelState, Outcome, Ends, Goes, ◌>>=◌, with_line, write_of, halted_of, spend_of}
+use Rattle.process_kernel.specs.Posts.{process_post, process_poll}
+use Rattle.process_kernel.specs.Radio.{send_of}
+use Rattle.process_kernel.specs.Etimer.{has_timer, is_callback, owner_of, add_timer, etimer_set, etimer_reset, etimer_restart, etimer_stop, fired_of, purge_of}
 use Rattle.trace_printer.specs.Named.{HasProcess, HasTarget, HasEvent, HasNames}
 use Rattle.window_laws.proofs.Lists.{every_append, every_filter}
 use Rattle.report_laws.proofs.Blocks.{FitsCode}
@@ -198,8 +195,8 @@ module _ (t : Tree) (whole : IsWhole t) where
   unfolding with_needs_poll
   is_needing s p b h = h
 
-  pub is_polled : (s : KernelState) (p : Proc) → Is s → Is (poll_of s p)
-  unfolding poll_of with_needs_poll
+  pub is_polled : (s : KernelState) (p : Proc) → Is s → Is (process_poll s p)
+  unfolding process_poll with_needs_poll
   is_polled s p h = is_if (is_alive (process_state s p)) _ s h h
 
   -- remainders
@@ -263,27 +260,27 @@ module _ (t : Tree) (whole : IsWhole t) where
       chosen true = tt
       chosen false = n
 
-  is_timer_set : (s : KernelState) (timer : ℕ) → Is s → Is (timer_is_set s timer)
-  unfolding timer_is_set
+  is_timer_set : (s : KernelState) (timer : ℕ) → Is s → Is (add_timer s timer)
+  unfolding add_timer
   is_timer_set s timer h = is_polled _ Etimer h
 
-  pub is_set : (s : KernelState) (timer n current : ℕ) → Is s → current < length t.processes → Is (set_of s timer n current)
-  unfolding set_of set_timer
+  pub is_set : (s : KernelState) (timer n current : ℕ) → Is s → current < length t.processes → Is (etimer_set s timer n current)
+  unfolding etimer_set set_timer
   is_set s timer n current h c =
       is_if (has_timer s timer) _ s (is_timer_set _ timer (with_timers s _ h (each_set (FitsTimer t) s.timers.timers timer _ h.timers (owner_fits s.program timer current c)))) h
 
-  pub is_reset : (s : KernelState) (timer current : ℕ) → Is s → current < length t.processes → Is (reset_of s timer current)
-  unfolding reset_of reset_timer
+  pub is_reset : (s : KernelState) (timer current : ℕ) → Is s → current < length t.processes → Is (etimer_reset s timer current)
+  unfolding etimer_reset reset_timer
   is_reset s timer current h c =
       is_if (has_timer s timer) _ s (is_timer_set _ timer (with_timers s _ h (each_set (FitsTimer t) s.timers.timers timer _ h.timers (owner_fits s.program timer current c)))) h
 
-  pub is_restarted : (s : KernelState) (timer current : ℕ) → Is s → current < length t.processes → Is (restart_of s timer current)
-  unfolding restart_of restart_timer
+  pub is_restarted : (s : KernelState) (timer current : ℕ) → Is s → current < length t.processes → Is (etimer_restart s timer current)
+  unfolding etimer_restart restart_timer
   is_restarted s timer current h c =
       is_if (has_timer s timer) _ s (is_timer_set _ timer (with_timers s _ h (each_set (FitsTimer t) s.timers.timers timer _ h.timers (owner_fits s.program timer current c)))) h
 
-  pub is_stopped : (s : KernelState) (timer : ℕ) → Is s → Is (stop_of s timer)
-  unfolding stop_of stop_timer
+  pub is_stopped : (s : KernelState) (timer : ℕ) → Is s → Is (etimer_stop s timer)
+  unfolding etimer_stop stop_timer
   is_stopped s timer h = is_if (has_timer s timer) _ s (with_timers s _ h (each_set (FitsTimer t) s.timers.timers timer _ h.timers tt)) h
 
   pub is_fired : (s : KernelState) (timer : ℕ) → Is s → Is (fired_of s timer)
@@ -296,8 +293,8 @@ module _ (t : Tree) (whole : IsWhole t) where
 
   -- events and packets
 
-  pub posts : (s : KernelState) (to : Target) (e : Event) → Is s → HasTarget t to → HasEvent t e.number → Lead Bool Nothing (post_of s to e)
-  unfolding post_of
+  pub posts : (s : KernelState) (to : Target) (e : Event) → Is s → HasTarget t to → HasEvent t e.number → Lead Bool Nothing (process_post s to e)
+  unfolding process_post
   posts s to e h n k =
       let after : Is (record s { queue = with_posted s.queue to e }) = record {
         program = h.program;

@@ -16,16 +16,11 @@ use Rattle.radio_packet.specs.declared.arrival.Arrival.{Arrival}
 use Rattle.radio_packet.specs.declared.sent.Sent.{Sent}
 use Rattle.trace_lines.specs.declared.line.Line.{Line}
 use Rattle.process_kernel.specs.State.{KernelState, Outcome, Ends, Goes}
-use Rattle.process_kernel.specs.Processes.{is_alive, process_state, with_needs_poll}
-use Rattle.process_kernel.specs.Posts.{poll_of}
-use Rattle.process_kernel.specs.Call.{calls_of}
-use Rattle.process_kernel.specs.Run.{begun_of, most_units}
-use Rattle.process_kernel.specs.KernelModel.{KernelModel, unbooted, has_room, with_packet, with_poll}
-use Rattle.process_kernel.specs.Given.{Given, given, begun, unless_halted, boot_given, run_given}
-use Rattle.mote_node.specs.Node.{Node, new_node}
-use Rattle.mote_node.specs.Underway.{Underway, with_mote, with_lines, underway_after}
-use Rattle.mote_node.specs.Arrivals.{received_line, lost_line, collision_line, hear, hear_each, took_some, hear_all, is_collision, with_collisions}
-use Rattle.mote_node.specs.Turn.{most_runs, boot_due, is_some_due, poll_due, follow, runs_of, work_of, mote_turn, net_turn, turn_of}
+use Rattle.process_kernel.specs.ProcessList.{is_alive, process_state, with_needs_poll}
+use Rattle.process_kernel.specs.Posts.{process_poll}
+use Rattle.process_kernel.specs.Operations.{calls_of}
+use Rattle.process_kernel.specs.KernelModel.{begun_of, most_units, KernelModel, unbooted, has_room, with_packet, with_poll, Given, given, begun, unless_halted, boot_given, run_given, Underway, underway_after, follow, runs_of}
+use Rattle.mote_node.specs.Turn.{Node, new_node, with_mote, with_lines, received_line, lost_line, collision_line, hear, hear_each, took_some, hear_all, is_collision, with_collisions, most_runs, boot_due, is_some_due, poll_due, work_of, mote_turn, net_turn, turn_of}
 use Rattle.report_laws.proofs.Blocks.{FitsCode}
 use Rattle.report_laws.proofs.Threads.{fresh_fits}
 use Rattle.window_laws.proofs.Lists.{every_append}
@@ -39,8 +34,8 @@ IsSound t m lines = Sound t (record (seen m.state) { lines = lines })
 pub with_lines_sound : (t : Tree) (m : KernelModel) (old new : List Line) → IsSound t m old → Each (FitsLine t) new → IsSound t m new
 with_lines_sound t m old new h l = record { program = h.program; events = h.events; members = h.members; remainders = h.remainders; timers = h.timers; lines = l }
 
-polled_same : (s : KernelState) (p : Proc) → seen (poll_of s p) ≡ seen s
-unfolding poll_of with_needs_poll
+polled_same : (s : KernelState) (p : Proc) → seen (process_poll s p) ≡ seen s
+unfolding process_poll with_needs_poll
 polled_same s p = by (is_alive (process_state s p))
   where
     by : (b : Bool) → seen (if b then record (with_needs_poll s p true) { poll_requested = true } else s) ≡ seen s

@@ -4,7 +4,7 @@ use Rattle.trace_lines.specs.declared.line.Line.{Line}
 use Rattle.kernel_laws.specs.Going.{GoesWith}
 use Rattle.kernel_laws.proofs.Motes.{in_order}
 use Rattle.mote_laws.proofs.Turns.{turn_keeps, new_goes}
-use Rattle.mote_node.specs.Node.{Node}
+use Rattle.mote_node.specs.Turn.{Node}
 use Rattle.mote_net.specs.Net.{NetModel}
 use Rattle.net_agenda.specs.NetSystem.{system_of, mote_at}
 use Rattle.window_laws.specs.NetStep.{NetState, Run, Done, Turn, boot, turned_at, turn_at}

@@ -5,9 +5,7 @@ use Rattle.std.specs.List.{filter, flat_map}
 use Rattle.std.proofs.lemmas.Bool.{cases_Bool, eq-eqb}
 use Rattle.trace_lines.specs.declared.line.Line.{Line}
 use Rattle.radio_packet.specs.declared.copy.RadioCopy.{RadioCopy}
-use Rattle.mote_node.specs.Node.{Node}
-use Rattle.mote_node.specs.Turn.{turn_of}
-use Rattle.mote_node.specs.Wake.{wake_of}
+use Rattle.mote_node.specs.Turn.{Node, turn_of, wake_of}
 use Rattle.mote_net.specs.Net.{NetModel}
 use Rattle.window_laws.specs.System.{Turned}
 use Rattle.window_laws.specs.Forward.{RunsForward}

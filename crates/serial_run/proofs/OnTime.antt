@@ -7,9 +7,8 @@ use Rattle.std.proofs.lemmas.Bool.Decides.{nat_tests}
 use Rattle.trace_lines.specs.declared.line.Line.{Line}
 use Rattle.radio_packet.specs.declared.copy.RadioCopy.{RadioCopy}
 use Rattle.mote_node.specs.declared.mote.Mote.{Mote}
-use Rattle.mote_node.specs.Node.{Node, new_node, is_past}
+use Rattle.mote_node.specs.Turn.{Node, new_node, is_past, turn_of}
 use Rattle.mote_node.specs.Public.{node_in}
-use Rattle.mote_node.specs.Turn.{turn_of}
 use Rattle.mote_net.specs.Net.{NetModel}
 use Rattle.window_laws.specs.System.{Turned, IsCopyOf}
 use Rattle.window_laws.specs.Forward.{RunsForward}

@@ -5,7 +5,7 @@ use Rattle.trace_lines.specs.declared.line.Line.{Line}
 use Rattle.radio_packet.specs.declared.sent.Sent.{Sent}
 use Rattle.kernel_laws.specs.Stamps.{PacketsBear}
 use Rattle.mote_laws.proofs.Stamps.{turns_stamp, new_is}
-use Rattle.mote_node.specs.Node.{Node}
+use Rattle.mote_node.specs.Turn.{Node}
 use Rattle.mote_net.specs.Net.{NetModel}
 use Rattle.window_laws.specs.NetStep.{NetState, Run, Done, Turn, boot, stamped, sends_of, turned_at, turn_at}
 use Rattle.window_laws.proofs.Puts.{put_each}

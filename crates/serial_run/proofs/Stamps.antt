@@ -12,7 +12,7 @@ use Rattle.kernel_laws.proofs.Stamps.{numbered_on}
 use Rattle.mote_laws.specs.Stamps.{NeverGoBack}
 use Rattle.mote_laws.proofs.Rising.{rises_empty, rises_level, rises_joined}
 use Rattle.mote_laws.proofs.Stamps.{turns_stamp, new_is}
-use Rattle.mote_node.specs.Node.{Node}
+use Rattle.mote_node.specs.Turn.{Node}
 use Rattle.mote_node.proofs.WakeLaws.{wakes_later}
 use Rattle.radio_medium.proofs.Copies.{copies_later}
 use Rattle.mote_net.specs.Net.{NetModel}

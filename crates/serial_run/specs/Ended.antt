@@ -1,7 +1,7 @@
 -- The engine's state during a run, and at its end.
 use Rattle.std.specs.Prelude.{◌≡◌, ℕ}
 use Rattle.trace_lines.specs.declared.line.Line.{Line}
-use Rattle.mote_node.specs.Node.{Node}
+use Rattle.mote_node.specs.Turn.{Node}
 use Rattle.mote_net.specs.Net.{NetModel}
 use Rattle.serial_run.specs.declared.engine.Engine.{Engine}
 use Rattle.net_agenda.specs.NetSystem.{system_of}

@@ -7,10 +7,8 @@ use Rattle.radio_packet.specs.declared.arrival.Arrival.{Arrival}
 use Rattle.trace_lines.specs.declared.line.Line.{Line}
 use Rattle.mote_node.specs.declared.mote.Mote.{Mote}
 use Rattle.mote_node.specs.declared.mote.TurnOut.{TurnOut}
-use Rattle.mote_node.specs.Node.{Node}
+use Rattle.mote_node.specs.Turn.{Node, turn_of, wake_of}
 use Rattle.mote_node.specs.Public.{node_in, turn_given, wake_in}
-use Rattle.mote_node.specs.Turn.{turn_of}
-use Rattle.mote_node.specs.Wake.{wake_of}
 use Rattle.mote_net.specs.Net.{NetModel}
 use Rattle.mote_net.specs.Report.{line_model}
 use Rattle.serial_run.specs.declared.engine.Engine.{Engine}

@@ -2,7 +2,7 @@
 use Rattle.std.specs.Prelude.{◌≡◌, length, map}
 use Rattle.trace_lines.specs.declared.line.Line.{Line}
 use Rattle.radio_packet.specs.declared.sent.Sent.{Sent}
-use Rattle.mote_node.specs.Node.{Node}
+use Rattle.mote_node.specs.Turn.{Node}
 use Rattle.radio_medium.specs.Medium.{Radio, fates}
 use Rattle.mote_net.specs.Net.{NetModel}
 use Rattle.window_laws.specs.Agenda.{packets, up_to}

@@ -2,7 +2,7 @@
 use Rattle.std.specs.Prelude.{ℕ, ◌≡◌, ◌≤◌, false, Option, Some, None, IsSomeAnd}
 use Rattle.std.specs.List.{AllByRecursion}
 use Rattle.trace_lines.specs.declared.line.Line.{Line}
-use Rattle.mote_node.specs.Node.{Node, is_past}
+use Rattle.mote_node.specs.Turn.{Node, is_past}
 use Rattle.window_laws.specs.Agenda.{moment_of, mote_of}
 use Rattle.window_laws.specs.NetStep.{NetState}
 

@@ -4,9 +4,7 @@ use Rattle.std.specs.List.{filter}
 use Rattle.radio_packet.specs.declared.arrival.Arrival.{Arrival}
 use Rattle.trace_lines.specs.declared.line.Line.{Line}
 use Rattle.radio_packet.specs.declared.sent.Sent.{Sent}
-use Rattle.mote_node.specs.Node.{Node}
-use Rattle.mote_node.specs.Wake.{wake_of}
-use Rattle.mote_node.specs.Turn.{turn_of}
+use Rattle.mote_node.specs.Turn.{Node, wake_of, turn_of}
 use Rattle.radio_packet.specs.declared.copy.RadioCopy.{RadioCopy}
 use Rattle.window_laws.specs.NetStep.{sends_of}
 use Rattle.window_laws.specs.Order.{in_order}

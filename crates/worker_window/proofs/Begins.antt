@@ -9,8 +9,7 @@ use Rattle.std.proofs.lemmas.List.{map-append}
 use Rattle.std.proofs.lemmas.List.Elements.{filter-append}
 use Rattle.std.proofs.lemmas.Option.{slice_get_cases}
 use Rattle.trace_lines.specs.declared.line.Line.{Line}
-use Rattle.mote_node.specs.Node.{is_past}
-use Rattle.mote_node.specs.Wake.{wake_of}
+use Rattle.mote_node.specs.Turn.{is_past, wake_of}
 use Rattle.mote_net.specs.Net.{NetModel}
 use Rattle.window_laws.specs.Agenda.{Wake, packets, is_wake_of, wake_items, mote_of, up_to}
 use Rattle.window_laws.specs.Windows.{NoneBefore, first_mote, is_from_sender, is_sent_by}

@@ -4,7 +4,7 @@ use Rattle.std.specs.Prelude.{MatchOption, IfSome, IsSomeAnd}
 use Rattle.program_tree.specs.Code.{Tree}
 use Rattle.trace_lines.specs.declared.line.Line.{Line}
 use Rattle.mote_node.specs.declared.mote.Mote.{Mote}
-use Rattle.mote_node.specs.Node.{Node}
+use Rattle.mote_node.specs.Turn.{Node}
 use Rattle.mote_node.specs.Public.{node_in}
 use Rattle.mote_net.specs.Net.{MoteSetup}
 use Rattle.radio_packet.specs.declared.copy.RadioCopy.{RadioCopy}

@@ -7,9 +7,8 @@ use Rattle.std.proofs.lemmas.Option.{slice_get_cases}
 use Rattle.trace_lines.specs.declared.line.Line.{Line}
 use Rattle.radio_packet.specs.declared.sent.Sent.{Sent}
 use Rattle.mote_node.specs.declared.mote.Mote.{Mote}
-use Rattle.mote_node.specs.Node.{Node, is_past}
+use Rattle.mote_node.specs.Turn.{Node, is_past, wake_of}
 use Rattle.mote_node.specs.Public.{node_in}
-use Rattle.mote_node.specs.Wake.{wake_of}
 use Rattle.mote_node.proofs.WakeLaws.{wakes_later}
 use Rattle.mote_laws.proofs.Stamps.{turns_stamp}
 use Rattle.radio_packet.specs.declared.copy.RadioCopy.{RadioCopy}

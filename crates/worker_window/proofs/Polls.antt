@@ -6,7 +6,7 @@ use Rattle.std.proofs.lemmas.Bool.{false≢true}
 use Rattle.trace_lines.specs.declared.line.Line.{Line}
 use Rattle.mote_node.specs.declared.mote.MoteError.{MoteError}
 use Rattle.mote_node.specs.declared.mote.MoteError.TheVariants.{Memory}
-use Rattle.mote_node.specs.Node.{Node}
+use Rattle.mote_node.specs.Turn.{Node}
 use Rattle.mote_laws.proofs.Stamps.{turns_stamp}
 use Rattle.radio_packet.specs.declared.copy.RadioCopy.{RadioCopy}
 use Rattle.window_laws.specs.Order.{in_order}

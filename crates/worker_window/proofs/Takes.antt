@@ -9,16 +9,14 @@ use Rattle.trace_lines.specs.declared.line.Line.{Line}
 use Rattle.radio_packet.specs.declared.sent.Sent.{Sent}
 use Rattle.kernel_laws.specs.Stamps.{PacketsBear}
 use Rattle.mote_node.specs.declared.mote.TurnOut.{TurnOut}
-use Rattle.mote_node.specs.Node.{Node}
-use Rattle.mote_node.specs.Public.{turn_given}
-use Rattle.mote_node.specs.Turn.{turn_of}
+use Rattle.mote_node.specs.Turn.{Node, turn_of}
+use Rattle.mote_node.specs.Public.{turn_given, node_in}
 use Rattle.mote_laws.proofs.Stamps.{turns_stamp}
 use Rattle.radio_packet.specs.declared.copy.RadioCopy.{RadioCopy}
 use Rattle.window_laws.specs.Order.{in_order}
 use Rattle.window_laws.specs.NetStep.{stamped}
 use Rattle.window_laws.specs.Windows.{is_at}
 use Rattle.program_tree.specs.Program.{tree_of}
-use Rattle.mote_node.specs.Public.{node_in}
 use Rattle.net_agenda.specs.Buckets.{arrival_of}
 use Rattle.worker_window.specs.declared.own.OwnWindow.{OwnWindow}
 use Rattle.worker_window.specs.Own.{window_in, window_over}

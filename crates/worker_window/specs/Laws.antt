@@ -2,8 +2,7 @@
 use Rattle.std.specs.Prelude.{◌≡◌, ℕ, false, List, ◌++◌}
 use Rattle.trace_lines.specs.declared.line.Line.{Line}
 use Rattle.radio_packet.specs.declared.sent.Sent.{Sent}
-use Rattle.mote_node.specs.Node.{is_past}
-use Rattle.mote_node.specs.Wake.{wake_of}
+use Rattle.mote_node.specs.Turn.{is_past, wake_of}
 use Rattle.worker_window.specs.MoteWindow.{LoneNode, Window, WindowRun, EndsAs, HasTurn, IsNext}
 use Rattle.worker_window.specs.MoteWindow.{node_number, window_after_turn}
 

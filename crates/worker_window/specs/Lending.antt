@@ -6,7 +6,7 @@ use Rattle.std.specs.declared.alloc.Global.{Global}
 use Rattle.program_tree.specs.Code.{Tree}
 use Rattle.trace_lines.specs.declared.line.Line.{Line}
 use Rattle.mote_node.specs.declared.mote.Mote.{Mote}
-use Rattle.mote_node.specs.Node.{Node}
+use Rattle.mote_node.specs.Turn.{Node}
 use Rattle.mote_node.specs.Public.{node_in, wake_in}
 use Rattle.radio_packet.specs.declared.copy.RadioCopy.{RadioCopy}
 use Rattle.radio_medium.specs.Medium.{Radio, copies}

@@ -1,8 +1,7 @@
 use Rattle.std.proofs.Common.{◌≡◌, drop, Some}
 use Rattle.program_tree.specs.Code.{Tree}
-use Rattle.process_kernel.specs.Public.{kernel_in}
-use Rattle.mote_node.specs.Underway.{Underway}
-use Rattle.mote_node.specs.Steps.{underway_in}
+use Rattle.process_kernel.specs.Public.{kernel_in, underway_in}
+use Rattle.process_kernel.specs.KernelModel.{Underway}
 use Rattle.mote_node.proofs.HearLemmas.{HeardSoFar}
 use Rattle.mote_node.proofs.turn.hear_all.Given as goal
 

@@ -1,5 +1,5 @@
 use Rattle.std.proofs.Common.{◌≡◌, ◌++◌, map, take}
-use Rattle.mote_node.specs.Arrivals.{collision_line}
+use Rattle.mote_node.specs.Turn.{collision_line}
 use Rattle.mote_node.proofs.turn.write_collisions.Given as goal
 
 abbrev pub invariant-loop-packet : goal.invariant-loop-packet

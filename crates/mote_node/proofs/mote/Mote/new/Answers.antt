@@ -2,7 +2,7 @@ use Rattle.std.proofs.Common.{refl, IsSome, Some, None, ◌≡◌, IfSome}
 use Rattle.program_tree.specs.Program.{tree_of}
 use Rattle.process_kernel.specs.KernelModel.{unbooted}
 use Rattle.process_kernel.specs.Public.{kernel_in}
-use Rattle.mote_node.specs.Wake.{wake_at}
+use Rattle.mote_node.specs.Turn.{wake_at}
 use Rattle.mote_node.proofs.TurnLemmas.{some_anyhow, wakes_anyhow}
 use Rattle.mote_node.proofs.mote.Mote.new.Goals as goal
 

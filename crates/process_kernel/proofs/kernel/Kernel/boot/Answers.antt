@@ -2,11 +2,10 @@ use Rattle.std.proofs.Common.{arith, ◌≡◌, ◌+◌, refl, ap, sym}
 use Rattle.program_tree.specs.Program.{tree_of}
 use Rattle.trace_lines.specs.declared.out.Out.{Out}
 use Rattle.process_kernel.specs.State.{KernelState}
-use Rattle.process_kernel.specs.Run.{begun_of, most_units}
-use Rattle.process_kernel.specs.Boot.{boot_of}
-use Rattle.process_kernel.specs.Call.{calls_of}
+use Rattle.process_kernel.specs.KernelModel.{begun_of, most_units, boot_given, given, begun}
+use Rattle.process_kernel.specs.Process.{boot_of}
+use Rattle.process_kernel.specs.Operations.{calls_of}
 use Rattle.process_kernel.specs.Views.{kernel_state_of, kernel_model_of}
-use Rattle.process_kernel.specs.Given.{boot_given, given, begun}
 use Rattle.process_kernel.proofs.Given.{failed, halted, finished, begins_with}
 use Rattle.process_kernel.proofs.kernel.Kernel.boot.Goals as goal
 

@@ -1,5 +1,5 @@
 use Rattle.std.proofs.Common.{rules, ◌≡◌, ◌<◌, ◌-◌, ◌+◌, suc, refl, arith}
-use Rattle.process_kernel.specs.Given.{run_given}
+use Rattle.process_kernel.specs.KernelModel.{run_given}
 use Rattle.process_kernel.proofs.Given.{so_far_none, so_far_next, so_far_fails}
 use Rattle.process_kernel.proofs.Repeated.{run_next, run_last, run_all}
 use Rattle.process_kernel.proofs.kernel.Kernel.run_all_on.Goals as goal

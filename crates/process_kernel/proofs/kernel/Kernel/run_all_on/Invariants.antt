@@ -1,8 +1,7 @@
 use Rattle.std.proofs.Common.{◌≡◌, ◌-◌, Some}
 use Rattle.program_tree.specs.Program.{tree_of}
-use Rattle.process_kernel.specs.Public.{kernel_in}
-use Rattle.process_kernel.specs.Underway.{Underway}
-use Rattle.process_kernel.specs.GoesOn.{underway_in}
+use Rattle.process_kernel.specs.Public.{kernel_in, underway_in}
+use Rattle.process_kernel.specs.KernelModel.{Underway}
 use Rattle.process_kernel.proofs.Given.{GoesOnSoFar}
 use Rattle.process_kernel.proofs.Repeated.{RunSoFar}
 use Rattle.process_kernel.proofs.kernel.Kernel.run_all_on.Given as goal

@@ -3,11 +3,11 @@ use Rattle.program_tree.specs.Program.{tree_of}
 use Rattle.trace_lines.specs.declared.out.Out.{Out}
 use Rattle.process_kernel.specs.declared.machine.Machine.{Machine}
 use Rattle.process_kernel.specs.State.{KernelState}
-use Rattle.process_kernel.specs.Run.{begun_of, kernel_of, most_units}
-use Rattle.process_kernel.specs.Call.{calls_of}
+use Rattle.process_kernel.specs.KernelModel.{begun_of, most_units, run_given, given, begun}
+use Rattle.process_kernel.specs.Process.{process_run}
+use Rattle.process_kernel.specs.Operations.{calls_of}
 use Rattle.process_kernel.specs.Views.{kernel_state_of, kernel_model_of}
 use Rattle.process_kernel.specs.Public.{kernel_in, MatchesOutcome, BeginsWith}
-use Rattle.process_kernel.specs.Given.{run_given, given, begun}
 use Rattle.process_kernel.proofs.Given.{failed, halted, finished, begins_with, begins_same, machine_kept}
 use Rattle.process_kernel.proofs.kernel.Kernel.run_on.Goals as goal
 
@@ -26,12 +26,12 @@ returns-clause-matches c =
     let t = tree_of c.args.program.now in
     let k = c.args.self.now in
     let out = k.machine.out in
-    let o = kernel_of (calls_of (most_units + 1)) (kernel_state_of t c.begin.new.self) in
+    let o = process_run (calls_of (most_units + 1)) (kernel_state_of t c.begin.new.self) in
     let begins : begun (kernel_model_of t k.machine k.booted k.halted) c.args.now out.lines.items out.sends.items
     ≡ kernel_state_of t c.begin.new.self = sym (c.begin.ensures.exact t) in
     let work : c.begin.new.self.fuel ≡ most_units = ap (λ (s : KernelState). s.units) (c.begin.ensures.exact t) in
     let gives : run_given c.args.now (kernel_model_of t k.machine k.booted k.halted) out.lines.items out.sends.items
-    ≡ given o = rw c.if-self-2.false (ap (λ (s : KernelState). given (kernel_of (calls_of (most_units + 1)) s)) begins) in
+    ≡ given o = rw c.if-self-2.false (ap (λ (s : KernelState). given (process_run (calls_of (most_units + 1)) s)) begins) in
     let machine = c.run_kernel-ran.new.self in
     let kept = machine_kept
     (record k { machine = machine }) c.close.new.self c.run_kernel-ran.result c.close.result c.close.ensures.closes in

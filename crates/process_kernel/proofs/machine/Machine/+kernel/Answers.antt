@@ -3,13 +3,11 @@ use Rattle.program_tree.specs.Program.{tree_of, code_of}
 use Rattle.protothread.specs.Remainder.{whole_of}
 use Rattle.process_kernel.proofs.Absent.{nothing_runs}
 use Rattle.process_kernel.proofs.Depth.{deeper_call, deeper_run, run_opens, halt_tells}
-use Rattle.process_kernel.specs.Calls.{Answer}
-use Rattle.process_kernel.specs.Ctimer.{ctimer_of}
-use Rattle.process_kernel.specs.Reaction.{react_of, resume_of}
-use Rattle.process_kernel.specs.Start.{start_of}
-use Rattle.process_kernel.specs.Exit.{last_run_of, exit_of}
-use Rattle.process_kernel.specs.Operation.{act_of, perform_of, run_of}
-use Rattle.process_kernel.specs.Call.{call_of, answered}
+use Rattle.process_kernel.specs.State.{Answer}
+use Rattle.process_kernel.specs.Ctimer.{ctimer_process}
+use Rattle.process_kernel.specs.Thread.{react_of, resume_of}
+use Rattle.process_kernel.specs.Process.{process_start, last_run_of, exit_process, call_process, answered}
+use Rattle.process_kernel.specs.Operations.{act_of, perform_of, run_of}
 use Rattle.process_kernel.specs.Views.{kernel_state_of}
 use Rattle.process_kernel.proofs.machine.Machine.+kernel.Goals as goal
 
@@ -54,7 +52,7 @@ act-returns-in-Signal t c = record {
 }
 
 pub call-returns-then-not-is_running : goal.call-returns-then-not-is_running
-unfolding call_of answered
+unfolding call_process answered
 call-returns-then-not-is_running t c = record {
   follows = record {
     exact = deeper_call (Ok tt) (kernel_state_of (tree_of c.args.program.now) c.args.self.now) _ _ _ (λ k enough. search rules);
@@ -64,7 +62,7 @@ call-returns-then-not-is_running t c = record {
 }
 
 pub call-returns-in_err-spend : goal.call-returns-in_err-spend
-unfolding call_of answered
+unfolding call_process answered
 call-returns-in_err-spend t c = record {
   follows = record {
     exact = deeper_call _ _ _ _ _ (λ k enough. search (rules, c.in_err-spend.ensures.exact (tree_of c.args.program.now)));
@@ -74,7 +72,7 @@ call-returns-in_err-spend t c = record {
 }
 
 pub call-returns-in_err-answer : goal.call-returns-in_err-answer
-unfolding call_of answered
+unfolding call_process answered
 call-returns-in_err-answer t c = record {
   follows = record {
     exact = let T = tree_of c.args.program.now in
@@ -85,7 +83,7 @@ call-returns-in_err-answer t c = record {
 }
 
 pub call-returns-then-is_event : goal.call-returns-then-is_event
-unfolding call_of answered
+unfolding call_process answered
 call-returns-then-is_event t c = record {
   follows = record {
     exact = let T = tree_of c.args.program.now in
@@ -96,7 +94,7 @@ call-returns-then-is_event t c = record {
 }
 
 pub call-returns-else-is_event : goal.call-returns-else-is_event
-unfolding call_of answered
+unfolding call_process answered
 call-returns-else-is_event t c = record {
   follows = record {
     exact = let T = tree_of c.args.program.now in
@@ -113,7 +111,7 @@ call-returns-else-is_event t c = record {
 }
 
 pub exit-returns-in_err-walk : goal.exit-returns-in_err-walk
-unfolding exit_of
+unfolding exit_process
 exit-returns-in_err-walk t c = record {
   follows = record {
     exact = λ k enough. search (rules, c.begin_exit.ensures.exact (tree_of c.args.program.now));
@@ -123,7 +121,7 @@ exit-returns-in_err-walk t c = record {
 }
 
 pub exit-returns-in_err-run_last : goal.exit-returns-in_err-run_last
-unfolding exit_of
+unfolding exit_process
 exit-returns-in_err-run_last t c = record {
   follows = record {
     exact = λ k enough. search (rules, c.begin_exit.ensures.exact (tree_of c.args.program.now));
@@ -133,7 +131,7 @@ exit-returns-in_err-run_last t c = record {
 }
 
 pub exit-returns : goal.exit-returns
-unfolding exit_of
+unfolding exit_process
 exit-returns t c = record {
   follows = record {
     exact = λ k enough. search (
@@ -191,7 +189,7 @@ react-returns-in_ok-react_as_etimer-in-Etimer t c = record {
 }
 
 pub react_as_ctimer-returns-then-not-takes_callback : goal.react_as_ctimer-returns-then-not-takes_callback
-unfolding ctimer_of
+unfolding ctimer_process
 react_as_ctimer-returns-then-not-takes_callback t c = record {
   follows = record {
     exact = let T = tree_of c.args.program.now in
@@ -202,7 +200,7 @@ react_as_ctimer-returns-then-not-takes_callback t c = record {
 }
 
 pub react_as_ctimer-returns : goal.react_as_ctimer-returns
-unfolding ctimer_of
+unfolding ctimer_process
 react_as_ctimer-returns t c = record {
   follows = record {
     exact = let T = tree_of c.args.program.now in
@@ -336,7 +334,7 @@ run_last-returns t c = record {
 }
 
 pub start-returns-in_err-enlist : goal.start-returns-in_err-enlist
-unfolding start_of
+unfolding process_start
 start-returns-in_err-enlist t c = record {
   follows = record {
     exact = λ k enough. search (rules, c.in_err-enlist.ensures.exact (tree_of c.args.program.now));
@@ -346,7 +344,7 @@ start-returns-in_err-enlist t c = record {
 }
 
 pub start-returns-in_ok-enlist : goal.start-returns-in_ok-enlist
-unfolding start_of
+unfolding process_start
 start-returns-in_ok-enlist t c = record {
   follows = record {
     exact = λ k enough. search (rules, c.in_ok-enlist.ensures.exact (tree_of c.args.program.now));

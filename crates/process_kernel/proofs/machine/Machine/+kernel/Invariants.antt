@@ -1,8 +1,8 @@
 use Rattle.std.proofs.Common.{◌≡◌, ◌<◌, ◌+◌, ◌*◌, ℕ, drop}
 use Rattle.program_tree.specs.Program.{tree_of, code_of}
 use Rattle.protothread.specs.Places.{remainder_of}
-use Rattle.process_kernel.specs.Calls.{walk_of}
-use Rattle.process_kernel.specs.Call.{calls_of}
+use Rattle.process_kernel.specs.Process.{walk_of}
+use Rattle.process_kernel.specs.Operations.{calls_of}
 use Rattle.process_kernel.specs.Views.{kernel_state_of, Continues, Grows}
 use Rattle.process_kernel.proofs.machine.Machine.+kernel.Given as goal
 

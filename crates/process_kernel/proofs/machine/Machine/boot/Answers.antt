@@ -1,5 +1,5 @@
 use Rattle.std.proofs.Common.{rules, arith}
-use Rattle.process_kernel.specs.Boot.{boot_of}
+use Rattle.process_kernel.specs.Process.{boot_of}
 use Rattle.process_kernel.proofs.machine.Machine.boot.Goals as goal
 
 pub returns-in_err-start_each : goal.returns-in_err-start_each

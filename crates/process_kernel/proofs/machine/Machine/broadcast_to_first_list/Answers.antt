@@ -1,8 +1,8 @@
 use Rattle.std.proofs.Common.{rules, arith, ◌+◌, ◌∙◌, ap, drop}
 use Rattle.program_tree.specs.Program.{tree_of}
 use Rattle.process_kernel.specs.State.{◌>>=◌}
-use Rattle.process_kernel.specs.Call.{calls_of}
-use Rattle.process_kernel.specs.Delivery.{walk_broadcast}
+use Rattle.process_kernel.specs.Operations.{calls_of}
+use Rattle.process_kernel.specs.Process.{walk_broadcast}
 use Rattle.process_kernel.specs.Views.{kernel_state_of}
 use Rattle.process_kernel.proofs.FirstList.{rest_begins}
 use Rattle.process_kernel.proofs.machine.Machine.broadcast_to_first_list.Goals as goal

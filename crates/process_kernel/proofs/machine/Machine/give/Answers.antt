@@ -1,6 +1,6 @@
 use Rattle.std.proofs.Common.{rules}
 use Rattle.program_tree.specs.Program.{tree_of}
-use Rattle.process_kernel.specs.Delivery.{give_of}
+use Rattle.process_kernel.specs.Process.{give_of}
 use Rattle.process_kernel.proofs.machine.Machine.give.Goals as goal
 
 pub returns-in_err-write : goal.returns-in_err-write

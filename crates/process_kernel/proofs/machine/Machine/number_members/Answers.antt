@@ -2,8 +2,7 @@ use Rattle.std.proofs.Common.{rules, arith, ◌≡◌, ◌≤◌, ◌∙◌, ℕ
 use Rattle.std.specs.List.{refill}
 use Rattle.std.specs.Vec.{vec_len}
 use Rattle.process_kernel.specs.declared.process.Member.{Member}
-use Rattle.process_kernel.specs.Members.{AreMembers}
-use Rattle.process_kernel.specs.ProcessList.{numbered_from}
+use Rattle.process_kernel.specs.ProcessList.{AreMembers, numbered_from}
 use Rattle.process_kernel.proofs.Lists.{AreMembers-numbered, length-numbered, numbered_again, refill_same}
 use Rattle.process_kernel.proofs.machine.Machine.number_members.Goals as goal
 

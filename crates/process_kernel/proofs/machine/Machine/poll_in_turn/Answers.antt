@@ -1,6 +1,6 @@
 use Rattle.std.proofs.Common.{rules}
 use Rattle.program_tree.specs.Program.{tree_of}
-use Rattle.process_kernel.specs.Polls.{poll_turn_of}
+use Rattle.process_kernel.specs.Process.{poll_turn_of}
 use Rattle.process_kernel.proofs.machine.Machine.poll_in_turn.Goals as goal
 
 pub returns : goal.returns

@@ -1,8 +1,7 @@
 use Rattle.std.proofs.Common.{rules, of_calls, ◌≡◌, filter, not, subst, sym, length}
 use Rattle.std.proofs.lemmas.Fn.{filter_same}
 use Rattle.process_kernel.specs.declared.process.Member.{Member}
-use Rattle.process_kernel.specs.Members.{AreMembers, is_same}
-use Rattle.process_kernel.specs.ProcessList.{unlisted_of}
+use Rattle.process_kernel.specs.ProcessList.{AreMembers, is_same, unlisted_of}
 use Rattle.process_kernel.proofs.Lists.{AreMembers-filter}
 use Rattle.process_kernel.proofs.machine.Machine.unlist.Goals as goal
 

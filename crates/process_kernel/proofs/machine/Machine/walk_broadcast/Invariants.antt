@@ -1,7 +1,7 @@
 use Rattle.std.proofs.Common.{◌≡◌, ◌<◌, ℕ, drop}
 use Rattle.program_tree.specs.Program.{tree_of}
-use Rattle.process_kernel.specs.Call.{calls_of}
-use Rattle.process_kernel.specs.Delivery.{walk_broadcast}
+use Rattle.process_kernel.specs.Operations.{calls_of}
+use Rattle.process_kernel.specs.Process.{walk_broadcast}
 use Rattle.process_kernel.specs.Views.{kernel_state_of, Continues, Grows}
 use Rattle.process_kernel.proofs.machine.Machine.walk_broadcast.Given as goal
 
