@@ -82,12 +82,13 @@ stmt_sync = let e = expr_sync in let b = block_sync in
 
 formula_sync : IsSync Formula.the_row
 formula_sync = let t = term.the_sync in
-    variants_sync Formula.enum ((t, tt), ((operator.the_sync, (t, (t, tt))), ((expr_sync, tt), tt)))
+    let o = operator.the_sync in
+    variants_sync Formula.enum ((t, tt), ((o, (t, (t, tt))), ((o, (o, (t, (t, (t, tt))))), ((expr_sync, tt), tt))))
 
 instruction_sync : IsSync Instruction.the_row
-instruction_sync = let f = formula_sync in
+instruction_sync = let f = formula_sync in let t = term.the_sync in
     variants_sync Instruction.enum
-    ((action_sync, (u16, tt)), ((u8, (f, (u16, tt))), ((f, (u16, (u16, tt))), ((f, (u16, (u16, tt))), tt))))
+    ((action_sync, (u16, tt)), ((u8, (f, (u16, tt))), ((u8, (t, (u16, tt))), ((f, (u16, (u16, tt))), ((t, (u16, (u16, tt))), tt)))))
 
 pub flat_sync : IsSync FlatBlock.the_row
 flat_sync = declared_sync FlatBlock.the_type (block_sync, (Vec-sync Instruction.the_row instruction_sync, tt))

@@ -2,16 +2,13 @@
 use Rattle.std.proofs.Common.{◌≡◌, ℕ, zero, suc, ◌+◌, ◌<◌, ◌≤◌, Some, zero-add, get_or, drop, map, List, [], ◌∷◌, ◌++◌, length, refl, ap, sym, ◌∙◌, subst, arith, append_assoc, length-append}
 use Rattle.std.specs.Prelude.{slice_get, Result, Ok, Err, OnOk}
 use Rattle.std.proofs.lemmas.List.{append-nil, get_or_past, get_or_at, drop_all, length-map}
-use Rattle.program_tree.specs.declared.formula.Formula.{Formula}
 use Rattle.program_tree.specs.declared.tree.Stmt.{Stmt}
 use Rattle.program_tree.specs.declared.instruction.Instruction.{Instruction}
-use Rattle.program_tree.specs.declared.instruction.Instruction.TheVariants.{Branch, Loop}
 use Rattle.program_tree.specs.Tree.{Expression, Action, Statement, Body, Otherwise, does, branch, while, end, next, nothing}
 use Rattle.program_tree.specs.Tree.{otherwise, listed, other_block, size, statement_size, other_size}
 use Rattle.program_tree.specs.Meaning.{body_of, statement_of}
-use Rattle.program_tree.specs.Formula.{formula_of}
-use Rattle.program_tree.specs.Flat.{rests, statement_rests, other_rests, rest_in, rest_at, Leads, Branches, Loops, IsFlat}
-use Rattle.program_tree.specs.Emits.{entry_of, other_entry_of, LeadsOver, LeadFrom, Emits, EmitsStatement, EmitsOther, EmitsFirst}
+use Rattle.program_tree.specs.Flat.{rests, statement_rests, other_rests, rest_in, rest_at, Task, acts, tests, task_of, Tests, LeadsBy, Leads, IsFlat}
+use Rattle.program_tree.specs.Emits.{entry_of, other_entry_of, LeadFrom, Emits, EmitsStatement, EmitsOther, EmitsFirst}
 
 -- there are as many rests as there are statements
 mutual
@@ -59,28 +56,26 @@ other_enters (otherwise b) all left right rest n after is e follows = enters b a
 
 -- a statement without blocks
 pub emits_action : (a : Action ℕ) (i : Instruction) (after : ℕ) (old new : List Instruction)
-    → LeadsOver i a after → new ≡ old ++ i ∷ [] → EmitsStatement (does a) after old new
-emits_action a i after old new over pushed =
+    → task_of i ≡ acts a after → new ≡ old ++ i ∷ [] → EmitsStatement (does a) after old new
+emits_action a i after old new is_task pushed =
     record {
       more = i ∷ [];
       extends = pushed;
       counts = refl;
       leads =
-          λ all left right rest is there follows. (
-            over.leads (rest_in all) (rest_in all (length old))
-                (statement_enters (does a) all left right rest (length old) (is ∙ append_assoc left ((does a ∷ rest) ∷ []) right) there ∙ ap (λ r. does a ∷ r) (sym follows)),
-            tt,
-          );
+          λ all left right rest is there follows.
+          let P : Task → Type 0 = λ t. LeadsBy (rest_in all) t (rest_in all (length old)) in
+          let in_state = statement_enters (does a) all left right rest (length old) (is ∙ append_assoc left ((does a ∷ rest) ∷ []) right) there in
+          (subst P (sym is_task) (in_state ∙ ap (λ r. does a ∷ r) (sym follows)), tt);
     }
 
 -- an `if`
-pub emits_branch : (c : Expression ℕ) (e : Formula) (a : Body ℕ) (o : Otherwise ℕ) (after then other : ℕ) (old mid last new : List Instruction)
-    → formula_of e ≡ c → then ≡ entry_of a (length old + 1) after → other ≡ other_entry_of o (length old + 1 + size a) after
-    → mid ≡ old ++ Branch e then other ∷ [] → Emits a after mid last → EmitsOther o after last new
+pub emits_branch : (c : Expression ℕ) (i : Instruction) (a : Body ℕ) (o : Otherwise ℕ) (after then other : ℕ) (old mid last new : List Instruction)
+    → task_of i ≡ tests c then other → then ≡ entry_of a (length old + 1) after → other ≡ other_entry_of o (length old + 1 + size a) after
+    → mid ≡ old ++ i ∷ [] → Emits a after mid last → EmitsOther o after last new
     → EmitsStatement (branch c a o) after old new
-emits_branch c e a o after then other old mid last new same then_is other_is pushed p q =
+emits_branch c i a o after then other old mid last new is_task then_is other_is pushed p q =
     let s : Statement ℕ = branch c a o in
-    let i : Instruction = Branch e then other in
     let count_mid : length old + 1 ≡ length mid = omega (arith, ap length pushed, length-append old (i ∷ [])) in
     let count_last : length old + 1 + size a ≡ length last = omega (arith, count_mid, ap length p.extends, length-append mid p.more, p.counts) in
     let for_inner : (all left right : List (List (Statement ℕ))) (rest : List (Statement ℕ)) → all ≡ left ++ statement_rests s rest ++ right → all ≡ left ++ (s ∷ rest) ∷ [] ++ rests a rest ++ (other_rests o rest ++ right) =
@@ -102,13 +97,14 @@ emits_branch c e a o after then other old mid last new same then_is other_is pus
           let in_there = there_inner left rest there in
           let other_there = there_other left rest there in
           let in_state : rest_in all (length old) ≡ s ∷ rest = statement_enters s all left right rest (length old) (is ∙ append_assoc left (statement_rests s rest) right) there in
-          let P : List (Statement ℕ) → Type 0 = λ here. Branches (rest_in all) (formula_of e) then other here in
-          let first : P (rest_in all (length old)) =
-          subst P (sym in_state) (
-            sym same,
+          let P : List (Statement ℕ) → Type 0 = λ here. Tests (rest_in all) c then other here in
+          let Q : Task → Type 0 = λ t. LeadsBy (rest_in all) t (rest_in all (length old)) in
+          let first : Q (task_of i) =
+          subst Q (sym is_task) (subst P (sym in_state) (
+            refl,
             ap (λ n. rest_in all n) then_is ∙ enters a all _ _ rest (length old + 1) after is_inner in_there follows,
             ap (λ n. rest_in all n) other_is ∙ other_enters o all _ _ rest (length old + 1 + size a) after is_other other_there follows,
-          ) in
+          )) in
           let inner : LeadFrom all (length old + 1) p.more =
           subst (λ n. LeadFrom all n p.more) (sym count_mid) (p.leads all _ _ rest is_inner (in_there ∙ count_mid) follows) in
           let others : LeadFrom all (length last) q.more = q.leads all _ _ rest is_other (other_there ∙ count_last) follows in
@@ -125,12 +121,11 @@ emits_branch c e a o after then other old mid last new same then_is other_is pus
     joined p x y i = simp append_assoc
 
 -- a `while`
-pub emits_while : (c : Expression ℕ) (e : Formula) (a : Body ℕ) (after place body : ℕ) (old mid new : List Instruction)
-    → formula_of e ≡ c → place ≡ length old → body ≡ entry_of a (length old + 1) place → mid ≡ old ++ Loop e body after ∷ [] → Emits a place mid new
+pub emits_while : (c : Expression ℕ) (i : Instruction) (a : Body ℕ) (after place body : ℕ) (old mid new : List Instruction)
+    → task_of i ≡ tests c body after → place ≡ length old → body ≡ entry_of a (length old + 1) place → mid ≡ old ++ i ∷ [] → Emits a place mid new
     → EmitsStatement (while c a) after old new
-emits_while c e a after place body old mid new same here body_is pushed q =
+emits_while c i a after place body old mid new is_task here body_is pushed q =
     let s : Statement ℕ = while c a in
-    let i : Instruction = Loop e body after in
     let count_mid : length old + 1 ≡ length mid = omega (arith, ap length pushed, length-append old (i ∷ [])) in
     let for_inner : (all left right : List (List (Statement ℕ))) (rest : List (Statement ℕ)) → all ≡ left ++ statement_rests s rest ++ right → all ≡ left ++ (s ∷ rest) ∷ [] ++ rests a (s ∷ rest) ++ right =
     λ all left right rest is. is ∙ to_inner left (rests a (s ∷ rest)) right (s ∷ rest) in
@@ -146,11 +141,12 @@ emits_while c e a after place body old mid new same here body_is pushed q =
           let in_there = there_inner left rest there in
           let in_state : rest_in all (length old) ≡ s ∷ rest = statement_enters s all left right rest (length old) (is ∙ append_assoc left (statement_rests s rest) right) there in
           let again : rest_in all place ≡ s ∷ rest = ap (λ n. rest_in all n) here ∙ in_state in
-          let P : List (Statement ℕ) → Type 0 = λ here. Loops (rest_in all) (formula_of e) body after here in
-          let loops : P (rest_in all (length old)) =
-          subst P (sym in_state)
-          (sym same, follows, ap (λ n. rest_in all n) body_is ∙ enters a all _ _ (s ∷ rest) (length old + 1) place is_inner in_there again) in
-          (loops, subst (λ n. LeadFrom all n q.more) (sym count_mid) (q.leads all _ _ (s ∷ rest) is_inner (in_there ∙ count_mid) again));
+          let P : List (Statement ℕ) → Type 0 = λ here. Tests (rest_in all) c body after here in
+          let Q : Task → Type 0 = λ t. LeadsBy (rest_in all) t (rest_in all (length old)) in
+          let first : Q (task_of i) =
+          subst Q (sym is_task) (subst P (sym in_state)
+          (refl, ap (λ n. rest_in all n) body_is ∙ enters a all _ _ (s ∷ rest) (length old + 1) place is_inner in_there again, follows)) in
+          (first, subst (λ n. LeadFrom all n q.more) (sym count_mid) (q.leads all _ _ (s ∷ rest) is_inner (in_there ∙ count_mid) again));
     }
   where
     to_inner : (p x q : List (List (Statement ℕ))) (z : List (Statement ℕ)) → p ++ z ∷ x ++ q ≡ p ++ z ∷ [] ++ x ++ q

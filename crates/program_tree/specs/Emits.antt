@@ -1,7 +1,7 @@
 -- The instructions that are added to flat code when a block is compiled.
 use Rattle.std.specs.Prelude.{◌≡◌, ℕ, ◌+◌, List, [], ◌∷◌, ◌++◌, length}
 use Rattle.program_tree.specs.declared.instruction.Instruction.{Instruction}
-use Rattle.program_tree.specs.Tree.{Action, Statement, Body, Otherwise, does, end, next, nothing, otherwise, size}
+use Rattle.program_tree.specs.Tree.{Statement, Body, Otherwise, end, next, nothing, otherwise, size}
 use Rattle.program_tree.specs.Tree.{statement_size, other_size}
 use Rattle.program_tree.specs.Flat.{rests, statement_rests, other_rests, rest_in, Leads}
 
@@ -14,10 +14,6 @@ entry_of (next s b) place after = place
 abbrev pub other_entry_of : Otherwise ℕ → (place after : ℕ) → ℕ
 other_entry_of nothing place after = after
 other_entry_of (otherwise b) place after = entry_of b place after
-
--- the instruction has the local property at each statement that is this action and has this place after it
-pub record LeadsOver (i : Instruction) (a : Action ℕ) (after : ℕ) : Type 0 where
-  pub leads : (at : ℕ → List (Statement ℕ)) (here : List (Statement ℕ)) → here ≡ does a ∷ at after → Leads at i here
 
 -- the instructions from this place on have the local property
 abbrev pub LeadFrom : (all : List (List (Statement ℕ))) → (place : ℕ) → List Instruction → Type 0

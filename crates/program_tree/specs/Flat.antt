@@ -1,11 +1,11 @@
 -- The statements that follow each place of a block's flat code.
 use Rattle.std.specs.Prelude.{◌≡◌, ℕ, ◌≤◌, List, [], ◌∷◌, ◌++◌, length, Some, slice_get, slice_index_or}
 use Rattle.program_tree.specs.declared.instruction.Instruction.{Instruction}
-use Rattle.program_tree.specs.declared.instruction.Instruction.TheVariants.{Act, Assign, Branch, Loop}
-use Rattle.program_tree.specs.Tree.{Expression, Statement, Body, Otherwise, assign, does, branch, while, end, next}
-use Rattle.program_tree.specs.Tree.{nothing, otherwise, listed, other_block}
+use Rattle.program_tree.specs.declared.instruction.Instruction.TheVariants.{Act, Assign, AssignTerm, Test, TestTerm}
+use Rattle.program_tree.specs.Tree.{Expression, Action, Statement, Body, Otherwise, assign, does, branch, while}
+use Rattle.program_tree.specs.Tree.{end, next, nothing, otherwise, listed, other_block}
 use Rattle.program_tree.specs.Meaning.{action_of}
-use Rattle.program_tree.specs.Formula.{formula_of}
+use Rattle.program_tree.specs.Formula.{term_of, formula_of}
 
 -- Each statement has a place, in the order of the text: the statements of an inner block are after the statement that
 -- has the block. The rest at a place is all that remains there: the statement, the statements after it in its block,
@@ -32,27 +32,36 @@ rest_in all place = slice_index_or all place []
 unfoldable pub rest_at : Body ℕ → (place : ℕ) → List (Statement ℕ)
 rest_at b place = rest_in (rests b []) place
 
--- the rest here begins with an `if`; the places `then` and `other` have the rests of its two outcomes
-abbrev pub Branches : (at : ℕ → List (Statement ℕ)) → Expression ℕ → (then other : ℕ) → (here : List (Statement ℕ))
-    → Type 0
-Branches at c then other (branch d inner else ∷ after) =
-    (d ≡ c) × (at then ≡ listed inner ++ after) × (at other ≡ other_block else ++ after)
-Branches at c then other here = ⊥
+-- the work of an instruction: an action, with the place after it; or a test, with the places of its two outcomes
+pub data Task : Type 0 where
+  acts : Action ℕ → (after : ℕ) → Task
+  tests : Expression ℕ → (held failed : ℕ) → Task
 
--- the rest here begins with a `while`; the places `body` and `after` have the rests of its two outcomes
-abbrev pub Loops : (at : ℕ → List (Statement ℕ)) → Expression ℕ → (body after : ℕ) → (here : List (Statement ℕ))
-    → Type 0
-Loops at c body after (while d inner ∷ rest) =
-    (d ≡ c) × (at after ≡ rest) × (at body ≡ listed inner ++ while d inner ∷ rest)
-Loops at c body after here = ⊥
+abbrev pub task_of : Instruction → Task
+task_of (Act a after) = acts (action_of a) after
+task_of (Assign i f after) = acts (assign i (formula_of f)) after
+task_of (AssignTerm i t after) = acts (assign i (term_of t)) after
+task_of (Test f held failed) = tests (formula_of f) held failed
+task_of (TestTerm t held failed) = tests (term_of t) held failed
 
--- The local property of an instruction: it is the instruction of the first statement of the rest here, and it leads to
--- the rests that remain after this statement.
+-- the rest here begins with an `if` or a `while` with this test; the two places have the rests of the test's outcomes
+abbrev pub Tests : (at : ℕ → List (Statement ℕ)) → Expression ℕ → (held failed : ℕ) → (here : List (Statement ℕ))
+    → Type 0
+Tests at c held failed (branch d inner else ∷ after) =
+    (d ≡ c) × (at held ≡ listed inner ++ after) × (at failed ≡ other_block else ++ after)
+Tests at c held failed (while d inner ∷ after) =
+    (d ≡ c) × (at held ≡ listed inner ++ while d inner ∷ after) × (at failed ≡ after)
+Tests at c held failed here = ⊥
+
+-- the task is that of the first statement of the rest here, and its places have the rests that remain after this
+-- statement
+abbrev pub LeadsBy : (at : ℕ → List (Statement ℕ)) → Task → (here : List (Statement ℕ)) → Type 0
+LeadsBy at (acts a after) here = here ≡ does a ∷ at after
+LeadsBy at (tests c held failed) here = Tests at c held failed here
+
+-- the local property of an instruction
 abbrev pub Leads : (at : ℕ → List (Statement ℕ)) → Instruction → (here : List (Statement ℕ)) → Type 0
-Leads at (Act a after) here = here ≡ does (action_of a) ∷ at after
-Leads at (Assign i f after) here = here ≡ does (assign i (formula_of f)) ∷ at after
-Leads at (Branch c then other) here = Branches at (formula_of c) then other here
-Leads at (Loop c body after) here = Loops at (formula_of c) body after here
+Leads at i here = LeadsBy at (task_of i) here
 
 -- Flat code of a block: each instruction has the local property, and there is one instruction for each rest.
 pub record IsFlat (b : Body ℕ) (code : List Instruction) : Type 0 where

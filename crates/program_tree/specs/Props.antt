@@ -4,10 +4,9 @@ use Rattle.std.proofs.Props.{props}
 use Rattle.program_tree.specs.EventNames.{BroadcastEvent, PostedEvent, TestedEvent}
 use Rattle.program_tree.specs.declared.tree.Operator.{Operator}
 use Rattle.program_tree.specs.declared.instruction.Instruction.{Instruction}
-use Rattle.program_tree.specs.declared.instruction.Instruction.TheVariants.{Act, Assign, Branch, Loop}
 use Rattle.program_tree.specs.Tree.{Expression, Action, Statement, Body, does, branch, while, Expression-set}
 use Rattle.program_tree.specs.Tree.{Statement-set}
-use Rattle.program_tree.specs.Flat.{Branches, Loops, Leads, IsFlat}
+use Rattle.program_tree.specs.Flat.{Task, acts, tests, task_of, Tests, LeadsBy, Leads, IsFlat}
 
 cast_set : IsSet (BroadcastEvent ℕ)
 cast_set = hlevel props
@@ -30,25 +29,19 @@ action_set = hlevel (props, expression_set, cast_set, sent_set)
 statement_set : IsSet (Statement ℕ)
 statement_set = hlevel (props, Statement-set, expression_set, action_set)
 
-Branches-prop : (at : ℕ → List (Statement ℕ)) (c : Expression ℕ) (then other : ℕ) (here : List (Statement ℕ))
-    → IsProp (Branches at c then other here)
-Branches-prop at c then other [] = hlevel props
-Branches-prop at c then other (does a ∷ rest) = hlevel props
-Branches-prop at c then other (branch d a o ∷ rest) = hlevel (props, expression_set, statement_set)
-Branches-prop at c then other (while d a ∷ rest) = hlevel props
+Tests-prop : (at : ℕ → List (Statement ℕ)) (c : Expression ℕ) (held failed : ℕ) (here : List (Statement ℕ))
+    → IsProp (Tests at c held failed here)
+Tests-prop at c held failed [] = hlevel props
+Tests-prop at c held failed (does a ∷ rest) = hlevel props
+Tests-prop at c held failed (branch d a o ∷ rest) = hlevel (props, expression_set, statement_set)
+Tests-prop at c held failed (while d a ∷ rest) = hlevel (props, expression_set, statement_set)
 
-Loops-prop : (at : ℕ → List (Statement ℕ)) (c : Expression ℕ) (body after : ℕ) (here : List (Statement ℕ))
-    → IsProp (Loops at c body after here)
-Loops-prop at c body after [] = hlevel props
-Loops-prop at c body after (does a ∷ rest) = hlevel props
-Loops-prop at c body after (branch d a o ∷ rest) = hlevel props
-Loops-prop at c body after (while d a ∷ rest) = hlevel (props, expression_set, statement_set)
+LeadsBy-prop : (at : ℕ → List (Statement ℕ)) (t : Task) (here : List (Statement ℕ)) → IsProp (LeadsBy at t here)
+LeadsBy-prop at (acts a after) here = hlevel (props, statement_set)
+LeadsBy-prop at (tests c held failed) here = Tests-prop at c held failed here
 
 Leads-prop : (at : ℕ → List (Statement ℕ)) (i : Instruction) (here : List (Statement ℕ)) → IsProp (Leads at i here)
-Leads-prop at (Act a after) here = hlevel (props, statement_set)
-Leads-prop at (Assign i f after) here = hlevel (props, statement_set)
-Leads-prop at (Branch c then other) here = Branches-prop at _ then other here
-Leads-prop at (Loop c body after) here = Loops-prop at _ body after here
+Leads-prop at i here = LeadsBy-prop at (task_of i) here
 
 pub IsFlat-prop : (b : Body ℕ) (code : List Instruction) → IsProp (IsFlat b code)
 IsFlat-prop b code = hlevel (props, Leads-prop, statement_set)

@@ -5,7 +5,6 @@ ghost use Rattle.program_tree.specs.Tree.{size, statement_size, other_size};
 ghost use Rattle.program_tree.specs.Flat.{IsFlat};
 ghost use Rattle.program_tree.specs.Emits.{Emits, EmitsStatement, EmitsOther, entry_of, other_entry_of};
 
-use crate::formula::Formula;
 use crate::instruction::{END, Instruction};
 use crate::tree::{Block, Stmt};
 use std::alloc::{AllocError, Global};
@@ -132,13 +131,13 @@ fn add_statement(
         Stmt::If(test, then, other) => {
             let holds = entry(then, place + 1, after);
             let fails = other_entry(other, place + 1 + count(then), after);
-            code.push(Instruction::Branch(Formula::new(alloc, test)?, holds, fails))?;
+            code.push(Instruction::of_test(alloc, test, holds, fails)?)?;
             add_block(then, after, code, alloc)?;
             add_other(other, after, code, alloc)
         }
         Stmt::While(test, body) => {
             let holds = entry(body, place + 1, place);
-            code.push(Instruction::Loop(Formula::new(alloc, test)?, holds, after))?;
+            code.push(Instruction::of_test(alloc, test, holds, after)?)?;
             add_block(body, place, code, alloc)
         }
     }

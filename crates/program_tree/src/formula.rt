@@ -28,12 +28,16 @@ pub enum Term {
     WithWord(Operator, u8),
 }
 
-/// An expression in flat code. The frequent expressions are terms, or operators with two terms: their values need no
+/// An expression in flat code. The frequent expressions have at most two operators between terms: their values need no
 /// walk over a tree.
 #[derive(Drop)]
 pub enum Formula {
     Term(Term),
+    /// An operator with two terms.
     Pair(Operator, Term, Term),
+    /// An operator whose left operand is an operator with two terms, and whose right operand is a term. The inner
+    /// operator is the second of the two.
+    Chain(Operator, Operator, Term, Term, Term),
     Tree(Expr),
 }
 
@@ -62,7 +66,7 @@ fn joined(operator: Operator, left: &Expr, right: &Expr) -> Option<Term>
 }
 
 /// The term that an expression is, if it is one.
-fn as_term(expression: &Expr) -> Option<Term>
+pub(crate) fn as_term(expression: &Expr) -> Option<Term>
     ensures meaning { IfSome result (λ t. term_of t ≡ expression_of expression.now) }
 {
     match expression {
@@ -86,6 +90,34 @@ fn pair(operator: Operator, left: &Expr, right: &Expr) -> Option<Formula>
     Some(Formula::Pair(operator, left, right))
 }
 
+/// The formula of an operator with these operands, if the left one is an operator with two terms and the right one is a
+/// term.
+fn chain(operator: Operator, left: &Expr, right: &Expr) -> Option<Formula>
+    ensures meaning { IfSome result
+        (λ f. formula_of f ≡ binary operator (expression_of left.now) (expression_of right.now)) }
+{
+    match left {
+        Expr::Binary(inner, first, second) => {
+            let first = as_term(first)?;
+            let second = as_term(second)?;
+            let right = as_term(right)?;
+            Some(Formula::Chain(operator, *inner, first, second, right))
+        }
+        _ => None,
+    }
+}
+
+/// The formula of an operator with these operands, if it has a frequent form.
+fn operation(operator: Operator, left: &Expr, right: &Expr) -> Option<Formula>
+    ensures meaning { IfSome result
+        (λ f. formula_of f ≡ binary operator (expression_of left.now) (expression_of right.now)) }
+{
+    match pair(operator, left, right) {
+        Some(formula) => Some(formula),
+        None => chain(operator, left, right),
+    }
+}
+
 /// The formula of an expression of a frequent form.
 fn short(expression: &Expr) -> Option<Formula>
     ensures meaning { IfSome result (λ f. formula_of f ≡ expression_of expression.now) }
@@ -94,7 +126,7 @@ fn short(expression: &Expr) -> Option<Formula>
         return Some(Formula::Term(term));
     }
     match expression {
-        Expr::Binary(operator, left, right) => pair(*operator, left, right),
+        Expr::Binary(operator, left, right) => operation(*operator, left, right),
         _ => None,
     }
 }

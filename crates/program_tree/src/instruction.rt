@@ -1,10 +1,11 @@
 //! The instructions of flat code.
-ghost use Rattle.std.specs.Prelude.{IfOk};
-ghost use Rattle.program_tree.specs.Meaning.{action_of};
-ghost use Rattle.program_tree.specs.Emits.{LeadsOver};
+ghost use Rattle.std.specs.Prelude.{◌≡◌, IfOk};
+ghost use Rattle.program_tree.specs.Tree.{assign};
+ghost use Rattle.program_tree.specs.Meaning.{action_of, expression_of};
+ghost use Rattle.program_tree.specs.Flat.{acts, tests, task_of};
 
-use crate::formula::Formula;
-use crate::tree::Action;
+use crate::formula::{Formula, Term, as_term};
+use crate::tree::{Action, Expr};
 use std::alloc::{AllocError, Global};
 
 /// The place after the last statement of a block. No statement has this place.
@@ -18,13 +19,51 @@ pub enum Instruction {
     Act(Action, u16),
     /// An assignment to a variable, and the place after it.
     Assign(u8, Formula, u16),
-    /// An `if`: the place if the test holds, and the place if it fails.
-    Branch(Formula, u16, u16),
-    /// A `while`: the place of its body, and the place after it.
-    Loop(Formula, u16, u16),
+    /// The assignment of a term to a variable, and the place after it.
+    AssignTerm(u8, Term, u16),
+    /// An `if` or a `while`: the place if the test holds, and the place if it fails.
+    Test(Formula, u16, u16),
+    /// An `if` or a `while` whose test is a term.
+    TestTerm(Term, u16, u16),
 }
 
 impl Instruction {
+    /// The instruction of an `if` or a `while`: the place if the test holds, and the place if it fails.
+    ///
+    /// # Errors
+    /// `AllocError` if an allocation fails.
+    pub(crate) fn of_test(
+        alloc: Global,
+        test: &Expr,
+        holds: u16,
+        fails: u16,
+    ) -> Result<Instruction, AllocError>
+        ensures same_task { IfOk result (λ i. task_of i ≡ tests (expression_of test.now) holds fails) }
+    {
+        match as_term(test) {
+            Some(term) => Ok(Instruction::TestTerm(term, holds, fails)),
+            None => Ok(Instruction::Test(Formula::new(alloc, test)?, holds, fails)),
+        }
+    }
+
+    /// The instruction of an assignment. `after` is the place after it.
+    ///
+    /// # Errors
+    /// `AllocError` if an allocation fails.
+    fn of_assignment(
+        alloc: Global,
+        variable: u8,
+        value: &Expr,
+        after: u16,
+    ) -> Result<Instruction, AllocError>
+        ensures same_task { IfOk result (λ i. task_of i ≡ acts (assign variable (expression_of value.now)) after) }
+    {
+        match as_term(value) {
+            Some(term) => Ok(Instruction::AssignTerm(variable, term, after)),
+            None => Ok(Instruction::Assign(variable, Formula::new(alloc, value)?, after)),
+        }
+    }
+
     /// The instruction of a statement without blocks. `after` is the place after the statement.
     ///
     /// # Errors
@@ -34,14 +73,12 @@ impl Instruction {
         action: &Action,
         after: u16,
     ) -> Result<Instruction, AllocError>
-        ensures leads_over { IfOk result (λ i. LeadsOver i (action_of action.now) after) }
+        ensures same_task { IfOk result (λ i. task_of i ≡ acts (action_of action.now) after) }
     {
         match action {
-            Action::Assign(variable, value) => Ok(Instruction::Assign(
-                *variable,
-                Formula::new(alloc, value)?,
-                after,
-            )),
+            Action::Assign(variable, value) => {
+                Instruction::of_assignment(alloc, *variable, value, after)
+            }
             _ => Ok(Instruction::Act(action.clone_in(alloc)?, after)),
         }
     }

@@ -1,15 +1,13 @@
 -- The effect of the innermost thread on the threads around it, and of the code on all of them.
 use Rattle.std.proofs.Common.{◌≡◌, ℕ, Bool, true, false, if◌then◌else◌, List, [], ◌∷◌, ◌++◌, length, refl, ap, sym}
 use Rattle.std.proofs.Common.{◌∙◌, subst}
+use Rattle.std.specs.Prelude.{slice_set}
 use Rattle.std.proofs.lemmas.Bool.{ltb-true}
 use Rattle.program_tree.specs.declared.event.Event.{Event}
 use Rattle.program_tree.specs.declared.instruction.Instruction.{Instruction}
-use Rattle.program_tree.specs.declared.instruction.Instruction.TheVariants.{Act, Assign, Branch, Loop}
 use Rattle.program_tree.specs.Tree.{Expression, Statement, Body, assign, does, branch, while, spawn, listed, other_block}
-use Rattle.program_tree.specs.Meaning.{action_of}
-use Rattle.program_tree.specs.Formula.{formula_of}
 use Rattle.program_tree.specs.Code.{Code}
-use Rattle.program_tree.specs.Flat.{rest_at, Branches, Loops, Leads}
+use Rattle.program_tree.specs.Flat.{rest_at, Task, acts, tests, task_of, Tests, LeadsBy, Leads}
 use Rattle.program_tree.specs.Scope.{earlier_threads}
 use Rattle.program_tree.proofs.Emitting.{rest_at-start}
 use Rattle.program_tree.proofs.Spawning.{action_fits_there}
@@ -94,44 +92,33 @@ spawn_there (c ∷ cs) b place t rest so here =
     ltb-true t n (action_fits_there (earlier_threads n) b place (spawn t) rest so here)
 
 -- a test leads to the places that the local property requires
-pub takes_branch : (left_at : ℕ → List (Statement ℕ)) (c : Expression ℕ) (held failed : ℕ) (code : Code) (whole : List (Statement ℕ)) (y : Bool) (vars : List ℕ) (event : Event) (looks : Looks) (s : Statement ℕ) (rest : List (Statement ℕ))
-    → Branches left_at c held failed (s ∷ rest) → statement_reached code whole y vars event looks s rest ≡ goes_on vars (before false (left_at (place_by vars event looks c held failed)))
-takes_branch left_at c held failed code whole y vars event looks (does a) rest h = absurd h
-takes_branch left_at c held failed code whole y vars event looks (branch d a o) rest h =
+takes_test : (left_at : ℕ → List (Statement ℕ)) (c : Expression ℕ) (held failed : ℕ) (code : Code) (whole : List (Statement ℕ)) (y : Bool) (vars : List ℕ) (event : Event) (looks : Looks) (s : Statement ℕ) (rest : List (Statement ℕ))
+    → Tests left_at c held failed (s ∷ rest)
+    → statement_reached code whole y vars event looks s rest ≡ goes_on vars (before false (left_at (place_by (value vars event looks c) held failed)))
+takes_test left_at c held failed code whole y vars event looks (does a) rest h = absurd h
+takes_test left_at c held failed code whole y vars event looks (branch d a o) rest h =
     ap (λ x. goes_on vars (before false ((if holds (value vars event looks x) then listed a else other_block o) ++ rest))) h.0
     ∙ ap (λ l. goes_on vars (before false l)) (either (holds (value vars event looks c)))
   where
     either : (b : Bool) → (if b then listed a else other_block o) ++ rest ≡ left_at (if b then held else failed)
     either true = sym h.1
     either false = sym h.2
-takes_branch left_at c held failed code whole y vars event looks (while d a) rest h = absurd h
-
-pub takes_loop : (left_at : ℕ → List (Statement ℕ)) (c : Expression ℕ) (body after : ℕ) (code : Code) (whole : List (Statement ℕ)) (y : Bool) (vars : List ℕ) (event : Event) (looks : Looks) (s : Statement ℕ) (rest : List (Statement ℕ))
-    → Loops left_at c body after (s ∷ rest) → statement_reached code whole y vars event looks s rest ≡ goes_on vars (before false (left_at (place_by vars event looks c body after)))
-takes_loop left_at c body after code whole y vars event looks (does a) rest h = absurd h
-takes_loop left_at c body after code whole y vars event looks (branch d a o) rest h = absurd h
-takes_loop left_at c body after code whole y vars event looks (while d a) rest h =
+takes_test left_at c held failed code whole y vars event looks (while d a) rest h =
     ap (λ x. goes_on vars (before false (if holds (value vars event looks x) then listed a ++ while d a ∷ rest else rest))) h.0
     ∙ ap (λ l. goes_on vars (before false l)) (either (holds (value vars event looks c)))
   where
-    either : (b : Bool) → (if b then listed a ++ while d a ∷ rest else rest) ≡ left_at (if b then body else after)
-    either true = sym h.2
-    either false = sym h.1
+    either : (b : Bool) → (if b then listed a ++ while d a ∷ rest else rest) ≡ left_at (if b then held else failed)
+    either true = sym h.1
+    either false = sym h.2
 
 -- at each instruction, at least one statement is left
 pub leads_to_rest : (left_at : ℕ → List (Statement ℕ)) (i : Instruction) (here : List (Statement ℕ)) → Leads left_at i here → (s : Statement ℕ) × (rest : List (Statement ℕ)) × (here ≡ s ∷ rest)
-leads_to_rest left_at (Act a after) here h = (does (action_of a), left_at after, h)
-leads_to_rest left_at (Assign i f after) here h = (does (assign i (formula_of f)), left_at after, h)
-leads_to_rest left_at (Branch c held failed) here h = by_cases _ here h
+leads_to_rest left_at i here h = by_task (task_of i) here h
   where
-    by_cases : (e : Expression ℕ) (l : List (Statement ℕ)) → Branches left_at e held failed l → (s : Statement ℕ) × (rest : List (Statement ℕ)) × (l ≡ s ∷ rest)
-    by_cases e [] k = absurd k
-    by_cases e (s ∷ rest) k = (s, rest, refl)
-leads_to_rest left_at (Loop c body after) here h = by_cases _ here h
-  where
-    by_cases : (e : Expression ℕ) (l : List (Statement ℕ)) → Loops left_at e body after l → (s : Statement ℕ) × (rest : List (Statement ℕ)) × (l ≡ s ∷ rest)
-    by_cases e [] k = absurd k
-    by_cases e (s ∷ rest) k = (s, rest, refl)
+    by_task : (t : Task) (l : List (Statement ℕ)) → LeadsBy left_at t l → (s : Statement ℕ) × (rest : List (Statement ℕ)) × (l ≡ s ∷ rest)
+    by_task (acts a after) l k = (does a, left_at after, k)
+    by_task (tests c held failed) [] k = absurd k
+    by_task (tests c held failed) (s ∷ rest) k = (s, rest, refl)
 
 module _ (code : Code) (old : Thread) (s : Statement ℕ) (rest : List (Statement ℕ)) (here : rest_at (body_of_thread code old) old.position ≡ s ∷ rest) where
   -- the thread continues at a place
@@ -167,18 +154,45 @@ module _ (code : Code) (old : Thread) (s : Statement ℕ) (rest : List (Statemen
   same_code flat mark y p new inside moved = subst (λ t. IsFoundIn code t flat) (sym moved) (record { flat_of = inside.flat_of; earlier = inside.earlier })
 
   -- an `if` or a `while`
-  pub goes_by_test : (flat : List Instruction) (vars : List ℕ) (event : Event) (looks : Looks) (p : ℕ) (new : Thread) → IsFoundIn code old flat
-      → new ≡ record old { is_yielded = false; position = p }
-      → statement_reached code (listed (body_of_thread code old)) old.is_yielded vars event looks s rest ≡ goes_on vars (before false (rest_at (body_of_thread code old) p))
+  pub goes_by_test : (flat : List Instruction) (vars : List ℕ) (event : Event) (looks : Looks) (c : Expression ℕ) (held failed p : ℕ) (new : Thread) → IsFoundIn code old flat
+      → Tests (rest_at (body_of_thread code old)) c held failed (rest_at (body_of_thread code old) old.position)
+      → p ≡ place_by (value vars event looks c) held failed → new ≡ record old { is_yielded = false; position = p }
       → GoesOnAt code flat (reached_at code old vars event looks s rest) old new vars
-  goes_by_test flat vars event looks p new inside moved does_so =
+  goes_by_test flat vars event looks c held failed p new inside test chosen moved =
+      let b = body_of_thread code old in
+      let P : List (Statement ℕ) → Type 0 = λ l. Tests (rest_at b) c held failed l in
       record {
         part = ap (λ t. t.part) moved;
         inside = same_code flat old.mark false p new inside moved;
         made_so =
-            reached_here code old vars event looks s rest ∙ ap (λ r. made_of (callers_of code old) vars r) does_so
-            ∙ made_of-goes_on (callers_of code old) vars vars (before false (rest_at (body_of_thread code old) p))
+            reached_here code old vars event looks s rest
+            ∙ ap (λ r. made_of (callers_of code old) vars r)
+            (takes_test (rest_at b) c held failed code (listed b) old.is_yielded vars event looks s rest (subst P here test) ∙ ap (λ n. goes_on vars (before false (rest_at b n))) (sym chosen))
+            ∙ made_of-goes_on (callers_of code old) vars vars (before false (rest_at b p))
             ∙ ap (λ q. goes_on vars q) (sym (moves_so old.mark p new moved));
+      }
+
+  -- an assignment
+  pub goes_by_assignment : (flat : List Instruction) (vars after : List ℕ) (event : Event) (looks : Looks) (i v : ℕ) (e : Expression ℕ) (next : ℕ) (new : Thread) → IsFoundIn code old flat
+      → rest_at (body_of_thread code old) old.position ≡ does (assign i e) ∷ rest_at (body_of_thread code old) next
+      → v ≡ value vars event looks e → after ≡ slice_set vars i v → new ≡ record old { is_yielded = false; position = next }
+      → GoesOnAt code flat (reached_at code old vars event looks s rest) old new after
+  goes_by_assignment flat vars after event looks i v e next new inside leads is_value is_set moved =
+      let b = body_of_thread code old in
+      let cs = callers_of code old in
+      let same : s ∷ rest ≡ does (assign i e) ∷ rest_at b next = sym here ∙ leads in
+      let is : s ≡ does (assign i e) = cc in
+      let left : rest ≡ rest_at b next = cc in
+      record {
+        part = ap (λ t. t.part) moved;
+        inside = same_code flat old.mark false next new inside moved;
+        made_so =
+            reached_here code old vars event looks s rest
+            ∙ ap (λ t. made_of cs vars (statement_reached code (listed b) old.is_yielded vars event looks t rest)) is
+            ∙ made_of-goes_on cs vars _ (before false rest)
+            ∙ ap (λ l. goes_on l (nested cs (before false rest))) (ap (λ n. slice_set vars i n) (sym is_value) ∙ sym is_set)
+            ∙ ap (λ l. goes_on after (nested cs (before false l))) left
+            ∙ ap (λ p. goes_on after p) (sym (moves_so old.mark next new moved));
       }
 
   -- the thread that was spawned has exited, and its spawner continues

@@ -1,7 +1,6 @@
 -- The meaning of the places of a thread.
 use Rattle.std.specs.Prelude.{ℕ, zero, suc, if◌then◌else◌, List, [], ◌∷◌, Option, None, Some, slice_get}
-use Rattle.program_tree.specs.declared.event.Event.{Event}
-use Rattle.program_tree.specs.Tree.{Expression, Statement, Body, end}
+use Rattle.program_tree.specs.Tree.{Statement, Body, end}
 use Rattle.program_tree.specs.Code.{Code, callback_at}
 use Rattle.program_tree.specs.Flat.{rest_at}
 use Rattle.protothread.specs.declared.calls.Call.{Call}
@@ -10,8 +9,7 @@ use Rattle.protothread.specs.declared.part.Part.TheVariants as part
 use Rattle.protothread.specs.declared.answer.PtState.{PtState}
 use Rattle.protothread.specs.declared.answer.PtState.TheVariants.{Waiting, Yielded}
 use Rattle.protothread.specs.declared.thread.Thread.{Thread}
-use Rattle.protothread.specs.Looks.{Looks}
-use Rattle.protothread.specs.Value.{value, holds}
+use Rattle.protothread.specs.Value.{holds}
 use Rattle.protothread.specs.Remainder.{Place, within, before, Remainder}
 
 -- a block that a code lacks is empty
@@ -72,6 +70,6 @@ thread_place code t = nested (callers_of code t) (before t.is_yielded (rest_at (
 abbrev pub remainder_of : Code → Thread → Remainder
 remainder_of code t = record { part = t.part; mark = t.mark; place = thread_place code t }
 
--- the place at which a thread continues after a test
-abbrev pub place_by : (variables : List ℕ) → Event → Looks → Expression ℕ → (held failed : ℕ) → ℕ
-place_by vars event looks c held failed = if holds (value vars event looks c) then held else failed
+-- the place at which a thread continues after a test with this value
+abbrev pub place_by : (value held failed : ℕ) → ℕ
+place_by value held failed = if holds value then held else failed

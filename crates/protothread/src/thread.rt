@@ -3,7 +3,6 @@ ghost use Rattle.std.specs.Prelude.{◌≡◌, ℕ, ◌+◌, ◌≤◌, [], ◌�
 ghost use Rattle.program_tree.specs.Tree.{Statement};
 ghost use Rattle.program_tree.specs.Code.{Code};
 ghost use Rattle.program_tree.specs.Flat.{Leads, rest_at};
-ghost use Rattle.program_tree.specs.Formula.{formula_of};
 ghost use Rattle.program_tree.specs.Program.{code_of};
 ghost use Rattle.protothread.specs.Remainder.{fresh_of};
 ghost use Rattle.protothread.specs.Step.{advanced_of, answered_of, PaysFor};
@@ -17,9 +16,9 @@ use crate::fuel::Fuel;
 use crate::look::Look;
 use crate::part::{Part, thread_code};
 use crate::step::{Op, Step};
-use crate::value::formula_value;
+use crate::value::{formula_value, term_value};
 use crate::vars::Vars;
-use program_tree::{Event, Formula, Instruction, ProcessText};
+use program_tree::{Event, Instruction, ProcessText};
 
 /// The last action of a thread.
 #[derive(Clone, Copy)]
@@ -54,23 +53,12 @@ enum Reach<'a> {
     Answers(PtState),
 }
 
-/// The place at which a thread continues after a test.
+/// The place at which a thread continues after a test with this value.
 #[inline(always)]
-fn chosen<L: Look>(
-    test: &Formula,
-    vars: &Vars,
-    event: &Event,
-    look: &L,
-    holds: u16,
-    fails: u16,
-) -> u16
-    ensures value { result ≡ place_by vars.now event.now (L.looks look.now) (formula_of test.now) holds fails }
+fn chosen(value: u16, holds: u16, fails: u16) -> u16
+    ensures value { result ≡ place_by value holds fails }
 {
-    if formula_value(test, vars, event, look) != 0 {
-        holds
-    } else {
-        fails
-    }
+    if value != 0 { holds } else { fails }
 }
 
 impl Thread {
@@ -238,12 +226,20 @@ impl Thread {
                 self.go_on(*next);
                 Reach::GoesOn(flat)
             }
-            Instruction::Branch(test, holds, fails) => {
-                self.go_on(chosen(test, vars, event, look, *holds, *fails));
+            Instruction::AssignTerm(variable, term, next) => {
+                let value = term_value(term, vars, event);
+                vars.set(*variable, value);
+                self.go_on(*next);
                 Reach::GoesOn(flat)
             }
-            Instruction::Loop(test, body, next) => {
-                self.go_on(chosen(test, vars, event, look, *body, *next));
+            Instruction::Test(test, holds, fails) => {
+                let value = formula_value(test, vars, event, look);
+                self.go_on(chosen(value, *holds, *fails));
+                Reach::GoesOn(flat)
+            }
+            Instruction::TestTerm(test, holds, fails) => {
+                let value = term_value(test, vars, event);
+                self.go_on(chosen(value, *holds, *fails));
                 Reach::GoesOn(flat)
             }
         }

@@ -148,7 +148,7 @@ fn evaluate_tree<L: Look>(expression: &Expr, vars: &Vars, event: &Event, look: &
 
 /// The value of a term.
 #[inline(always)]
-fn term_value(term: &Term, vars: &Vars, event: &Event) -> u16
+pub(crate) fn term_value(term: &Term, vars: &Vars, event: &Event) -> u16
     ensures value { (looks : Looks) → result ≡ value vars.now event.now looks (term_of term.now) }
 {
     match term {
@@ -176,6 +176,27 @@ fn pair_value(operator: Operator, left: &Term, right: &Term, vars: &Vars, event:
     apply(operator, left, right)
 }
 
+/// The value of an operator whose left operand is an operator with two terms, and whose right operand is a term.
+#[inline(never)]
+fn chain_value(
+    operator: Operator,
+    inner: Operator,
+    first: &Term,
+    second: &Term,
+    last: &Term,
+    vars: &Vars,
+    event: &Event,
+) -> u16
+    ensures value { (looks : Looks)
+        → result ≡ value vars.now event.now looks
+        (binary operator (binary inner (term_of first.now) (term_of second.now)) (term_of last.now)) }
+{
+    let first = term_value(first, vars, event);
+    let second = term_value(second, vars, event);
+    let last = term_value(last, vars, event);
+    apply(operator, apply(inner, first, second), last)
+}
+
 /// The value of an expression in flat code. The function is inlined, so that the value of a term needs no call.
 #[inline(always)]
 pub(crate) fn formula_value<L: Look>(formula: &Formula, vars: &Vars, event: &Event, look: &L) -> u16
@@ -184,6 +205,9 @@ pub(crate) fn formula_value<L: Look>(formula: &Formula, vars: &Vars, event: &Eve
     match formula {
         Formula::Term(term) => term_value(term, vars, event),
         Formula::Pair(operator, left, right) => pair_value(*operator, left, right, vars, event),
+        Formula::Chain(operator, inner, first, second, last) => {
+            chain_value(*operator, *inner, first, second, last, vars, event)
+        }
         Formula::Tree(expression) => evaluate_tree(expression, vars, event, look),
     }
 }

@@ -88,8 +88,8 @@ add_statement-returns-in_ok-add_block-in-If t c = record {
       let fails = c.other_entry-fails.ensures.value ∙ ap (λ n. other_entry_of (otherwise_of (option_map block_of c.in-If.other)) n c.args.after) at in
       on_ok c.add_other.result
       (λ others. subst P (sym is)
-      (emits_branch (expression_of c.in-If.test) c.in_ok-new-in-If.field-0 (block_of c.in-If.then) (otherwise_of (option_map block_of c.in-If.other)) c.args.after c.entry-holds.result c.other_entry-fails.result old c.push-in-If.new.self.items c.add_block.new.code.items new
-      c.in_ok-new-in-If.ensures.same_expression holds fails c.in_ok-push-in-If.ensures.items c.in_ok-add_block-in-If.ensures.emits others))
+      (emits_branch (expression_of c.in-If.test) c.in_ok-of_test-in-If.field-0 (block_of c.in-If.then) (otherwise_of (option_map block_of c.in-If.other)) c.args.after c.entry-holds.result c.other_entry-fails.result old c.push-in-If.new.self.items c.add_block.new.code.items new
+      c.in_ok-of_test-in-If.ensures.same_task holds fails c.in_ok-push-in-If.ensures.items c.in_ok-add_block-in-If.ensures.emits others))
       c.add_other.ensures.emits_other;
 }
 
@@ -104,8 +104,8 @@ add_statement-returns-in_ok-push-in-While t c = record {
       let holds = c.entry-holds-in-While.ensures.value ∙ ap (λ n. entry_of (block_of c.in-While.body) (n + 1) c.len-place.result) long in
       on_ok c.add_block-in-While.result
       (λ inner. subst P (sym is)
-      (emits_while (expression_of c.in-While.test) c.in_ok-new-in-While.field-0 (block_of c.in-While.body) c.args.after c.len-place.result c.entry-holds-in-While.result old c.push-in-While.new.self.items new
-      c.in_ok-new-in-While.ensures.same_expression long holds c.in_ok-push-in-While.ensures.items inner))
+      (emits_while (expression_of c.in-While.test) c.in_ok-of_test-in-While.field-0 (block_of c.in-While.body) c.args.after c.len-place.result c.entry-holds-in-While.result old c.push-in-While.new.self.items new
+      c.in_ok-of_test-in-While.ensures.same_task long holds c.in_ok-push-in-While.ensures.items inner))
       c.add_block-in-While.ensures.emits;
 }
 
@@ -200,6 +200,6 @@ add_statement-returns-in_ok-push-in-Do t c = record {
       let new = c.push.new.self.items in
       let P : Statement ℕ → Type 0 = λ s. EmitsStatement s c.args.after old new in
       subst P (sym (ap statement_of c.in-Do.is ∙ does_of-Do c.in-Do.action))
-      (emits_action (action_of c.in-Do.action) c.in_ok-of_action-in-Do.field-0 c.args.after old new c.in_ok-of_action-in-Do.ensures.leads_over
+      (emits_action (action_of c.in-Do.action) c.in_ok-of_action-in-Do.field-0 c.args.after old new c.in_ok-of_action-in-Do.ensures.same_task
       c.in_ok-push-in-Do.ensures.items);
 }

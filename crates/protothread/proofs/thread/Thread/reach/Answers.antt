@@ -1,19 +1,16 @@
-use Rattle.std.proofs.Common.{◌≡◌, ℕ, ◌∷◌, List, false, ap, sym, ◌∙◌, subst}
-use Rattle.std.specs.Prelude.{slice_set}
+use Rattle.std.proofs.Common.{◌≡◌, ℕ, ◌∷◌, ap, sym, ◌∙◌, subst}
 use Rattle.program_tree.specs.declared.instruction.Instruction.{Instruction}
-use Rattle.program_tree.specs.Tree.{Statement, assign, does, listed}
+use Rattle.program_tree.specs.Tree.{does, listed}
 use Rattle.program_tree.specs.Meaning.{action_of}
-use Rattle.program_tree.specs.Formula.{formula_of}
+use Rattle.program_tree.specs.Formula.{term_of, formula_of}
 use Rattle.program_tree.specs.Program.{code_of}
-use Rattle.program_tree.specs.Flat.{rest_at, Branches, Loops, Leads}
+use Rattle.program_tree.specs.Flat.{rest_at, Leads}
 use Rattle.protothread.specs.declared.deed.StatementEffect.{StatementEffect}
-use Rattle.protothread.specs.Remainder.{before}
-use Rattle.protothread.specs.Step.{Reached, goes_on, deed_of, performed, statement_reached}
-use Rattle.protothread.specs.Value.{value}
-use Rattle.protothread.specs.Places.{nested, body_of_thread, callers_of}
+use Rattle.protothread.specs.Step.{Reached, deed_of, performed, statement_reached}
+use Rattle.protothread.specs.Places.{body_of_thread, callers_of, place_by}
 use Rattle.protothread.specs.Reach.{DeedCanSpawn, Reaches, made_of, performed_at, reached_at}
 use Rattle.protothread.proofs.Deeds.{done_by_action}
-use Rattle.protothread.proofs.Reaching.{reached_here, made_of-goes_on, moves_so, same_code, deed_can, spawn_there, takes_branch, takes_loop, goes_by_test}
+use Rattle.protothread.proofs.Reaching.{reached_here, deed_can, spawn_there, goes_by_test, goes_by_assignment}
 use Rattle.protothread.proofs.thread.Thread.reach.Goals as goal
 
 pub perform-requires-clause-earlier : goal.perform-requires-clause-earlier
@@ -67,57 +64,46 @@ returns-in-Assign-clause-reaches g c =
     let event = c.args.event.now in
     let looks = g.L.Look.looks c.args.look.now in
     let b = body_of_thread code old in
-    let cs = callers_of code old in
-    let a = assign c.in-Assign.variable (formula_of c.in-Assign.value) in
-    let new = c.go_on.new.self in
     let P : Instruction → Type 0 = λ i. Leads (rest_at b) i (rest_at b old.position) in
-    let leads : rest_at b old.position ≡ does a ∷ rest_at b c.in-Assign.next = subst P c.in-Assign.is c.requires.leads in
-    let set : slice_set vars c.in-Assign.variable (value vars event looks (formula_of c.in-Assign.value)) ≡ c.set.new.self =
-    ap (λ v. slice_set vars c.in-Assign.variable v) (sym c.formula_value-value.ensures.value) ∙ sym c.set.ensures.after in
     λ s rest here.
-    let same : s ∷ rest ≡ does a ∷ rest_at b c.in-Assign.next = sym here ∙ leads in
-    let is : s ≡ does a = cc in
-    let after : rest ≡ rest_at b c.in-Assign.next = cc in
-    record {
-      part = ap (λ t. t.part) c.go_on.ensures.after;
-      inside = same_code code old s rest here c.args.flat.now old.mark false c.in-Assign.next new c.requires.inside c.go_on.ensures.after;
-      made_so =
-          reached_here code old vars event looks s rest
-          ∙ ap (λ t. made_of cs vars (statement_reached code (listed b) old.is_yielded vars event looks t rest)) is
-          ∙ made_of-goes_on cs vars _ (before false rest)
-          ∙ ap (λ v. goes_on v (nested cs (before false rest))) set
-          ∙ ap (λ l. goes_on c.set.new.self (nested cs (before false l))) after
-          ∙ ap (λ p. goes_on c.set.new.self p) (sym (moves_so code old s rest here old.mark c.in-Assign.next new c.go_on.ensures.after));
-    }
+    goes_by_assignment code old s rest here c.args.flat.now vars c.set.new.self event looks c.in-Assign.variable c.formula_value-value.result (formula_of c.in-Assign.value) c.in-Assign.next c.go_on.new.self c.requires.inside
+    (subst P c.in-Assign.is c.requires.leads) c.formula_value-value.ensures.value c.set.ensures.after c.go_on.ensures.after
 
-pub returns-in-Branch-clause-reaches : goal.returns-in-Branch-clause-reaches
-returns-in-Branch-clause-reaches g c =
+pub returns-in-AssignTerm-clause-reaches : goal.returns-in-AssignTerm-clause-reaches
+returns-in-AssignTerm-clause-reaches g c =
     let code = code_of c.args.text.now in
     let old = c.args.self.now in
     let vars = c.args.vars.now in
     let event = c.args.event.now in
     let looks = g.L.Look.looks c.args.look.now in
     let b = body_of_thread code old in
-    let test = formula_of c.in-Branch.test in
     let P : Instruction → Type 0 = λ i. Leads (rest_at b) i (rest_at b old.position) in
-    let Q : List (Statement ℕ) → Type 0 = λ l. Branches (rest_at b) test c.in-Branch.holds c.in-Branch.fails l in
     λ s rest here.
-    goes_by_test code old s rest here c.args.flat.now vars event looks c.chosen.result c.go_on-in-Branch.new.self c.requires.inside c.go_on-in-Branch.ensures.after
-    (takes_branch (rest_at b) test c.in-Branch.holds c.in-Branch.fails code (listed b) old.is_yielded vars event looks s rest (subst Q here (subst P c.in-Branch.is c.requires.leads))
-    ∙ ap (λ p. goes_on vars (before false (rest_at b p))) (sym c.chosen.ensures.value))
+    goes_by_assignment code old s rest here c.args.flat.now vars c.set-in-AssignTerm.new.self event looks c.in-AssignTerm.variable c.term_value-value.result (term_of c.in-AssignTerm.term) c.in-AssignTerm.next c.go_on-in-AssignTerm.new.self c.requires.inside
+    (subst P c.in-AssignTerm.is c.requires.leads) (c.term_value-value.ensures.value looks) c.set-in-AssignTerm.ensures.after c.go_on-in-AssignTerm.ensures.after
 
-pub returns-in-Loop-clause-reaches : goal.returns-in-Loop-clause-reaches
-returns-in-Loop-clause-reaches g c =
+pub returns-in-Test-clause-reaches : goal.returns-in-Test-clause-reaches
+returns-in-Test-clause-reaches g c =
     let code = code_of c.args.text.now in
     let old = c.args.self.now in
     let vars = c.args.vars.now in
     let event = c.args.event.now in
     let looks = g.L.Look.looks c.args.look.now in
     let b = body_of_thread code old in
-    let test = formula_of c.in-Loop.test in
     let P : Instruction → Type 0 = λ i. Leads (rest_at b) i (rest_at b old.position) in
-    let Q : List (Statement ℕ) → Type 0 = λ l. Loops (rest_at b) test c.in-Loop.body c.in-Loop.next l in
     λ s rest here.
-    goes_by_test code old s rest here c.args.flat.now vars event looks c.chosen-in-Loop.result c.go_on-in-Loop.new.self c.requires.inside c.go_on-in-Loop.ensures.after
-    (takes_loop (rest_at b) test c.in-Loop.body c.in-Loop.next code (listed b) old.is_yielded vars event looks s rest (subst Q here (subst P c.in-Loop.is c.requires.leads))
-    ∙ ap (λ p. goes_on vars (before false (rest_at b p))) (sym c.chosen-in-Loop.ensures.value))
+    goes_by_test code old s rest here c.args.flat.now vars event looks (formula_of c.in-Test.test) c.in-Test.holds c.in-Test.fails c.chosen.result c.go_on-in-Test.new.self c.requires.inside
+    (subst P c.in-Test.is c.requires.leads) (c.chosen.ensures.value ∙ ap (λ v. place_by v c.in-Test.holds c.in-Test.fails) c.formula_value-value-in-Test.ensures.value) c.go_on-in-Test.ensures.after
+
+pub returns-in-TestTerm-clause-reaches : goal.returns-in-TestTerm-clause-reaches
+returns-in-TestTerm-clause-reaches g c =
+    let code = code_of c.args.text.now in
+    let old = c.args.self.now in
+    let vars = c.args.vars.now in
+    let event = c.args.event.now in
+    let looks = g.L.Look.looks c.args.look.now in
+    let b = body_of_thread code old in
+    let P : Instruction → Type 0 = λ i. Leads (rest_at b) i (rest_at b old.position) in
+    λ s rest here.
+    goes_by_test code old s rest here c.args.flat.now vars event looks (term_of c.in-TestTerm.test) c.in-TestTerm.holds c.in-TestTerm.fails c.chosen-in-TestTerm.result c.go_on-in-TestTerm.new.self c.requires.inside
+    (subst P c.in-TestTerm.is c.requires.leads) (c.chosen-in-TestTerm.ensures.value ∙ ap (λ v. place_by v c.in-TestTerm.holds c.in-TestTerm.fails) (c.term_value-value-in-TestTerm.ensures.value looks)) c.go_on-in-TestTerm.ensures.after
