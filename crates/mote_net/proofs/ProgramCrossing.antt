@@ -81,14 +81,24 @@ stmt_sync = let e = expr_sync in let b = block_sync in
     variants_sync Stmt.enum ((action_sync, tt), ((e, (b, (option.the_sync Block.the_row b, tt))), ((e, (b, tt)), tt)))
 
 formula_sync : IsSync Formula.the_row
-formula_sync = let t = term.the_sync in
-    let o = operator.the_sync in
-    variants_sync Formula.enum ((t, tt), ((o, (t, (t, tt))), ((o, (o, (t, (t, (t, tt))))), ((expr_sync, tt), tt))))
+formula_sync = let t = term.the_sync in let o = operator.the_sync in
+    variants_sync Formula.enum ((o, (t, (t, tt))), ((o, (o, (t, (t, (t, tt))))), ((expr_sync, tt), tt)))
 
 instruction_sync : IsSync Instruction.the_row
-instruction_sync = let f = formula_sync in let t = term.the_sync in
-    variants_sync Instruction.enum
-    ((action_sync, (u16, tt)), ((u8, (f, (u16, tt))), ((u8, (t, (u16, tt))), ((f, (u16, (u16, tt))), ((t, (u16, (u16, tt))), tt)))))
+instruction_sync = let f = formula_sync in let t = term.the_sync in let o = operator.the_sync in
+    variants_sync Instruction.enum (
+      (action_sync, (u16, tt)),
+      (
+        (u8, (f, (u16, tt))),
+        (
+          (u8, (t, (u16, tt))),
+          (
+            (u8, (o, (u8, (u16, (u16, tt))))),
+            ((f, (u16, (u16, tt))), ((t, (u16, (u16, tt))), ((o, (u8, (u16, (u16, (u16, tt))))), tt))),
+          ),
+        ),
+      ),
+    )
 
 pub flat_sync : IsSync FlatBlock.the_row
 flat_sync = declared_sync FlatBlock.the_type (block_sync, (Vec-sync Instruction.the_row instruction_sync, tt))

@@ -1,9 +1,10 @@
 -- The statements that follow each place of a block's flat code.
 use Rattle.std.specs.Prelude.{◌≡◌, ℕ, ◌≤◌, List, [], ◌∷◌, ◌++◌, length, Some, slice_get, slice_index_or}
 use Rattle.program_tree.specs.declared.instruction.Instruction.{Instruction}
-use Rattle.program_tree.specs.declared.instruction.Instruction.TheVariants.{Act, Assign, AssignTerm, Test, TestTerm}
-use Rattle.program_tree.specs.Tree.{Expression, Action, Statement, Body, Otherwise, assign, does, branch, while}
-use Rattle.program_tree.specs.Tree.{end, next, nothing, otherwise, listed, other_block}
+use Rattle.program_tree.specs.declared.instruction.Instruction.TheVariants.{Act, Assign, AssignTerm, AssignNumber}
+use Rattle.program_tree.specs.declared.instruction.Instruction.TheVariants.{Test, TestTerm, TestNumber}
+use Rattle.program_tree.specs.Tree.{Expression, number, variable, binary, Action, assign, Statement, does, branch}
+use Rattle.program_tree.specs.Tree.{while, Body, end, next, Otherwise, nothing, otherwise, listed, other_block}
 use Rattle.program_tree.specs.Meaning.{action_of}
 use Rattle.program_tree.specs.Formula.{term_of, formula_of}
 
@@ -41,8 +42,10 @@ abbrev pub task_of : Instruction → Task
 task_of (Act a after) = acts (action_of a) after
 task_of (Assign i f after) = acts (assign i (formula_of f)) after
 task_of (AssignTerm i t after) = acts (assign i (term_of t)) after
+task_of (AssignNumber i o j n after) = acts (assign i (binary o (variable j) (number n))) after
 task_of (Test f held failed) = tests (formula_of f) held failed
 task_of (TestTerm t held failed) = tests (term_of t) held failed
+task_of (TestNumber o j n held failed) = tests (binary o (variable j) (number n)) held failed
 
 -- the rest here begins with an `if` or a `while` with this test; the two places have the rests of the test's outcomes
 abbrev pub Tests : (at : ℕ → List (Statement ℕ)) → Expression ℕ → (held failed : ℕ) → (here : List (Statement ℕ))

@@ -18,7 +18,6 @@ term_of (term.WithVariable o i j) = binary o (variable i) (variable j)
 term_of (term.WithWord o i) = binary o (variable i) word
 
 abbrev pub formula_of : Formula → Expression ℕ
-formula_of (formula.Term t) = term_of t
 formula_of (formula.Pair o a b) = binary o (term_of a) (term_of b)
 formula_of (formula.Chain o p a b c) = binary o (binary p (term_of a) (term_of b)) (term_of c)
 formula_of (formula.Tree e) = expression_of e

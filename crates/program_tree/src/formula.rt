@@ -28,11 +28,10 @@ pub enum Term {
     WithWord(Operator, u8),
 }
 
-/// An expression in flat code. The frequent expressions have at most two operators between terms: their values need no
-/// walk over a tree.
+/// An expression in flat code that isn't a term. The frequent ones have one or two operators between terms: their values
+/// need no walk over a tree.
 #[derive(Drop)]
 pub enum Formula {
-    Term(Term),
     /// An operator with two terms.
     Pair(Operator, Term, Term),
     /// An operator whose left operand is an operator with two terms, and whose right operand is a term. The inner
@@ -122,9 +121,6 @@ fn operation(operator: Operator, left: &Expr, right: &Expr) -> Option<Formula>
 fn short(expression: &Expr) -> Option<Formula>
     ensures meaning { IfSome result (λ f. formula_of f ≡ expression_of expression.now) }
 {
-    if let Some(term) = as_term(expression) {
-        return Some(Formula::Term(term));
-    }
     match expression {
         Expr::Binary(operator, left, right) => operation(*operator, left, right),
         _ => None,
@@ -132,7 +128,7 @@ fn short(expression: &Expr) -> Option<Formula>
 }
 
 impl Formula {
-    /// The formula of an expression.
+    /// The formula of an expression. Instructions keep terms without one.
     ///
     /// # Errors
     /// `AllocError` if an allocation fails.

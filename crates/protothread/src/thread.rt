@@ -16,7 +16,7 @@ use crate::fuel::Fuel;
 use crate::look::Look;
 use crate::part::{Part, thread_code};
 use crate::step::{Op, Step};
-use crate::value::{formula_value, term_value};
+use crate::value::{formula_value, term_value, value_with_number};
 use crate::vars::Vars;
 use program_tree::{Event, Instruction, ProcessText};
 
@@ -232,6 +232,12 @@ impl Thread {
                 self.go_on(*next);
                 Reach::GoesOn(flat)
             }
+            Instruction::AssignNumber(variable, operator, left, number, next) => {
+                let value = value_with_number(*operator, *left, *number, vars);
+                vars.set(*variable, value);
+                self.go_on(*next);
+                Reach::GoesOn(flat)
+            }
             Instruction::Test(test, holds, fails) => {
                 let value = formula_value(test, vars, event, look);
                 self.go_on(chosen(value, *holds, *fails));
@@ -239,6 +245,11 @@ impl Thread {
             }
             Instruction::TestTerm(test, holds, fails) => {
                 let value = term_value(test, vars, event);
+                self.go_on(chosen(value, *holds, *fails));
+                Reach::GoesOn(flat)
+            }
+            Instruction::TestNumber(operator, left, number, holds, fails) => {
+                let value = value_with_number(*operator, *left, *number, vars);
                 self.go_on(chosen(value, *holds, *fails));
                 Reach::GoesOn(flat)
             }

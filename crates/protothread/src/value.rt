@@ -4,7 +4,7 @@ ghost use Rattle.std.specs.List.{list_any};
 ghost use Rattle.program_tree.specs.Events.{system_number};
 ghost use Rattle.program_tree.specs.Meaning.{expression_of};
 ghost use Rattle.program_tree.specs.Formula.{term_of, formula_of};
-ghost use Rattle.program_tree.specs.Tree.{binary};
+ghost use Rattle.program_tree.specs.Tree.{number, variable, binary};
 ghost use Rattle.program_tree.specs.declared.event.Event.{Event};
 ghost use Rattle.protothread.specs.Looks.{Looks};
 ghost use Rattle.protothread.specs.Value.{applied, is_event as has_number_and_word, value};
@@ -146,6 +146,15 @@ fn evaluate_tree<L: Look>(expression: &Expr, vars: &Vars, event: &Event, look: &
     }
 }
 
+/// The value of an operator with a variable and a number.
+#[inline(always)]
+pub(crate) fn value_with_number(operator: Operator, left: u8, right: u16, vars: &Vars) -> u16
+    ensures value { (event : Event) (looks : Looks)
+        → result ≡ value vars.now event looks (binary operator (variable left) (number right)) }
+{
+    apply(operator, vars.value(left), right)
+}
+
 /// The value of a term.
 #[inline(always)]
 pub(crate) fn term_value(term: &Term, vars: &Vars, event: &Event) -> u16
@@ -197,13 +206,12 @@ fn chain_value(
     apply(operator, apply(inner, first, second), last)
 }
 
-/// The value of an expression in flat code. The function is inlined, so that the value of a term needs no call.
+/// The value of an expression in flat code that isn't a term.
 #[inline(always)]
 pub(crate) fn formula_value<L: Look>(formula: &Formula, vars: &Vars, event: &Event, look: &L) -> u16
     ensures value { result ≡ value vars.now event.now (L.looks look.now) (formula_of formula.now) }
 {
     match formula {
-        Formula::Term(term) => term_value(term, vars, event),
         Formula::Pair(operator, left, right) => pair_value(*operator, left, right, vars, event),
         Formula::Chain(operator, inner, first, second, last) => {
             chain_value(*operator, *inner, first, second, last, vars, event)
