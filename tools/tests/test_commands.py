@@ -4,7 +4,7 @@ import subprocess
 import sys
 import unittest
 
-from here import TOOLS, call
+from here import TOOLS, call, text_of
 from motesim.commands import export, search, shrink, studio, sweep
 from motesim.experiments import asked
 from motesim.export.command import ENDS
@@ -17,19 +17,7 @@ HEAVY = ('motesim.report', 'motesim.judge', 'motesim.runner', 'motesim.scenario'
          'subprocess', 'multiprocessing', 'tomllib')
 
 # Prints the help of each command, and what it has imported, in a process of its own.
-HELPS = '''import os, sys
-from importlib import import_module
-sys.path.insert(0, sys.argv[1])
-for name in sys.argv[2:]:
-    if os.fork() == 0:
-        sys.argv = [name, '--help']
-        try:
-            import_module('motesim.commands.' + name).main()
-        finally:
-            print('imported', *sys.modules, flush=True)
-            os._exit(0)
-    os.wait()
-'''
+HELPS = text_of('helps.py.txt')
 NO_NAME = '-o needs the name of a file or a folder, not -'
 
 

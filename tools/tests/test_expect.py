@@ -83,8 +83,9 @@ def test_many_lines_of_one_moment() -> None:
     assert time.process_time() - begun < 3
 
 
-NETS = {'': {}, 'free': {'loss = [{ from = 3, to = 2, every = 1 }]': ''}, 'apart': {'collide = true': 'collide = false'},
-        'early': {'end = 100': 'end = 20'}}
+NETS: dict[str, dict[str, str]] = {
+    '': {}, 'free': {'loss = [{ from = 3, to = 2, every = 1 }]': ''}, 'apart': {'collide = true': 'collide = false'},
+    'early': {'end = 100': 'end = 20'}}
 
 
 @pytest.mark.parametrize('sentence, net, remark', [

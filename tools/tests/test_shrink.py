@@ -10,7 +10,7 @@ from typing import Any
 from unittest import mock
 
 import pytest
-from here import TOOLS, TOP, call
+from here import TOOLS, TOP, call, text_of
 from motesim.faults import Fault
 from motesim.judge.judge import Judge
 from motesim.judge.sentences import Names, motes_named, names_of, read_sentence
@@ -219,27 +219,9 @@ def test_the_progress_is_shown_if_standard_error_is_a_file(folder: Path) -> None
 
 SLOW = '#!/bin/sh\nif [ -e hang ]; then exec sleep 60; fi\nexec %s "$@"\n'
 # (the first run after so many steps ends only by the interrupt)
-HANGING = '''import os
-os.environ["MOTESIM"] = "./slow"
-from motesim.search.shrink import Shrinking
-run = Shrinking.seen
-def seen(self, *its):
-    if len(self.taken) == %d:
-        open("hang", "w").close()
-        print("now", flush=True)
-    return run(self, *its)
-Shrinking.seen = seen
-'''
+HANGING = text_of('hanging.py.txt')
 # (an exception in this call would be ignored)
-LATE = '''import sys, time, weakref
-class Late:
-    def find_spec(self, name, path=None, target=None):
-        if name == "motesim.search.net":
-            it = Late()
-            kept = weakref.ref(it, lambda _: (print("now", flush=True), time.sleep(60)))
-            del it
-sys.meta_path.insert(0, Late())
-'''
+LATE = text_of('late_import.py.txt')
 
 
 @pytest.mark.parametrize('before, is_written', [(HANGING % 0, False), (HANGING % 1, True), (LATE, False)])

@@ -5,6 +5,7 @@ import unittest
 from collections.abc import Iterator, Sequence
 from itertools import chain, combinations
 
+from here import text_of
 from motesim.report import Report
 from motesim.runner import program_path
 from motesim.scenario import Scenario
@@ -12,41 +13,9 @@ from skips import need_program
 from test_claims import answers, need_motecheck
 
 # Each mote that hears a message for the first time prints it, and passes it on.
-FLOOD = '''
-process flood;
-autostart flood;
-receiver flood;
-code flood {
-  var known = 0;
-  etimer t;
-  body {
-    if (self == 0) { known = 1; set t 10; yield_until fired(t); send 7; }
-    while 1 {
-      yield;
-      if is(packet) { if !known { known = 1; print data; send data; } }
-    }
-  }
-}
-'''
+FLOOD = text_of('flood.mote')
 # Mote 1 passes on what mote 0 asks mote 2, and the answer. Only mote 2 prints the question; mote 0 prints the answer.
-ASK = '''
-process ask;
-autostart ask;
-receiver ask;
-code ask {
-  etimer t;
-  body {
-    if (self == 0) { set t 10; yield_until fired(t); send 1; }
-    while 1 {
-      yield;
-      if (is(packet) && ((self == 1) && (from == 0))) { send 2; }
-      if (is(packet) && ((self == 1) && (from == 2))) { send 4; }
-      if (is(packet) && ((self == 2) && (data == 2))) { print 7; send 3; }
-      if (is(packet) && ((self == 0) && (data == 4))) { print 7; }
-    }
-  }
-}
-'''
+ASK = text_of('ask.mote')
 LINE = ((0, 0), (10, 0), (20, 0))
 NETS = {
     'a flood along a line': (LINE, FLOOD),

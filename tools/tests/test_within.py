@@ -2,45 +2,15 @@
 posts most."""
 import os
 
-from here import Room, call, scenario_of
+from here import Room, call, scenario_of, text_of
 from motesim.explain.within import answer_within, most_done
 from motesim.runner import Limits, ProgramFault
 from skips import need_program
 
-PROGRAM = """process loud;
-autostart loud;
-code loud {
-  var i = 0;
-  body {
-    while 1 {
-      i = 0;
-      while (i < 500) {
-        %s i;
-        i = (i + 1);
-      }
-      pause;
-    }
-  }
-}
-"""
+PROGRAM = text_of('loud.mote')
 # (line 6 of the program, which is line 12 of the scenario)
-PAUSES = """process idle;
-autostart idle;
-code idle {
-  etimer t;
-  body {
-    while 1 { set t 9; while !expired(t) { pause; } }
-  }
-}
-"""
-POSTS = """process echo;
-autostart echo;
-code echo {
-  body {
-    while 1 { post echo msg 1; yield; }
-  }
-}
-"""
+PAUSES = text_of('idle.mote')
+POSTS = text_of('echo.mote')
 STORM = '''process p;
 autostart p;
 receiver p;
