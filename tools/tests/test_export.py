@@ -5,7 +5,7 @@ import re
 import subprocess
 from collections import Counter
 
-from here import TOOLS, TOP, Room, call, text_of
+from here import TOOLS, TOP, Room, call, rows_of, text_of
 from motesim.export import pcapng, perfetto, times, vcd
 from motesim.report import Report
 from skips import interpreter_with, need_command
@@ -20,18 +20,8 @@ REPORT = EXAMPLE_REPORT.replace('10 print echo 30\n', '10 print echo 30\n11 halt
 PACKETS = text_of('packets.csv')
 FIELDS = ['frame.time_epoch', 'frame.interface_name', 'motesim.kind', 'motesim.sender', 'motesim.receiver',
           'motesim.number', 'motesim.value', 'motesim.sent', 'motesim.arrival']
-# The waveform of the report: the values of signals, each from a time in nanoseconds on.
-WAVES = {
-    ('mote_1', 'queue'): [(0, 0), (10_001_000, 1), (10_002_000, 0), (10_003_000, 1), (10_006_000, 0)],
-    ('mote_1', 'halted'): [(0, 0), (11_000_000, 1)],
-    ('mote_1', 'processes', 'listener', 'printed'): [(0, None), (10_005_000, 1)],
-    ('mote_1', 'processes', 'listener', 'runs'): [(0, 0), (4_000, 1), (5_000, 0), (10_002_000, 1), (10_006_000, 0)],
-    ('mote_0', 'processes', 'sender', 'listed'): [(0, 0), (3_000, 1), (8_003_000, 0)],
-    ('mote_1', 'packets', 'collides'): [(0, 0), (2_000_000, 1), (2_000_500, 0), (2_001_000, 1), (2_001_500, 0)],
-    ('mote_1', 'packets', 'received'): [(0, None), (10_000_000, 30)],
-    ('mote_1', 'packets', 'on_the_way'): [(0, 0), (4_000, 2), (2_000_000, 1), (2_001_000, 0), (8_002_000, 1),
-                                          (9_000_000, 2), (10_000_000, 1), (12_000_000, 0)],
-}
+WAVES = {tuple(name.split('.')): [(int(at), None if value == '-' else int(value)) for at, value in (
+    it.split('=') for it in its.split(' '))] for name, its in rows_of('waves.tsv')}
 PANDAS = '''import pandas
 lines, packets, copies = (pandas.read_csv('a.%s.csv' % name) for name in ('lines', 'packets', 'copies'))
 print(len(lines), list(lines.groupby('kind').size().loc[['post', 'send', 'start']]))

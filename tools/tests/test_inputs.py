@@ -2,7 +2,7 @@
 import os
 import subprocess
 
-from here import TOOLS, Room, call, scenario_of, text_of
+from here import TOOLS, Room, call, rows_of, scenario_of, text_of
 from motesim.faults import Fault
 from motesim.files import refuse_inputs
 from skips import interpreter_with, need_program
@@ -16,23 +16,6 @@ FILES = {'net.toml': SCENARIO, 'net.expect.toml': 'expect = ["mote 1 prints a 1"
          'a.mote': PROGRAM, 'places.csv': 'x,y\n0,0\n5,0\n', 'run.html': REPORT, 'run.lines.csv': REPORT,
          'measures.py': 'def one(run):\n    return 1\n', 'empty.py': '', 'solutions/anna.toml': SCENARIO,
          'README.md': SCENARIO, 'found.csv': SCENARIO, 'small_1.toml': SCENARIO}
-# Commands that would replace one of their inputs.
-WRONG = ('scenario net.plan.toml -o net.plan.toml', 'scenario net.plan.toml -o a.mote',
-         'scenario net.plan.toml -o places.csv', 'scenario net.plan.toml -o link',
-         'scenario net.plan.toml -o other/../a.mote', 'timeline net.toml -o net.toml', 'timeline run.html',
-         'timeline run.html --scenario net.toml -o net.toml', 'export net.toml --to vcd -o net.toml',
-         'export run.lines.csv --to csv -o run', 'export README.md --form contiki -o .',
-         'compare run.html net.toml --html net.toml', 'compare run.html net.toml --html run.html',
-         'shrink net.toml -o net.toml', 'shrink net.toml -o net.expect.toml',
-         'shrink net.toml net.expect.toml -o net.x', 'search net.toml --csv net.toml',
-         'search net.toml --json net.expect.toml', 'search net.plan.toml --csv a.mote --expect mote_1_prints_a',
-         'search found.csv --expect mote_1_prints_a -o .', 'search small_1.toml --expect mote_1_prints_a -o . --shrink',
-         'grade solutions net.expect.toml --net net.toml -o net.toml',
-         'grade solutions net.expect.toml -o net.expect.toml', 'grade solutions net.expect.toml -o solutions/anna.toml',
-         'grade solutions net.expect.toml --hidden net.plan.toml --anonymous --key a.mote',
-         'sweep net.plan.toml --measure sent -o net.plan.toml', 'sweep net.plan.toml --measure sent -o a.mote',
-         'sweep net.plan.toml --measure python:_measures.py:one -o measures.py',
-         'pack solutions -o solutions/anna.toml')
 
 
 class Inputs(Room):
@@ -56,7 +39,7 @@ class Inputs(Room):
     def test_each_tool_refuses_to_replace_its_inputs(self) -> None:
         need_program(self)
         before = self.texts()
-        for words in WRONG:
+        for (words,) in rows_of('inputs.tsv'):
             with self.subTest(words):
                 done = self.done(words)
                 self.assertIn(' would replace ', done.stderr)
