@@ -59,12 +59,10 @@ class Cases(Check):
             self.assertIn('\n%s\n' % line, said)
 
     def test_a_folder_of_cases_and_a_name_of_no_case(self) -> None:
+        self.assertIn('there is no program', self.check('run_cases', 'queues')[0])
         self.put_motesim('cat')
         cases = {it.with_suffix('') for it in (TOP / 'tests/cases/queues').iterdir()}
         self.assertEqual(self.check('run_cases', 'queues')[1], '0 passed, %d failed, 0 skipped' % len(cases))
-        self.program.unlink()
-        self.assertIn('there is no program', self.check('run_cases', 'queues')[0])
-        self.put_motesim('cat')
         said, _, status = self.check('run_cases', 'nets/none')
         self.assertEqual(('there is no case nets/none' in said, status != 0), (True, True))
 

@@ -49,6 +49,9 @@ class Whole(Room):
                 (self.room / 'old').write_bytes(b'kept')
             with self.assertRaisesRegex(Fault, '%s: No space left on device$' % name):
                 write_whole(self.room / name, parts())
+        with self.assertRaisesRegex(NotWritten, 'none/a: No such file or directory$') as raised:
+            write_whole(self.room / 'none/a', [b''])
+        self.assertEqual(raised.exception.why, 'No such file or directory')
         self.assertEqual((self.names(), (self.room / 'old').read_bytes()), (['old'], b'kept'))
 
     def test_two_at_once_both_end(self) -> None:
@@ -72,11 +75,6 @@ class Whole(Room):
         write_whole(self.room / 'pipe', [b'text'])
         reader.join()
         self.assertEqual((got, self.names()), ([b'text'], ['pipe']))
-
-    def test_a_folder_that_is_not_there(self) -> None:
-        with self.assertRaisesRegex(NotWritten, 'none/a: No such file or directory$') as raised:
-            write_whole(self.room / 'none/a', [b''])
-        self.assertEqual(raised.exception.why, 'No such file or directory')
 
     def test_a_page_that_can_not_be_made_leaves_the_one_before(self) -> None:
         page = self.room / 'page.html'

@@ -9,8 +9,7 @@ import signal
 import socket
 import subprocess
 import sys
-import time
-from collections.abc import Callable, Iterator
+from collections.abc import Iterator
 from pathlib import Path
 from unittest import mock
 
@@ -32,6 +31,7 @@ from motesim.runner import Limits
 from motesim.scenario import Scenario
 from sessions import TABLES, Table
 from stub import write_stub
+from unbuilt_tree import until
 
 TEXTS = Table(TABLES / 'grade.toml').texts
 NET, GOOD, WRONG, PROGRAM = (TEXTS[it] for it in ('net', 'good', 'wrong', 'program'))
@@ -73,13 +73,6 @@ class Class:
 @pytest.fixture
 def room(tmp_path: Path) -> Class:
     return Class(tmp_path)
-
-
-def until(is_so: Callable[[], bool]) -> None:
-    end = time.monotonic() + 120
-    while not is_so():
-        assert time.monotonic() < end
-        time.sleep(0.05)
 
 
 def loss(s: int, r: int, every: int = 1) -> str:
@@ -205,7 +198,7 @@ def test_the_pages_of_a_marking_that_was_killed_are_removed_by_the_next(room: Cl
     room.hand_in('other net.toml', WRONG.replace('code a', '// wait\ncode a'))
     folder = room.top / 'marks_runs'
     with room.begun('--jobs', '1', '-o', 'marks.html'):
-        until((folder / 'ben.toml.html').exists)
+        assert until((folder / 'ben.toml.html').exists, 120)
     assert 'ben.toml.html\n' in (folder / 'pages.txt').read_text()
     (folder / 'mine.html').write_text('a page of the teacher')
     with open(folder / 'pages.txt', 'a') as names:
@@ -259,10 +252,10 @@ def test_all_its_processes_end_with_it(room: Class, number: signal.Signals) -> N
         return found
     room.hand_in('wait.toml', GOOD.replace('code a', '// wait\ncode a'))
     with room.begun() as made:
-        until(lambda: any(str(room.stub) in it for it in commands_of(made.pid)))
+        assert until(lambda: any(str(room.stub) in it for it in commands_of(made.pid)), 120)
         made.send_signal(number)
         made.wait(60)
-        until(lambda: not commands_of(made.pid))
+        assert until(lambda: not commands_of(made.pid), 120)
 
 
 def test_memory(room: Class) -> None:

@@ -61,9 +61,9 @@ class Lesson(Room):
             found = self.marks(task, 'task%d.toml' % task, HIDDEN[task])
             self.assertEqual((task, found.first_failed), (task, None))
 
-    def test_the_answers_at_boot_or_by_a_clock_do_not(self) -> None:
+    def test_the_answers_at_boot_or_by_a_clock_and_doing_nothing_earn_nothing(self) -> None:
         for task in NETS:
-            for program in AT_BOOT, AT_BOOT_BUT_SENDS_LATER, AFTER_A_WHILE:
+            for program in AT_BOOT, AT_BOOT_BUT_SENDS_LATER, AFTER_A_WHILE, IDLE:
                 with self.subTest(task=task, program=program):
                     self.assertEqual(self.marks(task, program).held, 0)
 
@@ -86,9 +86,6 @@ class Lesson(Room):
                 self.assertEqual(found.held, 0)
                 self.assertEqual(broken, ['every mote but 0 ' + values[min(task, 2)],
                                           *['every mote but 0 prints hops exactly once'] * (task > 1)])
-
-    def test_doing_nothing_earns_nothing(self) -> None:
-        self.assertEqual([self.marks(task, IDLE).held for task in NETS], [0, 0, 0])
 
     def test_a_solution_of_the_task_before_earns_nothing(self) -> None:
         solution = (LESSON / 'solutions/task2.toml').read_text().split("'''")[1]

@@ -166,11 +166,9 @@ class Scenarios(unittest.TestCase):
         with self.assertRaisesRegex(ScenarioFault, 'UTF-8'):
             Scenario.parse(b'\xff')
 
-    def test_a_report_of_other_motes_has_a_fault(self) -> None:
+    def test_a_report_of_other_motes_or_of_another_medium_has_a_fault(self) -> None:
         with self.assertRaisesRegex(ScenarioFault, 'the scenario has 3 motes, the report 2'):
             check_scenario(Report.parse(SMALL), Scenario.parse(EXAMPLE))
-
-    def test_a_report_of_another_medium_has_a_fault(self) -> None:
         for change, said in [(('range = 5', 'range = 10'), 'in the scenario mote 2 hears mote 0'),
                              (('range = 5', 'range = 4'), 'in the scenario mote 1 does not hear mote 0'),
                              (('base = 2', 'base = 3'), 'the scenario has 1@'), (('every = 2', 'every = 1'),

@@ -27,7 +27,7 @@ from motesim.report.run import answer, program_path
 from motesim.runner.interrupt import Break
 from motesim.scenario.scenario import Scenario
 from motesim.search.added import DIES, LATE, NoRoom, changed_program
-from motesim.search.change import Base, CannotChange, Change
+from motesim.search.change import Base, CannotChange
 from motesim.search.cuts import cut_of
 from motesim.search.faults import Asked, FaultyPart, change_of, faults_of
 from motesim.search.halting import without_halts
