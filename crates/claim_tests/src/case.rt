@@ -1,7 +1,7 @@
 //! A case whose breaks are known.
 
 ghost use Rattle.std.specs.Prelude.{◌≡◌, ℕ, List};
-ghost use Rattle.survey_tests.specs.Case.{case_holds, has};
+ghost use Rattle.claim_tests.specs.Case.{case_holds, has};
 
 use std::alloc::{AllocError, Global};
 use survey::Trial;

@@ -3,8 +3,8 @@
 ghost use Rattle.std.specs.Prelude.{◌≡◌};
 ghost use Rattle.survey.specs.FaultSet.{IsSet};
 
-use survey::{advance, first_set, is_within};
 use std::test::Fail;
+use survey::{advance, first_set, is_within};
 use test_helpers::same_text;
 
 /// Writes down a set and the five after it, or fewer, if there are no more.

@@ -1,3 +1,0 @@
-mod fates;
-mod sets;
-mod surveys;
