@@ -38,7 +38,6 @@ from motesim.report.run import Run
 from motesim.scenario import Scenario
 from motesim.scenario.scenario import hops_over
 from motesim.judge.sentences import Copies, Does, Motes, Names, Packets, Refused, Sentence, read_sentence
-from motesim.judge.verdicts import breaks
 
 SUMMARY = ('sent', 'copies', *OUTCOMES, 'ratio', *counts.COUNTED.values(), 'halt')
 REACHABLE, LOSS = 'reachable', 'loss'
@@ -270,7 +269,8 @@ def _of_sentence(kind: str, words: str, names: Names) -> Callable[[Bench], Cell]
     if isinstance(first, Refused):
         raise MeasureFault('nothing can be measured in a run that has no report')
     if kind == 'holds':
-        return lambda bench: int(breaks([first], bench.judge)[0] is None)
+        # (a verdict of motecheck would need a second run)
+        return lambda bench: int(bench.judge.broken(first) is None)
     if kind == 'count' and isinstance(first, Copies | Packets):
         rows = first
         return _guarded(lambda judge: _count_rows(judge, rows))

@@ -6,7 +6,8 @@ the claims are about the report alone.
 from __future__ import annotations
 
 from collections.abc import Mapping, Sequence
-from functools import lru_cache
+from contextlib import suppress
+from dataclasses import replace
 
 from motesim.judge.claim_words import (
     ALL, Case, Counted, Deed, Limits, Test, claim_text, every_line, limited, lines_of, period_text, ratio, set_text,
@@ -15,7 +16,7 @@ from motesim.judge.judge import BECAME, periods
 from motesim.judge.links import Apart, Links, Span
 from motesim.judge.sentences import (
     Copies, Count, Deed as Action, Does, Hears, Lines, MediumLine, Motes, Packets, Pattern, Refused, Relation, Sentence,
-    Value, processes_of,
+    Value, Window, parts_of, processes_of,
 )
 from motesim.notation.grammar import SYSTEM
 from motesim.notation.reader import read_program
@@ -28,6 +29,7 @@ FIRST_DECLARED, MOST = 0x8b, (1 << 64) - 1
 # The parts of a pattern in their order, and the part that a field of a line is.
 PARTS = ('process', 'serial', 'event', 'sender', 'packet', 'value')
 PART_OF = {'number': 'packet', 'word': 'value'}
+OF_LINKS = ('distance', 'nearer', 'heard', 'linked')
 OF_TEXT = {Refused: 'it is about a scenario without a report', MediumLine: 'claims have no whole lines of the medium'}
 
 
@@ -35,7 +37,13 @@ class NoClaim(Exception):
     """A sentence that claims can't say, with the reason."""
 
 
-@lru_cache(maxsize=64)
+def values_of_links(it: object) -> list[Value]:
+    """The values in sentences that depend on the links of the net; a time for each hop depends on a distance."""
+    parts = list(parts_of(it))
+    found = [Value('distance', it.root) for it in parts if isinstance(it, Window) and it.root is not None]
+    return list(dict.fromkeys([*found, *(it for it in parts if isinstance(it, Value) and it.kind in OF_LINKS)]))
+
+
 class _Program:
     """The numbers of a program's processes and declared events."""
 
@@ -45,10 +53,11 @@ class _Program:
 
 
 class Claims:
-    """A scenario whose sentences are translated."""
+    """A scenario whose sentences are translated. `same` has the claims of sentences that mean the same in a scenario from
+    which this one differs only in its links."""
 
-    def __init__(self, scenario: Scenario):
-        self.scenario, self.links = scenario, Links(scenario)
+    def __init__(self, scenario: Scenario, same: Mapping[Sentence, list[str]] = {}):
+        self.scenario, self.links, self.same = scenario, Links(scenario), same
         programs = {name: _Program(text) for name, text in scenario.programs.items()}
         self.programs = [programs[it.program] for it in scenario.places]
         # (motes with other names have claims with numbers)
@@ -62,6 +71,8 @@ class Claims:
         """The claims that a sentence means. Raises `NoClaim` if claims can't say it. The lines `halt` of motes that
         fail don't count from the moment on at which they fail."""
         self.apart, self.failing = [], failing
+        if it in self.same and not failing:
+            return self.same[it]
         if type(it) in OF_TEXT:
             raise NoClaim(OF_TEXT[type(it)])
         if isinstance(it, Hears):
@@ -69,10 +80,24 @@ class Claims:
             holds = all(self.links.hears(mote, it.other) == it.can for mote in it.motes)
             return [claim_text((1, 1), [()]) if holds else claim_text((1, None), [])]
         if isinstance(it, Does):
-            return [self.does(one) for one in periods(it) or [it]]
+            try:
+                return [self.does(one) for one in periods(it) or [it]]
+            except NoClaim:
+                if not (kind := one_by_one(it)):
+                    raise
+                return [self.does(replace(it, motes=replace(it.motes, kind=kind)))]
         return [claim_text((1, 1), [self.of_net(it)])]
 
     # Lines
+
+    def same_with_all_links(self, sentences: Sequence[Sentence]) -> dict[Sentence, list[str]]:
+        """The claims of those sentences that mean the same whatever the links are."""
+        found = dict[Sentence, list[str]]()
+        for it in sentences:
+            with suppress(NoClaim):
+                if not isinstance(it, Hears) and not values_of_links(it):
+                    found[it] = self.of(it)
+        return found
 
     def field(self, mote: int, field: str, wanted: str | Value) -> str | None:
         """The part of a pattern that wants this word or value in a field; None if no line has it."""
@@ -222,6 +247,15 @@ class Claims:
             return [limited(of_count(it.count), what)]
         due = '%s' + '%s lost by the medium or due by %d' % (to, self.scenario.end)
         return compared(it.count, what, Counted(due % 'copy', due % 'copies'))
+
+
+def one_by_one(it: Does) -> str:
+    """How a sentence about the lines of motes `together` is one about each of them: some has a line, or each has none.
+    Empty if it isn't."""
+    if it.motes.kind != 'together' or it.deed.way != 'any' or it.than or it.relation:
+        return ''
+    limits = of_count(it.count)
+    return 'each' if limits == (0, 0) else 'some' if limits == (1, None) and not it.window.every else ''
 
 
 def is_empty(span: Span) -> bool:

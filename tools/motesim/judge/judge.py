@@ -1,16 +1,16 @@
-"""Decides whether a sentence holds for a report.
+"""Says why a report breaks a sentence: the lines that a mote has, those that it lacks, and the row that shows it.
 
-`Judge(report, scenario).broken(sentence)` is None if it holds, and otherwise explains why not.
+`Judge(report, scenario).broken(sentence)` is the reason, or None if the sentence holds. `motesim.judge.verdicts` has the
+verdicts.
 """
 from __future__ import annotations
 
-from bisect import bisect_left, bisect_right
 from collections.abc import Iterator, Sequence, Set
 from dataclasses import replace
 from functools import cached_property
 from itertools import compress, repeat
 from itertools import count as counting
-from operator import and_, contains
+from operator import and_
 from typing import NamedTuple
 
 from motesim.judge import relations
@@ -151,48 +151,6 @@ class Judge:
             return found
         return sorted(found, key=relations.in_time)
 
-    def inside(self, pattern: Pattern, mote: int, span: Span) -> tuple[slice, bytes]:
-        """The place of a mote's lines of the pattern's kind in these moments, and for each 1 if it matches the pattern,
-        otherwise 0."""
-        trace, kind = self.report.trace, str(pattern[0])
-        place, found = trace.place(mote, kind), self.fits(pattern, mote)
-        if span != (0, None):
-            moments = trace.moments(mote, kind)
-            begin = bisect_left(moments, span[0])
-            end = len(moments) if span[1] is None else bisect_right(moments, span[1])
-            place, found = slice(place.start + begin, place.start + end), found[begin:end]
-        return place, found
-
-    def is_kept(self, it: Does, motes: tuple[int, ...]) -> bool | None:
-        """Whether one mote, or several together, do what a sentence says, from the number or the values of its lines;
-        None if that needs the lines themselves."""
-        if it.than or it.relation or len(it.deed.patterns) != 1 or it.deed.way != 'any' and len(motes) != 1:
-            return None
-        pattern, spans = it.deed.patterns[0], self.spans(it.window, motes)
-        if it.deed.way == 'any':
-            return all(it.count.admits(sum(sum(self.inside(pattern, mote, span)[1]) for mote in motes))
-                       for span in spans)
-        return all(self.has_values(it.deed, motes[0], span) for span in spans)
-
-    def is_done_by(self, it: Does, mote: int) -> bool:
-        """Whether a mote does what a sentence says."""
-        try:
-            kept = self.is_kept(it, (mote,))
-        except Apart:
-            return False
-        return self.of_unit(it, (mote,)) is None if kept is None else kept
-
-    def has_values(self, deed: Deed, mote: int, span: Span) -> bool:
-        """True if the values of a mote's lines in a span are those of the action."""
-        place, found = self.inside(deed.patterns[0], mote, span)
-        values = list(compress(self.report.trace.of[str(deed.patterns[0][0])]['value'][place], found))
-        if deed.way == 'set':
-            return sorted(values) == sorted(deed.values)
-        wanted = self.listed(deed, mote)
-        if deed.way == 'finally':
-            return bool(values) and values[-1] in wanted[0]
-        return len(values) == len(wanted) and all(map(contains, wanted, values))
-
     def spans(self, window: Window, motes: tuple[int, ...]) -> list[Span]:
         """The moments of a window, for these motes."""
         return self.links.spans(window, motes[0] if motes else 0)
@@ -295,8 +253,6 @@ class Judge:
     def of_unit(self, it: Does, motes: tuple[int, ...]) -> Broken | None:
         """Checks a sentence for one mote, or for several together."""
         try:
-            if self.is_kept(it, motes):
-                return None
             events = self.done(it.deed, motes)
             broken = self.of_events(it, events, motes)
             if broken is None:
@@ -397,7 +353,7 @@ class Judge:
             return self.of_unit(it, chosen)
         if it.motes.kind == 'each':
             return next(filter(None, (self.of_unit(it, (mote,)) for mote in chosen)), None)
-        doing = [mote for mote in chosen if self.is_done_by(it, mote)]
+        doing = [mote for mote in chosen if self.of_unit(it, (mote,)) is None]
         if it.motes.kind == 'no':
             first = self.beyond(it, doing, 0) if doing else None
             return Broken('mote %d does' % first[0], first[1], kind='motes') if first else None
@@ -429,7 +385,7 @@ class Judge:
 
     def part_of_copies(self, it: Copies) -> Broken | None:
         """Checks which share of the copies that were due has an outcome."""
-        due, found = self.due(it), self.count_copies(it)
+        due, found = self.due(it), len(self.of_copies(it))
         if it.count.admits(found, due):
             return None
         part = ' (%.1f %%)' % (100 * found / due) if due else ''
@@ -440,15 +396,6 @@ class Judge:
         motes = set(range(self.scenario.motes) if it.motes is None else it.motes)
         log, end = self.report.log, self.scenario.end
         return sum(at == LOST or at <= end for to, at in zip(log.to, log.arrival) if to in motes)
-
-    def count_copies(self, it: Copies) -> int:
-        """The number of copies with this outcome, at any moment."""
-        motes = set(range(self.scenario.motes) if it.motes is None else it.motes)
-        if it.outcome == 'lost':
-            return sum(map(motes.__contains__,
-                           compress(self.report.log.to, map(LOST.__eq__, self.report.log.arrival))))
-        places = (self.report.trace.place(mote, BECAME[it.outcome]) for mote in motes)
-        return sum(place.stop - place.start for place in places)
 
     def of_copies(self, it: Copies) -> list[Row]:
         """The rows that show this outcome, one for each copy, in the order of their moments."""
@@ -500,12 +447,8 @@ class Judge:
                 return self.left(it.count)
             if it.count.is_part:
                 return self.part_of_copies(it)
-            if it.window == Window() and it.count.admits(self.count_copies(it)):
-                return None
             return self.rows_in('such copies', self.of_copies(it), it.count, it.window)
         if isinstance(it, Packets):
-            if it.window == Window() and it.count.admits(self.report.length - self.report.medium_row - 1):
-                return None
             return self.rows_in('packets', self.of_packets(), it.count, it.window)
         if isinstance(it, Lines):
             return self.lines(it.count)

@@ -1,7 +1,7 @@
 """The lines that a report lacks for sentences: how many are wanted, and how many of them are missing."""
 from __future__ import annotations
 
-from collections.abc import Iterable
+from collections.abc import Container, Sequence
 from typing import NamedTuple
 
 from motesim.judge.judge import Judge, periods
@@ -18,20 +18,22 @@ class Shortfall(NamedTuple):
         return Shortfall(self.missing + other.missing, self.wanted + other.wanted)
 
 
-def shortfall_of(judge: Judge, sentences: Iterable[Sentence]) -> Shortfall:
-    """The wanted and the missing lines of all sentences that want lines of motes."""
+def shortfall_of(judge: Judge, sentences: Sequence[Sentence], broken: Container[int]) -> Shortfall:
+    """The wanted and the missing lines of all sentences that want lines of motes. Those at some places are broken."""
     found = Shortfall()
-    for it in sentences:
+    for place, it in enumerate(sentences):
         for one in (periods(it) or [it]) if isinstance(it, Does) else []:
-            found += _of_motes(judge, one)
+            found += _of_motes(judge, one, place in broken)
     return found
 
 
-def _of_motes(judge: Judge, it: Does) -> Shortfall:
+def _of_motes(judge: Judge, it: Does, is_broken: bool) -> Shortfall:
     """The lines of one sentence. If only some of the motes must have them, those count that lack the fewest."""
     chosen = judge.chosen(it.motes)
     units = [chosen] if it.motes.kind == 'together' else [(mote,) for mote in chosen]
-    wanted, lacks = [_wanted(judge, it, unit) for unit in units], sorted(_missing(judge, it, unit) for unit in units)
+    wanted, lacks = [_wanted(judge, it, unit) for unit in units], list[int]()
+    if is_broken:
+        lacks = sorted(_missing(judge, it, unit) for unit in units)
     count = len(units)
     if it.motes.kind in ('no', 'some'):
         count = int(it.motes.kind == 'some')

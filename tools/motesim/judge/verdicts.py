@@ -24,7 +24,7 @@ MOST_BYTES = 1_000_000
 
 
 class NoAnswer(ProgramFault):
-    """`motecheck` refuses the scenario or the claims."""
+    """`motecheck` refuses the scenario, or claims that are too long."""
 
 
 def answers(program: Path, scenario: bytes, claims: Sequence[str], *options: str, limits: Limits = Limits(),
@@ -36,11 +36,13 @@ def answers(program: Path, scenario: bytes, claims: Sequence[str], *options: str
         given = '/proc/%d/fd/%d' % (os.getpid(), file.fileno())
         got = Runner(program, limits, asks_end).answer(scenario, *options, '/dev/stdin', given)
     if got.status not in (ALL_HOLD, ONE_IS_BROKEN):
-        raise NoAnswer('motecheck has no answer: %s' % got.why)
+        # (it reads all claims that the tools write, if there is memory)
+        is_failure = b'claims fault' in got.fault or b'out of memory' in got.fault
+        raise (ProgramFault if is_failure else NoAnswer)('motecheck has no answer: %s' % got.why)
     return got.report.decode().splitlines()
 
 
-def decided(program: Path | None, scenario: Scenario, text: str, sentences: Sequence[Sentence],
+def decided(program: Path | None, claims: Claims, text: str, sentences: Sequence[Sentence],
             limits: Limits = Limits(), failing: Mapping[int, Mapping[int, int]] = {}) -> list[str | None]:
     """For each sentence about the run of a scenario: an empty text if it holds; why it doesn't, in the words of
     `motecheck`; or None if `motecheck` doesn't decide it. For some sentences, by their places, `failing` has motes that
@@ -48,7 +50,7 @@ def decided(program: Path | None, scenario: Scenario, text: str, sentences: Sequ
     found: list[str | None] = [None] * len(sentences)
     if not (program and text):
         return found
-    for places, rows in _pieces(Claims(scenario), sentences, failing):
+    for places, rows in _pieces(claims, sentences, failing):
         try:
             lines = answers(program, text.encode(), rows, limits=limits)
         except NoAnswer:
@@ -82,7 +84,7 @@ def _pieces(claims: Claims, sentences: Sequence[Sentence], failing: Mapping[int,
 
 def breaks(sentences: Sequence[Sentence], judge: Judge, limits: Limits = Limits()) -> list[Broken | None]:
     """What breaks each sentence in the run of the judge's scenario; None for a sentence that holds."""
-    said = decided(checker_path(), judge.scenario, judge.scenario.text, sentences, limits)
+    said = decided(checker_path(), Claims(judge.scenario), judge.scenario.text, sentences, limits)
     return [reason(it, sentence, judge) for it, sentence in zip(said, sentences)]
 
 

@@ -19,6 +19,7 @@ from motesim.search.faults import FaultyPart
 from motesim.search.halting import hidden_by_halt, is_only_about_halts
 from motesim.search.sets import Set, union
 from motesim.search.work import mask_of
+from motesim.judge.claims import Claims
 from motesim.judge.sentences import Sentence
 from motesim.judge.verdicts import broken_of, decided
 from motesim.runner.programs import checker_path
@@ -58,7 +59,7 @@ def plain_run(base: Base, program: Runner, sentences: list[Sentence]) -> Plain:
 
 def broken_in(scenario: Scenario, report: bytes, sentences: list[Sentence], program: Runner) -> list[int]:
     """The numbers of the sentences that are broken in the run of a scenario, which has this report."""
-    said = decided(checker_path(), scenario, scenario.text, sentences, program.limits)
+    said = decided(checker_path(), Claims(scenario), scenario.text, sentences, program.limits)
     return broken_of(said, sentences, scenario, lambda place: report)
 
 

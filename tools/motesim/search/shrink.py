@@ -11,6 +11,7 @@ from dataclasses import dataclass, field
 from typing import NamedTuple
 
 from motesim.faults import Fault
+from motesim.judge.claims import Claims
 from motesim.judge.judge import Broken, Judge
 from motesim.judge.sentences import Sentence, SentenceFault, names_of, read_sentence
 from motesim.judge.verdicts import decided, reason
@@ -135,7 +136,7 @@ class Shrinking:
         failing = {place: failed for place, it in enumerate(read) if is_only_about_halts(it)}
         is_wanted = [is_first_broken, *[False] * (len(words) - 1)]
         try:
-            said = decided(checker_path(), scenario, text, read, self.program.limits, failing)
+            said = decided(checker_path(), Claims(scenario), text, read, self.program.limits, failing)
             if any(it is not None and bool(it) != wanted for it, wanted in zip(said, is_wanted)):
                 return None
             answer = self.program.answer(text.encode())

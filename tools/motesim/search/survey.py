@@ -12,9 +12,9 @@ from collections.abc import Callable, Mapping, Sequence
 from dataclasses import dataclass
 from functools import cached_property
 
-from motesim.judge.claims import Claims, NoClaim
+from motesim.judge.claims import Claims, NoClaim, values_of_links
 from motesim.judge.links import Apart, Links
-from motesim.judge.sentences import Sentence, Value, Window, parts_of
+from motesim.judge.sentences import Sentence, Value
 from motesim.judge.verdicts import answers
 from motesim.runner import Limits, ProgramFault
 from motesim.runner.programs import checker_path, is_module
@@ -26,7 +26,6 @@ from motesim.search.work import RUN, SAME, Outcome, is_same
 
 FAULT = re.compile(r'link (\d+) to (\d+) is broken|mote (\d+) is silent')
 OPTIONS = {'lose': '--links', 'silent': '--silent'}
-OF_LINKS = ('distance', 'nearer', 'heard', 'linked')
 MOST_WORKERS = 16
 
 
@@ -105,9 +104,3 @@ def effects_in(line: str) -> list[Effect]:
         found += [('silent', int(silent))] if silent else [('lose', int(sender), int(receiver), 1)]
     return found
 
-
-def values_of_links(sentences: Sequence[Sentence]) -> Sequence[Value]:
-    """The values in sentences that depend on the links of the net; a time for each hop depends on a distance."""
-    parts = list(parts_of(sentences))
-    found = [Value('distance', it.root) for it in parts if isinstance(it, Window) and it.root is not None]
-    return list(dict.fromkeys([*found, *(it for it in parts if isinstance(it, Value) and it.kind in OF_LINKS)]))

@@ -13,6 +13,7 @@ from motesim.search.faults import FaultyPart, change_of
 from motesim.search.halting import without_halts
 from motesim.search.sets import Set, union
 from motesim.search.single_packets import loses_more
+from motesim.judge.claims import Claims
 from motesim.judge.judge import Judge
 from motesim.judge.sentences import Sentence
 from motesim.judge.shortfall import Shortfall, shortfall_of
@@ -74,6 +75,7 @@ class Bench:
         self.base, self.faults, self.halting = work.base, work.faults, work.halting
         self.sentences, self.limits = work.sentences, work.limits
         self.program, self.checker = Runner(Path(work.program), work.limits), work.checker
+        self.same = Claims(self.base.scenario_itself).same_with_all_links(work.sentences)
 
     def run(self, task: Task) -> Outcome:
         found, its = task.faults, [self.faults[number] for number in task.faults]
@@ -88,7 +90,8 @@ class Bench:
             scenario = Scenario.parse(text) if change.added else self.base.scenario(change)
             numbers, failing = numbers_of(task.wanted), self.failing(task)
             wanted = [self.sentences[number] for number in numbers]
-            said = decided(self.checker, scenario, text, wanted, self.limits, failing)
+            claims = Claims(scenario, {} if change.added or change.parameters else self.same)
+            said = decided(self.checker, claims, text, wanted, self.limits, failing)
             # (`loses_more` needs the report)
             if not any(it is None or it for it in said) and all(it.kind != 'packets' for it in its):
                 return Outcome(found, RUN)
@@ -104,7 +107,7 @@ class Bench:
             return Outcome(found, MORE)
         broken = broken_of(said, wanted, scenario,
                            lambda place: without_halts(answer.report, failing.get(place, {}).items()))
-        lacks = shortfall_of(Judge(LazyReport(answer.report), scenario), wanted) if broken else Shortfall()
+        lacks = shortfall_of(Judge(LazyReport(answer.report), scenario), wanted, broken) if broken else Shortfall()
         return Outcome(found, RUN, mask_of([numbers[place] for place in broken]), lacks=lacks)
 
     def failing(self, task: Task) -> dict[int, dict[int, int]]:
