@@ -259,6 +259,12 @@ class InBrowser(unittest.TestCase):
     def wait(self, script: str) -> None:
         self.browser.wait('(() => { %s; return %s; })()' % (self.known, script))
 
+    def unnamed(self) -> Any:
+        """What is drawn, or can be used, without a name for readers of screens."""
+        return self.value('''[...document.querySelectorAll("button, input, select, canvas, textarea")].filter(it =>
+          it.getClientRects().length && !(it.textContent.trim() && it.matches("button")) && !it.labels?.length &&
+          !it.getAttribute("aria-label") && !it.getAttribute("aria-hidden")).map(it => it.outerHTML)''')
+
     def press(self, name: str) -> None:
         self.value('by(%s).click()' % json.dumps(name))
 

@@ -347,11 +347,7 @@ class Page(InStudio):
             self.browser.size(width, 900)
             self.browser.settle()
             self.assertLessEqual(self.value('document.documentElement.scrollWidth'), width)
-        unnamed = self.value('''Array.from(document.querySelectorAll("button, input, select, canvas, textarea"))
-          .filter(it => !(it.textContent.trim() && it.matches("button")) && !it.getAttribute("aria-label") &&
-          !it.getAttribute("aria-hidden") && !(it.labels && it.labels.length) && !it.closest(".form"))
-          .map(it => it.outerHTML)''')
-        self.assertEqual(unnamed, [])
+        self.assertEqual(self.unnamed(), [])
 
 
 class Causes(InStudio):

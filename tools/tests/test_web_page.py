@@ -25,6 +25,7 @@ FLOODING = (TOP / 'examples/flooding.toml').read_text()
 # Mote 0 never waits for time to pass, so each moment has as many lines as there may be.
 ENDLESS = FLOODING.replace('end = 160', 'end = 1000000').replace('if (self', 'while 1 { pause; } if (self', 1)
 SIZES = [(390, 844), (1366, 768), (1920, 1080)]
+CODES = {'Tab': 9, 'Enter': 13, 'Escape': 27, 'ArrowLeft': 37, 'ArrowUp': 38, 'ArrowRight': 39, 'Delete': 46}
 
 
 def grid(side: int) -> str:
@@ -99,6 +100,9 @@ class Page(InBrowser):
 
     def said(self) -> Any:
         return self.value('by("said").textContent')
+
+    def key(self, name: str) -> None:
+        self.browser.key(name, name, CODES[name], '\r' if name == 'Enter' else None)
 
     def undo(self, key: str = 'z') -> None:
         for kind in 'rawKeyDown', 'keyUp':
@@ -193,9 +197,7 @@ class Page(InBrowser):
 
     def test_motes_and_links_are_changed_on_the_map(self) -> None:
         self.open()
-        at = '(() => { const map = m.maps[0], box = map.canvas.getBoundingClientRect(); return [0, 1, 24].map(' \
-             'it => [box.x + map.x(it), box.y + map.y(it)]); })()'
-        (x, y), (to_x, to_y), (far_x, far_y) = self.value(at)
+        (x, y), (to_x, to_y), (far_x, far_y) = map(self.place, (0, 1, 24))
         self.browser.click((x + to_x) / 2, (y + to_y) / 2)
         self.assertIn('0 → 1: 3 moments', self.value('by("way").innerText'))
         self.value('(it => { it.value = 1; it.dispatchEvent(new Event("change")); })('
@@ -211,20 +213,22 @@ class Page(InBrowser):
         self.undo('y')
         self.wait('run.losses[0][2] === 1')
 
+    def place(self, mote: int) -> Any:
+        """The place of a mote in the window."""
+        return self.value('((map, box) => [box.x + map.x(%d), box.y + map.y(%d)])(m.maps[0], '
+                          'm.maps[0].canvas.getBoundingClientRect())' % (mote, mote))
+
     def test_motes_are_added_snapped_and_removed(self) -> None:
         self.open()
-        places = '(() => { const map = m.maps[0], box = map.canvas.getBoundingClientRect(); return [4, 24].map(' \
-                 'it => [box.x + map.x(it), box.y + map.y(it)]); })()'
-        (x, y), (far_x, far_y) = self.value(places)
+        x, y = self.place(4)
         self.press('add')
         self.browser.click(x + 60, y)
         self.wait('run.begins.length === 26')
-        (x, y), (far_x, far_y) = self.value(places)
-        self.browser.drag(far_x, far_y, far_x + 40, far_y + 3)
+        x, y = self.place(24)
+        self.browser.drag(x, y, x + 40, y + 3)
         self.wait('run.places[24][0] > 40')
         self.assertEqual(self.value('run.places[24][1]'), 40)
-        (x, y), _ = self.value(places)
-        self.browser.click(x, y)
+        self.browser.click(*self.place(4))
         self.assertEqual(self.value('by("remove").textContent'), 'Remove mote 4')
         self.press('remove')
         self.wait('run.begins.length === 25 && !text.includes("x = 40\\ny = 0\\n")')
@@ -233,28 +237,27 @@ class Page(InBrowser):
         self.open()
         self.press('play')
         canvas = 'm.maps[0].canvas'
-        self.browser.click(*self.value('(box => [box.x + m.maps[0].x(24), box.y + m.maps[0].y(24)])('
-                                       '%s.getBoundingClientRect())' % canvas))
+        self.browser.click(*self.place(24))
         self.assertEqual(self.value('[m.chosen.mote, document.activeElement === %s]' % canvas), [24, True])
-        for name, code in ('ArrowLeft', 37), ('ArrowLeft', 37), ('ArrowUp', 38):
-            self.browser.key(name, name, code)
+        for name in 'ArrowLeft', 'ArrowLeft', 'ArrowUp':
+            self.key(name)
         moved = FLOODING.replace('x = 40\ny = 40\n', 'x = 38\ny = 39\n')
         self.assertEqual(self.value('text'), moved)
         self.wait('run.places[24].join() === "38,39" && run.hearers[24].join() === "19,23"')
         for other in 19, 23:
-            self.browser.key('Enter', 'Enter', 13, '\r')
+            self.key('Enter')
             self.assertIn('mote 24 and mote %d' % other, self.value('by("map-said").textContent'))
         for _ in range(2):
-            self.browser.key('Tab', 'Tab', 9)
+            self.key('Tab')
         self.assertEqual(self.value('document.activeElement.dataset.way'), '24 23')
         self.browser.type('1')
-        self.browser.key('Tab', 'Tab', 9)
+        self.key('Tab')
         self.wait('run.losses.some(it => it.join() === "24,23,1")')
         self.value(canvas + '.focus()')
-        self.browser.key('Delete', 'Delete', 46)
+        self.key('Delete')
         self.wait('run.begins.length === 24 && run.losses.length === 1')
         self.press('add')
-        self.browser.key('Enter', 'Enter', 13, '\r')
+        self.key('Enter')
         self.wait('run.begins.length === 25 && m.chosen.mote === 24')
         # (moves without a pause are one step)
         for _ in range(6):
@@ -269,8 +272,7 @@ class Page(InBrowser):
         self.assertEqual(self.value('[pane.canvas, m.maps[0].canvas].map(it => getComputedStyle(it).touchAction)'),
                          ['pan-y', 'pan-y'])
         self.press('play')
-        self.browser.move(*self.value('(({canvas, x, y}) => [canvas.getBoundingClientRect().x + m.maps[0].x(7), '
-                                      'canvas.getBoundingClientRect().y + m.maps[0].y(7)])(m.maps[0])'))
+        self.browser.move(*self.place(7))
         self.assertEqual(self.value('by("tip").innerText'), 'mote 7 runs flood and hears 4 motes')
 
     def test_it_works_by_keyboard_alone(self) -> None:
@@ -278,28 +280,28 @@ class Page(InBrowser):
 
         def tab_to(name: str) -> None:
             for _ in range(60):
-                self.browser.key('Tab', 'Tab', 9)
+                self.key('Tab')
                 if self.value('document.activeElement.id') == name:
                     return
             self.fail('%s is not reached' % name)
 
         self.value('document.activeElement.blur()')
         tab_to('try')
-        self.browser.key('Enter', 'Enter', 13, '\r')
+        self.key('Enter')
         self.wait('m.differs.first')
         self.undo()
         self.wait('run.rows === 1072')
         tab_to('part-program')
-        self.browser.key('ArrowRight', 'ArrowRight', 39)
+        self.key('ArrowRight')
         tab_to('text')
         self.browser.type('# by keyboard\n')
         self.assertEqual(self.value('text'), '# by keyboard\n' + FLOODING)
-        self.browser.key('Escape', 'Escape', 27)
+        self.key('Escape')
         tab_to('tab-log')
-        self.browser.key('Enter', 'Enter', 13, '\r')
+        self.key('Enter')
         tab_to('log-asked')
         self.browser.type('mote 24 prints')
-        self.browser.key('Enter', 'Enter', 13, '\r')
+        self.key('Enter')
         self.wait('by("log-counts").textContent.startsWith("3 of 970 lines")')
 
     def test_an_endless_run_is_stopped(self) -> None:
@@ -399,11 +401,8 @@ class Page(InBrowser):
         self.open()
         self.put(grid(20))
         self.wait('run.begins.length === 400')
-        self.value('by("part-program").click()')
+        self.press('part-program')
         self.assertLess(self.value('by("text").value.length'), 1200)
-        self.browser.settle()
-        canvas, box = self.value('[pane.canvas, by("panes")].map(it => it.getBoundingClientRect().bottom)')
-        self.assertLessEqual(canvas, box + 0.5)
 
     def test_a_link_carries_the_text_and_never_markup(self) -> None:
         mark = '# <img src=x onerror="window.wrong = 1"><script>window.wrong = 1</script>\n'
@@ -520,11 +519,6 @@ class Page(InBrowser):
 
     def test_all_has_a_name(self) -> None:
         self.open()
-        for name in 'tab-log', 'tab-sums', 'tab-legend':
+        for name in 'tab-log', 'tab-sums', 'tab-legend', 'examples':
             self.press(name)
-        self.press('examples')
-        unnamed = self.value('Array.from(document.querySelectorAll("button, input, select, canvas, textarea")).filter('
-                             'it => !(it.textContent.trim() && it.matches("button")) && '
-                             '!it.getAttribute("aria-label") && !it.getAttribute("aria-hidden") && '
-                             '!(it.labels && it.labels.length) && !it.closest(".form")).map(it => it.outerHTML)')
-        self.assertEqual(unnamed, [])
+            self.assertEqual(self.unnamed(), [])

@@ -44,8 +44,7 @@ function draw() {
 
 /** Shows in words which items are in view, and which of them aren't drawn. */
 function sayDrawn(panes) {
-  const parts = [momentsInWords(), ...panes.map(pane => drawnInWords(pane, panes.length > 1))];
-  const box = byId('drawn');
+  const parts = [momentsInWords(), ...panes.map(pane => drawnInWords(pane, panes.length > 1))], box = byId('drawn');
   box.textContent = box.title = parts.join(' ');
 }
 

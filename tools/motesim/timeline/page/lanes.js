@@ -2,7 +2,7 @@
 // The lanes of a pane: a mark for each line. Marks closer than a pixel or two are thinned, and counted.
 import {drawArrows, drawChosen} from './arrows.js';
 import {drawAxis, drawBands, drawColumn, drawGrid, drawHeads, drawNames} from './axis.js';
-import {HALT, KINDS, LEAVE, POST, PRINT, RECV, SEND, START, TAKE, lowerBound} from './data.js';
+import {HALT, KINDS, LEAVE, POST, PRINT, RECV, SEND, START, TAKE} from './data.js';
 import {box, colours, drawPath, ring, setFont, stampOf, stroke, write} from './forms.js';
 import {APART, AXIS, FULL_LANE, SMALL_LANE} from './layout.js';
 import {drawOverview} from './overview.js';
@@ -119,28 +119,15 @@ function drawLane(pane, mote) {
   if (x < pane.width) drawPath(pane.context, [x, y, pane.x(run.end + 1), y], 'trouble', 1, 0.5, [2, 4]);
 }
 
-/** Draws rings around the lines that a search has found. */
-function drawFound(pane, motes) {
-  const {context: c, drawn} = pane, found = page.logged.rings[pane.number];
-  if (!found || !found.length) return;
-  const its = motes.map(mote => {
-    const [from, to] = pane.linesInView(mote);
-    return {mote, lines: found.subarray(lowerBound(found, from), lowerBound(found, to))};
-  });
-  const count = its.reduce((sum, {lines}) => sum + lines.length, 0);
-  if (count > MOST_RINGS) {
-    drawn.rings = count;
-    return;
-  }
-  for (const {mote, lines} of its) {
-    let before = -99;
-    for (const line of lines) {
-      const [x, y] = pane.placeOf(line, mote);
-      if (x - before < 3 || x < pane.gutter) continue;
-      before = x;
-      ring(c, x, y, Math.max(2, Math.min(8, pane.lane * 0.4)));
-      stroke(c, 'mark', 2);
-    }
+/** Draws rings around the lines that a search has found, unless these are a great many. */
+function drawFound(pane) {
+  const {context: c, run, gutter, width, lane, drawn, number} = pane, found = page.logged.rings[number] || [];
+  if (found.length > MOST_RINGS) drawn.rings = found.length;
+  for (const line of drawn.rings ? [] : found) {
+    const mote = run.moteOf(line), [x, y] = pane.placeOf(line, mote);
+    if (!pane.sees(mote) || x < gutter || x > width) continue;
+    ring(c, x, y, Math.max(2, Math.min(8, lane * 0.4)));
+    stroke(c, 'mark', 2);
   }
 }
 
@@ -165,7 +152,7 @@ export function drawLanesOf(pane) {
   drawArrows(pane);
   if (isCrowded) drawOverview(pane, from, to); else for (const mote of motes) drawLane(pane, mote);
   drawChosen(pane);
-  drawFound(pane, motes);
+  drawFound(pane);
   for (const draw of page.overlays) draw(pane);
   c.restore();
   drawColumn(pane);

@@ -39,7 +39,6 @@ class Scenario {
     return [rowAt(text, header), rowBehind(text, Math.max(header, ...ends))];
   }
 
-  /** @returns {Change} */
   set(path, value) {
     const place = this.valueAt(...path);
     if (!place) throw new Refused(`The text has no ${path.join(' ')} to change.`);

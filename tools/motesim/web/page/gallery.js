@@ -8,10 +8,6 @@ import {scenarioOf} from './scenario.js';
 
 const WIDE = 280, HIGH = 120;
 
-/** An example: its file, its text, and for a card its words and the change that it offers.
- * @typedef {{file: string, text: string, title: string, about: string, question: string, try: string,
- *   replace: Record<string, string>, from: number, to: number, still: number, speed: number}} Example */
-
 /** The first sentence of the comment at the head of a text. */
 export function firstSentence(text) {
   const [comment] = /^(#.*\n)*/.exec(text) || [''];
@@ -36,8 +32,7 @@ function drawStill(canvas, text) {
   }
 }
 
-/** Fills the dialog of the examples: with cards of those that have a title. `choose` is called with the chosen one.
- * @param {Example[]} examples @param {(it: any) => void} choose */
+/** Fills the dialog of the examples: with cards of those that have a title. `choose` is called with the chosen one. */
 export function beginGallery(examples, choose) {
   const box = byId('gallery'), cards = examples.filter(it => it.title), others = examples.filter(it => !it.title);
   const buttonOf = (it, name) => makeButton(name, () => {

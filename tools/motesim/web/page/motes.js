@@ -144,8 +144,9 @@ export function renewMotes() {
   const typing = byId('way').contains(document.activeElement) &&
     /** @type {HTMLElement} */ (document.activeElement).dataset.way;
   map.edits = run.places ? groundEdits : null;
-  Object.assign(map.canvas, {tabIndex: map.edits ? 0 : -1, ariaLabel: MAP_KEYS});
+  map.canvas.tabIndex = map.edits ? 0 : -1;
   map.canvas.setAttribute('role', 'application');
+  map.canvas.setAttribute('aria-label', MAP_KEYS);
   Object.assign(ground, {held: null, chooses: false});
   if (chooses) chooseMote(map.pane, run.begins.length - 1, true);
   showWay(way && Math.max(...way) < run.begins.length && run.hearers[way[0]].includes(way[1]) ? way : null);

@@ -4,9 +4,6 @@
 /** The text isn't TOML. */
 export class NoToml extends Error {}
 
-/** The place of an item: those of its header or key, and of its value, as offsets.
- * @typedef {{key: [number, number], value: [number, number]|null}} Place */
-
 const NUMBER = /^([+-]?(0|[1-9][0-9]*)|0(x[0-9a-fA-F]+|o[0-7]+|b[01]+))$/;
 const ESCAPE = /\\(?:u([0-9a-fA-F]{4})|U([0-9a-fA-F]{8})|[ \t]*\r?\n\s*|(.))/g;
 const ESCAPES = {b: '\b', t: '\t', n: '\n', f: '\f', r: '\r', '"': '"', '\\': '\\', e: '\x1b'};
@@ -17,7 +14,8 @@ const unescaped = text => text.replace(ESCAPE, (all, short, long, sign) =>
 /** Reads a text from front to back. A path has the names and the numbers that lead to an item. */
 class Reader {
   at = 0;
-  places = /** @type {Map<string, Place>} */ (new Map());
+  /** The offsets of the header or key of each item, and of its value, if it has one. */
+  places = new Map();
   headers = /** @type {number[]} */ ([]);
   tables = /** @type {any} */ ({});
 
