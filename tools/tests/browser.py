@@ -36,6 +36,10 @@ class BrowserFault(Exception):
     """The browser doesn't start, doesn't answer, or the page has a fault."""
 
 
+class Navigated(BrowserFault):
+    """The page became another one before it could answer."""
+
+
 # The errors that end a session with the browser.
 FAULTS: tuple[type[Exception], ...] = (OSError, BrowserFault, ValueError,
                                        *([websocket.WebSocketException] if websocket else []))
@@ -106,7 +110,8 @@ class Browser:
                 self.faults.append(details.get('exception', {}).get('description') or details['text'])
             if said.get('id') == self.number:
                 if 'error' in said:
-                    raise BrowserFault('%s: %s' % (name, said['error']['message']))
+                    kind = Navigated if 'navigated' in said['error']['message'] else BrowserFault
+                    raise kind('%s: %s' % (name, said['error']['message']))
                 result: dict[str, Any] = said['result']
                 return result
         raise BrowserFault('no answer to %s' % name)
@@ -145,11 +150,14 @@ class Browser:
 
     def wait(self, script: str) -> None:
         until = time.monotonic() + CALL_SECONDS
-        while not self.run('Boolean(%s)' % script):
-            if time.monotonic() > until:
-                shown = self.run('document.body && document.body.innerText.slice(0, 300)')
-                raise BrowserFault('the page is not ready: %s %s' % (shown, self.faults))
+        while time.monotonic() < until:
+            # (while another page is loaded, there is none to ask)
+            with contextlib.suppress(Navigated):
+                if self.run('Boolean(%s)' % script):
+                    return
             time.sleep(0.05)
+        shown = self.run('document.body && document.body.innerText.slice(0, 300)')
+        raise BrowserFault('the page is not ready: %s %s' % (shown, self.faults))
 
     def settle(self) -> None:
         """Waits until what was asked for is drawn."""

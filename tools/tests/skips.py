@@ -30,9 +30,14 @@ def interpreter_with(test: unittest.TestCase | type[unittest.TestCase], module: 
     return packages.SYSTEM
 
 
-def need_command(test: unittest.TestCase, name: str, package: str) -> None:
+def need(name: str, package: str) -> None:
+    """A command of a package."""
     if not shutil.which(name):
-        test.skipTest('%s is not installed: on Debian `apt-get install %s` installs it' % (name, package))
+        raise unittest.SkipTest('%s is not installed: on Debian `apt-get install %s` installs it' % (name, package))
+
+
+def need_command(_: unittest.TestCase, name: str, package: str) -> None:
+    need(name, package)
 
 
 def need_built() -> None:

@@ -3,6 +3,7 @@ import itertools
 import json
 import re
 import unittest
+from collections.abc import Callable
 from typing import Any
 
 from here import TOP, call, room_of
@@ -185,10 +186,11 @@ class Pages(InBrowser):
         self.browser.wheel(x, y, -400)
         self.assertGreater(self.value(scale), whole * 1.5)
         self.assertAlmostEqual(self.value(under), before, places=6)
-        for what, does in ((begin, lambda: self.browser.wheel(x, y, 100, SHIFT)),
-                           (lane, lambda: self.browser.wheel(x, y, -200, CONTROL)),
-                           (begin, lambda: self.key('ArrowRight', number=39)),
-                           ('-' + begin, lambda: self.browser.drag(x, y, x + 60, y))):
+        moves: list[tuple[str, Callable[[], None]]] = [
+            (begin, lambda: self.browser.wheel(x, y, 100, SHIFT)), (lane, lambda: self.browser.wheel(x, y, -200, CONTROL)),
+            (begin, lambda: self.key('ArrowRight', number=39)),
+            ('-' + begin, lambda: self.browser.drag(x, y, x + 60, y))]
+        for what, does in moves:
             was = self.value(what)
             does()
             self.assertGreater(self.value(what), was, what)
