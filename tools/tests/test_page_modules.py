@@ -1,5 +1,5 @@
-"""The modules of the pages without a browser: how they are joined into one script, their types, and their tests in node,
-which compare what they find in runs of examples, of cases and of random scenarios with what the tools find."""
+"""The modules of the pages without a browser: how they are joined into one script, their types, and their tests in
+node, which compare what they find in runs of examples, cases and random scenarios with what the tools find."""
 import base64
 import json
 import re
@@ -36,8 +36,8 @@ from project.differential.random_scenario import random_scenario
 PAGES = [TOOLS / 'motesim' / name / 'page' for name in ('timeline', 'web', 'studio')]
 ENTRIES = [PAGES[0] / 'open.js', PAGES[1] / 'lone.js', PAGES[1] / 'worker.js', PAGES[2] / 'studio.js']
 MODULES = [path for folder in PAGES for path in sorted(folder.glob('*.js'))]
-OPTIONS = '--allowJs --noEmit --noUnusedLocals --target es2022 --module es2022 --moduleResolution node --skipLibCheck ' \
-          '--lib es2022,dom,dom.iterable'
+OPTIONS = '--allowJs --noEmit --noUnusedLocals --target es2022 --module es2022 --moduleResolution node ' \
+          '--skipLibCheck --lib es2022,dom,dom.iterable'
 TESTS = sorted((TOOLS / 'tests/page').glob('*.test.js'))
 EXAMPLES = sorted(path for path in (TOP / 'examples').glob('*.toml') if not path.name.endswith('.expect.toml'))
 CASES = 'ring_overflows', 'nine_copies_collide', 'copy_past_the_end', 'broadcast_walk', 'runaway_beside_another'
@@ -57,7 +57,8 @@ JOINED = [
     ({'one': TELL % 'one', 'two': TELL % 'two',
       'main': "import {tell} from './one.js';\nimport {tell as other} from './two.js';\nconst own = 'main';\n"
               'console.log(tell(), other(), own);\n'}, 'one two main\n'),
-    ({'one': TELL % 'one', 'main': "import {tell} from './one.js';\ntell();\nconsole.log(typeof own);\n"}, 'undefined\n'),
+    ({'one': TELL % 'one', 'main': "import {tell} from './one.js';\ntell();\nconsole.log(typeof own);\n"},
+     'undefined\n'),
     ({'forms': 'export const [A, B] = [1, 2];\nexport const c = 3;\nexport class D {}\nexport async function e() {}\n'
                'export function f() {}\n',
       'main': "import {\n  A, B, c,\n  D, e, f} from './forms.js';\n"
@@ -68,7 +69,8 @@ REFUSED = [(A, A.replace('./a', './main'), 'modules import one another: main.js,
            (A, 'const a = 1;\n', 'main.js imports a, which a.js does not export'),
            ("import {b} from './nowhere.js';\n", '', 'is not there'),
            *((form + '\n', 'export const a = 1;\n', 'main.js has a form that no page may use: ' + form)
-             for form in ('export default 1;', 'export let a = 1;', "import './a.js';", "import * as a from './a.js';"))]
+             for form in ('export default 1;', 'export let a = 1;', "import './a.js';",
+                          "import * as a from './a.js';"))]
 
 
 def node(*words: str, **variables: str) -> str:

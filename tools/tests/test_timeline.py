@@ -186,8 +186,9 @@ class Pages(InBrowser):
         self.browser.wheel(x, y, -400)
         self.assertGreater(self.value(scale), whole * 1.5)
         self.assertAlmostEqual(self.value(under), before, places=6)
-        moves: list[tuple[str, Callable[[], None]]] = [
-            (begin, lambda: self.browser.wheel(x, y, 100, SHIFT)), (lane, lambda: self.browser.wheel(x, y, -200, CONTROL)),
+        moves: list[tuple[str, Callable[[], object]]] = [
+            (begin, lambda: self.browser.wheel(x, y, 100, SHIFT)),
+            (lane, lambda: self.browser.wheel(x, y, -200, CONTROL)),
             (begin, lambda: self.key('ArrowRight', number=39)),
             ('-' + begin, lambda: self.browser.drag(x, y, x + 60, y))]
         for what, does in moves:

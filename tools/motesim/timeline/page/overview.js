@@ -8,16 +8,19 @@ import {page} from './stage.js';
 /** The colours of lines, the most notable last, with their kinds. Silences have no kind. */
 const RANKED = [['paper'], ['run', START, LEAVE, POST, TAKE], ['recv', RECV], ['quiet'], ['send', SEND],
   ['print', PRINT], ['trouble', FULL, DROP, BUSY, LOST, COLLIDE, DEAF], ['ink', HALT]];
-const RANKS = KINDS.map((_, kind) => RANKED.findIndex(its => its.includes(kind)));
+const RANKS = Uint8Array.from(KINDS, (_, kind) => RANKED.findIndex(its => its.includes(kind)));
 const SILENT = RANKED.findIndex(([colour]) => colour === 'quiet');
 
 /** Adds the ranks of a mote's lines to those of columns, each a pixel wide, which have the most notable one, or 0. */
 export function addRanks(pane, mote, ranks) {
   const {at, kind, silent} = pane.run, {begin, scale} = page.time, [from, to] = pane.linesInView(mote);
   const wide = Math.max(1, Math.floor(scale * 0.7));
-  for (let i = from; i < to; i++) {
-    const x = Math.round((at[i] + 0.5 - begin) * scale - wide / 2), rank = silent[i] ? SILENT : RANKS[kind[i]];
-    for (let j = Math.max(0, x); j < Math.min(ranks.length, x + wide); j++) if (ranks[j] < rank) ranks[j] = rank;
+  for (let i = from; i < to;) {
+    const moment = at[i], x = Math.round((moment + 0.5 - begin) * scale - wide / 2);
+    const end = Math.min(ranks.length, x + wide);
+    let rank = 0;
+    for (; i < to && at[i] === moment; i++) rank = Math.max(rank, silent[i] ? SILENT : RANKS[kind[i]]);
+    for (let j = Math.max(0, x); j < end; j++) if (ranks[j] < rank) ranks[j] = rank;
   }
 }
 
