@@ -25,7 +25,7 @@ from motesim.search.following import follow
 from motesim.search.forms import FORMS, form_of
 from motesim.search.found import Found
 from motesim.search.net import loss_steps, mote_steps, net_of, number_steps, parts, program_steps, without_motes
-from motesim.search.shrink import Shrinking, case_of, parts_and_sentences
+from motesim.search.shrink import Shrinking, case_of, moved, parts_and_sentences
 from motesim.search.shrink_command import STOPPED
 from motesim.search.shrink_found import chosen
 from motesim.search.smaller import smaller_numbers
@@ -47,11 +47,8 @@ def diamond_of(program: str) -> str:
 
 # Parts of a scenario, and what can be left out.
 
-def test_each_form_is_kept() -> None:
+def test_each_form_is_kept_and_examples_run_as_before() -> None:
     assert program_text(read_program(ALL)) == ALL
-
-
-def test_examples_run_as_before() -> None:
     need_built()
     for path in sorted((TOP / 'examples').glob('*.toml')):
         if path.name != 'wrong.toml' and 'mote' in tomllib.loads(path.read_text()):
@@ -102,6 +99,12 @@ def test_places_of_motes() -> None:
     ('motes 1, 3 and 5 print flood', {3}, None), ('mote 2 receives 7 from mote 5', {3}, 'mote 2 receives 7 from mote 4')])
 def test_numbers_follow(sentence: str, removed: set[int], wanted: str | None) -> None:
     assert follow(sentence, NAMES, frozenset(removed)) == wanted
+
+
+@pytest.mark.parametrize('effect, removed, wanted', [
+    (('lose', 3, 5, 2), {1, 4}, ('lose', 2, 3, 2)), (('silent', 3), {3}, None), (('number', 'range', 3), {1}, ('number', 'range', 3))])
+def test_faults_follow(effect: tuple[str | int, ...], removed: set[int], wanted: tuple[str | int, ...] | None) -> None:
+    assert moved(effect, frozenset(removed)) == wanted
 
 
 # What is left.
