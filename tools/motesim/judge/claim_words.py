@@ -27,6 +27,7 @@ def of_number(number: int | None, one: str, many: str) -> str:
 
 
 def period_text(span: Span) -> str:
+    """A span with a space in front of it, such as ` from 3 to 9`; an empty text for the whole run."""
     begin, end = span
     if end is None:
         return ' from %d on' % begin if begin else ''

@@ -150,14 +150,10 @@ class Claims:
         last = self.failing[mote] - 1
         return span[0], last if span[1] is None else min(span[1], last)
 
-    def chosen(self, motes: Motes) -> tuple[int, ...]:
-        numbers = range(self.scenario.motes) if motes.numbers is None else sorted(motes.numbers)
-        return tuple(mote for mote in numbers if mote not in motes.but)
-
     # Sentences about motes
 
     def does(self, it: Does) -> str:
-        chosen, cases = self.chosen(it.motes), list[Case]()
+        chosen, cases = it.motes.chosen(self.scenario.motes), list[Case]()
         for unit in [chosen] if it.motes.kind == 'together' else [(mote,) for mote in chosen]:
             try:
                 cases.append(tuple(self.tests(it, unit)))
@@ -168,7 +164,7 @@ class Claims:
     def tests(self, it: Does, motes: tuple[int, ...]) -> list[Test]:
         """The tests of one mote, or of several together."""
         other = it.than or it.relation
-        others = motes if other is None or other.motes is None else self.chosen(other.motes)
+        others = motes if other is None or other.motes is None else other.motes.chosen(self.scenario.motes)
         event = (other.deed if other else None) or it.deed
         found = list[Test]()
         for span in self.links.spans(it.window, motes[0]):
@@ -228,7 +224,7 @@ class Claims:
 
     def arrived(self, it: Copies, kind: str) -> list[Test]:
         """Copies that became lines of this kind. The interval may depend on the mote."""
-        motes, apart = self.chosen(Motes('together', it.motes)), list[int]()
+        motes, apart = Motes('together', it.motes).chosen(self.scenario.motes), list[int]()
         spans = {}
         for mote in motes:
             try:

@@ -14,6 +14,7 @@ from operator import and_
 from typing import NamedTuple
 
 from motesim.judge import relations
+from motesim.judge.claim_words import period_text
 from motesim.judge.hearing import hearing
 from motesim.judge.links import Apart as Apart
 from motesim.judge.links import Links
@@ -72,13 +73,6 @@ class Row(NamedTuple):
 
 def within(at: int, span: Span) -> bool:
     return span[0] <= at and (span[1] is None or at <= span[1])
-
-
-def span_in_words(span: Span) -> str:
-    """A span with a space in front of it, such as ` from 3 to 9`; an empty text for the whole run."""
-    if span[1] is None:
-        return ' from %d on' % span[0] if span[0] else ''
-    return ' at %d' % span[0] if span[0] == span[1] else ' from %d to %d' % (span[0], span[1])
 
 
 def _first_spare(rows: list[int], count: Count) -> int | None:
@@ -168,7 +162,7 @@ class Judge:
         inside = [event for event in events if within(event.line.at, span)]
         if count.admits(len(inside)):
             return None
-        why = '%s%s; wanted: %s' % (has_lines(self.name(motes), len(inside)), span_in_words(span), count)
+        why = '%s%s; wanted: %s' % (has_lines(self.name(motes), len(inside)), period_text(span), count)
         spare = _first_spare([event.row for event in inside], count)
         if spare is not None:
             return Broken(why, spare)
@@ -206,14 +200,14 @@ class Judge:
             left.remove(value)
         never = verb(self.name(motes), 'print', 'never ')
         lacks = Lack(motes, span, len(deed.values) - len(left), len(deed.values))
-        return Broken('%s %s%s' % (never, ', '.join(map(str, left)), span_in_words(span)), lacks=lacks,
+        return Broken('%s %s%s' % (never, ', '.join(map(str, left)), period_text(span)), lacks=lacks,
                       kind='list') if left else None
 
     def last(self, deed: Deed, events: list[Event], motes: tuple[int, ...], span: Span) -> Broken | None:
         """Checks the value of the last line in a span."""
         allowed = self.links.values(deed.value, motes[0]) if deed.value else set()
         if not events:
-            return Broken('%s no such line%s' % (has(self.name(motes)), span_in_words(span)), lacks=Lack(motes, span),
+            return Broken('%s no such line%s' % (has(self.name(motes)), period_text(span)), lacks=Lack(motes, span),
                           kind='last')
         if events[-1].line.value in allowed:
             return None
@@ -236,7 +230,7 @@ class Judge:
         if it.count.admits(len(one), len(two)):
             return None
         why = '%s: %d lines%s, compared with %d; wanted: %s%s as many' % (
-            self.name(motes), len(one), span_in_words(span), len(two), it.count, '' if it.count.is_part else ' times')
+            self.name(motes), len(one), period_text(span), len(two), it.count, '' if it.count.is_part else ' times')
         most = it.count.number * len(two) // (100 if it.count.is_part else 1)
         if len(one) > most or one and it.count.compare == 'fewer than':
             return Broken(why, one[min(most, len(one) - 1)].row, kind='than')
@@ -247,7 +241,7 @@ class Judge:
                 ) -> Broken | None:
         """Checks that lines are before, after or near others. In `within 10 of each time`, the others are those in a
         span; otherwise the lines are."""
-        why = relations.broken(it, self.name(motes), span_in_words(span), lines, others, self.scenario.end)
+        why = relations.broken(it, self.name(motes), period_text(span), lines, others, self.scenario.end)
         return Broken(*why, None if why[1] else Lack(motes, span), 'order') if why else None
 
     def of_unit(self, it: Does, motes: tuple[int, ...]) -> Broken | None:
@@ -315,8 +309,7 @@ class Judge:
         return '; no mote can print or send %d, which has more than 16 bits' % wanted[0] if wanted else ''
 
     def chosen(self, motes: Motes) -> tuple[int, ...]:
-        numbers = range(self.scenario.motes) if motes.numbers is None else sorted(motes.numbers)
-        return tuple(mote for mote in numbers if mote not in motes.but)
+        return motes.chosen(self.scenario.motes)
 
     def shown_by(self, it: Does, motes: tuple[int, ...]) -> Event | None:
         """The line with which a mote, or several together, have done what the sentence says; of several periods, that in
@@ -343,7 +336,7 @@ class Judge:
         for period in periods(it):
             broken = self.of_motes(period)
             if broken:
-                when = span_in_words(self.spans(period.window, ())[0]).strip()
+                when = period_text(self.spans(period.window, ())[0]).strip()
                 return broken._replace(why='%s: %s' % (when, broken.why))
         return None if periods(it) else self.of_motes(it)
 

@@ -168,6 +168,11 @@ class Motes:
     but: frozenset[int] = frozenset()
     count: Count | None = None
 
+    def chosen(self, motes: int) -> tuple[int, ...]:
+        """The numbers of these motes in a net with so many motes."""
+        numbers = range(motes) if self.numbers is None else sorted(self.numbers)
+        return tuple(mote for mote in numbers if mote not in self.but)
+
 
 @dataclass(frozen=True)
 class Deed:

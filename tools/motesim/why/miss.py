@@ -9,7 +9,8 @@ from functools import cached_property
 from typing import Any, NamedTuple
 
 from motesim.judge.hearing import unheard
-from motesim.judge.judge import Event, Span, span_in_words
+from motesim.judge.claim_words import period_text
+from motesim.judge.judge import Event, Span
 from motesim.judge.sentences import Pattern, Value
 from motesim.scenario.fields import in_words as in_fields
 from motesim.why.chain import count, in_words, used_up
@@ -194,7 +195,7 @@ class _Misses:
         last time."""
         its = [it for it in self.replay.reached if it.statement == number and it.holds is None]
         here = self.inside(its)
-        when = span_in_words(self.missing.span) if len(here) < len(its) else ''
+        when = period_text(self.missing.span) if len(here) < len(its) else ''
         words = '%s was %s%s' % (in_words(self.program, number), 'reached %s' % times(len(here)) if here else
                                  'never reached', when)
         words += ', the last time at %d' % here[-1].at if here else ''
@@ -206,7 +207,7 @@ class _Misses:
                 was = 'was never' if all(it.holds == around.is_else for it in tests) else 'was not'
                 return Miss('condition', '%s; %s was tested %s%s, and %s %s%s, at %d' % (
                     words, in_words(self.program, around.number), times(len(tests)),
-                    span_in_words(self.missing.span) if len(tests) < len(every) else '', was, wanted,
+                    period_text(self.missing.span) if len(tests) < len(every) else '', was, wanted,
                     ', the last time' if was == 'was never' else ' the last time', tests[-1].at))
         return Miss('reached', words)
 
