@@ -54,7 +54,7 @@ def changed(text: str, changes: list[tuple[str, int, int]]) -> str:
 
 
 @given(st.sampled_from([(A, B), (A, A), (B, A)]), CHANGES, CHANGES)
-@settings(max_examples=400)
+@settings(max_examples=150)
 def test_columns_differ_where_lines_do(texts: tuple[str, str], one: list[tuple[str, int, int]],
                                        other: list[tuple[str, int, int]]) -> None:
     """Reports that are changed at random, against a comparison line by line."""

@@ -202,7 +202,7 @@ def test_a_program_of_any_signs_comes_through() -> None:
 def test_the_scenario_of_a_plan_is_that_of_its_text() -> None:
     for text in PLAN, PLAN.replace('[places]', '[queue]\nflood = 4\n[places]', 1):
         known, made = plan(text).builder({}).with_text()
-        assert vars(known) == vars(Scenario.parse(made))
+        assert {**vars(known), 'text': made} == vars(Scenario.parse(made))
 
 
 # Errors.
