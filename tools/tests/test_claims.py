@@ -35,6 +35,20 @@ class Texts(unittest.TestCase):
         (room / 'net.expect.toml').write_text('report = ""\nexpect = %r' % sentences)
         self.assertEqual(call('expect', 'net.toml', '--claims', cwd=room).stdout, wanted)
 
+    def test_lines_halt_of_a_mote_that_fails_count_before_that_moment(self) -> None:
+        scenario = Scenario.parse(SCENARIO)
+        claims, names = Claims(scenario), names_of(scenario)
+        for words, moment, claim in (
+                ('no mote halts', 9, 'exactly 0 of these: motes 0, 2 to 3: at least 1 line "halt"; '
+                 'mote 1: at least 1 line "halt" from 0 to 8'),
+                ('mote 1 never halts after 20', 9, 'mote 1: exactly 0 lines of no kind from 21 on'),
+                ('mote 1 never halts', 0, 'mote 1: exactly 0 lines of no kind'),
+                ('all motes together never halt by 9', 0, 'the net: exactly 0 lines "halt" of motes 0, 2 to 3 together from '
+                 '0 to 9'), ('mote 1 never sends', 9, 'mote 1: exactly 0 lines "send"')):
+            self.assertEqual(claims.of(read_sentence(words, names), {1: moment}), [claim])
+        with self.assertRaises(NoClaim):
+            claims.of(read_sentence("mote 1 never writes 'halt' or 'send'", names), {1: 9})
+
 
 class Page(unittest.TestCase):
     def test_motecheck_writes_what_the_page_shows(self) -> None:

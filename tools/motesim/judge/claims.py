@@ -131,9 +131,11 @@ class Claims:
 
     def deed(self, patterns: Sequence[Pattern], motes: Sequence[int], spans: Sequence[Span]) -> Deed:
         """The lines of motes, each in its span."""
-        spans = [self.before_failure(patterns, mote, span) for mote, span in zip(motes, spans)]
+        early = [self.before_failure(patterns, mote, span) for mote, span in zip(motes, spans)]
         its = [tuple(it for it in (self.pattern(mote, words) for words in patterns) if it and not is_empty(span))
-               for mote, span in zip(motes, spans)]
+               for mote, span in zip(motes, early)]
+        # (without a pattern, the moments don't matter)
+        spans = [part if own else span for part, span, own in zip(early, spans, its)]
         found = {it for it in its if it} or {()}
         if len(found) > 1:
             raise NoClaim('a claim counts lines of several motes by one pattern, which differs here')
