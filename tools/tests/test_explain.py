@@ -93,6 +93,12 @@ def test_a_loss_of_no_packets_isnt_changed_into_a_loss_of_all() -> None:
         assert 'Write, as' not in ' '.join(explained(changed('every = 2', 'every = ' + value)))
 
 
+@pytest.mark.parametrize('value, code', [('30001', 'at-most'), ('-30001', 'at-least')])
+def test_a_number_beyond_a_bound_has_the_bound(value: str, code: str) -> None:
+    found = explain.correction_of(changed('x = 1', 'x = ' + value))
+    assert found and found.code == code
+
+
 @pytest.mark.parametrize('second', ['', 'collide = true\n'])
 @pytest.mark.parametrize('name, part', PARTS.items(), ids=PARTS)
 def test_what_is_lacking_at_the_top_is_added(name: str, part: str, second: str) -> None:
