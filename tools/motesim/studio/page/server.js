@@ -7,12 +7,11 @@ import {Refused} from '../../timeline/page/stage.js';
 const LOST = 'The studio doesn\'t answer. Start it again, and open its page: the browser keeps your text.';
 
 /** @implements {Backend}
- * @typedef {import('../../timeline/page/stage.js').Answer} Answer
  * @typedef {import('../../timeline/page/stage.js').Backend} Backend */
 export class Server {
   isStopped = false;
 
-  /** Runs a text. @param {{text: string, name: string}} asked @returns {Promise<Answer>} */
+  /** Runs a text. */
   async run(asked) {
     this.isStopped = false;
     const got = await this.ask('run', asked), length = new DataView(got).getUint32(0, true);

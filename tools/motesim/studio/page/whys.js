@@ -1,7 +1,7 @@
 // @ts-check
 // The tab *Why*: questions about the run, which the server answers.
-import {chooseLine, chooseRow} from '../../timeline/page/details.js';
-import {byId, element, lineButton, onSubmit, withPlaces} from '../../timeline/page/dom.js';
+import {chooseLine, rowButton} from '../../timeline/page/details.js';
+import {byId, onSubmit} from '../../timeline/page/dom.js';
 import {page} from '../../timeline/page/stage.js';
 import {showTab} from '../../timeline/page/tabs.js';
 import {sayWhy, showChain} from '../../timeline/page/why.js';
@@ -35,15 +35,8 @@ export async function askQuestion(question) {
     showChain(pane, hops, answer.about || (answer.holds ? '' : 'The expectation does not hold.'));
     return chooseLine(pane, Math.max(0, hops[0].line), true);
   }
-  sayWhy(`${answer.about}. The nearest:`,
-    answer.motes.flatMap(({mote, misses}) => misses.map(it => missButton(mote, it))));
-}
-
-/** Something that came near, as a button if a row of the report shows it. */
-function missButton(mote, {words, line: row}) {
-  const text = `mote ${mote}: ${words}`;
-  return row ? lineButton(`line ${row} of the report`, text, '', false, () => chooseRow(page.panes[0], row)) :
-    element('span', '', withPlaces(text));
+  sayWhy(`${answer.about}. The nearest:`, answer.motes.flatMap(({mote, misses}) =>
+    misses.map(it => rowButton(pane, it.line, `mote ${mote}: ${it.words}`))));
 }
 
 /** Lets the server find causes from now on. */

@@ -3,7 +3,7 @@
 import {RECV, SEND, lowerBound} from './data.js';
 import {drawArrow, drawPath, ring, stroke} from './forms.js';
 import {arrivalOf} from './index.js';
-import {FULL_LANE, awayFrom} from './layout.js';
+import {FULL_LANE, awayFrom, nearest} from './layout.js';
 import {page} from './stage.js';
 
 const FEW = 250, MANY = 2500, MOST_VISITED = 15000;
@@ -50,14 +50,7 @@ export function drawArrows(pane) {
 }
 
 /** The copy whose arrow passes near a point, as packet and copy, or null. */
-export function arrowNear(pane, x, y, reach) {
-  let best = reach, found = null;
-  for (const arrow of pane.arrows) {
-    const away = awayFrom(x, y, arrow.ends);
-    if (away < best) [best, found] = [away, arrow];
-  }
-  return found;
-}
+export const arrowNear = (pane, x, y, reach) => nearest(pane.arrows, ({ends}) => awayFrom(x, y, ends), reach);
 
 /** Draws the selection: a ring around its line, and the arrows of its packet. */
 export function drawChosen(pane) {

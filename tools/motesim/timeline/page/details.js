@@ -1,7 +1,7 @@
 // @ts-check
 // The selection: its lines of the report, and related ones. Each line is a button that selects that line.
 import {COLLIDE, DEAF, DROP, LOST, POST, RECV, SEND, TAKE, numbers} from './data.js';
-import {byId, element, lineButton, list, makeButton} from './dom.js';
+import {byId, element, lineButton, list, makeButton, withPlaces} from './dom.js';
 import {redraw} from './draw.js';
 import {FATE_WORDS, MEDIUM, arrivalOf} from './index.js';
 import {SMALL_LANE} from './layout.js';
@@ -150,6 +150,10 @@ export function walk(pane, by, lanes = 0) {
   const line = isHere ? chosen.line + by : run.lineAt(mote, Math.floor(moment));
   chooseLine(pane, Math.max(first, Math.min(end - 1, line)), true);
 }
+
+/** A text about a row of the report, as a button that selects it; as it is, if it is about none. */
+export const rowButton = (pane, row, text) => row ? lineButton(`line ${row} of the report`, text, '', false,
+  () => chooseRow(pane, row)) : element('span', '', withPlaces(text));
 
 /** Selects a row of the report: a line of a trace, a mote by its head, or the send of a packet. */
 export function chooseRow(pane, row) {

@@ -23,6 +23,16 @@ export function awayFrom(x, y, ends) {
   return Math.hypot(x - x0 - along * dx, y - y0 - along * dy);
 }
 
+/** The item of a list that is nearest, within a reach; `farOf` has the distance of an item. */
+export function nearest(items, farOf, reach) {
+  let least = reach, found = null;
+  for (const item of items) {
+    const far = farOf(item);
+    if (far < least) [least, found] = [far, item];
+  }
+  return found;
+}
+
 export class Pane {
   /** Its canvas, with the context and the dots of a pixel. */
   canvas = /** @type {any} */ (null);

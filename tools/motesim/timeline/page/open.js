@@ -2,8 +2,8 @@
 // Opens the page of tools/timeline on the runs that it holds.
 import {chainOf} from './causes.js';
 import {Run, columnsIn} from './data.js';
-import {chooseLine, chooseMote, chooseRow} from './details.js';
-import {byId, element, lineButton, list} from './dom.js';
+import {chooseLine, chooseMote, chooseRow, rowButton} from './details.js';
+import {byId, element, list} from './dom.js';
 import {drawAll} from './draw.js';
 import {beginDrawer} from './drawer.js';
 import {readColours} from './forms.js';
@@ -49,8 +49,7 @@ function openAt({start, mote, note}) {
 
 /** The reason of a note, and the lines about it. */
 function partsOf({why, lines}, pane) {
-  return [element('p', why), list('ul', lines.map(({text, row}) => !row ? element('span', text) :
-    lineButton(`line ${row} of the report`, text, '', false, () => chooseRow(pane, row))))];
+  return [element('p', why), list('ul', lines.map(({text, row}) => rowButton(pane, row, text)))];
 }
 
 /** Shows a note, and its first line that the report has; or the last line of the mote before a missing one. */

@@ -1,7 +1,7 @@
 // @ts-check
 // The places of a run's motes on the map.
 import {lowerBound} from './data.js';
-import {awayFrom} from './layout.js';
+import {awayFrom, nearest} from './layout.js';
 
 // Pixels from the row or the column of another mote within which a mote is moved there; and the margin of the map.
 const SNAP = 6, ROOM = 26;
@@ -118,21 +118,9 @@ export class MapLayout {
 
   /** The mote nearest to a point, or -1 if none is within reach. */
   moteNear(x, y, reach = Math.max(12, this.radius + 4)) {
-    let best = reach, found = -1;
-    for (const m of this.run.begins.keys()) {
-      const away = Math.hypot(x - this.x(m), y - this.y(m));
-      if (away < best) [best, found] = [away, m];
-    }
-    return found;
+    return nearest(this.run.begins.keys(), m => Math.hypot(x - this.x(m), y - this.y(m)), reach) ?? -1;
   }
 
   /** The two motes of the link that passes near a point, or null. */
-  linkNear(x, y) {
-    let best = 7, found = null;
-    for (const pair of this.links()) {
-      const away = awayFrom(x, y, this.way(pair[0], pair[1]));
-      if (away < best) [best, found] = [away, pair];
-    }
-    return found;
-  }
+  linkNear(x, y) { return nearest(this.links(), ([s, r]) => awayFrom(x, y, this.way(s, r)), 7); }
 }

@@ -9,7 +9,6 @@ import {placeOfFault, ruleOf, scenarioOf} from './scenario.js';
 const MOST_TIME = 5000, SLOW = 'The run took longer than 5 seconds, so it was stopped.';
 
 /** @implements {Backend}
- * @typedef {import('../../timeline/page/stage.js').Answer} Answer
  * @typedef {import('../../timeline/page/stage.js').Backend} Backend */
 export class Alone {
   number = 0;
@@ -26,8 +25,7 @@ export class Alone {
     this.script = URL.createObjectURL(new Blob([script], {type: 'text/javascript'}));
   }
 
-  /** Runs a text; a run that goes on is ended.
-   * @param {{text: string, name: string}} asked @returns {Promise<Answer>} */
+  /** Runs a text; a run that goes on is ended. */
   async run({text, name}) {
     const number = ++this.number;
     this.end({superseded: true});

@@ -7,9 +7,8 @@ import {redraw} from '../../timeline/page/draw.js';
 import {drawPath} from '../../timeline/page/forms.js';
 import {delayOf, findHearers} from '../../timeline/page/index.js';
 import {linkInWords} from '../../timeline/page/near.js';
-import {page, Refused} from '../../timeline/page/stage.js';
+import {page} from '../../timeline/page/stage.js';
 import {count} from '../../timeline/page/words.js';
-import {edit} from './edits.js';
 
 const {ground, maps, chosen} = page;
 const ARROWS = {ArrowLeft: [-1, 0], ArrowRight: [1, 0], ArrowUp: [0, -1], ArrowDown: [0, 1]};
@@ -18,10 +17,10 @@ const MAP_KEYS = 'Map of the motes: { and } choose a mote, arrows move it by a t
 // The most motes whose links are shown while one of them is moved.
 const MOST_LINKED = 400;
 
-const sayOnMap = words => { byId('map-said').textContent = words; };
+export const sayOnMap = words => { byId('map-said').textContent = words; };
 
 /** Moves the motes back to the places that they have in the run. */
-function restoreMotes() {
+export function restoreMotes() {
   const [map] = maps, {held} = ground;
   if (!map) return;
   if (held) map.run.places[held.mote] = held.place;
@@ -160,22 +159,8 @@ function nameRemove() {
   if (button.textContent !== name) button.textContent = name;
 }
 
-/** Lets the map change the text from now on. `textOf` has the text; `apply` makes changes of it, and `refuse` says why
- * there are none.
- * @param {() => string} textOf @param {(changes: any[], how: string) => void} apply
- * @param {(words: string) => void} refuse */
-export function beginMotes(textOf, apply, refuse) {
-  page.edit = (wish, how = 'edit') => {
-    try {
-      const {changes, said} = edit(textOf(), wish);
-      sayOnMap(said);
-      if (changes.length) apply(changes, how);
-    } catch (fault) {
-      if (!(fault instanceof Refused)) throw fault;
-      restoreMotes();
-      refuse(fault.message);
-    }
-  };
+/** Lets the map change the text from now on. */
+export function beginMotes() {
   page.followers.push(nameRemove);
   page.mapOverlays.push(drawWay);
   byId('add').addEventListener('click', () => maps.length && setAdding(!ground.adding));

@@ -12,10 +12,11 @@ import {page, Refused} from '../../timeline/page/stage.js';
 import {beginTabs} from '../../timeline/page/tabs.js';
 import {count} from '../../timeline/page/words.js';
 import {difference, effectInWords} from './diff.js';
+import {edit} from './edits.js';
 import {drawDifference, goToDifference} from './flag.js';
 import {beginGallery, firstSentence} from './gallery.js';
 import {beginFiles, showSharing} from './keeping.js';
-import {beginMotes, renewMotes} from './motes.js';
+import {beginMotes, renewMotes, restoreMotes, sayOnMap} from './motes.js';
 import {Pad} from './pad.js';
 import {programsOf} from './scenario.js';
 import {applied, offsetOf} from './text.js';
@@ -83,6 +84,14 @@ export function change(text, how) {
   web.history.take(text, how);
   if (how === 'typed') nameSteps(); else showText();
   changed(how === 'typed' ? PAUSE : 0);
+}
+
+/** Makes a change that the map asks for, or says why there is none. */
+async function changeByMap(wish, how = 'edit') {
+  const {text} = web.history, made = await attempt(() => edit(text, wish));
+  if (!made) return restoreMotes();
+  sayOnMap(made.said);
+  if (made.changes.length) change(applied(text, made.changes), how);
 }
 
 /** Goes back to an earlier text, or on to a later one. */
@@ -263,8 +272,8 @@ export function begin(backend, {cards, texts, words}) {
   web.pad = new Pad(text => change(text, 'typed'), words);
   beginButtons();
   page.overlays.push(drawDifference);
-  beginMotes(() => web.history.text, (changes, how) => change(applied(web.history.text, changes), how),
-    words => say(words, 'bad'));
+  page.edit = changeByMap;
+  beginMotes();
   beginGallery(examples, openExample);
   beginFiles((text, name) => open({where: '', name, text}, {intro: `This is ${name}.`}), words => say(words, 'bad'));
   beginDrawer();
