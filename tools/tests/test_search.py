@@ -118,7 +118,7 @@ ALL_KINDS = ('links', 'both-ways', 'every', 'packets', 'motes', 'deaths', 'late'
 
 
 @given(layouts(), st.data())
-@settings(max_examples=40)
+@settings(max_examples=25)
 def test_the_text_with_faults_is_the_scenario_with_them_and_keeps_all_else(text: str, data: st.DataObject) -> None:
     base = Base(text, 'diamond.toml')
     every = faults_of(base, Asked(ALL_KINDS, (2, 3), (3, 1, 1, 2), (5, 50), (4, 8), {'range': (8, 30), 'per': (7,)}))
