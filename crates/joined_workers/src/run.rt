@@ -42,8 +42,8 @@ fn window_start(group: &WorkerGroup, end: u64) -> u64
 ///
 /// # Errors
 /// `Memory` if an allocation fails; `Thread` if a thread couldn't be started, the gate refused a start, or the
-/// executor returned an error. If several workers failed, the error is that of the worker with the lowest number. It
-/// is never `Stopped`.
+/// executor returned an error. If several workers failed, the error is that of the worker with the lowest number, as a
+/// test shows. It is never `Stopped`.
 pub fn run_by_joins<R, G>(
     rt: &R,
     alloc: Global,

@@ -24,8 +24,9 @@ use worker_window::Gate;
 /// to `until`, and delivers the copies that they sent. Then all senders are gathered.
 ///
 /// # Errors
-/// The error of the worker with the lowest number among those that failed; `Thread` if a thread couldn't be started or
-/// the gate refused a start; `Memory` if an allocation fails. The error is never `Stopped`.
+/// The error of the worker with the lowest number among those that failed (a test shows which one it is); `Thread` if
+/// a thread couldn't be started or the gate refused a start; `Memory` if an allocation fails. The error is never
+/// `Stopped`.
 pub(crate) fn run_window<'a, R, G>(
     rt: &'a R,
     alloc: Global,

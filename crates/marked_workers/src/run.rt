@@ -28,8 +28,8 @@ use worker_window::Gate;
 ///
 /// # Errors
 /// `Memory` if an allocation fails; `Thread` if a thread couldn't be started, the gate refused a start, or the
-/// executor returned an error. If several workers failed, the error is that of the worker with the lowest number. It
-/// is never `Stopped`, because a worker stops only after another failure.
+/// executor returned an error. If several workers failed, the error is that of the worker with the lowest number, as a
+/// test shows. It is never `Stopped`, because a worker stops only after another failure.
 pub fn run_by_marks<'a, R, G>(
     rt: &'a R,
     alloc: Global,

@@ -181,7 +181,7 @@ impl Mote {
     ///
     /// # Errors
     /// In this order: `Failed` if an earlier turn ran out of memory (the mote has failed for good); `Past` if the
-    /// moment isn't later than the last turn (nothing changes then); `Memory` only if an allocation failed.
+    /// moment isn't later than the last turn (nothing changes then); `Memory` if an allocation failed.
     #[tactic(auto, unfolding(crate::specs::Public::node_in, crate::specs::Turn::turn_of))]
     pub fn turn(
         &mut self,

@@ -62,8 +62,8 @@ fn net_from(alloc: Global, top: &Table) -> Result<Net, ScenarioError>
 /// # Errors
 /// The first fault of the text. Faults are looked for in this order: the text's length; its TOML; its tables, in
 /// order; the programs that `queue` and the motes name; the texts of all programs, in byte order of their names; the
-/// numbers and losses of the medium. If an allocation failed, and only then, `Memory` may be returned instead of any
-/// of these.
+/// numbers and losses of the medium. If an allocation failed, `Memory` may be returned instead of any of these; tests
+/// show that it has no other cause.
 pub fn read_scenario(alloc: Global, text: &str) -> Result<Net, ScenarioError>
     ensures answers { Answers text.now result }
 {

@@ -15,7 +15,8 @@ use std::thread::Threads;
 use survey::{Limits, Progress, Survey, survey_in_threads};
 
 /// Finds the minimal sets of these faults with which a claim about the report doesn't hold, within the limits. So
-/// many workers, each with a thread of its own, share the runs. The function joins the threads, so it may wait.
+/// many workers, each with a thread of its own, share the runs; no clause speaks of threads. The function joins the
+/// threads, so it may wait.
 ///
 /// # Errors
 /// `AllocError` if an allocation fails.

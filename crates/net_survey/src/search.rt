@@ -14,8 +14,8 @@ use std::thread::Threads;
 use survey::{Limits, Progress, Survey};
 
 /// Finds the minimal sets of these faults with which a claim doesn't hold in the report of the net's run, within the
-/// limits. So many workers, each with a thread of its own, share the runs. The function joins the threads, so it may
-/// wait.
+/// limits. So many workers, each with a thread of its own, share the runs; no clause speaks of threads. The function
+/// joins the threads, so it may wait.
 ///
 /// # Errors
 /// `AllocError` if an allocation of the search or of a run fails. A run has no other error: a mote that halts says so in

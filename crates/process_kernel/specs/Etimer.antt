@@ -68,8 +68,8 @@ abbrev pub owner_of : Tree → (timer : ℕ) → (current : ℕ) → Proc
 owner_of program timer current = if is_callback program timer then Ctimer else Own current
 
 -- `add_timer()` in `etimer.c`: the etimer process is to be polled (`etimer_request_poll()`), and the timer's callback,
--- if there is one, waits for the timer (`list_add` in `ctimer_set()`). The list of timers itself changes in the
--- functions of `mote_timers`.
+-- if there is one, waits for the timer (`list_add` in `ctimer_set()`, `ctimer_reset()` and `ctimer_restart()`). The
+-- list of timers itself changes in the functions of `mote_timers`.
 unfoldable pub add_timer : KernelState → (timer : ℕ) → KernelState
 add_timer s timer =
     process_poll

@@ -1,5 +1,5 @@
--- The rules of the kernel, in the order of `process.c`. A rule that may call a process takes the two calls as an
--- argument (`Calls`); `calls_of` in `Operations` defines them.
+-- The rules of the kernel, nearly in the order of `process.c`. A rule that may call a process takes the two calls as
+-- an argument (`Calls`); `calls_of` in `Operations` defines them.
 use Rattle.std.specs.Prelude.{not, ◌&&◌, if◌then◌else◌, List, [], ◌∷◌, ℕ, Bool, ◌||◌, false, ◌+◌, length, map}
 use Rattle.program_tree.specs.declared.event.Proc.{Proc}
 use Rattle.program_tree.specs.declared.event.SystemEvent.TheVariants.{Init, Exit, Exited, Poll}
@@ -77,7 +77,7 @@ unfoldable pub process_exit : Calls → KernelState → Proc → (current : ℕ)
 process_exit calls s p current = if is_busy s p then write_of s (what.Busy p) else exit_process calls s p (Own current)
 
 -- The body of the loop of `do_poll()`: if an incarnation is on the list and needs a poll, `needspoll` is cleared and
--- it is called with POLL.
+-- it is called with POLL. Differs: C also sets the state to running, which changes nothing here.
 unfoldable pub poll_turn_of : Calls → KernelState → Member → Went
 poll_turn_of calls s m =
     if is_on_list s m && process_needs_poll s m.process
@@ -97,8 +97,8 @@ do_poll calls s = walk_polls calls s.members (record s { poll_requested = false 
 unfoldable pub do_poll_if_requested : Calls → KernelState → Went
 do_poll_if_requested calls s = if s.poll_requested then do_poll calls s else Goes tt s
 
--- In `do_event()`: an event reaches a process (`call_process()`), or is dropped. Differs: C calls a process that has
--- left too, which has no effect; here a line says that the event was dropped.
+-- In `do_event()`: an event reaches a process (`call_process()`), or is dropped. Differs: C calls an event's only
+-- receiver even if it has left, which has no effect; here a line says that the event was dropped.
 unfoldable pub give_of : Calls → KernelState → Posted → Proc → (is_there : Bool) → Went
 give_of calls s x p is_there =
     if is_there then (write_of s (what.Take x.serial p) >>= λ _ s1. calls.call s1 p x.event)

@@ -189,8 +189,8 @@ impl Kernel {
     }
 
     /// Makes at most `most` kernel runs at this moment, until a run leaves no work or the mote halts. This has the
-    /// same effect as that many calls of `run`. Appends lines and packets to `out`, even if one of the runs is out of
-    /// memory.
+    /// same effect as a call of `run` for each of them. Appends lines and packets to `out`, even if one of the runs is
+    /// out of memory.
     ///
     /// # Errors
     ///

@@ -42,8 +42,10 @@ abbrev pub passes_where : Bool → (other : StatementEffect) → StatementEffect
 passes_where test other = if test then Passes else other
 
 -- The effect of a statement without blocks in the process with this number. The thread has just reached the statement,
--- or is resumed at it because it has yielded. A `pause` posts CONTINUE to its own process, and then waits for a
--- CONTINUE.
+-- or is resumed at it because it has yielded. In `pt.h`, `wait_until` is PT_WAIT_UNTIL, `wait_while` is PT_WAIT_WHILE,
+-- `yield` is PT_YIELD, `yield_until` is PT_YIELD_UNTIL, `spawn` is PT_SPAWN, `restart` is PT_RESTART, and `exit` is
+-- PT_EXIT; `pause` is PROCESS_PAUSE of `process.h`, which posts CONTINUE to its own process and then waits for a
+-- CONTINUE; `acquire` and `signal` are PT_SEM_WAIT and PT_SEM_SIGNAL of `pt-sem.h`.
 abbrev pub deed_of : (process : ℕ) → (is_yielded : Bool) → (variables : List ℕ) → Event → Looks → Action ℕ
     → StatementEffect
 deed_of process yielded vars event looks (assign i e) = Assigns i (value vars event looks e)
@@ -108,8 +110,8 @@ statement_reached code whole yielded vars event looks (branch c a o) rest =
 statement_reached code whole yielded vars event looks (while c a) rest =
     goes_on vars (before false (if holds (value vars event looks c) then listed a ++ while c a ∷ rest else rest))
 
--- the effect of the spawned thread on its spawner: while the thread answers 0 or 1, the spawner answers 0; after 2 or
--- 3 the spawner continues after the spawn
+-- The effect of the spawned thread on its spawner (PT_WAIT_THREAD in PT_SPAWN): while the thread answers PT_WAITING or
+-- PT_YIELDED, the spawner answers PT_WAITING; after PT_EXITED or PT_ENDED the spawner continues after the spawn.
 abbrev pub spawner_reached : (thread : ℕ) → (rest : List (Statement ℕ)) → (variables : List ℕ) → Reached → Reached
 spawner_reached thread rest vars (goes_on changed p) = goes_on changed (within thread p rest)
 spawner_reached thread rest vars (operates o mark p) = operates o mark (within thread p rest)

@@ -59,8 +59,8 @@ where
 /// the reader returned more than 1,048,576 bytes, even if it never ends; `NotText` if the bytes aren't UTF-8;
 /// `Scenario` with the first error in the scenario; `Run` if an allocation of the run failed; `Print` if the writer
 /// failed or took no byte. With `Print`, a prefix of the report has been written; with any other error, nothing has.
-/// If an allocation failed, the error can also be `Memory`, or the `Memory` of a part; these errors have no other
-/// cause.
+/// If an allocation failed, the error can also be `Memory`, or the `Memory` of a part; tests show that these errors
+/// have no other cause.
 #[tactic(auto, using(crate::proofs::Printed::some_bytes))]
 pub fn simulate_serial<R: Read, W: Write>(
     alloc: Global,
@@ -103,7 +103,7 @@ where
     R: Read,
     W: Write,
     G: Gate + Sync,
-    // The clauses of `simulate_serial`, for any number of workers, any partition and both kinds of synchronisation.
+    // The clauses of `simulate_serial`, for 1 to 16 workers, both partitions and both kinds of synchronisation.
     ensures answer { let way = way_of options.now
         in IfSome (R.remaining reader.old)
         (λ input. SimulatedWith way input (W.contents writer.old) (W.contents writer.new) result) }

@@ -54,8 +54,8 @@ fn read_all<R: Read>(alloc: Global, reader: &mut R) -> Result<Vec<u8>, InputErro
 ///
 /// # Errors
 /// In this order: `Read` if a call of the reader failed before the limit was passed, `TooLong` if more than
-/// `LONGEST_TEXT` bytes arrived, `NotText` if the bytes aren't UTF-8. The error can also be `Memory`, but only if an
-/// allocation failed.
+/// `LONGEST_TEXT` bytes arrived, `NotText` if the bytes aren't UTF-8. The error can also be `Memory`, if an allocation
+/// failed; tests show that it has no other cause.
 pub fn read_text<R: Read>(alloc: Global, reader: &mut R) -> Result<String, InputError>
     // If the reader's contents are known, the result is that of reading these bytes.
     ensures matches { IfSome (R.remaining reader.old) (λ input. ReadsText input result) }

@@ -5,8 +5,8 @@ ghost use Rattle.simulation.specs.Laws.{OneReport, ScenarioHasReport, CommandLin
 use net_scenario::laws::at_most_one_net;
 use window_workers::laws::{report_is_one, report_is_there};
 
-/// A text has at most one report: its bytes are the same on one thread and with any number of workers, for both kinds
-/// of synchronisation.
+/// A text has at most one report: its bytes are the same on one thread and with 1 to 16 workers, for both kinds of
+/// synchronisation.
 pub fn at_most_one_report()
     ensures one_report { OneReport }
 {

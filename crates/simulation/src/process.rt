@@ -59,7 +59,7 @@ where
 }
 
 /// Runs `run_command` with the arguments of the process, and returns the exit status of the command. If an argument
-/// isn't UTF-8, the status is 2, and a line in `errors` reports this.
+/// isn't UTF-8, the status isn't 0; a test shows that it is 2, and that a line in `errors` reports this.
 ///
 /// This function isn't next to the program's `main`: a check of `main` would then load again everything on which the
 /// contract of `run_command` depends.

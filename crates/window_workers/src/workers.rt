@@ -147,14 +147,14 @@ where
 
 /// Runs a net with one worker for each inbox, and returns its report. Copies from a mote of one worker to a mote of
 /// another go through the inbox of the receiver's worker. The report is that of the run on one thread, for any
-/// partition and both kinds of synchronisation. The inboxes have marks if the workers are synchronised with marks, and
-/// no marks if they are synchronised with joins. At the end, every sender is gathered.
+/// partition that fits and both kinds of synchronisation. The inboxes have marks if the workers are synchronised with
+/// marks, and no marks if they are synchronised with joins. At the end, every sender is gathered.
 ///
 /// # Errors
 /// `Workers`, `CutLength` or `CutWorker`, the first that applies, exactly if the partition doesn't fit. Otherwise,
 /// `Memory` if an allocation fails, or `Thread` if a thread couldn't be started, the gate refused a start, or an
-/// executor returned an error. If several workers failed, it is the error of the one with the lowest number. After an
-/// error, the inboxes are dropped.
+/// executor returned an error. If several workers failed, it is the error of the one with the lowest number, as a test
+/// shows. After an error, the inboxes are dropped.
 pub fn run_inboxes<R, G>(
     rt: &R,
     alloc: Global,
@@ -191,14 +191,16 @@ where
     run_fitting(rt, alloc, net, cut, sync, gate, pairs)
 }
 
-/// Runs a net with this many workers, each in threads of its own, and returns its report. The report is that of the
-/// run on one thread, for any partition and both kinds of synchronisation. The inboxes are made for the run. At the
-/// end of the run, they are closed, and the copies that are left in them are dropped.
+/// Runs a net with this many workers, and returns its report. The report is that of the run on one thread, for any
+/// partition that fits and both kinds of synchronisation. Tests show that each worker runs in threads of its own. The
+/// inboxes are made for the run. At the end of the run, they are closed, and the copies that are left in them are
+/// dropped.
 ///
 /// # Errors
 /// `Workers`, `CutLength` or `CutWorker`, the first that applies, exactly if the partition doesn't fit. Otherwise,
 /// `Memory` if an allocation fails, or `Thread` if a thread couldn't be started, the gate refused a start, or an
-/// executor returned an error. If several workers failed, it is the error of the one with the lowest number.
+/// executor returned an error. If several workers failed, it is the error of the one with the lowest number, as a test
+/// shows.
 pub fn run_workers<R, G>(
     rt: &R,
     alloc: Global,
