@@ -14,7 +14,7 @@ from motesim.faults import Fault
 SYSTEM = '/usr/bin/python3'
 HANDED_ON = 'MOTESIM_TOOLS_HANDED_ON'
 # For each module, the package of Debian that has it.
-DEBIAN = {'matplotlib': 'python3-matplotlib', 'pandas': 'python3-pandas'}
+DEBIAN = {'matplotlib': 'python3-matplotlib', 'distributed': 'python3-distributed', 'pandas': 'python3-pandas'}
 
 
 def has(module: str, interpreter: str = SYSTEM) -> bool:

@@ -36,7 +36,7 @@ WIDTH = 120
 GRAMMAR_WIDTH, NAME_WIDTH = 116, 10
 PART_OF_RULE = re.compile(r'\{ [^{}]*(?:\{ [^{}]* \})?[^{}]* \}|\[ [^\[\]]* \]|\S+')
 # The options that many tools have, and that the page describes once.
-SHARED = 'seconds', 'memory', 'report', 'bytes', 'jobs'
+SHARED = 'seconds', 'memory', 'report', 'bytes', 'jobs', 'dask'
 PART = re.compile(r'(?<=<!-- written by tools/dev/pages: )(?P<name>[\w ]+)(?P<head> -->\n).*?(?=<!-- end -->)', re.S)
 
 

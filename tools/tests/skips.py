@@ -14,8 +14,8 @@ Test = TypeVar('Test')
 
 
 def long(test: Test) -> Test:
-    """Marks a test, or a class of tests, that compiles C, installs the tools, calls the kit, or repeats a study:
-    `./test --quick` leaves it out."""
+    """Marks a test, or a class of tests, that compiles C, installs the tools, calls the kit, starts a cluster, or
+    repeats a study: `./test --quick` leaves it out."""
     marked: Any = test
     marked.is_long = True
     return test

@@ -75,6 +75,7 @@ def arguments() -> argparse.ArgumentParser:
                        help='the limit of a report, in bytes (16,000,000)')
     words.add_argument('--jobs', type=int, default=os.cpu_count() or 1, metavar='N',
                        help='the number of simultaneous runs (one for each processor)')
+    words.add_argument('--dask', metavar='ADDRESS', help='send the runs to the Dask scheduler at this address')
     words.add_argument('-o', dest='output', metavar='FOLDER', help='the folder of the written files (NAME.search)')
     words.add_argument('--csv', metavar='FILE', help='write a table of the sets that break an expectation')
     words.add_argument('--json', metavar='FILE',

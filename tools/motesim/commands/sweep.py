@@ -64,6 +64,7 @@ def main() -> int:
                        help='the limit of a run, in seconds of processor time (the plan\'s limit, or 60)')
     words.add_argument('--bytes', type=int, default=MOST_BYTES, metavar='N',
                        help='the limit of a report, in bytes (200,000,000)')
+    words.add_argument('--dask', metavar='ADDRESS', help='send the runs to the Dask scheduler at this address')
     words.add_argument('--renew', action='store_true',
                        help='repeat the runs of rows that are older than a change of the plan, of motesim or of a '
                             'measure')

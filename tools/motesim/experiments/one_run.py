@@ -1,6 +1,6 @@
 """One run of a sweep: makes the scenario, runs `motesim` on it, and measures it.
 
-`run_job(work, job)` needs only these two and `motesim`, so it can be called in another process.
+`run_job(work, job)` needs only these two and `motesim`, so it can be called in another process or on another machine.
 """
 from __future__ import annotations
 
@@ -19,8 +19,8 @@ from motesim.plan.tables import Value
 from motesim.processor_time import at_most
 from motesim.report import Report
 from motesim.runner.batch import fault_of
+from motesim.runner.cluster import program_here
 from motesim.runner.process import Limits, Runner
-from motesim.runner.versions import program_digest
 from motesim.report.run import ProgramFault, Run
 from motesim.scenario import Scenario
 
@@ -123,10 +123,8 @@ def run_job(work: Work, job: Job) -> Result:
             builder = plan.builder(job.given)
             known, text = builder.with_text()
             made = made._replace(scenario=digest(text.encode()), rejected=builder.rejected)
-        limits, program = Limits(BUSY * work.seconds, report=work.most_bytes, processor=work.seconds), Path(work.program)
-        if program_digest(program) != work.program_digest:
-            raise ProgramFault('%s has changed since the sweep began' % program)
-        got = Runner(program, limits).answer(text.encode())
+        limits = Limits(BUSY * work.seconds, report=work.most_bytes, processor=work.seconds)
+        got = Runner(program_here(work.program, work.program_digest), limits).answer(text.encode())
         if got.status:
             raise ProgramFault(got.why)
         read = Report.parse(got.report)

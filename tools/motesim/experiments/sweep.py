@@ -9,13 +9,14 @@ from collections import Counter
 from collections.abc import Iterable, Iterator, Mapping
 from pathlib import Path
 
+from motesim import packages
 from motesim.experiments.asked import Sweep, known_names, measures_of, sources_of, sweep_of, unused
 from motesim.experiments.doubts import MEANINGS
 from motesim.experiments.measures import file_of
 from motesim.experiments.one_run import DIGITS, Job, Result, Work, digest
 from motesim.cells import text_of
 from motesim.experiments.results import Head, Results, Row
-from motesim.experiments.runs import Stopped, run_here
+from motesim.experiments.runs import Stopped, run_by_dask, run_here
 from motesim.faults import INTERRUPTED, Fault
 from motesim.files import refuse_inputs
 from motesim.output import beside
@@ -115,14 +116,16 @@ class Sweeper:
                 'plan_sha256': plan or None, 'scenario_sha256': result.scenario or None,
                 'places_sha256': result.places or None, 'report_sha256': result.report or None}
 
-    def run(self, processes: int) -> int:
+    def run(self, processes: int, address: str | None) -> int:
         """Makes the missing runs; returns their number."""
         missing = self.missing()
         if not missing:
             return 0
         jobs, work, progress, made, failed = self.jobs(missing), self.work(), Progress(), 0, 0
+        results = (run_by_dask(jobs, work, len(missing), address) if address else
+                   run_here(jobs, work, min(processes, len(missing))))
         try:
-            for result in run_here(jobs, work, min(processes, len(missing))):
+            for result in results:
                 self.rows[result.place] = self.row(result)
                 self.file.add(self.rows[result.place])
                 made, failed = made + 1, failed + bool(result.fault)
@@ -168,12 +171,14 @@ def sweeper_of(asked: argparse.Namespace) -> Sweeper:
 
 def status_of(asked: argparse.Namespace, sweeper: Sweeper) -> int:
     """The work of tools/sweep; returns the status."""
+    if asked.dask:
+        packages.need('distributed')
     sweeper.open()
     try:
         sweeper.keep(asked.renew, asked.retry)
         for name in unused(sweeper.sweep):
             print('sweep: warning: %s' % UNUSED % (name, name), file=sys.stderr)
-        return said(sweeper, sweeper.run(asked.jobs))
+        return said(sweeper, sweeper.run(asked.jobs, asked.dask))
     except Stopped:
         print('sweep: stopped with %d runs missing; the same command continues' % len(sweeper.missing()),
               file=sys.stderr)

@@ -13,7 +13,7 @@
     work.py            one run of a set of faults
     survey.py          the sets that motecheck decides
     single_packets.py  whether the link of a lost packet loses only this packet in the run
-    runner.py          many runs by several processes
+    runner.py          many runs by several processes, or by a Dask cluster
     kept.py            the sets that were tried, for --resume
     progress.py        the progress of a search, on standard error
     found.py           the files and tables of the sets that were found

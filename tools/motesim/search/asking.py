@@ -16,7 +16,7 @@ from motesim.search.kept import Kept
 from motesim.runner import Limits, Runner, program_path
 from motesim.runner.programs import checker_path
 from motesim.search.prepare import plain_run, prepare
-from motesim.search.runner import Here
+from motesim.search.runner import Here, OnCluster
 from motesim.search.search import Bounds, Search
 from motesim.search.sets import Known, count_of, union
 from motesim.search.survey import survey_of
@@ -81,8 +81,9 @@ class Asking:
                     checker_path())
 
     def search(self, processes: int, kept: Kept, shown: Callable[[Search, int, bool], None] | None = None,
-               asks_end: Callable[[], bool] = lambda: False) -> Search:
-        """Searches until all sets are tried, a limit is reached, or the user ends the search."""
+               asks_end: Callable[[], bool] = lambda: False, address: str | None = None) -> Search:
+        """Searches until all sets are tried, a limit is reached, or the user ends the search; on a Dask cluster if
+        there is an address."""
         held = [number for number in range(len(self.texts)) if number not in self.plain.broken]
         known = Known(self.prepared.faults, mask_of(held))
         search = Search(known, self.bounds, kept, self.prepared.blind_of(), shown)
@@ -93,7 +94,7 @@ class Asking:
             sets = sum(count_of(known.faults, size) for size in range(1, self.bounds.at_most + 1))
             limits = self.limits._replace(seconds=self.limits.seconds + self.seconds * sets)
             search.survey = survey_of(self.base, known.faults, its, self.bounds.at_most, processes, limits, asks_end)
-        runner = Here(self.work(), processes)
+        runner: OnCluster | Here = OnCluster(self.work(), address) if address else Here(self.work(), processes)
         try:
             search.run(runner)
         except KeyboardInterrupt:

@@ -4,6 +4,7 @@ from __future__ import annotations
 import argparse
 from pathlib import Path
 
+from motesim import packages
 from motesim.plan.values import values_of
 from motesim.runner.interrupt import Break
 from motesim.faults import INTERRUPTED, Fault
@@ -179,6 +180,8 @@ def status_of(words: argparse.Namespace) -> int:
         return checked(words.studies, words.jobs)
     if words.scenario is None:
         raise Fault('SCENARIO is missing: tools/search --help says more')
+    if words.dask:
+        packages.need('distributed')
     base = base_of(Path(words.scenario))
     folder = Path(words.output) if words.output else Path(
         Path(words.scenario).name.removesuffix('.toml').removesuffix('.plan') + '.search')
@@ -200,7 +203,7 @@ def searched(words: argparse.Namespace, asking: Asking, folder: Path) -> Search:
     kept.open(folder / STATE, asking.digest(), words.resume)
     progress = ProgressOfSearch(words.progress)
     with Break() as stop:
-        search = asking.search(words.jobs, kept, progress.show_sets, lambda: stop.is_asked)
+        search = asking.search(words.jobs, kept, progress.show_sets, lambda: stop.is_asked, words.dask)
     progress.end_search(search)
     return search
 
