@@ -11,7 +11,7 @@ from typing import NamedTuple
 
 WEB = Path(__file__).resolve().parents[3] / 'web'
 # For each program, the crate from which its module is made.
-SOURCES = {'motesim': 'serial_program'}
+SOURCES = {'motesim': 'serial_program', 'motecheck': 'serial_check'}
 
 
 class About(NamedTuple):
