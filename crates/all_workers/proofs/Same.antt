@@ -1,5 +1,6 @@
 -- The contents of a share depend only on the motes of its worker.
-use Rattle.std.proofs.Common.{◌≡◌, ℕ, true, false, cond, ltb, List, [], refl, ap, ◌∙◌, subst, inl, inr, Some}
+use Rattle.std.proofs.Common.{◌≡◌, ℕ, true, false, cond, ltb, List, [], refl, ap, ◌∙◌, subst, inl, inr}
+use Rattle.std.specs.Prelude.{IsSomeAnd}
 use Rattle.std.specs.List.{filter, flat_map}
 use Rattle.std.proofs.lemmas.Bool.{cases_Bool}
 use Rattle.radio_packet.specs.declared.sent.Sent.{Sent}
@@ -8,11 +9,11 @@ use Rattle.radio_packet.specs.declared.copy.RadioCopy.{RadioCopy}
 use Rattle.mote_net.specs.Net.{NetModel}
 use Rattle.window_laws.specs.Agenda.{Item, wake_items}
 use Rattle.window_laws.specs.Windows.{NoneBefore, copies_by}
-use Rattle.net_agenda.specs.NetSystem.{system_of}
+use Rattle.net_agenda.specs.NetSystem.{system_of, tree_at}
 use Rattle.worker_window.specs.declared.share.Share.{Share}
 use Rattle.worker_cut.specs.Crossed.{is_own, copies_seen}
 use Rattle.worker_window.specs.MoteWindow.{node_number}
-use Rattle.worker_window.specs.Share.{Motes, IsWholeShare, is_to_come, wake_from}
+use Rattle.worker_window.specs.Share.{Motes, IsAtRest, IsWholeShare, is_to_come, mote_here, wake_from}
 
 module _ (n : NetModel) (owners : List ℕ) (worker : ℕ) (a b : Motes) (same : (k : ℕ) → is_own owners worker k ≡ true → a k ≡ b k) where
   own_sends : (s : ℕ) → cond (is_own owners worker s) (a s).sends [] ≡ cond {A = List Sent} (is_own owners worker s) (b s).sends []
@@ -32,12 +33,11 @@ module _ (n : NetModel) (owners : List ℕ) (worker : ℕ) (a b : Motes) (same :
     is_worker = h.is_worker;
     places = h.places;
     numbers = λ k m. subst (λ x. node_number x.state ≡ k) (same k m) (h.numbers k m);
-    nodes = λ k m. h.nodes k m ∙ ap (λ x. Some x.state) (same k m);
+    rests = λ k m. subst (λ x. IsSomeAnd (mote_here share.motes.items k) (IsAtRest (tree_at n k) x)) (same k m) (h.rests k m);
+    elsewhere = h.elsewhere;
     wakes = λ k m. subst (λ x. x.wake ≡ wake_of x.state) (same k m) (h.wakes k m);
     quiet = λ k m. subst (λ x. NoneBefore from x.wake) (same k m) (h.quiet k m);
     turned_before = λ k m. subst (λ x. is_past from x.state.last ≡ false) (same k m) (h.turned_before k m);
-    traces_kept = h.traces_kept;
-    traces = λ k m d. h.traces k m d ∙ ap (λ x. x.lines) (same k m);
     log = λ s. h.log s ∙ own_sends s;
     fates = h.fates;
     agenda = record {

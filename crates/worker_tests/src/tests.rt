@@ -3,13 +3,13 @@
 
 mod few_bytes;
 mod inboxes;
-mod lent_motes;
 mod many_motes;
 mod nets;
 mod observer;
 mod polled;
 mod runs;
 mod shares;
+mod windows;
 
 use few_bytes::FewBytes;
 use inboxes::write_inboxes;

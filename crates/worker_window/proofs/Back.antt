@@ -1,8 +1,8 @@
--- A mote returns to its share.
+-- A mote comes to rest after its window.
 use Rattle.std.proofs.Common.{◌≡◌, ℕ, ◌+◌, ◌<◌, ◌≤◌, Bool, true, false, cond, not, ◌&&◌, ◌||◌, ltb, eqb, List, [], ◌∷◌}
-use Rattle.std.proofs.Common.{◌++◌, length, map, get_or, refl, sym, ap, ◌∙◌, subst, inl, inr, arith, append-nil}
+use Rattle.std.proofs.Common.{◌++◌, length, map, refl, sym, ap, ◌∙◌, subst, inl, inr, arith, append-nil}
 use Rattle.std.proofs.Common.{Option, Some, None, get_or-set_same, get_or-set_other}
-use Rattle.std.specs.Prelude.{Vec}
+use Rattle.std.specs.Prelude.{Vec, IsSomeAnd}
 use Rattle.std.specs.List.{filter, flat_map, AllByRecursion}
 use Rattle.std.specs.declared.alloc.Global.{Global}
 use Rattle.std.proofs.lemmas.Bool.{cases_Bool, cases_eq, eq-eqb, eqb-true, ne_eqb, false≢true, lt-ltb}
@@ -23,19 +23,23 @@ use Rattle.window_laws.proofs.Agenda.{other_wake}
 use Rattle.window_laws.proofs.Lists.{filter_none, filter_every, filter_stronger, every_filter, every_passes}
 use Rattle.window_laws.proofs.Lists.{every_weaker}
 use Rattle.worker_window.specs.declared.out.WindowOut.{WindowOut}
+use Rattle.worker_window.specs.declared.own.OwnWindow.{OwnWindow}
+use Rattle.worker_window.specs.Out.{out_of}
+use Rattle.mote_node.specs.Public.{node_in}
 use Rattle.net_agenda.specs.Buckets.{HoldsItems}
 use Rattle.net_agenda.specs.Changes.{without_wakes}
 use Rattle.net_agenda.specs.NetSystem.{tree_at, system_of}
 use Rattle.worker_window.specs.declared.share.Share.{Share}
 use Rattle.worker_cut.specs.Crossed.{is_own, copies_seen, is_for_others}
 use Rattle.worker_window.specs.MoteWindow.{node_number}
-use Rattle.worker_window.specs.Share.{Motes, IsShare, HasToCome, node_at, mote_here, is_to_come, wake_from}
+use Rattle.worker_window.specs.Share.{Motes, IsAtRest, IsShare, HasToCome, mote_here, is_to_come, wake_from}
 use Rattle.worker_window.specs.Window.{outgoing_by}
-use Rattle.worker_window.specs.Lending.{is_one_of, MoteReturns}
+use Rattle.worker_window.specs.Resting.{ComesToRest}
+use Rattle.worker_window.specs.Events.{is_one_of}
 use Rattle.worker_window.specs.Log.{packets_in}
 use Rattle.worker_window.proofs.Gives.{IsBack, ComesLate, come_late}
 use Rattle.worker_window.proofs.Items.{wake_still}
-use Rattle.worker_window.proofs.Lent.{among_more}
+use Rattle.worker_window.proofs.Numbers.{among_more}
 
 late : (at until : ℕ) → until ≤ at → not (ltb at until) ≡ true
 late at until h = grind (arith, nat_tests)
@@ -53,10 +57,6 @@ filter_same p q (x ∷ xs) h = let e = h.0 in rw e (ap (λ l. cond (q x) (x ∷ 
 or_none : (b : Bool) → (b || false) ≡ b
 or_none true = refl
 or_none false = refl
-
-or_yes : (b : Bool) → (b || true) ≡ true
-or_yes true = refl
-or_yes false = refl
 
 packets_unwoken : (k : ℕ) (items : List Item) → packets (without_wakes k items) ≡ packets items
 packets_unwoken k [] = refl
@@ -79,10 +79,13 @@ other_woken j k ne items = filter_stronger (is_wake_of j) (λ item. not (is_wake
     other (Packet c) e = absurd (false≢true e)
 
 module _ (n : NetModel) (owners : List ℕ) (worker from until : ℕ) (before now : Motes) (taken : List RadioCopy) (window_copies : ℕ → List RadioCopy) (placed : length n.radio.places ≡ length n.motes)
-    (short : until ≤ from + (system_of n).lookahead) (others : List ℕ) (k : ℕ) (new : is_one_of k others ≡ false) (out : WindowOut) (back : IsBack n (is_own owners worker) from until before window_copies k out)
+    (short : until ≤ from + (system_of n).lookahead) (others : List ℕ) (k : ℕ) (new : is_one_of k others ≡ false) (window : OwnWindow) (back : IsBack n (is_own owners worker) from until before window_copies k (out_of window))
     (waits : now k ≡ before k) where
   abbrev own : ℕ → Bool
   own = is_own owners worker
+
+  abbrev out : WindowOut
+  out = out_of window
 
   abbrev outgoing : ℕ → Bool
   outgoing j = own j && not (is_one_of j (others ++ k ∷ []))
@@ -98,12 +101,6 @@ module _ (n : NetModel) (owners : List ℕ) (worker from until : ℕ) (before no
 
   pub elsewhere : (j : ℕ) → (j ≡ k → ⊥) → next j ≡ now j
   elsewhere j ne = let e : eqb j k ≡ false = ne_eqb j k ne in rw e refl
-
-  here_k : here k ≡ true
-  here_k = ap (λ b. own k && not b) new ∙ (let e = back.mine in rw e refl)
-
-  away_k : outgoing k ≡ false
-  away_k = ap (λ b. own k && not b) (among_more k others k ∙ (ap (λ b. is_one_of k others || b) (eq-eqb k k refl) ∙ or_yes (is_one_of k others))) ∙ (let e = back.mine in rw e refl)
 
   same_here : (j : ℕ) → (j ≡ k → ⊥) → outgoing j ≡ here j
   same_here j ne = ap (λ b. own j && not b) (among_more j others k ∙ (ap (λ b. is_one_of j others || b) (ne_eqb k j (λ f. ne (sym f))) ∙ or_none (is_one_of j others)))
@@ -160,8 +157,11 @@ module _ (n : NetModel) (owners : List ℕ) (worker from until : ℕ) (before no
           ap (λ l. cond (own s) (filter (is_for_others own) l) []) (copies_put s ne)
           ∙ sym (ap (λ l. outgoing_by n own now s ++ l) (from_others (is_for_others own) s ne) ∙ append-nil (outgoing_by n own now s))
 
-  module _ (old share : Share) (in_state : IsShare n owners worker outgoing until now taken old) (gone later : List RadioCopy)
-      (wake : Option ℕ) (pending : wake ≡ wake_from until (before k).wake) (ret : MoteReturns n.radio owners k wake out old share gone later) where
+  module _ (pending : window.pending ≡ (before k).wake) (old share : Share) (in_state : IsShare n owners worker outgoing until now taken old) (gone later : List RadioCopy)
+      (rested : ComesToRest n.radio owners until k window old share gone later) where
+    abbrev wake : Option ℕ
+    wake = wake_from until window.pending
+
     abbrev has : HasToCome n own until now taken old.agenda.buckets
     has = in_state.agenda
 
@@ -169,7 +169,7 @@ module _ (n : NetModel) (owners : List ℕ) (worker from until : ℕ) (before no
     items = (without_wakes k has.items ++ wake_items k out.wake) ++ map Packet sent_own
 
     awake : filter (is_wake_of k) has.items ≡ wake_items k wake
-    awake = has.wakes k ∙ (ap (λ b. cond b (wake_items k (wake_from until (now k).wake)) []) back.mine ∙ ap (wake_items k) (ap (λ m. wake_from until m.wake) waits ∙ sym pending))
+    awake = has.wakes k ∙ (ap (λ b. cond b (wake_items k (wake_from until (now k).wake)) []) back.mine ∙ ap (wake_items k) (ap (λ m. wake_from until m.wake) waits ∙ ap (wake_from until) (sym pending)))
 
     worker_own : filter (λ copy. is_own owners old.worker copy.to) sent ≡ sent_own
     worker_own = ap (λ w. filter (λ copy. is_own owners w copy.to) sent) in_state.is_worker
@@ -177,11 +177,28 @@ module _ (n : NetModel) (owners : List ℕ) (worker from until : ℕ) (before no
     within : k < length old.motes.items
     within = let a = back.there in let b = in_state.places in omega arith
 
-    mote_k : mote_here share.motes.items k ≡ Some out.mote
-    mote_k = ap (λ l. mote_here l k) ret.motes ∙ get_or-set_same old.motes.items k (Some out.mote) None within
+    mote_k : mote_here share.motes.items k ≡ Some rested.rested
+    mote_k = ap (λ l. mote_here l k) rested.motes ∙ get_or-set_same old.motes.items k (Some rested.rested) None within
 
     mote_else : (j : ℕ) → (j ≡ k → ⊥) → mote_here share.motes.items j ≡ mote_here old.motes.items j
-    mote_else j ne = ap (λ l. mote_here l j) ret.motes ∙ get_or-set_other old.motes.items k j (Some out.mote) None ne
+    mote_else j ne = ap (λ l. mote_here l j) rested.motes ∙ get_or-set_other old.motes.items k j (Some rested.rested) None ne
+
+    -- the mote is at rest
+    at_rest : IsAtRest (tree_at n k) back.last rested.rested
+    at_rest =
+        let r = rested.is_rested in
+        record {
+          holds = record {
+            node = ap (node_in (tree_at n k)) r.mote ∙ back.node;
+            wake = r.wake ∙ back.wake;
+            pending = r.pending ∙ back.wake;
+            next = r.next;
+            lines = ap (λ (l : Vec Line Global). l.items) r.lines ∙ sym back.lines;
+            sends = r.sends;
+          };
+          no_copies = r.copies;
+          not_called = r.called;
+        }
 
     wakes_are : (j : ℕ) → filter (is_wake_of j) items ≡ filter (is_wake_of j) (without_wakes k has.items) ++ filter (is_wake_of j) (wake_items k out.wake)
     wakes_are j =
@@ -243,32 +260,28 @@ module _ (n : NetModel) (owners : List ℕ) (worker from until : ℕ) (before no
 
     pub is_back : IsShare n owners worker here until next taken share
     is_back = record {
-      is_worker = ret.worker ∙ in_state.is_worker;
-      places = ap length ret.motes ∙ (length-set old.motes.items k (Some out.mote) ∙ in_state.places);
+      is_worker = rested.worker ∙ in_state.is_worker;
+      places = ap length rested.motes ∙ (length-set old.motes.items k (Some rested.rested) ∙ in_state.places);
       numbers = all_here (λ j m. node_number m.state ≡ j) back.number_is in_state.numbers;
-      nodes =
-          by_mote (λ j. here j ≡ true → node_at (tree_at n j) (mote_here share.motes.items j) ≡ Some (next j).state)
-          (λ _. ap (node_at (tree_at n k)) mote_k ∙ (back.node ∙ ap (λ m. Some m.state) (sym at_k)))
-          (λ j ne h. ap (node_at (tree_at n j)) (mote_else j ne) ∙ (in_state.nodes j (same_here j ne ∙ h) ∙ ap (λ m. Some m.state) (sym (elsewhere j ne))));
+      rests =
+          by_mote (λ j. here j ≡ true → IsSomeAnd (mote_here share.motes.items j) (IsAtRest (tree_at n j) (next j)))
+          (λ _. subst (λ (o : Option OwnWindow). IsSomeAnd o (IsAtRest (tree_at n k) (next k))) (sym mote_k) (subst (λ m. IsAtRest (tree_at n k) m rested.rested) (sym at_k) at_rest))
+          (λ j ne h. subst (λ (o : Option OwnWindow). IsSomeAnd o (IsAtRest (tree_at n j) (next j))) (sym (mote_else j ne))
+          (subst (λ m. IsSomeAnd (mote_here old.motes.items j) (IsAtRest (tree_at n j) m)) (sym (elsewhere j ne)) (in_state.rests j (same_here j ne ∙ h))));
+      elsewhere = λ j away. mote_else j (λ e. false≢true (sym away ∙ (ap own e ∙ back.mine))) ∙ in_state.elsewhere j away;
       wakes = all_here (λ j m. m.wake ≡ wake_of m.state) back.wakes in_state.wakes;
       quiet = all_here (λ j m. NoneBefore until m.wake) back.quiet in_state.quiet;
       turned_before = all_here (λ j m. is_past until m.state.last ≡ false) back.turned_before in_state.turned_before;
-      traces_kept = ret.traces_kept ∙ in_state.traces_kept;
-      traces =
-          by_mote (λ j. here j ≡ true → (d : Vec Line Global) → (get_or share.traces.items j d).items ≡ (next j).lines)
-          (λ h d. ret.traces k d ∙ (ap (λ b. cond b out.lines.items (get_or old.traces.items k d).items) (eq-eqb k k refl) ∙ (sym back.lines ∙ ap (λ m. m.lines) (sym at_k))))
-          (λ j ne h d. ret.traces j d ∙ (ap (λ b. cond b out.lines.items (get_or old.traces.items j d).items) (ne_eqb j k ne)
-          ∙ (in_state.traces j (same_here j ne ∙ h) d ∙ ap (λ m. m.lines) (sym (elsewhere j ne)))));
       log =
           by_mote (λ s. filter (is_sent_by s) (packets_in share.log.items) ≡ cond (own s) (next s).sends [])
           (log_split k ∙ (let e = back.mine in rw e (ap (λ l. (now k).sends ++ l) (filter_every (is_sent_by k) out.sends.items (every_weaker _ _ (λ x h. eq-eqb x.sender k h.sender) out.sends.items back.sent))
           ∙ (ap (λ m. m.sends ++ out.sends.items) waits ∙ (sym back.sends ∙ ap (λ m. m.sends) (sym at_k))))))
           (λ s ne. log_split s ∙ (ap (λ l. cond (own s) (now s).sends [] ++ l) (filter_none (is_sent_by s) out.sends.items (every_weaker _ _ (λ x h. ne_eqb x.sender s (λ f. ne (sym f ∙ h.sender))) out.sends.items back.sent))
           ∙ (append-nil (cond (own s) (now s).sends []) ∙ ap (λ m. cond (own s) m.sends []) (sym (elsewhere s ne)))));
-      fates = ret.fates in_state.fates;
+      fates = rested.fates in_state.fates;
       agenda = record {
         items = items;
-        holds = subst (λ l. HoldsItems share.agenda.buckets ((without_wakes k has.items ++ wake_items k out.wake) ++ map Packet l)) worker_own (ret.agenda has.items has.holds awake);
+        holds = subst (λ l. HoldsItems share.agenda.buckets ((without_wakes k has.items ++ wake_items k out.wake) ++ map Packet l)) worker_own (rested.agenda has.items has.holds awake);
         wakes = new_wakes;
         copies = new_copies;
       };
@@ -276,5 +289,5 @@ module _ (n : NetModel) (owners : List ℕ) (worker from until : ℕ) (before no
       where
         log_split : (s : ℕ) → filter (is_sent_by s) (packets_in share.log.items) ≡ cond (own s) (now s).sends [] ++ filter (is_sent_by s) out.sends.items
         log_split s =
-            ap (filter (is_sent_by s)) ret.log
+            ap (filter (is_sent_by s)) rested.log
             ∙ (filter-append (is_sent_by s) (packets_in old.log.items) out.sends.items ∙ ap (λ l. l ++ filter (is_sent_by s) out.sends.items) (in_state.log s))

@@ -1,14 +1,12 @@
 -- A share before the motes' first turns.
-use Rattle.std.proofs.Common.{◌≡◌, ℕ, ◌+◌, ◌<◌, Bool, true, cond, ltb, List, [], ◌∷◌, ◌++◌, length, map, get_or, refl}
+use Rattle.std.proofs.Common.{◌≡◌, ℕ, ◌+◌, ◌<◌, Bool, true, cond, ltb, List, [], ◌∷◌, ◌++◌, length, map, refl}
 use Rattle.std.proofs.Common.{sym, ap, ◌∙◌, subst, inl, inr, arith, add-one, zero-le, Option, Some, None}
-use Rattle.std.specs.Prelude.{Vec}
+use Rattle.std.specs.Prelude.{IsSomeAnd}
 use Rattle.std.specs.List.{filter}
-use Rattle.std.specs.declared.alloc.Global.{Global}
-use Rattle.std.proofs.lemmas.Bool.{cases_Bool, lt-ltb, false≢true}
+use Rattle.std.proofs.lemmas.Bool.{cases_Bool, cases_lt, lt-ltb, false≢true}
 use Rattle.std.proofs.lemmas.List.{map-append}
 use Rattle.std.proofs.lemmas.List.Elements.{filter-append}
 use Rattle.std.proofs.lemmas.Option.{slice_get_cases}
-use Rattle.trace_lines.specs.declared.line.Line.{Line}
 use Rattle.mote_node.specs.Turn.{is_past, wake_of}
 use Rattle.mote_net.specs.Net.{NetModel}
 use Rattle.window_laws.specs.Agenda.{Wake, packets, is_wake_of, wake_items, mote_of, up_to}
@@ -21,7 +19,10 @@ use Rattle.net_agenda.proofs.NewWakes.{new_wakes, new_numbers}
 use Rattle.worker_window.specs.declared.share.Share.{Share}
 use Rattle.worker_cut.specs.Crossed.{is_own, copies_seen}
 use Rattle.worker_window.specs.Log.{HaveFates, packets_in}
-use Rattle.worker_window.specs.Share.{node_at, mote_here, IsWholeShare, is_to_come}
+use Rattle.worker_window.specs.Share.{mote_here, IfOwn, IsAtRest, IsFirst, IsWholeShare, is_to_come}
+use Rattle.worker_window.specs.declared.own.OwnWindow.{OwnWindow}
+use Rattle.worker_window.proofs.Places.{none_behind}
+use Rattle.mote_node.specs.Public.{wake_in}
 use Rattle.worker_window.proofs.NoTurnIsPast.{not_begun}
 use Rattle.worker_window.proofs.Items.{all_wakes}
 
@@ -77,21 +78,46 @@ module _ (n : NetModel) (owners : List ℕ) (worker : ℕ) (long : length owners
         | inr e ↦ rw e refl
       ]
 
-  pub begins : (share : Share) → share.worker ≡ worker → length share.motes.items ≡ length n.motes → length share.traces.items ≡ length n.motes
-      → ((k : ℕ) → k < length n.motes → own k ≡ true → node_at (tree_at n k) (mote_here share.motes.items k) ≡ Some (first_node_in n k))
-      → ((k : ℕ) (d : Vec Line Global) → k < length n.motes → (get_or share.traces.items k d).items ≡ [])
+  first_wake : (k : ℕ) → own k ≡ true → (first_mote (system_of n) k).wake ≡ wake_of (first_node_in n k)
+  first_wake k mine = wakes_at_0 k mine ∙ sym (new_wakes n k)
+
+  no_lines : (k : ℕ) → (first_mote (system_of n) k).lines ≡ []
+  no_lines k = refl
+
+  -- a new mote is at rest
+  at_first : (k : ℕ) (mote : Option OwnWindow) → own k ≡ true → IsSomeAnd mote (IsFirst n k) → IsSomeAnd mote (IsAtRest (tree_at n k) (first_mote (system_of n) k))
+  at_first k None mine first = absurd first
+  at_first k (Some one) mine first =
+      let wake : one.wake ≡ (first_mote (system_of n) k).wake = first.new.wake (tree_at n k) ∙ (ap wake_in first.node ∙ sym (first_wake k mine)) in
+      record {
+        holds = record {
+          node = first.node ∙ ap Some (sym (first_state k));
+          wake = wake;
+          pending = first.new.pending ∙ wake;
+          next = first.new.next;
+          lines = first.new.lines ∙ sym (no_lines k);
+          sends = first.new.sends;
+        };
+        no_copies = first.new.copies_are;
+        not_called = first.new.called;
+      }
+
+  none_else : (motes : List (Option OwnWindow)) (k : ℕ) → (k < length motes → mote_here motes k ≡ None) → mote_here motes k ≡ None
+  none_else motes k none = elim (cases_lt k (length motes)) [ inl low ↦ none low | inr high ↦ none_behind motes k (λ low. absurd (omega arith)) ]
+
+  pub begins : (share : Share) → share.worker ≡ worker → length share.motes.items ≡ length n.motes
+      → ((k : ℕ) → k < length n.motes → IfOwn (own k) (mote_here share.motes.items k) (IsFirst n k))
       → share.log.items ≡ [] → HoldsItems share.agenda.buckets (map (λ k. Wake 0 k) (filter own (up_to (length n.motes))))
       → IsWholeShare n owners worker 0 (first_mote (system_of n)) [] share
-  begins share is_worker motes traced nodes traces log holds = record {
+  begins share is_worker motes firsts log holds = record {
     is_worker = is_worker;
     places = motes;
     numbers = λ k mine. ap (λ s. s.mote.state.mote) (first_state k) ∙ new_numbers n k;
-    nodes = λ k mine. (let h = own_there owners worker k mine in nodes k (omega arith) mine ∙ ap Some (sym (first_state k)));
+    rests = λ k mine. (let h = own_there owners worker k mine in at_first k (mote_here share.motes.items k) mine (subst (λ b. IfOwn b (mote_here share.motes.items k) (IsFirst n k)) mine (firsts k (omega arith))));
+    elsewhere = λ k away. none_else share.motes.items k (λ low. subst (λ b. IfOwn b (mote_here share.motes.items k) (IsFirst n k)) away (firsts k (subst (λ m. k < m) motes low)));
     wakes = λ k mine. wakes_at_0 k mine ∙ (sym (new_wakes n k) ∙ ap wake_of (sym (first_state k)));
     quiet = quiet;
     turned_before = λ k mine. ap (λ s. is_past 0 s.last) (first_state k) ∙ not_begun n k 0;
-    traces_kept = traced;
-    traces = λ k mine d. (let h = own_there owners worker k mine in traces k d (omega arith));
     log = λ s. ap (λ lines. filter (is_sent_by s) (packets_in lines)) log ∙ elim (cases_Bool (own s)) [ inl e ↦ rw e refl | inr e ↦ rw e refl ];
     fates = subst (HaveFates n.radio) (sym log) tt;
     agenda = record { items = map (λ k. Wake 0 k) (filter own (up_to (length n.motes))); holds = holds; wakes = λ k. wakes k ∙ sym (all_wakes own 0 (first_mote (system_of n)) quiet k); copies = no_copies };

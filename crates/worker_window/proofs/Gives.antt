@@ -1,12 +1,10 @@
 -- The result of a mote in its window, as part of the net.
-use Rattle.std.proofs.Common.{◌≡◌, ◌⊎◌, ℕ, ◌+◌, ◌<◌, ◌≤◌, Bool, true, false, List, [], ◌∷◌, ◌++◌, length, map, refl}
-use Rattle.std.proofs.Common.{sym, ap, ◌∙◌, subst, inl, inr, arith, append-nil, Option, Some, None, option_map}
-use Rattle.std.proofs.Common.{unwrap_or, slice_get, get_or}
+use Rattle.std.proofs.Common.{◌≡◌, ℕ, ◌+◌, ◌<◌, ◌≤◌, Bool, true, false, List, [], ◌∷◌, ◌++◌, length, map, drop, refl}
+use Rattle.std.proofs.Common.{sym, ap, ◌∙◌, subst, arith, append-nil, Option, Some, None, option_map}
+use Rattle.std.specs.Prelude.{MatchOption}
 use Rattle.std.specs.List.{flat_map, AllByRecursion}
-use Rattle.std.proofs.lemmas.Option.{slice_get_cases}
 use Rattle.trace_lines.specs.declared.line.Line.{Line}
 use Rattle.radio_packet.specs.declared.sent.Sent.{Sent}
-use Rattle.mote_node.specs.declared.mote.Mote.{Mote}
 use Rattle.mote_node.specs.Turn.{Node, is_past, wake_of}
 use Rattle.mote_node.specs.Public.{node_in}
 use Rattle.mote_node.proofs.WakeLaws.{wakes_later}
@@ -14,21 +12,22 @@ use Rattle.mote_laws.proofs.Stamps.{turns_stamp}
 use Rattle.radio_packet.specs.declared.copy.RadioCopy.{RadioCopy}
 use Rattle.radio_medium.specs.Medium.{copies, lookahead}
 use Rattle.radio_medium.proofs.Copies.{copies_later}
-use Rattle.mote_net.specs.Net.{MoteSetup, NetModel}
+use Rattle.mote_net.specs.Net.{NetModel}
 use Rattle.window_laws.specs.Forward.{IsLater}
 use Rattle.window_laws.specs.NetStep.{stamped}
 use Rattle.window_laws.specs.Windows.{LoneMote, NoneBefore, lone_turn, IsQuiet, Alone}
 use Rattle.window_laws.proofs.Lists.{every_append, every_weaker, every_flat_map}
 use Rattle.worker_window.specs.declared.out.WindowOut.{WindowOut}
-use Rattle.worker_window.specs.declared.lent_mote.LentMote.{LentMote}
-use Rattle.worker_window.specs.MoteWindow.{lone_node, node_number}
+use Rattle.worker_window.specs.declared.own.OwnWindow.{OwnWindow}
+use Rattle.worker_window.specs.MoteWindow.{Window, lone_node, node_number}
+use Rattle.worker_window.specs.Own.{window_in, course_in, window_over, GivesNoMore}
+use Rattle.worker_window.specs.Turns.{MayGive, CanGoOn}
 use Rattle.worker_window.specs.Out.{Gives}
 use Rattle.worker_window.specs.Laws.{IsAhead}
-use Rattle.worker_window.specs.Shares.{LentMoteGives, LentMoteGoesOn}
 use Rattle.net_agenda.specs.Buckets.{arrival_of}
-use Rattle.net_agenda.specs.NetSystem.{mote_at, no_mote, tree_at, system_of, node_turn}
+use Rattle.net_agenda.specs.NetSystem.{tree_at, system_of, node_turn}
 use Rattle.net_agenda.proofs.Systems.{turn_wakes}
-use Rattle.worker_window.specs.Share.{Motes}
+use Rattle.worker_window.specs.Share.{Motes, HoldsMote}
 use Rattle.worker_window.proofs.NoTurnIsPast.{turn_before}
 use Rattle.worker_window.proofs.Lone.{in_front, alone_in_front, alone_alike, alone_keeps, rests_quiet, IsAlike}
 
@@ -72,31 +71,30 @@ reported_equals (Some x) out last e =
       sends = ap (λ (m : LoneMote Node Line). m.sends) f;
     }
 
-mote_there : (n : NetModel) (k : ℕ) → k < length n.motes → slice_get n.motes k ≡ Some (mote_at n.motes k)
-mote_there n k h = owners (slice_get n.motes k) refl ((slice_get_cases n.motes k).1)
-  where
-    owners : (o : Option MoteSetup) → slice_get n.motes k ≡ o → ((x : MoteSetup) × (k < length n.motes) × (slice_get n.motes k ≡ Some x) × (get_or n.motes k x ≡ x)) ⊎ ((length n.motes ≤ k) × (slice_get n.motes k ≡ None))
-        → slice_get n.motes k ≡ Some (mote_at n.motes k)
-    owners None e (inl w) = absurd (none_is_not w.0 (sym e ∙ w.2))
-      where
-        none_is_not : {X : Type 0} (x : X) → None ≡ Some x → ⊥
-        none_is_not x e = cc
-    owners None e (inr w) = absurd (let l = w.0 in omega arith)
-    owners (Some x) e w = e ∙ ap Some (sym (ap (λ o. unwrap_or o no_mote) e))
+-- the window that a mote has before its first turn in it
+abbrev pub begun : NetModel → (until k : ℕ) → LoneMote Node Line → List RadioCopy → Window
+begun n until k mote given = record { program = tree_at n k; until = until; copies = given; mote = lone_node mote.lines mote.state }
 
--- the window of a lent mote that is a mote of the net
-pub gives_open : (n : NetModel) (until : ℕ) (r : LentMote) (out : WindowOut) (state : Node) → r.number < length n.motes → node_in (tree_at n r.number) r.mote ≡ Some state → LentMoteGives n until r out
-    → Gives (record { program = tree_at n r.number; until = until; copies = r.copies.items; mote = lone_node r.trace.items state }) out
-gives_open n until r out state h f g =
-    let e = mote_there n r.number h in
-    let matches = rw e at g in
-    let is = rw f at matches in
-    is
+window_is : (n : NetModel) (until k : ℕ) (mote : LoneMote Node Line) (own : OwnWindow) → mote.wake ≡ wake_of mote.state → HoldsMote (tree_at n k) mote own
+    → window_in (tree_at n k) until own ≡ Some (begun n until k mote own.copies.items)
+unfolding window_in
+window_is n until k mote own wakes holds =
+    ap (λ (o : Option Node). option_map (window_over (tree_at n k) until (drop own.next own.copies.items) own.wake own.lines.items own.sends.items) o) holds.node
+    ∙ (ap (λ i. Some (window_over (tree_at n k) until (drop i own.copies.items) own.wake own.lines.items own.sends.items mote.state)) holds.next
+    ∙ (ap (λ w. Some (window_over (tree_at n k) until own.copies.items w own.lines.items own.sends.items mote.state)) (holds.wake ∙ wakes)
+    ∙ (ap (λ l. Some (window_over (tree_at n k) until own.copies.items (wake_of mote.state) l own.sends.items mote.state)) holds.lines
+    ∙ ap (λ s. Some (window_over (tree_at n k) until own.copies.items (wake_of mote.state) mote.lines s mote.state)) holds.sends)))
+
+-- the result of a window of a mote of the net
+pub gives_open : (n : NetModel) (until k : ℕ) (mote : LoneMote Node Line) (own : OwnWindow) (out : WindowOut) → mote.wake ≡ wake_of mote.state → HoldsMote (tree_at n k) mote own
+    → MayGive (tree_at n k) until (Some own) out → Gives (begun n until k mote own.copies.items) out
+gives_open n until k mote own out wakes holds gives =
+    subst (λ (o : Option Window). MatchOption o (GivesNoMore (course_in (tree_at n k) until own) out) (λ w. Gives w out)) (window_is n until k mote own wakes holds) gives
 
 -- the events of the mote are after its last turn
-pub goes_open : (n : NetModel) (until : ℕ) (r : LentMote) (state : Node) → r.number < length n.motes → node_in (tree_at n r.number) r.mote ≡ Some state
-    → IsAhead (record { program = tree_at n r.number; until = until; copies = r.copies.items; mote = lone_node r.trace.items state }) → LentMoteGoesOn n until r
-goes_open n until r state h f ahead = let e = mote_there n r.number h in rw (e, f) ahead
+pub goes_open : (n : NetModel) (until k : ℕ) (mote : LoneMote Node Line) (own : OwnWindow) → mote.wake ≡ wake_of mote.state → HoldsMote (tree_at n k) mote own
+    → IsAhead (begun n until k mote own.copies.items) → CanGoOn (window_in (tree_at n k) until own)
+goes_open n until k mote own wakes holds ahead = subst CanGoOn (sym (window_is n until k mote own wakes holds)) ahead
 
 module _ (n : NetModel) (from until : ℕ) where
   later : (mote : ℕ) (state : Node) (moment : ℕ) (given : List RadioCopy) → IsLater moment ((system_of n).turn mote state moment given).wake
@@ -119,7 +117,7 @@ module _ (n : NetModel) (from until : ℕ) where
   stamps k t h l [] = tt
   stamps k t h l (x ∷ sends) = (record { sender = refl; later = h; soon = l }, stamps k t h l sends)
 
-  -- the result of a lent mote's window is a mote that has returned from its window
+  -- the result of a mote's window is a mote that has returned from its window
   module _ (own : ℕ → Bool) (motes : Motes) (window_copies : ℕ → List RadioCopy) (k : ℕ) (mine : own k ≡ true) (there : k < length n.motes) (numbered : node_number (motes k).state ≡ k)
       (wakes : (motes k).wake ≡ wake_of (motes k).state) (wakes_from : NoneBefore from (motes k).wake) (window_copies_from : AllByRecursion (λ c. from ≤ c.at) (window_copies k)) (before : is_past until (motes k).state.last ≡ false) where
     front_is : in_front [] (motes k).sends (lone_node (motes k).lines (motes k).state) ≡ motes k
@@ -127,7 +125,7 @@ module _ (n : NetModel) (from until : ℕ) where
         ap (λ (l : List Sent). record { state = (motes k).state; wake = wake_of (motes k).state; lines = (motes k).lines; sends = l }) (append-nil (motes k).sends)
         ∙ ap (λ (w : Option ℕ). record { state = (motes k).state; wake = w; lines = (motes k).lines; sends = (motes k).sends }) (sym wakes)
 
-    module _ (mote : Mote) (given : List RadioCopy) (alike : IsAlike (system_of n) k until given (window_copies k)) (out : WindowOut) where
+    module _ (given : List RadioCopy) (alike : IsAlike (system_of n) k until given (window_copies k)) (out : WindowOut) where
       quiet : IsQuiet from (lone_node (motes k).lines (motes k).state).wake (window_copies k)
       quiet = record { no_wake = subst (NoneBefore from) wakes wakes_from; no_copies = window_copies_from }
 

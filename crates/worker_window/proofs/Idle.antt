@@ -62,12 +62,11 @@ module _ (n : NetModel) (owners : List ℕ) (worker from : ℕ) (motes : Motes) 
     is_worker = keeps.is_worker;
     places = keeps.places;
     numbers = keeps.numbers;
-    nodes = keeps.nodes;
+    rests = keeps.rests;
+    elsewhere = keeps.elsewhere;
     wakes = keeps.wakes;
     quiet = λ k mine. wake_then moment k mine h;
     turned_before = λ k mine. past_later from moment le (motes k).state.last (keeps.turned_before k mine);
-    traces_kept = keeps.traces_kept;
-    traces = keeps.traces;
     log = keeps.log;
     fates = keeps.fates;
     agenda = record {

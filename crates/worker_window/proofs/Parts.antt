@@ -16,10 +16,9 @@ use Rattle.window_laws.proofs.Lists.{every_weaker, every_filter, every_map, fill
 use Rattle.window_laws.proofs.Order.{sorted_rising}
 use Rattle.net_agenda.specs.NetSystem.{system_of}
 use Rattle.worker_window.specs.declared.share.Share.{Share}
-use Rattle.worker_window.specs.Calls.{is_not_before, calls_for, TakesCopiesFor}
+use Rattle.worker_window.specs.Events.{is_not_before, is_one_of, calls_for, TakesCopiesFor}
 use Rattle.worker_cut.specs.Crossed.{is_own, copies_seen, IsExpected}
 use Rattle.worker_window.specs.Share.{Motes, IsWholeShare, is_to_come, wake_from}
-use Rattle.worker_window.specs.Lending.{is_one_of}
 use Rattle.worker_window.proofs.Items.{inside, all_wakes, packets_of_all}
 use Rattle.worker_window.proofs.Rises.{sorted_is_sorted}
 
@@ -192,7 +191,7 @@ module _ (n : NetModel) (owners : List ℕ) (worker from until : ℕ) (motes : M
       ∙ (ap (filter (λ c. not (ltb c.at until))) (known_now s)
       ∙ filter_both (λ c. not (ltb c.at until)) (is_to_come own from) (is_to_come own until) (λ c. still_later (own c.to) c.at from until le) (known s)))
 
-  -- the state after the motes that are called are lent
+  -- the state after the motes have run
   module _ (numbers : List ℕ) (all : (k : ℕ) → is_one_of k numbers ≡ called k) where
     abbrev pub here : ℕ → Bool
     here k = own k && not (is_one_of k numbers)

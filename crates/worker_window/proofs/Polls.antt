@@ -1,5 +1,5 @@
 -- The possible results of a window, at its end and before a turn.
-use Rattle.std.proofs.Common.{◌≡◌, ◌∙◌, ℕ, not, List, map, Option, Some, None, Result, Ok, Err, refl, sym, subst, inl, inr}
+use Rattle.std.proofs.Common.{◌≡◌, ◌∙◌, ℕ, not, List, map, drop, Option, Some, None, Result, Ok, Err, option_map, refl, sym, ap, subst, inl, inr}
 use Rattle.std.specs.Prelude.{IfSome, MatchOption}
 use Rattle.std.specs.List.{filter}
 use Rattle.std.proofs.lemmas.Bool.{false≢true}
@@ -7,6 +7,8 @@ use Rattle.trace_lines.specs.declared.line.Line.{Line}
 use Rattle.mote_node.specs.declared.mote.MoteError.{MoteError}
 use Rattle.mote_node.specs.declared.mote.MoteError.TheVariants.{Memory}
 use Rattle.mote_node.specs.Turn.{Node}
+use Rattle.mote_node.specs.Public.{node_in}
+use Rattle.program_tree.specs.Code.{Tree}
 use Rattle.mote_laws.proofs.Stamps.{turns_stamp}
 use Rattle.radio_packet.specs.declared.copy.RadioCopy.{RadioCopy}
 use Rattle.window_laws.specs.Order.{in_order}
@@ -17,20 +19,37 @@ use Rattle.net_agenda.specs.Buckets.{arrival_of}
 use Rattle.worker_window.specs.declared.out.WindowOut.{WindowOut}
 use Rattle.worker_window.specs.MoteWindow.{Window, LoneNode, HasTurn, IsOver, window_after_turn, EndsAs, node_number}
 use Rattle.worker_window.specs.Laws.{IsAhead}
-use Rattle.worker_window.specs.Out.{shown, Gives}
+use Rattle.worker_window.specs.Out.{shown, Gives, out_of}
 use Rattle.worker_window.specs.declared.own.OwnWindow.{OwnWindow}
-use Rattle.worker_window.specs.Own.{window_in, course_in, IsSpent, StaysFailed, GivesNoMore}
-use Rattle.worker_window.specs.Turns.{MayGive, MayAnswer, TurnsTo, TakesTurn, IsErrorAt, CanGoOn, HasTurns}
+use Rattle.worker_window.specs.Own.{window_in, course_in, window_over, IsFinished, GivesNoMore}
+use Rattle.worker_window.specs.Turns.{MayGive, MayAnswer, TurnsTo, TakesTurn, IsErrorAt, IsFirstError, IsFirstTurn, CanGoOn, HasTurns, RestsAs}
 use Rattle.worker_window.proofs.Ahead.{no_turn_is_past}
 
-pub at_rest : (old : Option OwnWindow) (own : OwnWindow) (out : WindowOut) → Some own ≡ old → IsSpent (course_in own)
-    → IfSome (window_in own) IsOver → IfSome (window_in own) (λ w. shown w.program out ≡ Some w.mote) → (window_in own ≡ None → StaysFailed (course_in own) out) → MayGive old out
-at_rest old own out is spent over made left = rw (← is) (given (window_in own) over made left)
+-- a window in which no turn is left has its own result
+pub own_gives : (p : Tree) (until : ℕ) (own : OwnWindow) → IsFinished p until own → MayGive p until (Some own) (out_of own)
+unfolding window_in course_in
+own_gives p until own finished = go (node_in p own.mote) refl finished.over
   where
-    given : (window : Option Window) → IfSome window IsOver → IfSome window (λ w. shown w.program out ≡ Some w.mote) → (window ≡ None → StaysFailed (course_in own) out)
-        → MatchOption window (GivesNoMore (course_in own) out) (λ w. Gives w out)
-    given None over made left = record { spent = spent; left = left refl }
-    given (Some w) over made left = record { last = w.mote; run = λ system turns. Rests over; given = made }
+    go : (o : Option Node) → node_in p own.mote ≡ o
+        → IfSome (option_map (window_over p until (drop own.next own.copies.items) own.wake own.lines.items own.sends.items) o) IsOver
+        → MatchOption (option_map (window_over p until (drop own.next own.copies.items) own.wake own.lines.items own.sends.items) o) (GivesNoMore (course_in p until own) (out_of own)) (λ w. Gives w (out_of own))
+    go None e over = record { spent = finished.spent; left = record { failed = e; wake = refl; lines = refl; sends = refl } }
+    go (Some n) e over = record {
+      last = record { state = n; wake = own.wake; lines = own.lines.items; sends = own.sends.items };
+      run = λ system turns. Rests over;
+      given = ap (option_map (λ (x : Node). record { state = x; wake = own.wake; lines = own.lines.items; sends = own.sends.items })) e;
+    }
+
+pub at_rest : (p : Tree) (until : ℕ) (old : Option OwnWindow) (own : OwnWindow) (out : WindowOut) → Some own ≡ old → IsFinished p until own → out ≡ out_of own → MayGive p until old out
+at_rest p until old own out is finished e = rw (← is, e) (own_gives p until own finished)
+
+pub finishes : (p : Tree) (until : ℕ) (old : Option OwnWindow) (own : OwnWindow) (out : WindowOut) → Some own ≡ old → IsFinished p until own → out ≡ out_of own → RestsAs p until old out
+unfolding window_in
+finishes p until old own out is finished e = rw (← is, e) (record { over = finished.over; made = made (node_in p own.mote) refl })
+  where
+    made : (o : Option Node) → node_in p own.mote ≡ o → IfSome (option_map (window_over p until (drop own.next own.copies.items) own.wake own.lines.items own.sends.items) o) (λ w. shown w.program (out_of own) ≡ Some w.mote)
+    made None e = tt
+    made (Some n) e = ap (option_map (λ (x : Node). record { state = x; wake = own.wake; lines = own.lines.items; sends = own.sends.items })) e
 
 -- a turn, and then a run, are a run
 turn_before : (w v : Window) (moment : ℕ) (last : LoneNode) → HasTurn moment w → v ≡ window_after_turn moment w → EndsAs v last → EndsAs w last
@@ -66,22 +85,22 @@ on_after None new moment left turned on = absurd on
 on_after (Some w) None moment left turned on = absurd turned
 on_after (Some w) (Some v) moment left turned on = let P : Window → Type 0 = IsAhead in subst P (sym turned) (no_turn_is_past w moment left)
 
-pub goes_on : (old new : Option OwnWindow) → TakesTurn old new → HasTurns old → HasTurns new
-goes_on None new turned on = absurd on
-goes_on (Some own) None turned on = absurd turned
-goes_on (Some own) (Some after) turned on = on_after (window_in own) (window_in after) turned.moment turned.left turned.turned on
+pub goes_on : (p : Tree) (until : ℕ) (old new : Option OwnWindow) → TakesTurn p until old new → HasTurns p until old → HasTurns p until new
+goes_on p until None new turned on = absurd on
+goes_on p until (Some own) None turned on = absurd turned
+goes_on p until (Some own) (Some after) turned on = on_after (window_in p until own) (window_in p until after) turned.moment turned.left turned.turned on
 
 -- if a mote can continue, the only error of its turn is out of memory
-pub at_refusal : (old : Option OwnWindow) (own : OwnWindow) (moment : ℕ) (e : MoteError) → Some own ≡ old
-    → IfSome (window_in own) (HasTurn moment) → IfSome (window_in own) (IsErrorAt moment e) → HasTurns old → e ≡ Memory
-at_refusal old own moment e is left error on = of_window (window_in own) left error (rw (← is) at on)
+pub at_refusal : (p : Tree) (until : ℕ) (old : Option OwnWindow) (own : OwnWindow) (e : MoteError) → Some own ≡ old
+    → IsFirstError (course_in p until own) (window_in p until own) e → HasTurns p until old → e ≡ Memory
+at_refusal p until old own e is first on = of_window first.moment (window_in p until own) first.left first.error (rw (← is) at on)
   where
-    of_window : (window : Option Window) → IfSome window (HasTurn moment) → IfSome window (IsErrorAt moment e) → CanGoOn window → e ≡ Memory
-    of_window None left error on = absurd on
-    of_window (Some w) left (inl memory) on = memory
-    of_window (Some w) left (inr past) on = absurd (false≢true (sym (on moment left.next) ∙ past.1))
+    of_window : (moment : ℕ) (window : Option Window) → IfSome window (HasTurn moment) → IfSome window (IsErrorAt moment e) → CanGoOn window → e ≡ Memory
+    of_window moment None left error on = absurd on
+    of_window moment (Some w) left (inl memory) on = memory
+    of_window moment (Some w) left (inr past) on = absurd (false≢true (sym (on moment left.next) ∙ past.1))
 
-pub before_turn : (old : Option OwnWindow) (own new : OwnWindow) (moment : ℕ) → Some own ≡ old
-    → IfSome (window_in own) (HasTurn moment) → TurnsTo moment (window_in own) (window_in new) → (r : Result WindowOut MoteError) → MayAnswer (Some new) r → MayAnswer old r
-before_turn old own new moment is left turned (Ok out) h = rw (← is) (given_before (window_in own) (window_in new) moment out (GivesNoMore (course_in new) out) (GivesNoMore (course_in own) out) left turned h)
-before_turn old own new moment is left turned (Err e) h = rw (← is) (λ on. h (on_after (window_in own) (window_in new) moment left turned on))
+pub before_turn : (p : Tree) (until : ℕ) (old : Option OwnWindow) (own new : OwnWindow) → Some own ≡ old
+    → IsFirstTurn (window_in p until own) (window_in p until new) → (r : Result WindowOut MoteError) → MayAnswer p until (Some new) r → MayAnswer p until old r
+before_turn p until old own new is first (Ok out) h = rw (← is) (given_before (window_in p until own) (window_in p until new) first.moment out (GivesNoMore (course_in p until new) out) (GivesNoMore (course_in p until own) out) first.left first.turned h)
+before_turn p until old own new is first (Err e) h = rw (← is) (λ on. h (on_after (window_in p until own) (window_in p until new) first.moment first.left first.turned on))

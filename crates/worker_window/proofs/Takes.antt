@@ -10,13 +10,13 @@ use Rattle.radio_packet.specs.declared.sent.Sent.{Sent}
 use Rattle.kernel_laws.specs.Stamps.{PacketsBear}
 use Rattle.mote_node.specs.declared.mote.TurnOut.{TurnOut}
 use Rattle.mote_node.specs.Turn.{Node, turn_of}
-use Rattle.mote_node.specs.Public.{turn_given, node_in}
+use Rattle.mote_node.specs.Public.{turn_given}
 use Rattle.mote_laws.proofs.Stamps.{turns_stamp}
 use Rattle.radio_packet.specs.declared.copy.RadioCopy.{RadioCopy}
 use Rattle.window_laws.specs.Order.{in_order}
 use Rattle.window_laws.specs.NetStep.{stamped}
 use Rattle.window_laws.specs.Windows.{is_at}
-use Rattle.program_tree.specs.Program.{tree_of}
+use Rattle.mote_node.specs.Public.{node_in}
 use Rattle.net_agenda.specs.Buckets.{arrival_of}
 use Rattle.worker_window.specs.declared.own.OwnWindow.{OwnWindow}
 use Rattle.worker_window.specs.Own.{window_in, window_over}
@@ -59,19 +59,10 @@ turns_to p until m copies rest given wake lines sends (Some n) (Some n') out the
     turned p until m copies rest given wake lines sends n n' out (taken m copies given rising left.next.quiet.no_copies took) cut made'
 
 -- no turn is left if the next event is at the bound or after it
-pub over_after : (w : OwnWindow) (m : ℕ) → IsNextOf m w.wake (drop w.next w.copies.items) → w.until ≤ m → IfSome (window_in w) IsOver
+pub over_after : (p : Tree) (until : ℕ) (w : OwnWindow) (m : ℕ) → IsNextOf m w.wake (drop w.next w.copies.items) → until ≤ m → IfSome (window_in p until w) IsOver
 unfolding window_in
-over_after w m next late = over (node_in (tree_of w.program.now) w.mote)
+over_after p until w m next late = over (node_in p w.mote)
   where
-    over : (o : Option Node) → IfSome (option_map (window_over (tree_of w.program.now) w.until (drop w.next w.copies.items) w.wake w.lines.items w.sends.items) o) IsOver
+    over : (o : Option Node) → IfSome (option_map (window_over p until (drop w.next w.copies.items) w.wake w.lines.items w.sends.items) o) IsOver
     over None = tt
-    over (Some n) = quiet_before m w.until w.wake (drop w.next w.copies.items) next late
-
--- if there is no window, the mote has failed
-pub no_node : (w : OwnWindow) → window_in w ≡ None → node_in (tree_of w.program.now) w.mote ≡ None
-unfolding window_in
-no_node w e = none (node_in (tree_of w.program.now) w.mote) e
-  where
-    none : (o : Option Node) → option_map (window_over (tree_of w.program.now) w.until (drop w.next w.copies.items) w.wake w.lines.items w.sends.items) o ≡ None → o ≡ None
-    none None e = refl
-    none (Some n) e = cc
+    over (Some n) = quiet_before m until w.wake (drop w.next w.copies.items) next late

@@ -18,12 +18,11 @@ takes_in n owners worker from motes taken arrived share agenda keeps come holds 
   is_worker = keeps.is_worker;
   places = keeps.places;
   numbers = keeps.numbers;
-  nodes = keeps.nodes;
+  rests = keeps.rests;
+  elsewhere = keeps.elsewhere;
   wakes = keeps.wakes;
   quiet = keeps.quiet;
   turned_before = keeps.turned_before;
-  traces_kept = keeps.traces_kept;
-  traces = keeps.traces;
   log = keeps.log;
   fates = keeps.fates;
   agenda = record {

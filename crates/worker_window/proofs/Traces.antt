@@ -1,16 +1,29 @@
--- One trace is put back, and the others are unchanged.
-use Rattle.std.proofs.Common.{◌≡◌, ℕ, ◌<◌, ◌⊎◌, cond, eqb, List, length, get_or, set, sym, ap, ◌∙◌, inl, inr, Vec, get_or-set_same, get_or-set_other}
-use Rattle.std.specs.declared.alloc.Global.{Global}
-use Rattle.std.proofs.lemmas.Bool.{cases_eq, eq-eqb, ne_eqb}
+-- The traces that a share returns at the end.
+use Rattle.std.proofs.Common.{◌≡◌, ℕ, zero, suc, ◌<◌, List, [], ◌∷◌, Vec, Global, length, map, get_or, Option, Some, None, refl, arith}
+use Rattle.std.specs.Prelude.{IsSomeAnd}
+use Rattle.program_tree.specs.Code.{Tree}
+use Rattle.mote_node.specs.Turn.{Node}
+use Rattle.window_laws.specs.Windows.{LoneMote}
 use Rattle.trace_lines.specs.declared.line.Line.{Line}
+use Rattle.worker_window.specs.declared.own.OwnWindow.{OwnWindow}
+use Rattle.worker_window.specs.Share.{IsAtRest, mote_here, trace_in}
 
-pub trace_put : (k : ℕ) (trace : Vec Line Global) (old : List (Vec Line Global)) → k < length old → (j : ℕ) (d : Vec Line Global)
-    → (get_or (set old k trace) j d).items ≡ cond (eqb j k) trace.items (get_or old j d).items
-trace_put k trace old low j d = by_place (cases_eq j k)
-  where
-    by_place : (j ≡ k) ⊎ (j ≡ k → ⊥) → (get_or (set old k trace) j d).items ≡ cond (eqb j k) trace.items (get_or old j d).items
-    by_place (inl e) =
-        ap (λ i. (get_or (set old k trace) i d).items) e
-        ∙ (ap (λ v. v.items) (get_or-set_same old k trace d low) ∙ ap (λ b. cond b trace.items (get_or old j d).items) (sym (eq-eqb j k e)))
-    by_place (inr ne) =
-        ap (λ v. v.items) (get_or-set_other old k j trace d ne) ∙ ap (λ b. cond b trace.items (get_or old j d).items) (sym (ne_eqb j k ne))
+abbrev pub lines_in : Vec Line Global → List Line
+lines_in trace = trace.items
+
+pub trace_at : (traces : List (Vec Line Global)) (motes : List (Option OwnWindow)) → map lines_in traces ≡ map trace_in motes → (k : ℕ) → k < length motes → (d : Vec Line Global) → lines_in (get_or traces k d) ≡ trace_in (mote_here motes k)
+trace_at [] [] e k low d = absurd (omega arith)
+trace_at [] (m ∷ motes) e k low d = cc
+trace_at (t ∷ traces) [] e k low d = cc
+trace_at (t ∷ traces) (m ∷ motes) e zero low d = cc
+trace_at (t ∷ traces) (m ∷ motes) e (suc k) low d = let f : map lines_in traces ≡ map trace_in motes = cc in trace_at traces motes f k (omega arith) d
+
+pub all_kept : (traces : List (Vec Line Global)) (motes : List (Option OwnWindow)) → map lines_in traces ≡ map trace_in motes → length traces ≡ length motes
+all_kept [] [] e = refl
+all_kept [] (m ∷ motes) e = cc
+all_kept (t ∷ traces) [] e = cc
+all_kept (t ∷ traces) (m ∷ motes) e = let f : map lines_in traces ≡ map trace_in motes = cc in let same = all_kept traces motes f in omega arith
+
+pub rest_lines : (tree : Tree) (mote : LoneMote Node Line) (o : Option OwnWindow) → IsSomeAnd o (IsAtRest tree mote) → trace_in o ≡ mote.lines
+rest_lines tree mote None h = absurd h
+rest_lines tree mote (Some own) h = h.holds.lines

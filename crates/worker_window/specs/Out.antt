@@ -3,6 +3,7 @@ use Rattle.std.specs.Prelude.{◌≡◌, Option, Some, option_map}
 use Rattle.program_tree.specs.Code.{Tree}
 use Rattle.mote_node.specs.Public.{node_in}
 use Rattle.worker_window.specs.declared.out.WindowOut.{WindowOut}
+use Rattle.worker_window.specs.declared.own.OwnWindow.{OwnWindow}
 use Rattle.worker_window.specs.MoteWindow.{LoneNode, Window, EndsAs}
 
 -- the mote after a window, with the lines that it wrote and the packets that it sent in the window
@@ -16,3 +17,7 @@ pub record Gives (window : Window) (out : WindowOut) : Type 0 where
   pub last : LoneNode
   pub run : EndsAs window last
   pub given : shown window.program out ≡ Some last
+
+-- the result of a window in which no turn is left
+abbrev pub out_of : OwnWindow → WindowOut
+out_of own = record { mote = own.mote; lines = own.lines; sends = own.sends; wake = own.wake }

@@ -4,26 +4,21 @@
 //! motes, and the worker's run through one window.
 #![tactic(auto)]
 
-mod calls;
+mod events;
 mod gate;
 pub mod laws;
-mod lent_mote;
 mod mote_window;
 mod out;
 mod own;
 mod share;
-mod slot;
 mod turn_buffers;
 mod window;
 mod worker;
-mod worker_buffers;
 
 pub use gate::{Gate, NoGate};
-pub use lent_mote::LentMote;
 pub use mote_window::MoteWindow;
 pub use out::WindowOut;
 pub use own::OwnWindow;
 pub use share::{Ended, Share};
-pub use slot::Slot;
-pub use turn_buffers::{TurnBuffers, copies_in};
-pub use worker::{ShareWindow, run_slots};
+pub use turn_buffers::TurnBuffers;
+pub use worker::{ShareWindow, run_motes};

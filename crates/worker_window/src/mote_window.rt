@@ -5,8 +5,8 @@ ghost use Rattle.futures.specs.Poll.{IfReady, OnPending};
 ghost use Rattle.futures.specs.Task.{Covers, Keeps};
 ghost use Rattle.program_tree.specs.Program.{tree_of};
 ghost use Rattle.mote_node.specs.Public.{node_in};
-ghost use Rattle.worker_window.specs.Out.{shown};
-ghost use Rattle.worker_window.specs.Own.{window_in, course_in, course_of, StaysFailed};
+ghost use Rattle.worker_window.specs.Out.{out_of};
+ghost use Rattle.worker_window.specs.Own.{window_in, course_in, course_of};
 ghost use Rattle.worker_window.specs.MoteWindow.{is_rising, opened};
 ghost use Rattle.worker_window.specs.Turns.{MayAnswer, TakesTurn, RestsAs, ErrsAs};
 
@@ -20,21 +20,25 @@ use mote_node::{Mote, MoteError};
 use program_tree::Program;
 use radio_packet::RadioCopy;
 use std::alloc::Global;
-use std::mem;
 
 /// A mote in its window, until the future is ready. If a turn is left below the bound, a poll takes exactly one turn,
 /// at the lesser of the mote's wake and the next copy's moment, and yields. Otherwise, the future is ready.
 pub struct MoteWindow<'a, G> {
-    own: Option<OwnWindow<'a>>,
+    own: Option<OwnWindow>,
+    program: &'a Program,
+    until: u64,
     worker: u16,
     gate: &'a G,
     buffers: Option<Box<TurnBuffers>>,
+    ghost bounded: { until ≤ 2 ^ 40 },
 }
 
 impl<G> Drop for MoteWindow<'_, G> {
     fn drop(self) {
         let MoteWindow {
             own: _,
+            program: _,
+            until: _,
             worker: _,
             gate: _,
             buffers: _,
@@ -58,51 +62,36 @@ impl<'a, G: Gate> MoteWindow<'a, G> {
         requires rising { is_rising copies.items ≡ true }
         ensures worker { result.worker ≡ worker }
         ensures window { let p = tree_of program.now in
-            IsSomeAnd result.own (λ own. window_in own ≡ opened p until copies.items [] (node_in p mote)) }
+            IsSomeAnd result.own (λ own. window_in p until own ≡ opened p until copies.items [] (node_in p mote)) }
         ensures course { let p = tree_of program.now in
-            IsSomeAnd result.own (λ own. course_in own ≡ course_of p until copies.items [] (node_in p mote)) }
-    {
-        let (lines, sends) = (Vec::new(alloc), Vec::new(alloc));
-        let own = OwnWindow::new(alloc, mote, program, copies, until, lines, sends);
-        MoteWindow::over(own, worker, gate)
-    }
-
-    /// Makes a future over this window, which doesn't change.
-    pub(crate) fn over(own: OwnWindow<'a>, worker: u16, gate: &'a G) -> MoteWindow<'a, G>
-        ensures worker { result.worker ≡ worker }
-        ensures own { result.own ≡ Some own.entry }
+            IsSomeAnd result.own (λ own. course_in p until own ≡ course_of p until copies.items [] (node_in p mote)) }
+        ensures bound { (result.program.now ≡ program.now) × (result.until ≡ until) }
     {
         MoteWindow {
-            own: Some(own),
+            own: Some(OwnWindow::new(alloc, mote, copies)),
+            program,
+            until,
             worker,
             gate,
             buffers: None,
         }
-    }
-
-    /// Swaps the scratch buffers of the window's turns with these buffers.
-    pub(crate) fn swap_buffers(&mut self, buffers: &mut Option<Box<TurnBuffers>>)
-        ensures same { self.new.own ≡ self.old.own }
-    {
-        mem::swap(&mut self.buffers, buffers);
     }
 }
 
 /// Takes the window when no turn is left, and returns its result. It is a separate function, so that a turn clears no
 /// stack space for the result.
 #[inline(always)]
-fn finish(own: &mut Option<OwnWindow<'_>>, buffers: &mut Option<Box<TurnBuffers>>) -> WindowOut
+fn finish(own: &mut Option<OwnWindow>) -> WindowOut
     requires owned { IsSome own.old }
-    ensures made { IfSome own.old (λ own. IfSome (window_in own) (λ w. shown w.program result ≡ Some w.mote)) }
-    ensures left { IfSome own.old (λ own. window_in own ≡ None → StaysFailed (course_in own) result) }
+    ensures value { IfSome own.old (λ own. result ≡ out_of own) }
     ensures given_up { own.new ≡ None }
 {
-    own.take().unwrap().finish(buffers)
+    own.take().unwrap().finish()
 }
 
 /// Drops a window and its mote. It is a separate function for the same reason.
 #[inline(always)]
-fn give_up(own: &mut Option<OwnWindow<'_>>)
+fn give_up(own: &mut Option<OwnWindow>)
     ensures given_up { own.new ≡ None }
 {
     *own = None;
@@ -111,7 +100,7 @@ fn give_up(own: &mut Option<OwnWindow<'_>>)
 impl<G: Gate> Future for MoteWindow<'_, G> {
     type Output = Result<WindowOut, MoteError>;
 
-    ghost gives = { λ w r. MayAnswer w.own r };
+    ghost gives = { λ w r. MayAnswer (tree_of w.program.now) w.until w.own r };
 
     /// Takes one turn and yields, or is ready. A mote that had failed before takes no turn: the future is ready with
     /// the mote's earlier result, if no event of the mote is in the window.
@@ -120,26 +109,37 @@ impl<G: Gate> Future for MoteWindow<'_, G> {
     /// The error of the turn; the mote is then dropped. `Failed` at a later poll. For a mote that had failed before and
     /// has an event in the window, `Failed`, or `Memory` if an allocation failed.
     fn poll(&mut self, cx: &mut Context<'_>) -> Poll<Self::Output>
-        ensures value { IfReady result (MayAnswer self.old.own) }
+        ensures value { IfReady result (MayAnswer (tree_of self.old.program.now) self.old.until self.old.own) }
         ensures again { OnPending result ⊤ }
-        ensures same { OnPending result ((r : _) → MayAnswer self.new.own r → MayAnswer self.old.own r) }
+        ensures same { OnPending result ((r : _) → MayAnswer (tree_of self.new.program.now) self.new.until self.new.own r
+            → MayAnswer (tree_of self.old.program.now) self.old.until self.old.own r) }
         ensures registered { OnPending result (Covers cx.new (λ _. ⊥)) }
         ensures kept { Keeps cx.old cx.new }
-        ensures turn { OnPending result (TakesTurn self.old.own self.new.own) }
-        ensures rest { IfReady result (λ r. IfOk r (RestsAs self.old.own)) }
-        ensures err { IfReady result (λ r. IfErr r (ErrsAs self.old.own)) }
+        ensures turn { OnPending result
+            (TakesTurn (tree_of self.old.program.now) self.old.until self.old.own self.new.own) }
+        ensures rest { IfReady result (λ r. IfOk r
+            (RestsAs (tree_of self.old.program.now) self.old.until self.old.own)) }
+        ensures err { IfReady result (λ r. IfErr r
+            (ErrsAs (tree_of self.old.program.now) self.old.until self.old.own)) }
         ensures given_up { IfReady result (λ _. self.new.own ≡ None) }
     {
         let Some(own) = &mut self.own else {
             return Poll::Ready(Err(MoteError::Failed));
         };
-        let Some(moment) = own.next_moment() else {
-            return Poll::Ready(Ok(finish(&mut self.own, &mut self.buffers)));
-        };
-        if let Err(e) = own.turn(moment, self.worker, self.gate, &mut self.buffers) {
-            give_up(&mut self.own);
-            return Poll::Ready(Err(e));
+        match own.poll(
+            self.program,
+            self.until,
+            self.worker,
+            self.gate,
+            &mut self.buffers,
+            cx,
+        ) {
+            Poll::Pending => Poll::Pending,
+            Poll::Ready(Ok(())) => Poll::Ready(Ok(finish(&mut self.own))),
+            Poll::Ready(Err(e)) => {
+                give_up(&mut self.own);
+                Poll::Ready(Err(e))
+            }
         }
-        cx.yield_now()
     }
 }

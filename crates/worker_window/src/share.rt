@@ -1,37 +1,39 @@
 //! The share of one worker: its motes, their traces and packets, and their pending events.
 
 ghost use Rattle.std.specs.Prelude.{◌≡◌, ◌≤◌, ◌<◌, ◌++◌, ◌∷◌, ℕ, true, [], length};
-ghost use Rattle.std.specs.Prelude.{List, Some, IfOk, OnOk, if◌then◌else◌};
+ghost use Rattle.std.specs.Prelude.{List, map, IfOk, OnOk, if◌then◌else◌};
 ghost use Rattle.radio_packet.specs.declared.copy.RadioCopy.{RadioCopy};
 ghost use Rattle.window_laws.specs.Agenda.{Wake};
 ghost use Rattle.window_laws.specs.Windows.{first_mote};
 ghost use Rattle.mote_net.specs.Net.{NetModel};
 ghost use Rattle.mote_net.specs.Meaning.{net_of};
-ghost use Rattle.net_agenda.specs.NetSystem.{first_node_in, system_of, tree_at};
+ghost use Rattle.net_agenda.specs.NetSystem.{system_of};
 ghost use Rattle.net_agenda.specs.Changes.{AddsItems};
 ghost use Rattle.worker_window.specs.Next.{TellsNext};
-ghost use Rattle.worker_window.specs.Share.{Motes, IsWholeShare, node_at};
+ghost use Rattle.worker_window.specs.Share.{Motes, IsFirst, IfOwn, IsWholeShare, trace_in};
 ghost use Rattle.worker_window.specs.Ended.{TellsAtEnd};
 
-use crate::worker_buffers::WorkerBuffers;
+use crate::own::OwnWindow;
+use crate::turn_buffers::TurnBuffers;
 use mote_net::{LogLine, Net};
-use mote_node::Mote;
 use net_agenda::{Agenda, new_mote};
 use process_kernel::Line;
+use radio_packet::Arrival;
 use std::alloc::{AllocError, Global};
 use worker_cut::is_own;
 
-/// The data of one worker of a net. It has the motes of the worker and their traces, both by the motes' numbers; for a
-/// mote of another worker, it has no mote and an empty trace. It also has the packets of its motes, in order for each
-/// mote; the pending events of its motes; and scratch buffers of windows.
+/// The data of one worker of a net. It has the windows of the worker's motes, with their traces, by the motes' numbers;
+/// for a mote of another worker, it has none. It also has the packets of its motes, in order for each mote; the pending
+/// events of its motes; and scratch buffers of windows.
 pub struct Share {
     pub(crate) alloc: Global,
     pub(crate) worker: u16,
-    pub(crate) motes: Vec<Option<Mote>>,
-    pub(crate) traces: Vec<Vec<Line>>,
+    pub(crate) motes: Vec<Option<OwnWindow>>,
     pub(crate) log: Vec<LogLine>,
     pub(crate) agenda: Agenda,
-    pub(crate) buffers: WorkerBuffers,
+    pub(crate) called: Vec<u16>,
+    pub(crate) arrivals: Vec<Arrival>,
+    pub(crate) buffers: Option<Box<TurnBuffers>>,
 }
 
 /// Implemented by hand, so that the check of a function that owns a share sees only one call for the drop.
@@ -41,9 +43,10 @@ impl Drop for Share {
             alloc: _,
             worker: _,
             motes: _,
-            traces: _,
             log: _,
             agenda: _,
+            called: _,
+            arrivals: _,
             buffers: _,
         } = self;
     }
@@ -65,10 +68,9 @@ fn begin(
     number: u16,
     own: bool,
     agenda: &mut Agenda,
-) -> Result<Option<Mote>, AllocError>
+) -> Result<Option<OwnWindow>, AllocError>
     requires mote_exists { number < length (net_of net.now).motes }
-    ensures mote { let model = net_of net.now in
-        IfOk result (λ mote. own ≡ true → node_at (tree_at model number) mote ≡ Some (first_node_in model number)) }
+    ensures mote { IfOk result (λ mote. IfOwn own mote (IsFirst (net_of net.now) number)) }
     ensures wake { OnOk result
         (AddsItems agenda.old.buckets agenda.new.buckets (if own then Wake 0 number ∷ [] else [])) }
 {
@@ -76,7 +78,8 @@ fn begin(
         return Ok(None);
     }
     agenda.put_wake(0, number)?;
-    Ok(Some(new_mote(alloc, net, number)?))
+    let mote = new_mote(alloc, net, number)?;
+    Ok(Some(OwnWindow::new(alloc, mote, Vec::new(alloc))))
 }
 
 impl Share {
@@ -94,16 +97,16 @@ impl Share {
             alloc,
             worker,
             motes: Vec::new(alloc),
-            traces: Vec::new(alloc),
             log: Vec::new(alloc),
             agenda: Agenda::new(alloc),
-            buffers: WorkerBuffers::new(alloc),
+            called: Vec::new(alloc),
+            arrivals: Vec::new(alloc),
+            buffers: None,
         };
         for number in 0..net.motes() {
             let own = is_own(owners, worker, number);
             let mote = begin(alloc, net, number, own, &mut share.agenda)?;
             share.motes.push(mote)?;
-            share.traces.push(Vec::new(alloc))?;
         }
         Ok(share)
     }
@@ -121,8 +124,8 @@ impl Share {
     /// Takes the share apart at the end, and returns the worker's results.
     ///
     /// # Errors
-    /// `AllocError` only for a number of copies above `u64::MAX`. No memory has room for so many copies. Nothing is
-    /// allocated.
+    /// `AllocError` if the allocation for the list of traces fails, or for a number of copies above `u64::MAX`. No
+    /// memory has room for so many copies.
     pub fn end(self) -> Result<Ended, AllocError>
         ensures tells_at_end { (model : NetModel) (owners : List ℕ) (worker from : ℕ) (motes : Motes)
             (taken : List RadioCopy)
@@ -130,15 +133,38 @@ impl Share {
             → IfOk result (TellsAtEnd model owners worker from motes taken) }
     {
         let Share {
-            alloc: _,
+            alloc,
             worker: _,
-            motes: _,
-            traces,
+            motes,
             log,
             agenda,
+            called: _,
+            arrivals: _,
             buffers: _,
         } = self;
+        let traces = traces_of(alloc, motes)?;
         let left = agenda.left()?;
         Ok(Ended { traces, log, left })
+    }
+}
+
+/// Returns the trace of each mote; an empty one where there is no mote.
+fn traces_of(alloc: Global, motes: Vec<Option<OwnWindow>>) -> Result<Vec<Vec<Line>>, AllocError>
+    ensures traces { IfOk result (λ traces. map (λ trace. trace.items) traces.items ≡ map trace_in motes.items) }
+{
+    let mut traces = Vec::with_capacity(alloc, motes.len())?;
+    for mote in motes {
+        traces.push(trace_of(alloc, mote))?;
+    }
+    Ok(traces)
+}
+
+/// Returns the trace of a mote, or an empty one if there is none.
+fn trace_of(alloc: Global, mote: Option<OwnWindow>) -> Vec<Line>
+    ensures trace { result.items ≡ trace_in mote }
+{
+    match mote {
+        Some(own) => own.finish().lines,
+        None => Vec::new(alloc),
     }
 }

@@ -1,14 +1,24 @@
-use Rattle.std.proofs.Common.{sym}
-use Rattle.worker_window.proofs.Polls.{at_refusal, at_rest, before_turn}
+use Rattle.std.proofs.Common.{◌∙◌, ap, sym}
+use Rattle.program_tree.specs.Program.{tree_of}
+use Rattle.worker_window.specs.Out.{out_of}
+use Rattle.worker_window.proofs.Polls.{at_rest, before_turn, finishes}
 use Rattle.worker_window.proofs.mote_window.MoteWindowFuture.poll.Goals as goal
 
-pub returns-in_default-next_moment-clause-value : goal.returns-in_default-next_moment-clause-value
-returns-in_default-next_moment-clause-value g c =
-    at_rest c.args.self.now.own c.in-Some.own c.finish.result (sym c.in-Some.is) c.in_default-next_moment.ensures.comes c.in_default-next_moment.ensures.next
-    c.finish.ensures.made c.finish.ensures.left
+pub returns-in-Pending-clause-same : goal.returns-in-Pending-clause-same
+returns-in-Pending-clause-same g c =
+    let s = c.args.self.now in
+    before_turn (tree_of s.program.now) s.until s.own c.in-Some.own c.poll.new.self (sym c.in-Some.is) c.in-Pending.ensures.turn
 
-pub returns-clause-same : goal.returns-clause-same
-returns-clause-same g c = rw c.yield_now.ensures.pending (before_turn c.args.self.now.own c.in-Some.own c.turn.new.self c.in-Some-next_moment.moment (sym c.in-Some.is) c.in-Some-next_moment.ensures.next c.in_default-turn.ensures.ok)
+pub returns-in-Ready-Ok-clause-value : goal.returns-in-Ready-Ok-clause-value
+returns-in-Ready-Ok-clause-value g c =
+    let s = c.args.self.now in
+    let finished = rw c.in-Ready-Ok.field-0-is at c.in-Ready-Ok.ensures.rest in
+    let same = rw c.in-Ready-Ok.field-0-is at c.in-Ready-Ok.ensures.same in
+    at_rest (tree_of s.program.now) s.until s.own c.in-Some.own c.finish.result (sym c.in-Some.is) finished (c.finish.ensures.value ∙ ap out_of same)
 
-pub returns-in-Err-clause-value : goal.returns-in-Err-clause-value
-returns-in-Err-clause-value g c = at_refusal c.args.self.now.own c.in-Some.own c.in-Some-next_moment.moment c.in-Err.e (sym c.in-Some.is) c.in-Some-next_moment.ensures.next c.in-Err.ensures.err
+pub returns-in-Ready-Ok-clause-rest : goal.returns-in-Ready-Ok-clause-rest
+returns-in-Ready-Ok-clause-rest g c =
+    let s = c.args.self.now in
+    let finished = rw c.in-Ready-Ok.field-0-is at c.in-Ready-Ok.ensures.rest in
+    let same = rw c.in-Ready-Ok.field-0-is at c.in-Ready-Ok.ensures.same in
+    finishes (tree_of s.program.now) s.until s.own c.in-Some.own c.finish.result (sym c.in-Some.is) finished (c.finish.ensures.value ∙ ap out_of same)

@@ -10,9 +10,9 @@ least-requires c = record {
       rw (rest_of s.next c.deref.result.now s.copies.items c.deref.ensures.value) (is_rising-drop s.next s.copies.items s.rising);
 }
 
-pub returns-else-moment-self-clause-next : goal.returns-else-moment-self-clause-next
-returns-else-moment-self-clause-next c =
+pub returns-else-moment-until-clause-next : goal.returns-else-moment-until-clause-next
+returns-else-moment-until-clause-next c = λ p.
     let s = c.args.self.now in
     let next = rw (rest_of s.next c.deref.result.now s.copies.items c.deref.ensures.value) at c.in_ok-moment.ensures.is_next in
-    let late = c.if-moment-self.false in
-    over_after s c.in_ok-moment.moment next (omega arith)
+    let late = c.if-moment-until.false in
+    over_after p c.args.until s c.in_ok-moment.moment next (omega arith)

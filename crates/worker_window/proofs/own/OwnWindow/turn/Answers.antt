@@ -13,9 +13,9 @@ use Rattle.worker_window.proofs.own.OwnWindow.turn.Goals as goal
 
 pub returns-clause-ok : goal.returns-clause-ok
 unfolding window_in
-returns-clause-ok g c =
+returns-clause-ok g c = λ until left.
     let s = c.args.self.now in
-    let t = tree_of s.program.now in
+    let t = tree_of c.args.program.now in
     let out = turn_out_of c.turn_into.new.out c.in_ok-self.field-0 in
     let given = c.take_arrivals.new.arrivals.items in
     let front = rest_of s.next c.deref.result.now s.copies.items c.deref.ensures.value in
@@ -28,5 +28,5 @@ returns-clause-ok g c =
     c.in_ok-self.ensures.ok ∙ ap (λ l. option_map (turn_of c.args.moment l) (node_in t s.mote)) c.deref-2.ensures.value in
     let there : node_in t s.mote ≡ None → ⊥ = λ gone. let failed = c.in_ok-self.ensures.failed.1 gone in cc in
     rw (c.in_ok-extend_trace.ensures.appended, c.in_ok-append.ensures.items)
-    (turns_to t s.until c.args.moment (drop s.next s.copies.items) (drop (s.next + c.len.result) s.copies.items) given s.wake s.lines.items s.sends.items
-    (node_in t s.mote) (node_in t c.turn_into.new.self) out there c.requires.left (is_rising-drop s.next s.copies.items s.rising) took cut made)
+    (turns_to t until c.args.moment (drop s.next s.copies.items) (drop (s.next + c.len.result) s.copies.items) given s.wake s.lines.items s.sends.items
+    (node_in t s.mote) (node_in t c.turn_into.new.self) out there left (is_rising-drop s.next s.copies.items s.rising) took cut made)

@@ -1,14 +1,8 @@
-use Rattle.std.proofs.Common.{rules, ◌≡◌, true, Ok, ap}
-use Rattle.std.specs.List.{list_all}
-use Rattle.worker_window.specs.Slots.{is_done}
-use Rattle.worker_window.proofs.Workers.{answers_less, answers_done}
+use Rattle.mote_net.specs.Meaning.{net_of}
+use Rattle.worker_window.proofs.Workers.{answers_less}
 use Rattle.worker_window.proofs.worker.ShareWindowFuture.poll.Goals as goal
 
-pub returns-then-not-all_done-clause-same : goal.returns-then-not-all_done-clause-same
-returns-then-not-all_done-clause-same g c = rw c.yield_now.ensures.pending (answers_less c.args.self.now.slots.items c.advance_each.new.slots.items c.in_default.ensures.same c.in_default.ensures.go_on)
-
-pub returns-clause-value : goal.returns-clause-value
-returns-clause-value g c =
-    let done : list_all is_done c.advance_each.new.slots.items ≡ true = search rules in
-    answers_less c.args.self.now.slots.items c.advance_each.new.slots.items c.in_default.ensures.same c.in_default.ensures.go_on (Ok c.replace.result)
-    (answers_done c.advance_each.new.slots.items c.replace.result (ap (λ v. v.items) c.replace.ensures.value) done)
+pub returns-in-Ok-true-clause-same : goal.returns-in-Ok-true-clause-same
+returns-in-Ok-true-clause-same g c =
+    let s = c.args.self.now in
+    rw c.yield_now.ensures.pending (answers_less (net_of s.net.now) s.until s.called.now s.motes.items c.poll_each-polled.new.motes.items c.in-Ok-true.ensures.same c.in-Ok-true.ensures.go_on)
