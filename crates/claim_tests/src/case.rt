@@ -34,7 +34,7 @@ impl Trial for Case {
 
 /// Whether a fault is one of the set.
 fn has_fault(set: &[u16], fault: u16) -> bool
-    ensures { result ≡ has set.now fault }
+    ensures value { result ≡ has set.now fault }
 {
     set.contains(&fault)
 }

@@ -9,7 +9,7 @@ use test_helpers::same_text;
 
 /// Writes down a set and the five after it, or fewer, if there are no more.
 fn write_sets(text: &mut String, set: &mut [u16])
-    requires { IsSet 4 set.old }
+    requires is_set { IsSet 4 set.old }
 {
     for step in 0..6 {
         let _ = write!(text, "{step}{set:?}");

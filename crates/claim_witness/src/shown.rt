@@ -1,13 +1,14 @@
 //! The line that shows that a test is, or isn't, met.
 ghost use Rattle.std.specs.Prelude.{◌≡◌};
 ghost use Rattle.mote_net.specs.Report.{report_of};
-ghost use Rattle.claim_witness.specs.Witnesses.{line_beyond, spare_in, spare_line, line_reaching, reached_in, shown_line, shown_in};
+ghost use Rattle.claim_witness.specs.Witnesses.{line_beyond, spare_in, spare_line, line_reaching, reached_in};
+ghost use Rattle.claim_witness.specs.Witnesses.{shown_line, shown_in};
 
 use claims::{Case, Count, Found, Lines, Test};
 use mote_net::Report;
 
 fn line_beyond(lines: &Lines, report: &Report, most: Option<u64>) -> Option<Found>
-    ensures { result ≡ line_beyond lines.now (report_of report.now) most }
+    ensures value { result ≡ line_beyond lines.now (report_of report.now) most }
 {
     match most {
         None => None,
@@ -16,7 +17,7 @@ fn line_beyond(lines: &Lines, report: &Report, most: Option<u64>) -> Option<Foun
 }
 
 fn spare_in(count: &Count, report: &Report, most: Option<u64>) -> Option<Found>
-    ensures { result ≡ spare_in count.now (report_of report.now) most }
+    ensures value { result ≡ spare_in count.now (report_of report.now) most }
 {
     match count {
         Count::Lines(lines) => line_beyond(lines, report, most),
@@ -26,7 +27,7 @@ fn spare_in(count: &Count, report: &Report, most: Option<u64>) -> Option<Found>
 
 /// The first line too many, if a test counts lines and there are too many.
 pub(crate) fn spare_line(test: &Test, report: &Report) -> Option<Found>
-    ensures { result ≡ spare_line test.now (report_of report.now) }
+    ensures value { result ≡ spare_line test.now (report_of report.now) }
 {
     match test {
         Test::Count(count, limits) => spare_in(count, report, limits.most),
@@ -35,7 +36,7 @@ pub(crate) fn spare_line(test: &Test, report: &Report) -> Option<Found>
 }
 
 fn line_reaching(lines: &Lines, report: &Report, least: u64) -> Option<Found>
-    ensures { result ≡ line_reaching lines.now (report_of report.now) least }
+    ensures value { result ≡ line_reaching lines.now (report_of report.now) least }
 {
     if least == 0 {
         None
@@ -45,7 +46,7 @@ fn line_reaching(lines: &Lines, report: &Report, least: u64) -> Option<Found>
 }
 
 fn reached_in(count: &Count, report: &Report, least: u64) -> Option<Found>
-    ensures { result ≡ reached_in count.now (report_of report.now) least }
+    ensures value { result ≡ reached_in count.now (report_of report.now) least }
 {
     match count {
         Count::Lines(lines) => line_reaching(lines, report, least),
@@ -54,7 +55,7 @@ fn reached_in(count: &Count, report: &Report, least: u64) -> Option<Found>
 }
 
 fn shown_line(test: &Test, report: &Report) -> Option<Found>
-    ensures { result ≡ shown_line test.now (report_of report.now) }
+    ensures value { result ≡ shown_line test.now (report_of report.now) }
 {
     match test {
         Test::Count(count, limits) => reached_in(count, report, limits.least),
@@ -64,7 +65,7 @@ fn shown_line(test: &Test, report: &Report) -> Option<Found>
 
 /// The line with which the first test of a case is met, if it wants a number of lines.
 pub(crate) fn shown_in(case: &Case, report: &Report) -> Option<Found>
-    ensures { result ≡ shown_in (report_of report.now) case.now.tests.items }
+    ensures value { result ≡ shown_in (report_of report.now) case.now.tests.items }
 {
     match case.tests.first() {
         None => None,

@@ -2,7 +2,8 @@
 ghost use Rattle.std.specs.Prelude.{◌≡◌, slice_get, IfSome};
 ghost use Rattle.mote_net.specs.Report.{report_of};
 ghost use Rattle.claims.specs.Claims.{holds_in};
-ghost use Rattle.claim_witness.specs.Witnesses.{broken_test, broken_case, kept_cases, spare_of, spare_case_of, missing_or_fewer, spare_or_none, break_in, is_kept};
+ghost use Rattle.claim_witness.specs.Witnesses.{broken_test, broken_case, kept_cases, spare_of, spare_case_of};
+ghost use Rattle.claim_witness.specs.Witnesses.{missing_or_fewer, spare_or_none, break_in, is_kept};
 ghost use Rattle.claim_witness.specs.Shows.{Shows};
 
 use crate::shown::{shown_in, spare_line};
@@ -43,7 +44,7 @@ pub enum Break {
 }
 
 fn broken_test(case: &Case, report: &Report) -> Option<BrokenTest>
-    ensures { result ≡ broken_test (report_of report.now) 0 case.now.tests.items }
+    ensures value { result ≡ broken_test (report_of report.now) 0 case.now.tests.items }
 {
     for (place, test) in case.tests.iter().enumerate() {
         if !test.holds(report) {
@@ -58,7 +59,7 @@ fn broken_test(case: &Case, report: &Report) -> Option<BrokenTest>
 
 /// The first case that doesn't hold.
 fn broken_case(claim: &Claim, report: &Report) -> Option<Witness>
-    ensures { result ≡ broken_case (report_of report.now) 0 claim.now.cases.items }
+    ensures value { result ≡ broken_case (report_of report.now) 0 claim.now.cases.items }
 {
     for (place, case) in claim.cases.iter().enumerate() {
         if let Some(broken) = broken_test(case, report) {
@@ -72,7 +73,8 @@ fn broken_case(claim: &Claim, report: &Report) -> Option<Witness>
 }
 
 fn spare_case(cases: &[Case], most: u64, report: &Report) -> Option<Spare>
-    ensures { result ≡ spare_of (report_of report.now) (slice_get (kept_cases (report_of report.now) cases.now) most) }
+    ensures value { result ≡ spare_of (report_of report.now) (slice_get (kept_cases (report_of report.now) cases.now)
+        most) }
 {
     let mut left = most;
     for (place, case) in cases.iter().enumerate() {
@@ -91,7 +93,7 @@ fn spare_case(cases: &[Case], most: u64, report: &Report) -> Option<Spare>
 
 /// The first case too many that holds, or `None` if no more hold than the claim allows.
 fn first_spare(claim: &Claim, report: &Report) -> Option<Spare>
-    ensures { result ≡ spare_case_of claim.now (report_of report.now) }
+    ensures value { result ≡ spare_case_of claim.now (report_of report.now) }
 {
     match claim.limits.most {
         None => None,
@@ -101,7 +103,7 @@ fn first_spare(claim: &Claim, report: &Report) -> Option<Spare>
 
 /// A case that doesn't hold, or that there are too few cases.
 fn one_missing(claim: &Claim, report: &Report) -> Break
-    ensures { result ≡ missing_or_fewer (broken_case (report_of report.now) 0 claim.now.cases.items) }
+    ensures value { result ≡ missing_or_fewer (broken_case (report_of report.now) 0 claim.now.cases.items) }
 {
     match broken_case(claim, report) {
         Some(witness) => Break::Missing(witness),
@@ -111,7 +113,7 @@ fn one_missing(claim: &Claim, report: &Report) -> Break
 
 /// A case too many.
 fn one_too_many(claim: &Claim, report: &Report) -> Option<Break>
-    ensures { result ≡ spare_or_none (spare_case_of claim.now (report_of report.now)) }
+    ensures value { result ≡ spare_or_none (spare_case_of claim.now (report_of report.now)) }
 {
     match first_spare(claim, report) {
         Some(spare) => Some(Break::Spare(spare)),
@@ -120,7 +122,7 @@ fn one_too_many(claim: &Claim, report: &Report) -> Option<Break>
 }
 
 fn find_break(claim: &Claim, report: &Report) -> Option<Break>
-    ensures { result ≡ break_in claim.now (report_of report.now) }
+    ensures value { result ≡ break_in claim.now (report_of report.now) }
 {
     if (holding(claim, report) as u64) < claim.limits.least {
         Some(one_missing(claim, report))

@@ -5,7 +5,8 @@ use Rattle.program_tree.specs.declared.event.Target.TheVariants.{One}
 use Rattle.claims.specs.declared.what.Kinds.{Kinds}
 use Rattle.claims.specs.declared.what.Said.{Said}
 use Rattle.trace_lines.specs.declared.line.What.{What}
-use Rattle.trace_lines.specs.declared.line.What.TheVariants.{Start, Leave, Post, Full, Take, Drop, Print, Busy, Halt, Send, Recv, Lost, Deaf, Collide}
+use Rattle.trace_lines.specs.declared.line.What.TheVariants.{Start, Leave, Post, Full, Take, Drop, Print, Busy, Halt}
+use Rattle.trace_lines.specs.declared.line.What.TheVariants.{Send, Recv, Lost, Deaf, Collide}
 
 abbrev pub has_kind : Kinds → What → Bool
 has_kind k (Start p) = k.start

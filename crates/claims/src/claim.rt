@@ -41,7 +41,7 @@ pub struct Claim {
 impl Test {
     /// Returns whether the test holds in a report.
     pub fn holds(&self, report: &Report) -> bool
-        ensures { result ≡ test_holds self.now (report_of report.now) }
+        ensures value { result ≡ test_holds self.now (report_of report.now) }
     {
         match self {
             Test::Count(count, limits) => limits.admits(count.number(report)),
@@ -56,7 +56,7 @@ impl Test {
 impl Case {
     /// Returns whether all tests of the case hold in a report.
     pub fn holds(&self, report: &Report) -> bool
-        ensures { result ≡ case_holds self.now (report_of report.now) }
+        ensures value { result ≡ case_holds self.now (report_of report.now) }
     {
         self.tests.iter().all(|test| test.holds(report))
     }
@@ -64,7 +64,7 @@ impl Case {
 
 /// The number of the cases of a claim that hold in a report.
 pub fn holding(claim: &Claim, report: &Report) -> usize
-    ensures { result ≡ holding_in claim.now (report_of report.now) }
+    ensures value { result ≡ holding_in claim.now (report_of report.now) }
 {
     claim.cases.iter().filter(|case| case.holds(report)).count()
 }

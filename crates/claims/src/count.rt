@@ -10,7 +10,7 @@ use mote_net::Report;
 /// The number of lines of the report's text: each trace with its heading, the log with its heading, and the copies that
 /// are left.
 fn rows(report: &Report) -> u128
-    ensures { result ≡ rows_of (report_of report.now) }
+    ensures value { result ≡ rows_of (report_of report.now) }
 {
     let mut lines = 0;
     for trace in &report.traces {
@@ -37,7 +37,7 @@ pub enum Count {
 impl Count {
     /// The number in a report.
     pub fn number(&self, report: &Report) -> u128
-        ensures { result ≡ number_of self.now (report_of report.now) }
+        ensures value { result ≡ number_of self.now (report_of report.now) }
     {
         match self {
             Count::Lines(lines) => lines.count(report),

@@ -10,11 +10,14 @@ ghost use Rattle.claims.specs.Values.{value_of, have_in_any_order};
 /// If one line of an event is before all others of them, a line is after some line of the event exactly if it is after
 /// that first one.
 pub fn after_means_after_the_first()
-    ensures { (first line : Found) (others : List Found) → list_all (is_before first) others ≡ true → list_any (is_related After line) (first ∷ others) ≡ is_before first line }
+    ensures first_decides { (first line : Found) (others : List Found) → list_all (is_before first) others ≡ true
+        → list_any (is_related After line) (first ∷ others) ≡ is_before first line }
 {}
 
 /// The values of lines are some values in any order exactly if they are a permutation of them.
 pub fn any_order_is_a_permutation()
-    ensures permuted { (values : List ℕ) (lines : List Found) → have_in_any_order values lines ≡ true → IsPermutation (map Some values) (map value_of lines) }
-    ensures any_order { (values : List ℕ) (lines : List Found) → IsPermutation (map Some values) (map value_of lines) → have_in_any_order values lines ≡ true }
+    ensures permuted { (values : List ℕ) (lines : List Found) → have_in_any_order values lines ≡ true
+        → IsPermutation (map Some values) (map value_of lines) }
+    ensures any_order { (values : List ℕ) (lines : List Found) → IsPermutation (map Some values) (map value_of lines)
+        → have_in_any_order values lines ≡ true }
 {}

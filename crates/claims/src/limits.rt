@@ -12,7 +12,7 @@ pub struct Limits {
 impl Limits {
     /// Returns whether a number is within the limits.
     pub fn admits(&self, count: u128) -> bool
-        ensures { result ≡ is_within self.now count }
+        ensures value { result ≡ is_within self.now count }
     {
         match self.most {
             Some(most) => u128::from(self.least) <= count && count <= u128::from(most),

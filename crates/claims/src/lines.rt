@@ -17,7 +17,7 @@ pub struct Lines {
 
 impl Lines {
     fn are_in_order(&self, report: &Report, line: &Found) -> bool
-        ensures { result ≡ is_wanted self.now.order (report_of report.now) line.now }
+        ensures value { result ≡ is_wanted self.now.order (report_of report.now) line.now }
     {
         match &self.order {
             None => true,
@@ -26,7 +26,8 @@ impl Lines {
     }
 
     fn count_in(&self, report: &Report, watch: Watch) -> usize
-        ensures { result ≡ count_in (is_wanted self.now.order (report_of report.now)) (report_of report.now) self.now.deed watch }
+        ensures value { result ≡ count_in (is_wanted self.now.order (report_of report.now)) (report_of report.now)
+            self.now.deed watch }
     {
         trace_of(report, watch.mote)
             .iter()
@@ -47,7 +48,7 @@ impl Lines {
 
     /// The number of lines in a report.
     pub fn count(&self, report: &Report) -> u128
-        ensures { result ≡ count_of self.now (report_of report.now) }
+        ensures value { result ≡ count_of self.now (report_of report.now) }
     {
         let mut count = 0;
         for watch in &self.deed.watches {
@@ -57,13 +58,13 @@ impl Lines {
     }
 
     fn counts(&self, report: &Report, watch: Watch, line: &Found) -> bool
-        ensures { result ≡ is_counted self.now (report_of report.now) watch line.now }
+        ensures value { result ≡ is_counted self.now (report_of report.now) watch line.now }
     {
         self.deed.shows(watch, &line.line) && self.are_in_order(report, line)
     }
 
     fn line_in(&self, report: &Report, watch: Watch, index: u64) -> Option<Found>
-        ensures { result ≡ slice_get (counted_in self.now (report_of report.now) watch) index }
+        ensures value { result ≡ slice_get (counted_in self.now (report_of report.now) watch) index }
     {
         let mut left = index;
         for (place, line) in trace_of(report, watch.mote).iter().enumerate() {
@@ -84,7 +85,7 @@ impl Lines {
 
     /// The line at an index among the lines that are counted, mote by mote.
     pub fn line_at(&self, report: &Report, index: u64) -> Option<Found>
-        ensures { result ≡ slice_get (wanted_lines self.now (report_of report.now)) index }
+        ensures value { result ≡ slice_get (wanted_lines self.now (report_of report.now)) index }
     {
         let mut left = index;
         for watch in &self.deed.watches {

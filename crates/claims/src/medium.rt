@@ -32,13 +32,13 @@ pub struct Copies {
 
 impl Packets {
     fn has(&self, sent: &Sent) -> bool
-        ensures { result ≡ is_such_packet self.now sent.now }
+        ensures value { result ≡ is_such_packet self.now sent.now }
     {
         self.when.has(sent.at) && wants(&self.sender, Some(u64::from(sent.sender)))
     }
 
     fn count_sent(&self, report: &Report) -> usize
-        ensures { result ≡ count_by (λ l. is_such_packet self.now l.sent) report.now.medium.items }
+        ensures value { result ≡ count_by (λ l. is_such_packet self.now l.sent) report.now.medium.items }
     {
         report
             .medium
@@ -49,7 +49,7 @@ impl Packets {
 
     /// The number of such packets.
     pub fn count(&self, report: &Report) -> u128
-        ensures { result ≡ packets_of self.now (report_of report.now) }
+        ensures value { result ≡ packets_of self.now (report_of report.now) }
     {
         self.count_sent(report) as u128
     }
@@ -57,7 +57,7 @@ impl Packets {
 
 impl Arrival {
     fn is_of(&self, sent: &Sent, arrival: Option<u64>) -> bool
-        ensures { result ≡ has_arrival self.now sent.now arrival }
+        ensures value { result ≡ has_arrival self.now sent.now arrival }
     {
         match self {
             Arrival::Lost(when) => arrival.is_none() && when.has(sent.at),
@@ -71,13 +71,13 @@ impl Arrival {
 
 impl Copies {
     fn has(&self, sent: &Sent, fate: &Fate) -> bool
-        ensures { result ≡ is_such_copy self.now sent.now fate.now }
+        ensures value { result ≡ is_such_copy self.now sent.now fate.now }
     {
         wants(&self.to, Some(u64::from(fate.to))) && self.arrival.is_of(sent, fate.at)
     }
 
     fn count_in(&self, line: &LogLine) -> usize
-        ensures { result ≡ copies_in self.now (line_model line.now) }
+        ensures value { result ≡ copies_in self.now (line_model line.now) }
     {
         line.fates
             .iter()
@@ -87,7 +87,7 @@ impl Copies {
 
     /// The number of such copies.
     pub fn count(&self, report: &Report) -> u128
-        ensures { result ≡ copies_of self.now (report_of report.now) }
+        ensures value { result ≡ copies_of self.now (report_of report.now) }
     {
         let mut count = 0;
         for line in &report.medium {

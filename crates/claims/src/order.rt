@@ -32,7 +32,7 @@ pub struct Order {
 impl Found {
     /// Returns whether this line is before another one. Two lines of different motes at the same moment have no order.
     pub fn is_before(&self, other: &Found) -> bool
-        ensures { result ≡ is_before self.now other.now }
+        ensures value { result ≡ is_before self.now other.now }
     {
         self.line.at < other.line.at
             || self.line.at == other.line.at && self.mote == other.mote && self.place < other.place
@@ -40,7 +40,7 @@ impl Found {
 
     /// Returns whether this line is before another one, or at the same moment at another mote.
     pub fn is_beside_or_before(&self, other: &Found) -> bool
-        ensures { result ≡ is_beside_or_before self.now other.now }
+        ensures value { result ≡ is_beside_or_before self.now other.now }
     {
         self.is_before(other) || self.line.at == other.line.at && self.mote != other.mote
     }
@@ -49,7 +49,7 @@ impl Found {
 impl Relation {
     /// Returns whether a line has the relation to a line of an event.
     pub fn relates(self, line: &Found, event: &Found) -> bool
-        ensures { result ≡ is_related self line.now event.now }
+        ensures value { result ≡ is_related self line.now event.now }
     {
         match self {
             Relation::After => event.is_before(line),
@@ -66,7 +66,8 @@ impl Relation {
 
 impl Order {
     fn is_related_in(&self, report: &Report, line: &Found, watch: Watch) -> bool
-        ensures { result ≡ any_in (is_related self.now.relation line.now) (report_of report.now) self.now.event watch }
+        ensures value { result ≡ any_in (is_related self.now.relation line.now) (report_of report.now) self.now.event
+            watch }
     {
         trace_of(report, watch.mote).iter().enumerate().any(|(place, event)| {
             self.event.shows(watch, event)
@@ -82,7 +83,8 @@ impl Order {
     }
 
     fn is_related_somewhere(&self, report: &Report, line: &Found) -> bool
-        ensures { result ≡ list_any (any_in (is_related self.now.relation line.now) (report_of report.now) self.now.event) self.now.event.watches.items }
+        ensures value { result ≡ list_any (any_in (is_related self.now.relation line.now) (report_of report.now)
+            self.now.event) self.now.event.watches.items }
     {
         self.event
             .watches
@@ -92,7 +94,7 @@ impl Order {
 
     /// Returns whether a line has, or doesn't have, the relation to some line of the event.
     pub fn admits(&self, report: &Report, line: &Found) -> bool
-        ensures { result ≡ is_ordered self.now (report_of report.now) line.now }
+        ensures value { result ≡ is_ordered self.now (report_of report.now) line.now }
     {
         let some = self.is_related_somewhere(report, line);
         if self.is_so { some } else { !some }

@@ -23,7 +23,7 @@ pub struct Pattern {
 
 impl Pattern {
     fn wants(&self, said: &Said) -> bool
-        ensures { result ≡ wants_all self.now said.now }
+        ensures value { result ≡ wants_all self.now said.now }
     {
         wants_target(self.target, said.target)
             && wants(&self.serial, said.serial)
@@ -35,7 +35,7 @@ impl Pattern {
 
     /// Returns whether a line with this event fits the pattern.
     pub fn fits(&self, what: &What) -> bool
-        ensures { result ≡ fits self.now what.now }
+        ensures value { result ≡ fits self.now what.now }
     {
         self.kinds.has(what) && self.wants(&Said::by(what))
     }

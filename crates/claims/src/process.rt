@@ -5,7 +5,7 @@ ghost use Rattle.claims.specs.Processes.{is_same_process, is_same_target, wants_
 use program_tree::{Proc, Target};
 
 fn is_same_process(a: Proc, b: Proc) -> bool
-    ensures { result ≡ is_same_process a b }
+    ensures value { result ≡ is_same_process a b }
 {
     match a {
         Proc::Own(a) => match b {
@@ -19,7 +19,7 @@ fn is_same_process(a: Proc, b: Proc) -> bool
 }
 
 fn is_same_target(a: Target, b: Target) -> bool
-    ensures { result ≡ is_same_target a b }
+    ensures value { result ≡ is_same_target a b }
 {
     match a {
         Target::One(a) => match b {
@@ -32,7 +32,7 @@ fn is_same_target(a: Target, b: Target) -> bool
 
 /// Returns whether a target is wanted: `None` wants any line, even one without a target.
 pub(crate) fn wants_target(wanted: Option<Target>, said: Option<Target>) -> bool
-    ensures { result ≡ wants_target wanted said }
+    ensures value { result ≡ wants_target wanted said }
 {
     match wanted {
         None => true,

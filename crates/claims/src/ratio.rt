@@ -24,7 +24,7 @@ struct Product {
 }
 
 fn times(number: u128, factor: u32) -> Product
-    ensures { result.high * 18446744073709551616 + result.low ≡ number * factor }
+    ensures product { result.high * 18446744073709551616 + result.low ≡ number * factor }
 {
     let low = (number % 18446744073709551616) * factor as u128;
     let high = (number / 18446744073709551616) * factor as u128 + low / 18446744073709551616;
@@ -35,7 +35,7 @@ fn times(number: u128, factor: u32) -> Product
 }
 
 fn is_at_most(low: u128, low_times: u32, high: u128, high_times: u32) -> bool
-    ensures { result ≡ nat_le (low * low_times) (high * high_times) }
+    ensures value { result ≡ nat_le (low * low_times) (high * high_times) }
 {
     let a = times(low, low_times);
     let b = times(high, high_times);
@@ -45,7 +45,7 @@ fn is_at_most(low: u128, low_times: u32, high: u128, high_times: u32) -> bool
 impl Ratio {
     /// Returns whether the two numbers in a report have the ratio.
     pub fn holds(&self, report: &Report) -> bool
-        ensures { result ≡ is_in_ratio self.now (report_of report.now) }
+        ensures value { result ≡ is_in_ratio self.now (report_of report.now) }
     {
         let low = self.low.number(report);
         let high = self.high.number(report);

@@ -18,7 +18,7 @@ pub struct Set {
 impl Span {
     /// Returns whether a number is in the span.
     pub fn has(&self, number: u64) -> bool
-        ensures { result ≡ is_in self.now number }
+        ensures value { result ≡ is_in self.now number }
     {
         self.from <= number && number <= self.to
     }
@@ -27,7 +27,7 @@ impl Span {
 impl Set {
     /// Returns whether a number is in one of the spans.
     pub fn has(&self, number: u64) -> bool
-        ensures { result ≡ has self.now number }
+        ensures value { result ≡ has self.now number }
     {
         self.spans.iter().any(|span| span.has(number))
     }
@@ -35,7 +35,7 @@ impl Set {
 
 /// Returns whether a number is wanted: no set wants any number, and even none; a set wants the numbers in it.
 pub fn wants(wanted: &Option<Set>, number: Option<u64>) -> bool
-    ensures { result ≡ wants wanted.now number }
+    ensures value { result ≡ wants wanted.now number }
 {
     match wanted {
         None => true,
@@ -48,7 +48,7 @@ pub fn wants(wanted: &Option<Set>, number: Option<u64>) -> bool
 
 /// Returns whether there is a number, and it is this one.
 pub(crate) fn is_this(wanted: u64, number: Option<u64>) -> bool
-    ensures { result ≡ is_this wanted number }
+    ensures value { result ≡ is_this wanted number }
 {
     match number {
         None => false,

@@ -34,14 +34,14 @@ pub struct Found {
 
 impl Deed {
     fn fits(&self, what: &What) -> bool
-        ensures { result ≡ list_any (λ p. fits p what.now) self.now.patterns.items }
+        ensures value { result ≡ list_any (λ p. fits p what.now) self.now.patterns.items }
     {
         self.patterns.iter().any(|pattern| pattern.fits(what))
     }
 
     /// Returns whether a line of a mote is in its period, and fits one of the patterns.
     pub fn shows(&self, watch: Watch, line: &Line) -> bool
-        ensures { result ≡ shows self.now watch line.now }
+        ensures value { result ≡ shows self.now watch line.now }
     {
         watch.when.has(line.at) && self.fits(&line.what)
     }
@@ -49,7 +49,7 @@ impl Deed {
 
 /// The trace of a mote; a mote that isn't in the report has no lines.
 pub fn trace_of(report: &Report, mote: u16) -> &[Line]
-    ensures { result.now ≡ trace_at (report_of report.now) mote }
+    ensures value { result.now ≡ trace_at (report_of report.now) mote }
 {
     match report.traces.get(usize::from(mote)) {
         Some(trace) => trace.as_slice(),

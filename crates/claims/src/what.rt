@@ -39,7 +39,7 @@ pub struct Said {
 impl Kinds {
     /// Returns whether the event has one of the kinds.
     pub fn has(&self, what: &What) -> bool
-        ensures { result ≡ has_kind self.now what.now }
+        ensures value { result ≡ has_kind self.now what.now }
     {
         match what {
             What::Start(_) => self.start,
@@ -62,7 +62,7 @@ impl Kinds {
 
 impl Said {
     fn nothing() -> Said
-        ensures { result ≡ nothing }
+        ensures value { result ≡ nothing }
     {
         Said {
             target: None,
@@ -75,7 +75,7 @@ impl Said {
     }
 
     fn about(process: Proc) -> Said
-        ensures { result ≡ about process }
+        ensures value { result ≡ about process }
     {
         Said {
             target: Some(Target::One(process)),
@@ -84,7 +84,7 @@ impl Said {
     }
 
     fn about_packet(sender: u16, number: u64) -> Said
-        ensures { result ≡ about_packet sender number }
+        ensures value { result ≡ about_packet sender number }
     {
         Said {
             sender: Some(u64::from(sender)),
@@ -95,7 +95,7 @@ impl Said {
 
     /// The parts of a line.
     pub fn by(what: &What) -> Said
-        ensures { result ≡ said_by what.now }
+        ensures value { result ≡ said_by what.now }
     {
         match what {
             What::Start(p) | What::Leave(p) | What::Busy(p) => Said::about(*p),

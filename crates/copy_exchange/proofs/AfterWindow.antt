@@ -17,7 +17,7 @@ use Rattle.copy_exchange.specs.Takers.{copies_gathered, IsOrderly}
 use Rattle.copy_exchange.specs.Endpoints.{IsEndpoint, IsOnInboxes, IsCollected, DeliversOwn, Stays, AreOpen, Returns}
 use Rattle.copy_exchange.specs.Endpoints.{AllReturn, GathersDelivered, sender_to, senders_to, identity_of}
 use Rattle.copy_exchange.specs.Inboxes.{HasNoMarks, IsSettled, Settled}
-use Rattle.copy_exchange.specs.Steps.{AreTakersOf, GathersRow, GathersBack, TellsOf, gather_into, gather_senders}
+use Rattle.copy_exchange.specs.Steps.{AreTakersOf, GathersRow, GathersBack, AgreesWithSender, gather_into, gather_senders}
 use Rattle.copy_exchange.specs.Steps.{at_place}
 use Rattle.copy_exchange.proofs.Gathers.{gather_is, with_joined, numbers_of, joined_copies, all_gathered, orderly_then}
 use Rattle.copy_exchange.proofs.Gathers.{packets_then, OneOf}
@@ -158,11 +158,11 @@ module _ (inboxes : List InboxId) (cs : List Endpoint) (back : AllReturn inboxes
       (each_back inboxes back.worker_of (IsEndpoint inboxes) (λ a b r. r.endpoint) before cs back.each)
       (each_back inboxes back.worker_of IsDone (λ a b r. (r.collected, r.plain)) before cs back.each)
 
-  pub settled_at : (c : Endpoint) → HasEnded c → Each (λ (s : SenderView). TellsOf c.taker.state s.state) (senders_to cs c.worker) → IsSettled c.taker.inbox (with_all c)
+  pub settled_at : (c : Endpoint) → HasEnded c → Each (λ (s : SenderView). AgreesWithSender c.taker.state s.state) (senders_to cs c.worker) → IsSettled c.taker.inbox (with_all c)
   settled_at c h matches =
       let ss : List SenderView = senders_to cs c.worker in
       let is = gather_is c.taker ss in
-      let packets : Each (λ (s : SenderView). Packets s.state.pushed) ss = each_map (λ (s : SenderView). TellsOf c.taker.state s.state) (λ (s : SenderView). Packets s.state.pushed) ss (λ s k. k.plain h.3.1) matches in
+      let packets : Each (λ (s : SenderView). Packets s.state.pushed) ss = each_map (λ (s : SenderView). AgreesWithSender c.taker.state s.state) (λ (s : SenderView). Packets s.state.pushed) ss (λ s k. k.plain h.3.1) matches in
       let P : TakerView → Type 0 = λ t. PacketsLeft t.state in
       record {
         its = ap (λ (t : TakerView). t.inbox) is;
@@ -182,16 +182,16 @@ row_senders rows v = filter_map (λ (r : Row). at_place r.items v) rows
 pub record GathersRows (old new : List TakerView) (rows : List Row) : Type 0 where
   pub count : length new ≡ length old
   pub taker : (v : ℕ) (t : TakerView) → v < length old → get_or new v t ≡ gather_senders (get_or old v t) (row_senders rows v)
-  pub matches : (v : ℕ) (t : TakerView) → v < length old → Each (λ (s : SenderView). TellsOf (get_or old v t).state s.state) (row_senders rows v)
+  pub matches : (v : ℕ) (t : TakerView) → v < length old → Each (λ (s : SenderView). AgreesWithSender (get_or old v t).state s.state) (row_senders rows v)
 
 -- the items that a taker took don't change when it gathers
-known_before : (t : TakerView) (ss : List SenderView) (p : SenderState) → TellsOf (gather_senders t ss).state p → TellsOf t.state p
+known_before : (t : TakerView) (ss : List SenderView) (p : SenderState) → AgreesWithSender (gather_senders t ss).state p → AgreesWithSender t.state p
 known_before t ss p h =
-    let P : TakerView → Type 0 = λ u. TellsOf u.state p in
-    let k : TellsOf (with_joined ss t.state) p = subst P (gather_is t ss) h in
+    let P : TakerView → Type 0 = λ u. AgreesWithSender u.state p in
+    let k : AgreesWithSender (with_joined ss t.state) p = subst P (gather_is t ss) h in
     record { begun = k.begun; plain = k.plain }
 
-known_option : (d : TakerState) (o : Option SenderView) → ((s : SenderView) → o ≡ Some s → TellsOf d s.state) → Each (λ (s : SenderView). TellsOf d s.state) (cons_option o [])
+known_option : (d : TakerState) (o : Option SenderView) → ((s : SenderView) → o ≡ Some s → AgreesWithSender d s.state) → Each (λ (s : SenderView). AgreesWithSender d s.state) (cons_option o [])
 known_option d None f = tt
 known_option d (Some s) f = (f s refl, tt)
 
@@ -212,9 +212,9 @@ more_rows old mid new rows row h r =
           r.taker v t (omega arith) ∙ (ap (λ u. gather_into u (at_place row.items v)) (h.taker v t lt)
           ∙ (sym (gather_more (get_or old v t) (row_senders rows v) (at_place row.items v)) ∙ ap (gather_senders (get_or old v t)) (sym (filter_map-append (λ (k : Row). at_place k.items v) rows (row ∷ [])))));
       matches = λ v t lt.
-          let F : SenderView → Type 0 = λ s. TellsOf (get_or old v t).state s.state in
+          let F : SenderView → Type 0 = λ s. AgreesWithSender (get_or old v t).state s.state in
           let new_ : Each F (cons_option (at_place row.items v) []) = known_option (get_or old v t).state (at_place row.items v) (λ s found.
-          let P : TakerView → Type 0 = λ u. TellsOf u.state s.state in
+          let P : TakerView → Type 0 = λ u. AgreesWithSender u.state s.state in
           known_before (get_or old v t) (row_senders rows v) s.state (subst P (h.taker v t lt) (r.matches v t s (omega arith) found))) in
           let L : List SenderView → Type 0 = λ l. Each F l in
           subst L (sym (filter_map-append (λ (k : Row). at_place k.items v) rows (row ∷ []))) (each_join F (row_senders rows v) (cons_option (at_place row.items v) []) (h.matches v t lt) new_);
@@ -270,13 +270,13 @@ module _ (inboxes : List InboxId) (cs : List Endpoint) (back : AllReturn inboxes
         let found : slice_get cs v ≡ Some p.0 = slice_get-get_or cs v p.0 lt ∙ ap Some (p.3 p.0) in
         h.taker v p.0 (get_or ts v t) found (slice_get-get_or ts v t (omega arith)) ∙ ap (λ k. gather_senders p.0.taker (senders_to cs k)) same
 
-    report_at : (v : ℕ) (lt : v < length cs) → Each (λ (s : SenderView). TellsOf (picked v lt).0.taker.state s.state) (senders_to cs (picked v lt).0.worker)
+    report_at : (v : ℕ) (lt : v < length cs) → Each (λ (s : SenderView). AgreesWithSender (picked v lt).0.taker.state s.state) (senders_to cs (picked v lt).0.worker)
     report_at v lt =
         let p = picked v lt in
         let is = p.1 in
         let same : v ≡ p.0.worker = omega arith in
         let found : slice_get cs v ≡ Some p.0 = slice_get-get_or cs v p.0 lt ∙ ap Some (p.3 p.0) in
-        let Q : ℕ → Type 0 = λ k. Each (λ (s : SenderView). TellsOf p.0.taker.state s.state) (senders_to cs k) in
+        let Q : ℕ → Type 0 = λ k. Each (λ (s : SenderView). AgreesWithSender p.0.taker.state s.state) (senders_to cs k) in
         subst Q same (h.matches v p.0 found)
 
     pub settled : Settled inboxes ts

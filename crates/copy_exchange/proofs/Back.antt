@@ -7,7 +7,7 @@ use Rattle.std.proofs.lemmas.Option.{get_or_from_slice_get, slice_get-get_or, sl
 use Rattle.copy_inbox.specs.Handles.{InboxId, TakerView, SenderView}
 use Rattle.copy_exchange.specs.declared.endpoint.Endpoint.{Endpoint}
 use Rattle.copy_exchange.specs.Endpoints.{IsOnInboxes, IsSenderOn, sender_to, senders_to}
-use Rattle.copy_exchange.specs.Steps.{AreTakersOf, AreSendersOn, GathersBack, TellsOf, gather_senders}
+use Rattle.copy_exchange.specs.Steps.{AreTakersOf, AreSendersOn, GathersBack, AgreesWithSender, gather_senders}
 use Rattle.copy_exchange.proofs.AfterWindow.{Row, GathersRows, row_senders, pick}
 use Rattle.copy_exchange.proofs.Lists.{each_at}
 use Rattle.copy_exchange.proofs.Owns.{workers_of}
@@ -70,6 +70,6 @@ gathers_back cs ts h =
           sym (get_or_from_slice_get ts v t t at_t) ∙ (h.taker v t (omega arith) ∙ (λ i. gather_senders (found_taker cs v c t at_c i) (rows_of cs v i)));
       matches = λ v c at_c.
           let inside = slice_get_within cs v c at_c in
-          let Q : TakerView × List SenderView → Type 0 = λ x. Each (λ (s : SenderView). TellsOf x.0.state s.state) x.1 in
+          let Q : TakerView × List SenderView → Type 0 = λ x. Each (λ (s : SenderView). AgreesWithSender x.0.state s.state) x.1 in
           subst Q (λ i. (found_taker cs v c c.taker at_c i, rows_of cs v i)) (h.matches v c.taker (omega arith));
     }

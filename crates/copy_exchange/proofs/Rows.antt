@@ -5,7 +5,7 @@ use Rattle.std.proofs.lemmas.Bool.Decides.{eqb_tells}
 use Rattle.std.proofs.lemmas.List.{get_or-set_same, get_or-set_other}
 use Rattle.copy_inbox.specs.Handles.{InboxId, TakerView, SenderView}
 use Rattle.copy_exchange.proofs.Lists.{same_read}
-use Rattle.copy_exchange.specs.Steps.{AreTakersOf, AreSendersOn, GathersRow, TellsOf, Opens, gather_into, at_place, opened_taker, opened_sender}
+use Rattle.copy_exchange.specs.Steps.{AreTakersOf, AreSendersOn, GathersRow, AgreesWithSender, Opens, gather_into, at_place, opened_taker, opened_sender}
 
 -- the senders at the first k places are gathered
 pub record GathersTo (k : ℕ) (old new : List TakerView) (senders : List (Option SenderView)) : Type 0 where
@@ -13,16 +13,16 @@ pub record GathersTo (k : ℕ) (old new : List TakerView) (senders : List (Optio
   pub done : (v : ℕ) (t : TakerView) → v < k → v < length old → slice_index_or new v t ≡ gather_into (slice_index_or old v t) (at_place senders v)
   pub left : (v : ℕ) (t : TakerView) → k ≤ v → v < length old → slice_index_or new v t ≡ slice_index_or old v t
   pub matches : (v : ℕ) (t : TakerView) (s : SenderView) → v < k → v < length old → at_place senders v ≡ Some s
-      → TellsOf (slice_index_or old v t).state s.state
+      → AgreesWithSender (slice_index_or old v t).state s.state
 
 pub gathers_none : (old : List TakerView) (senders : List (Option SenderView)) → GathersTo 0 old old senders
 gathers_none old senders = record { count = refl; done = λ v t lt. absurd (omega arith); left = λ v t le lt. refl; matches = λ v t s lt. absurd (omega arith) }
 
-known_some : (d : TakerView) (o : Option SenderView) (s : SenderView) → o ≡ Some s → IfSome o (λ a. TellsOf d.state a.state) → TellsOf d.state s.state
-known_some d o s e h = let P : Option SenderView → Type 0 = λ p. IfSome p (λ a. TellsOf d.state a.state) in subst P e h
+known_some : (d : TakerView) (o : Option SenderView) (s : SenderView) → o ≡ Some s → IfSome o (λ a. AgreesWithSender d.state a.state) → AgreesWithSender d.state s.state
+known_some d o s e h = let P : Option SenderView → Type 0 = λ p. IfSome p (λ a. AgreesWithSender d.state a.state) in subst P e h
 
 pub gathers_next : (k : ℕ) (old new : List TakerView) (senders : List (Option SenderView)) (was now : TakerView) (sender : Option SenderView) → GathersTo k old new senders → k < length old
-    → was ≡ get_or new k was → sender ≡ at_place senders k → now ≡ gather_into was sender → IfSome sender (λ a. TellsOf was.state a.state)
+    → was ≡ get_or new k was → sender ≡ at_place senders k → now ≡ gather_into was sender → IfSome sender (λ a. AgreesWithSender was.state a.state)
     → GathersTo (k + 1) old (set new k now) senders
 gathers_next k old new senders was now sender h lt at_was at_sender is matches =
     let count = h.count in
@@ -40,7 +40,7 @@ gathers_next k old new senders was now sender h lt at_was at_sender is matches =
           (λ (q : (eqb v k ≡ true) × (v ≡ k)).
           let before : was ≡ get_or old v t = at_was ∙ (same_read new k was t (omega arith) ∙ (h.left k t (omega arith) lt ∙ ap (λ i. get_or old i t) (sym q.1))) in
           let its : sender ≡ Some s = at_sender ∙ (ap (at_place senders) (sym q.1) ∙ found) in
-          let P : TakerView → Type 0 = λ w. TellsOf w.state s.state in
+          let P : TakerView → Type 0 = λ w. AgreesWithSender w.state s.state in
           subst P before (known_some was sender s its matches))
           (λ (q : (eqb v k ≡ false) × (v ≢ k)). let n = q.1 in h.matches v t s (omega arith) inside found)
           (eqb_tells v k);

@@ -71,7 +71,8 @@ IsCollected e = Whole e.taker.state.gathered e.taker.state.taken
 
 -- the endpoint delivered no copies from motes of other workers
 abbrev pub DeliversOwn : (worker_of : ℕ → ℕ) → Endpoint → Type 0
-DeliversOwn worker_of e = (s v : ℕ) → (worker_of s == e.worker) ≡ false → filter (is_from_sender s) (delivered e v) ≡ []
+DeliversOwn worker_of e = (s v : ℕ) → (worker_of s == e.worker) ≡ false → filter (is_from_sender s) (delivered e v) ≡
+    []
 
 -- ---- from the start of a window to its end
 -- the inbox and the number of the sender, and whether the inbox has marks
@@ -114,7 +115,8 @@ pub record Delivers (owners : List ℕ) (old new : Endpoint) (copies : List Radi
 pub record PushesMarks (workers window : ℕ) (old new : Endpoint) : Type 0 where
   pub stays : Stays old new
   pub taker : new.taker ≡ old.taker
-  pub pushes : (v : ℕ) → v < workers → (v == old.worker) ≡ false → pushed_to new v ≡ pushed_to old v ++ Mark window ∷ []
+  pub pushes : (v : ℕ) → v < workers → (v == old.worker) ≡ false → pushed_to new v ≡ pushed_to old v
+      ++ Mark window ∷ []
 
 -- ---- the endpoints of one window
 -- the endpoint with this taker at the start of a window

@@ -51,7 +51,7 @@ pub record AreSendersOn (inboxes : List InboxId) (senders : List (Option SenderV
 
 -- the facts that a taker learns about a sender that it gathers: the items that it took from the sender are a prefix of
 -- those that the sender pushed; if there are no marks, all items pushed are packets
-pub record TellsOf (d : TakerState) (p : SenderState) : Type 0 where
+pub record AgreesWithSender (d : TakerState) (p : SenderState) : Type 0 where
   pub begun : HasPrefix p.pushed (part p.number d.taken)
   pub plain : d.marked ≡ false → Packets p.pushed
 
@@ -61,7 +61,7 @@ pub record GathersRow (old new : List TakerView) (senders : List (Option SenderV
   pub taker : (v : ℕ) (t : TakerView) → v < length old
       → slice_index_or new v t ≡ gather_into (slice_index_or old v t) (at_place senders v)
   pub matches : (v : ℕ) (t : TakerView) (s : SenderView) → v < length old → at_place senders v ≡ Some s
-      → TellsOf (slice_index_or old v t).state s.state
+      → AgreesWithSender (slice_index_or old v t).state s.state
 
 -- the taker after it has gathered these senders, one after another
 abbrev pub gather_senders : TakerView → List SenderView → TakerView
@@ -74,7 +74,7 @@ pub record GathersBack (endpoints : List Endpoint) (takers : List TakerView) : T
   pub taker : (v : ℕ) (e : Endpoint) (t : TakerView) → slice_get endpoints v ≡ Some e → slice_get takers v ≡ Some t
       → t ≡ gather_senders e.taker (senders_to endpoints v)
   pub matches : (v : ℕ) (e : Endpoint) → slice_get endpoints v ≡ Some e
-      → Each (λ (s : SenderView). TellsOf e.taker.state s.state) (senders_to endpoints v)
+      → Each (λ (s : SenderView). AgreesWithSender e.taker.state s.state) (senders_to endpoints v)
 
 -- ---- a mark goes through one sender
 abbrev pub pushed_with_mark : Option SenderView → (window : ℕ) → List Carried

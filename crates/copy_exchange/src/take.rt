@@ -75,7 +75,7 @@ fn is_expected(window_position: &WindowPosition<'_>, copy: RadioCopy) -> bool
 
 /// Handles an item that was taken. If the item is a mark, the function counts it. If the item is an expected copy, the
 /// function appends it to the copies that have arrived.
-fn hear(
+fn record_item(
     window_position: &WindowPosition<'_>,
     marks: &mut Vec<u64>,
     arrived: &mut Vec<RadioCopy>,
@@ -171,7 +171,7 @@ impl MarkTaker {
                 return Ok(arrived);
             }
             match inbox.take_next(rt, taker) {
-                Some(item) => hear(window_position, &mut self.counts, &mut arrived, item)?,
+                Some(item) => record_item(window_position, &mut self.counts, &mut arrived, item)?,
                 None => wait(rt, inbox, watch, &self.counts, window, &mut self.waiting)?,
             }
         }

@@ -2,11 +2,12 @@
 
 ghost use Rattle.std.specs.Prelude.{◌≡◌, ◌≤◌, ◌^◌, true, length, map, IfOk, IfSome, OnOk};
 ghost use Rattle.std.specs.List.{AllByRecursion as Each, AllZip, range_with_len};
-ghost use Rattle.copy_exchange.specs.Endpoints.{IsOnInboxes, Together, StartsAs, HasMarks, HasPushedNothing, AllReturn};
+ghost use Rattle.copy_exchange.specs.Endpoints.{IsOnInboxes, Together, StartsAs, HasMarks, HasPushedNothing};
+ghost use Rattle.copy_exchange.specs.Endpoints.{AllReturn};
 ghost use Rattle.copy_exchange.specs.Endpoints.{GathersDelivered};
 ghost use Rattle.copy_exchange.specs.Inboxes.{HasNoMarks, Settled};
 ghost use Rattle.copy_exchange.specs.Steps.{AreTakersOf, Opens, opened_taker, opened_sender, AreSendersOn};
-ghost use Rattle.copy_exchange.specs.Steps.{gather_into, GathersRow, GathersBack, TellsOf};
+ghost use Rattle.copy_exchange.specs.Steps.{gather_into, GathersRow, GathersBack, AgreesWithSender};
 
 use crate::endpoint::Endpoint;
 use copy_inbox::{Inbox, InboxError, Sender, Taker};
@@ -160,7 +161,7 @@ fn gather_one<R: Wait>(rt: &R, inbox: &Inbox, taker: &mut Taker, sender: Option<
     requires taker { taker.old.inbox ≡ inbox.now }
     requires sender { IfSome sender (λ s. s.inbox ≡ inbox.now) }
     ensures gathered { taker.new ≡ gather_into taker.old sender }
-    ensures matches { IfSome sender (λ s. TellsOf taker.old.state s.state) }
+    ensures matches { IfSome sender (λ s. AgreesWithSender taker.old.state s.state) }
 {
     if let Some(sender) = sender {
         inbox.gather(rt, taker, sender);

@@ -9,7 +9,7 @@ use Rattle.program_tree.specs.declared.event.Event.{Event}
 use Rattle.program_tree.specs.Code.{Code, Tree}
 use Rattle.protothread.specs.declared.answer.PtState.{PtState}
 use Rattle.protothread.specs.declared.answer.PtState.TheVariants.{Waiting, Yielded, Exited, Ended}
-use Rattle.protothread.specs.declared.thread.Mark.TheVariants.{UnderWay}
+use Rattle.protothread.specs.declared.thread.LastAction.TheVariants.{UnderWay}
 use Rattle.protothread.specs.declared.step.Op.{Op}
 use Rattle.protothread.specs.declared.step.Op.TheVariants as op
 use Rattle.protothread.specs.declared.step.Step.{Step}
@@ -199,10 +199,10 @@ module _ (program : Tree) (mote p : ℕ) (code : Code) (earlier : List Line) whe
           now_traced = ap (λ v. earlier ++ v.lines_so_far) same ∙ traced_next (process_in_mote p s).lines_so_far here.before here.lines (printed (Own p) now (operates o)) here.is_traced
 
       -- the thread gets no result of the operation
-      goes_unanswered : (o : Op) (after : Remainder) (changed : List ℕ) → Takes (step.Op o) after changed → after.mark ≡ UnderWay None
+      goes_unanswered : (o : Op) (after : Remainder) (changed : List ℕ) → Takes (step.Op o) after changed → after.last_action ≡ UnderWay None
           → (t : KernelState) → IsBehind o changed t → IfGives Stopped (RanFrom (process_in_mote p s)) (calls.run t code after p e)
-      goes_unanswered o after changed takes mark t same =
-          let unanswered = answer_is_unused after changed 0 mark in
+      goes_unanswered o after changed takes last_action t same =
+          let unanswered = answer_is_unused after changed 0 last_action in
           subst (λ x. IfGives Stopped (RanFrom (process_in_mote p s)) (calls.run t code x p e)) unanswered.0 (goes_on o after changed 0 (omega arith) takes t (subst (λ vs. IsBehind o vs t) (sym unanswered.1) same))
 
       -- the state after a step
@@ -247,35 +247,35 @@ module _ (program : Tree) (mote p : ℕ) (code : Code) (earlier : List Line) whe
       same_own : starts_or_prints (Own p) (what.Print (Own p) zero) ≡ true
       same_own = grind (arith, nat_tests)
 
-      printed_on : (after : Remainder) (changed : List ℕ) (left v : ℕ) → Takes (step.Op (op.Print v)) after changed → after.mark ≡ UnderWay None
+      printed_on : (after : Remainder) (changed : List ℕ) (left v : ℕ) → Takes (step.Op (op.Print v)) after changed → after.last_action ≡ UnderWay None
           → IfGives Stopped (RanFrom (process_in_mote p s)) (perform_of calls (stepped changed left) after p (op.Print v) >>= λ r1 s1. calls.run s1 code r1 p e)
       unfolding perform_of act_of write_of
-      printed_on after changed left v takes mark =
-          goes_unanswered (op.Print v) after changed takes mark (with_line (stepped changed left) (what.Print (Own p) v))
+      printed_on after changed left v takes last_action =
+          goes_unanswered (op.Print v) after changed takes last_action (with_line (stepped changed left) (what.Print (Own p) v))
           (ap (λ l. record (process_in_mote p (stepped changed left)) { lines_so_far = l }) (traced_more (Own p) s.lines (record { at = s.moment; what = what.Print (Own p) v }) ∙ ap (λ b. starts_and_prints (Own p) s.lines ++ (if b then record { at = s.moment; what = what.Print (Own p) v } ∷ [] else [])) same_own)
           ∙ ap {A = ProcessInMote} (λ w. record w { lines_so_far = (process_in_mote p s).lines_so_far ++ record { at = s.moment; what = what.Print (Own p) v } ∷ [] }) (stepped_in_mote changed left))
 
       module _ (acts : ActsAside calls) where
-        acted_on : (after : Remainder) (changed : List ℕ) (left : ℕ) (o : Op) → IsNoPrint o → printed (Own p) now (operates o) ≡ [] → Takes (step.Op o) after changed → after.mark ≡ UnderWay None
+        acted_on : (after : Remainder) (changed : List ℕ) (left : ℕ) (o : Op) → IsNoPrint o → printed (Own p) now (operates o) ≡ [] → Takes (step.Op o) after changed → after.last_action ≡ UnderWay None
             → IfGives Stopped (RanFrom (process_in_mote p s)) ((act_of calls (stepped changed left) p o >>= λ _ s1. Goes after s1) >>= λ r1 s1. calls.run s1 code r1 p e)
-        acted_on after changed left o aside nothing takes mark =
+        acted_on after changed left o aside nothing takes last_action =
             gives_bind _ _ Stopped (λ r1 u. (r1 ≡ after) × (process_in_mote p u ≡ process_in_mote p (stepped changed left))) _ (act_of calls (stepped changed left) p o >>= λ _ s1. Goes after s1) _
             (gives_bind _ _ Stopped (λ a u. process_in_mote p u ≡ process_in_mote p (stepped changed left)) _ (act_of calls (stepped changed left) p o) _ (acts (stepped changed left) o aside (stepped_away changed left) (stepped_so_far changed left (stepped changed left) refl)) (λ a u same. (refl, same)))
-            (λ r1 u h. subst (λ x. IfGives Stopped (RanFrom (process_in_mote p s)) (calls.run u code x p e)) (sym h.0) (goes_unanswered o after changed takes mark u
+            (λ r1 u h. subst (λ x. IfGives Stopped (RanFrom (process_in_mote p s)) (calls.run u code x p e)) (sym h.0) (goes_unanswered o after changed takes last_action u
             (h.1 ∙ stepped_in_mote changed left ∙ ap (λ l. record (process_in_mote p s) { vars = Some changed; lines_so_far = l }) (sym (append-nil (process_in_mote p s).lines_so_far) ∙ ap (λ l. (process_in_mote p s).lines_so_far ++ l) (sym nothing)))))
 
-        performed_on : (after : Remainder) (changed : List ℕ) (left : ℕ) (o : Op) → Takes (step.Op o) after changed → IsUnanswered o after.mark
+        performed_on : (after : Remainder) (changed : List ℕ) (left : ℕ) (o : Op) → Takes (step.Op o) after changed → IsUnanswered o after.last_action
             → IfGives Stopped (RanFrom (process_in_mote p s)) (perform_of calls (stepped changed left) after p o >>= λ r1 s1. calls.run s1 code r1 p e)
         unfolding perform_of
-        performed_on after changed left (op.Post t number word) takes mark = posted_on after changed left t number word takes
-        performed_on after changed left (op.Print v) takes mark = printed_on after changed left v takes mark
-        performed_on after changed left o takes mark = acted_on after changed left o tt refl takes mark
+        performed_on after changed left (op.Post t number word) takes last_action = posted_on after changed left t number word takes
+        performed_on after changed left (op.Print v) takes last_action = printed_on after changed left v takes last_action
+        performed_on after changed left o takes last_action = acted_on after changed left o tt refl takes last_action
 
-        stepped_on : (x : Step) (after : Remainder) (changed : List ℕ) (left : ℕ) → Takes x after changed → StepUnanswered x after.mark
+        stepped_on : (x : Step) (after : Remainder) (changed : List ℕ) (left : ℕ) → Takes x after changed → StepUnanswered x after.last_action
             → IfGives Stopped (RanFrom (process_in_mote p s)) (after_step calls code p e x after (stepped changed left))
-        stepped_on (step.Op o) after changed left takes mark = performed_on after changed left o takes mark
-        stepped_on (step.Done a) after changed left takes mark = done_so a after changed takes (process_in_mote p (stepped changed left)) (stepped_in_mote changed left)
-        stepped_on step.Runaway after changed left takes mark = stepped_so_far changed left (halted_of (stepped changed left)) (halted_quiet p (stepped changed left))
+        stepped_on (step.Op o) after changed left takes last_action = performed_on after changed left o takes last_action
+        stepped_on (step.Done a) after changed left takes last_action = done_so a after changed takes (process_in_mote p (stepped changed left)) (stepped_in_mote changed left)
+        stepped_on step.Runaway after changed left takes last_action = stepped_so_far changed left (halted_of (stepped changed left)) (halted_quiet p (stepped changed left))
 
         pub runs_on : IfGives Stopped (RanFrom (process_in_mote p s)) (run_of calls s code r p e)
         unfolding run_of stepped_of

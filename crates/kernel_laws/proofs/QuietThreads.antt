@@ -6,14 +6,14 @@ use Rattle.program_tree.specs.Tree.{Action, assign, print, send, wait_until, wai
 use Rattle.program_tree.specs.Code.{Code, callback_at}
 use Rattle.protothread.specs.declared.part.Part.{Part}
 use Rattle.protothread.specs.declared.part.Part.TheVariants.{OnPoll, OnExit, Callback}
-use Rattle.protothread.specs.declared.thread.Mark.{Mark}
-use Rattle.protothread.specs.declared.thread.Mark.TheVariants.{AtRest, UnderWay, Pausing, RunAway}
+use Rattle.protothread.specs.declared.thread.LastAction.{LastAction}
+use Rattle.protothread.specs.declared.thread.LastAction.TheVariants.{AtRest, UnderWay, Pausing, RunAway}
 use Rattle.protothread.specs.declared.step.Step.{Step}
 use Rattle.protothread.specs.declared.step.Step.TheVariants as step
 use Rattle.protothread.specs.Looks.{Looks}
 use Rattle.protothread.specs.Value.{value, holds}
 use Rattle.protothread.specs.Remainder.{Place, ended, at, within, before, Remainder, statements_of, fresh_of, whole_of}
-use Rattle.protothread.specs.Step.{Reached, goes_on, operates, answers, deed_of, performed, reached, Advanced, continued, passed, advanced_of, answered_of, other_block}
+use Rattle.protothread.specs.Step.{Reached, goes_on, operates, answers, effect_of, performed, reached, Advanced, continued, passed, advanced_of, answered_of, other_block}
 use Rattle.protothread.proofs.Units.{called, follows, stepped}
 use Rattle.kernel_laws.specs.Printed.{is_quiet_action, is_quiet, is_quiet_statement, is_quiet_other, are_quiet, is_quiet_block, IsQuietApart}
 use Rattle.kernel_laws.proofs.BodyRuns.{IsNoPrint}
@@ -62,16 +62,16 @@ callback_quiet code timer h = block_quiet (callback_at code timer) (by (nat_le (
     by true = one_quiet code.callbacks _ h.in_callbacks
     by false = refl
 
--- the position and the mark of such a thread
+-- the position and the last action of such a thread
 
 abbrev pub IsQuietPlace : Place → Type 0
 IsQuietPlace ended = Unit {0}
 IsQuietPlace (at y s rest) = (is_quiet_statement s ≡ true) × (all_quiet rest ≡ true)
 IsQuietPlace (within t p rest) = ⊥
 
-abbrev pub IsQuietMark : Mark → Type 0
-IsQuietMark (UnderWay (Some i)) = ⊥
-IsQuietMark m = Unit {0}
+abbrev pub IsQuietAction : LastAction → Type 0
+IsQuietAction (UnderWay (Some i)) = ⊥
+IsQuietAction m = Unit {0}
 
 before_quiet : (y : Bool) (ss : List (Statement ℕ)) → all_quiet ss ≡ true → IsQuietPlace (before y ss)
 before_quiet y [] h = tt
@@ -80,17 +80,17 @@ before_quiet y (s ∷ ss) h = both (is_quiet_statement s) (all_quiet ss) h
 -- the remainder of a quiet thread
 pub record IsQuietRest (code : Code) (r : Remainder) : Type 0 where
   pub whole : all_quiet (whole_of code r.part) ≡ true
-  pub mark : IsQuietMark r.mark
+  pub last_action : IsQuietAction r.last_action
   pub place : IsQuietPlace r.place
 
 pub fresh_quiet : (code : Code) (part : Part) → all_quiet (whole_of code part) ≡ true → IsQuietRest code (fresh_of code part)
-fresh_quiet code part h = record { whole = h; mark = tt; place = before_quiet false (whole_of code part) h }
+fresh_quiet code part h = record { whole = h; last_action = tt; place = before_quiet false (whole_of code part) h }
 
 -- a statement
 
 abbrev ReachedQuietly : (vars : List ℕ) → Reached → Type 0
 ReachedQuietly vars (goes_on changed p) = (changed ≡ vars) × IsQuietPlace p
-ReachedQuietly vars (operates o mark p) = IsNoPrint o × IsQuietMark mark × IsQuietPlace p
+ReachedQuietly vars (operates o last_action p) = IsNoPrint o × IsQuietAction last_action × IsQuietPlace p
 ReachedQuietly vars (answers a p) = IsQuietPlace p
 
 either_quiet : (D : Type 0) (vars : List ℕ) (f : D → Reached) (b : Bool) (c d : D) → ReachedQuietly vars (f c) → ReachedQuietly vars (f d) → ReachedQuietly vars (f (if b then c else d))
@@ -99,7 +99,7 @@ either_quiet D vars f false c d h k = k
 
 module _ (code : Code) (whole : List (Statement ℕ)) (all : all_quiet whole ≡ true) (y : Bool) (vars : List ℕ) (event : Event) (looks : Looks) (rest : List (Statement ℕ)) (left : all_quiet rest ≡ true) where
   abbrev Done : Action ℕ → Reached
-  Done a = performed code whole vars (does a) rest (deed_of code.number y vars event looks a)
+  Done a = performed code whole vars (does a) rest (effect_of code.number y vars event looks a)
 
   on : IsQuietPlace (before false rest)
   on = before_quiet false rest left
@@ -171,42 +171,42 @@ module _ (code : Code) (part : Part) (all : all_quiet (whole_of code part) ≡ t
       first : (n : ℕ) → AdvancesQuietly code vars (continued code part event looks ended vars n)
       first zero = ends_quietly vars zero
       first (suc n) = ends_quietly vars (suc n)
-  goes_quietly zero (at y s rest) vars h = record { step = tt; variables = refl; rest = record { whole = all; mark = tt; place = h } }
+  goes_quietly zero (at y s rest) vars h = record { step = tt; variables = refl; rest = record { whole = all; last_action = tt; place = h } }
   goes_quietly (suc units) (at y s rest) vars h =
       let after : (r : Reached) → ReachedQuietly vars r → AdvancesQuietly code vars (follows code part event looks vars units r) =
       λ r. elim r as (λ r. ReachedQuietly vars r → AdvancesQuietly code vars (follows code part event looks vars units r)) [
         | goes_on changed q ↦ λ k. let a = goes_quietly units q changed k.1 in record { step = a.step; variables = a.variables ∙ k.0; rest = a.rest }
-        | operates o mark q ↦ λ k. record { step = k.0; variables = refl; rest = record { whole = all; mark = k.1; place = k.2 } }
-        | answers a q ↦ λ k. record { step = tt; variables = refl; rest = record { whole = all; mark = tt; place = k } }
+        | operates o last_action q ↦ λ k. record { step = k.0; variables = refl; rest = record { whole = all; last_action = k.1; place = k.2 } }
+        | answers a q ↦ λ k. record { step = tt; variables = refl; rest = record { whole = all; last_action = tt; place = k } }
       ] in
       after (reached code (whole_of code part) vars event looks (at y s rest)) (reached_quiet code (whole_of code part) all vars event looks (at y s rest) h)
   goes_quietly units (within t p rest) vars h = absurd h
 
-advances_from : (m : Mark) (code : Code) (event : Event) (looks : Looks) (r : Remainder) (vars : List ℕ) (units : ℕ) → all_quiet (whole_of code r.part) ≡ true → IsQuietMark m → IsQuietPlace r.place
-    → AdvancesQuietly code vars (advanced_of code event looks (record r { mark = m }) vars units)
+advances_from : (m : LastAction) (code : Code) (event : Event) (looks : Looks) (r : Remainder) (vars : List ℕ) (units : ℕ) → all_quiet (whole_of code r.part) ≡ true → IsQuietAction m → IsQuietPlace r.place
+    → AdvancesQuietly code vars (advanced_of code event looks (record r { last_action = m }) vars units)
 unfolding advanced_of
 advances_from AtRest code event looks r vars units all m p =
     elim (nat_lt units (passed r.place)) as (λ b. AdvancesQuietly code vars (called code event looks r vars units b)) [
-      | true ↦ record { step = tt; variables = refl; rest = record { whole = all; mark = tt; place = p } }
+      | true ↦ record { step = tt; variables = refl; rest = record { whole = all; last_action = tt; place = p } }
       | false ↦ goes_quietly code r.part all event looks (units - passed r.place) r.place vars p
     ]
 advances_from (UnderWay into) code event looks r vars units all m p = goes_quietly code r.part all event looks units r.place vars p
-advances_from Pausing code event looks r vars units all m p = record { step = tt; variables = refl; rest = record { whole = all; mark = tt; place = p } }
-advances_from RunAway code event looks r vars units all m p = record { step = tt; variables = refl; rest = record { whole = all; mark = tt; place = p } }
+advances_from Pausing code event looks r vars units all m p = record { step = tt; variables = refl; rest = record { whole = all; last_action = tt; place = p } }
+advances_from RunAway code event looks r vars units all m p = record { step = tt; variables = refl; rest = record { whole = all; last_action = tt; place = p } }
 
 pub advances_quietly : (code : Code) (event : Event) (looks : Looks) (r : Remainder) (vars : List ℕ) (units : ℕ) → IsQuietRest code r → AdvancesQuietly code vars (advanced_of code event looks r vars units)
-advances_quietly code event looks r vars units h = advances_from r.mark code event looks r vars units h.whole h.mark h.place
+advances_quietly code event looks r vars units h = advances_from r.last_action code event looks r vars units h.whole h.last_action h.place
 
 -- a result that is stored in no variable
 abbrev AnsweredQuietly : Code → (vars : List ℕ) → (answer : ℕ) → Remainder → Type 0
 AnsweredQuietly code vars answer r = IsQuietRest code (answered_of r vars answer).remainder × ((answered_of r vars answer).variables ≡ vars)
 
-answered_from : (m : Mark) (code : Code) (r : Remainder) (vars : List ℕ) (answer : ℕ) → all_quiet (whole_of code r.part) ≡ true → IsQuietMark m → IsQuietPlace r.place → AnsweredQuietly code vars answer (record r { mark = m })
-answered_from AtRest code r vars answer all m p = (record { whole = all; mark = tt; place = p }, refl)
-answered_from (UnderWay None) code r vars answer all m p = (record { whole = all; mark = tt; place = p }, refl)
+answered_from : (m : LastAction) (code : Code) (r : Remainder) (vars : List ℕ) (answer : ℕ) → all_quiet (whole_of code r.part) ≡ true → IsQuietAction m → IsQuietPlace r.place → AnsweredQuietly code vars answer (record r { last_action = m })
+answered_from AtRest code r vars answer all m p = (record { whole = all; last_action = tt; place = p }, refl)
+answered_from (UnderWay None) code r vars answer all m p = (record { whole = all; last_action = tt; place = p }, refl)
 answered_from (UnderWay (Some i)) code r vars answer all m p = absurd m
-answered_from Pausing code r vars answer all m p = (record { whole = all; mark = tt; place = p }, refl)
-answered_from RunAway code r vars answer all m p = (record { whole = all; mark = tt; place = p }, refl)
+answered_from Pausing code r vars answer all m p = (record { whole = all; last_action = tt; place = p }, refl)
+answered_from RunAway code r vars answer all m p = (record { whole = all; last_action = tt; place = p }, refl)
 
 pub answered_quietly : (code : Code) (r : Remainder) (vars : List ℕ) (answer : ℕ) → IsQuietRest code r → AnsweredQuietly code vars answer r
-answered_quietly code r vars answer h = answered_from r.mark code r vars answer h.whole h.mark h.place
+answered_quietly code r vars answer h = answered_from r.last_action code r vars answer h.whole h.last_action h.place

@@ -5,8 +5,8 @@ use Rattle.program_tree.specs.declared.event.Event.{Event}
 use Rattle.program_tree.specs.Tree.{Action, assign, print, send, wait_until, wait_while, yield, yield_until, spawn, restart, exit, pause, acquire, signal, post, broadcast, synch, poll, start, kill, set, reset, restart_timer, stop, Statement, does, branch, while}
 use Rattle.program_tree.specs.Code.{Code}
 use Rattle.protothread.specs.declared.part.Part.{Part}
-use Rattle.protothread.specs.declared.thread.Mark.{Mark}
-use Rattle.protothread.specs.declared.thread.Mark.TheVariants.{AtRest, UnderWay, Pausing, RunAway}
+use Rattle.protothread.specs.declared.thread.LastAction.{LastAction}
+use Rattle.protothread.specs.declared.thread.LastAction.TheVariants.{AtRest, UnderWay, Pausing, RunAway}
 use Rattle.protothread.specs.declared.step.Op.{Op}
 use Rattle.protothread.specs.declared.step.Op.TheVariants.{Post}
 use Rattle.protothread.specs.declared.step.Step.{Step}
@@ -15,23 +15,23 @@ use Rattle.protothread.specs.declared.answer.PtState.TheVariants.{Waiting, Yield
 use Rattle.protothread.specs.Looks.{Looks}
 use Rattle.protothread.specs.Value.{value, holds}
 use Rattle.protothread.specs.Remainder.{Place, ended, at, within, settled, Remainder, thread_block, whole_of}
-use Rattle.protothread.specs.Step.{Reached, goes_on, operates, answers, deed_of, performed, spawner_reached, reached, Advanced, continued, passed, advanced_of, answered_of}
+use Rattle.protothread.specs.Step.{Reached, goes_on, operates, answers, effect_of, performed, spawner_reached, reached, Advanced, continued, passed, advanced_of, answered_of}
 use Rattle.protothread.proofs.Units.{called, follows, stepped}
 
--- the mark of a thread after this operation: a result is expected only after a post
-abbrev pub IsUnanswered : Op → Mark → Type 0
+-- the last action of a thread after this operation: a result is expected only after a post
+abbrev pub IsUnanswered : Op → LastAction → Type 0
 IsUnanswered (Post t e w) m = Unit {0}
 IsUnanswered o m = m ≡ UnderWay None
 
-abbrev pub StepUnanswered : Step → Mark → Type 0
+abbrev pub StepUnanswered : Step → LastAction → Type 0
 StepUnanswered (step.Op o) m = IsUnanswered o m
 StepUnanswered s m = Unit {0}
 
 abbrev pub AdvancedUnanswered : Advanced → Type 0
-AdvancedUnanswered a = StepUnanswered a.step a.remainder.mark
+AdvancedUnanswered a = StepUnanswered a.step a.remainder.last_action
 
 abbrev ReachedUnanswered : Reached → Type 0
-ReachedUnanswered (operates o mark p) = IsUnanswered o mark
+ReachedUnanswered (operates o last_action p) = IsUnanswered o last_action
 ReachedUnanswered r = Unit {0}
 
 either_unanswered : (D : Type 0) (f : D → Reached) (b : Bool) (c d : D) → ReachedUnanswered (f c) → ReachedUnanswered (f d) → ReachedUnanswered (f (if b then c else d))
@@ -39,7 +39,7 @@ either_unanswered D f true c d h k = h
 either_unanswered D f false c d h k = k
 
 module _ (code : Code) (whole : List (Statement ℕ)) (y : Bool) (vars : List ℕ) (event : Event) (looks : Looks) (rest : List (Statement ℕ)) where
-  unanswered_does : (a : Action ℕ) → ReachedUnanswered (performed code whole vars (does a) rest (deed_of code.number y vars event looks a))
+  unanswered_does : (a : Action ℕ) → ReachedUnanswered (performed code whole vars (does a) rest (effect_of code.number y vars event looks a))
   unanswered_does (assign i e) = tt
   unanswered_does (print e) = refl
   unanswered_does (send e) = refl
@@ -67,7 +67,7 @@ module _ (code : Code) (whole : List (Statement ℕ)) (y : Bool) (vars : List �
 
 unanswered_spawner : (t : ℕ) (rest : List (Statement ℕ)) (vars : List ℕ) (r : Reached) → ReachedUnanswered r → ReachedUnanswered (spawner_reached t rest vars r)
 unanswered_spawner t rest vars (goes_on changed p) h = tt
-unanswered_spawner t rest vars (operates o mark p) h = h
+unanswered_spawner t rest vars (operates o last_action p) h = h
 unanswered_spawner t rest vars (answers Waiting p) h = tt
 unanswered_spawner t rest vars (answers Yielded p) h = tt
 unanswered_spawner t rest vars (answers Exited p) h = tt
@@ -94,7 +94,7 @@ module _ (code : Code) (part : Part) (event : Event) (looks : Looks) where
       let after : (r : Reached) → ReachedUnanswered r → AdvancedUnanswered (follows code part event looks vars units r) =
       λ r. elim r as (λ r. ReachedUnanswered r → AdvancedUnanswered (follows code part event looks vars units r)) [
         | goes_on changed q ↦ λ h. unanswered_step units q changed
-        | operates o mark q ↦ λ h. h
+        | operates o last_action q ↦ λ h. h
         | answers a q ↦ λ h. tt
       ] in
       elim (settled p) as (λ q. AdvancedUnanswered (stepped code part event looks vars (suc units) q)) [
@@ -103,8 +103,8 @@ module _ (code : Code) (part : Part) (event : Event) (looks : Looks) where
         | within t q rest ↦ after (reached code (whole_of code part) vars event looks (within t q rest)) (unanswered_reached code (whole_of code part) vars event looks (within t q rest))
       ]
 
-unanswered_from : (m : Mark) (code : Code) (event : Event) (looks : Looks) (r : Remainder) (vars : List ℕ) (units : ℕ)
-    → AdvancedUnanswered (advanced_of code event looks (record r { mark = m }) vars units)
+unanswered_from : (m : LastAction) (code : Code) (event : Event) (looks : Looks) (r : Remainder) (vars : List ℕ) (units : ℕ)
+    → AdvancedUnanswered (advanced_of code event looks (record r { last_action = m }) vars units)
 unfolding advanced_of
 unanswered_from AtRest code event looks r vars units =
     elim (nat_lt units (passed r.place)) as (λ b. AdvancedUnanswered (called code event looks r vars units b)) [
@@ -118,14 +118,14 @@ unanswered_from RunAway code event looks r vars units = tt
 -- after an operation other than a post, the thread gets no result
 pub step_unanswered : (code : Code) (event : Event) (looks : Looks) (r : Remainder) (vars : List ℕ) (units : ℕ)
     → AdvancedUnanswered (advanced_of code event looks r vars units)
-step_unanswered code event looks r vars units = unanswered_from r.mark code event looks r vars units
+step_unanswered code event looks r vars units = unanswered_from r.last_action code event looks r vars units
 
 abbrev IsSame : (answer : ℕ) → Remainder → List ℕ → Type 0
 IsSame answer r vars = ((answered_of r vars answer).remainder ≡ r) × ((answered_of r vars answer).variables ≡ vars)
 
 -- a result that isn't expected changes nothing
-pub answer_is_unused : (r : Remainder) (vars : List ℕ) (answer : ℕ) → r.mark ≡ UnderWay None → IsSame answer r vars
-answer_is_unused r vars answer e = by r.mark e
+pub answer_is_unused : (r : Remainder) (vars : List ℕ) (answer : ℕ) → r.last_action ≡ UnderWay None → IsSame answer r vars
+answer_is_unused r vars answer e = by r.last_action e
   where
-    by : (m : Mark) → m ≡ UnderWay None → IsSame answer (record r { mark = m }) vars
-    by m e = subst (λ m. IsSame answer (record r { mark = m }) vars) (sym e) (refl, refl)
+    by : (m : LastAction) → m ≡ UnderWay None → IsSame answer (record r { last_action = m }) vars
+    by m e = subst (λ m. IsSame answer (record r { last_action = m }) vars) (sym e) (refl, refl)

@@ -53,7 +53,8 @@ pub record ComesTo (p : ℕ) (code : Code) (mote : ℕ) (start : List ℕ) (line
     (vars : List ℕ) : Type 0 where
   pub on : (now : Sight) (later : List Sight) (more : List Happening) (out : Completion)
       → CanCome next now.event now.looks.moment → IsAnswered next now.answer → AreShown mote (now ∷ later) more
-      → Runs code r vars now later more out → HasLife p code mote start (lines ++ prints (Own p) (now ∷ later) more) out
+      → Runs code r vars now later more out → HasLife p code mote start (lines
+      ++ prints (Own p) (now ∷ later) more) out
 
 -- In the life that began with its last start, the process has reached this point.
 pub record ComesHere (p : ℕ) (code : Code) (mote : ℕ) (lines_so_far : List Line) (next : Next) (r : Remainder)
@@ -178,5 +179,6 @@ PacketTells = (program : Tree) (mote p : ℕ) (code : Code) (lines : List Line) 
     → TellsSoFar program mote p code lines m → TellsSoFar program mote p code lines (with_packet m a)
 
 abbrev pub NoteTells : Type 0
-NoteTells = (program : Tree) (mote p : ℕ) (code : Code) (lines : List Line) (m : KernelModel) (l : Line) → IsNote l.what
+NoteTells = (program : Tree) (mote p : ℕ) (code : Code) (lines : List Line) (m : KernelModel) (l : Line)
+    → IsNote l.what
     → TellsSoFar program mote p code lines m → TellsSoFar program mote p code (lines ++ l ∷ []) m

@@ -14,7 +14,7 @@ use Rattle.copy_inbox.specs.Items.{HasPrefix, part}
 use Rattle.copy_inbox.specs.Handles.{InboxId, TakerView, SenderView, after_gather}
 use Rattle.copy_exchange.specs.declared.endpoint.Endpoint.{Endpoint}
 use Rattle.copy_exchange.specs.Endpoints.{IsOnInboxes, Stays, Together, pushed_list, pushed_to, senders_to}
-use Rattle.copy_exchange.specs.Steps.{TellsOf, gather_senders}
+use Rattle.copy_exchange.specs.Steps.{AgreesWithSender, gather_senders}
 use Rattle.copy_exchange.proofs.Gathers.{gather_is}
 use Rattle.copy_exchange.proofs.AfterWindow.{same_workers}
 use Rattle.copy_exchange.proofs.Open.{SendersOfOthers, are_senders, sender_of, sender_is}
@@ -108,7 +108,7 @@ module _ (n : NetModel) (owners : List ℕ) (width : ℕ) (old new : WorkerGroup
       promise = promise;
       senders = senders_to back v;
       are_senders = of_others (length ids) v (sender_of back v) d.endpoint.taker.state.made (senders_to back v) (are_senders ids starts back ran.together ran.none_gathered stays on_inboxes v d.endpoint at_back);
-      begun = every_weaker (λ (s : SenderView). TellsOf d.endpoint.taker.state s.state) (λ (s : SenderView). HasPrefix s.state.pushed (part s.state.number d.endpoint.taker.state.taken)) (λ s h. h.begun) (senders_to back v) (ran.back.matches v d.endpoint at_back);
+      begun = every_weaker (λ (s : SenderView). AgreesWithSender d.endpoint.taker.state s.state) (λ (s : SenderView). HasPrefix s.state.pushed (part s.state.number d.endpoint.taker.state.taken)) (λ s h. h.begun) (senders_to back v) (ran.back.matches v d.endpoint at_back);
       gathered = taker_is;
     }
 

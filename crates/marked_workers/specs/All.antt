@@ -26,12 +26,13 @@ pub record AllRan (model : NetModel) (owners : List ℕ) (width windows workers 
       → Each (λ (s : SenderView). HasPrefix s.state.pushed (part s.state.number (taken u))) (senders u)
 
 -- a taker that had made this many senders and taken these items, and that then gathered these senders
-pub record GatheredSenders (made : ℕ) (taken : List Item) (senders : List SenderView) (taker : TakerView) : Type 0 where
-  pub before : TakerView
-  pub is_made : before.state.made ≡ made
-  pub is_taken : before.state.taken ≡ taken
-  pub nobody : before.state.gathered ≡ []
-  pub gathered : taker ≡ gather_senders before senders
+pub record GatheredSenders (made : ℕ) (taken : List Item) (senders : List SenderView) (taker : TakerView) : Type 0
+  where
+    pub before : TakerView
+    pub is_made : before.state.made ≡ made
+    pub is_taken : before.state.taken ≡ taken
+    pub nobody : before.state.gathered ≡ []
+    pub gathered : taker ≡ gather_senders before senders
 
 -- The takers took and gathered exactly the items of `all`.
 abbrev pub IsOfTakers : {model : NetModel} {owners : List ℕ} {width windows workers : ℕ}

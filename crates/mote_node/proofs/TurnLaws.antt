@@ -7,7 +7,7 @@ use Rattle.trace_lines.specs.declared.line.Line.{Line}
 use Rattle.process_kernel.specs.KernelModel.{boot_given, Underway, underway_after}
 use Rattle.mote_node.specs.Turn.{Node, is_past, turn_goes_on, is_collision, boot_due, work_of, mote_turn, net_turn, node_after, turned_to, turn_of, wake_after}
 use Rattle.mote_node.proofs.StepLemmas.{if_true, if_false}
-use Rattle.mote_node.specs.Laws.{TurnInput, Turns, Rests, Takes, TurnsRise, HaltedRests}
+use Rattle.mote_node.specs.Laws.{TurnInput, Turns, Rests, Takes, TurnsRise, HaltedTurnDoesNothing}
 
 increasing_one : (m : ℕ) → IsStrictlyIncreasing (m ∷ [])
 increasing_one m k h = absurd (omega arith)
@@ -60,8 +60,8 @@ net_halted collides moment arrivals u h =
     if_false _ _ _ (sym (and_false collides (is_collision u.mote arrivals) (not_and u.mote.halted (nat_le 2 (length arrivals)) h)))
     ∙ turn_halted moment arrivals u h
 
-pub halted_rests : HaltedRests
+pub halted_turn_does_nothing : HaltedTurnDoesNothing
 unfolding turn_of
-halted_rests moment arrivals n h =
+halted_turn_does_nothing moment arrivals n h =
     ap (turned_to n moment) (net_halted n.collides moment arrivals (record { mote = n.mote; lines = []; sends = [] }) (sym h))
     ∙ ap (λ w. record { node = node_after n moment n.mote; lines = []; sends = []; wake = w }) (if_true n.mote.halted None (wake_after moment n.mote) (sym h))

@@ -42,7 +42,12 @@ TurnsRise = (n last : Node) (given : List TurnInput) (lines : List Line) → Tur
     → IsStrictlyIncreasing (map (λ g. g.moment) given)
 
 -- a turn of a node that has halted changes only its clock, writes nothing, sends nothing, and returns no wake
-abbrev pub HaltedRests : Type 0
-HaltedRests =
+abbrev pub HaltedTurnDoesNothing : Type 0
+HaltedTurnDoesNothing =
     (moment : ℕ) (arrivals : List Arrival) (n : Node) → n.mote.halted ≡ true
-    → turn_of moment arrivals n ≡ record { node = record n { last = Some moment }; lines = []; sends = []; wake = None }
+    → turn_of moment arrivals n ≡ record {
+      node = record n { last = Some moment };
+      lines = [];
+      sends = [];
+      wake = None;
+    }

@@ -1,6 +1,6 @@
 //! Laws of turns. Each is a theorem, stated as the contract of an empty function.
 
-ghost use Rattle.mote_node.specs.Laws.{HaltedRests, TurnsRise, WakesInTime, WakesLater};
+ghost use Rattle.mote_node.specs.Laws.{HaltedTurnDoesNothing, TurnsRise, WakesInTime, WakesLater};
 
 /// The wake that a turn returns is later than the turn.
 pub fn wakes_later()
@@ -19,6 +19,6 @@ pub fn turns_rise()
 {}
 
 /// A turn of a node that has halted changes only its clock, writes nothing, sends nothing, and returns no wake.
-pub fn halted_rests()
-    ensures halted_rests { HaltedRests }
+pub fn halted_turn_does_nothing()
+    ensures halted_turn_does_nothing { HaltedTurnDoesNothing }
 {}

@@ -5,5 +5,5 @@ mod laws;
 mod mote;
 mod turn;
 
-pub use laws::{halted_rests, turns_rise, wakes_in_time, wakes_later};
+pub use laws::{halted_turn_does_nothing, turns_rise, wakes_in_time, wakes_later};
 pub use mote::{Mote, MoteError, TurnOut};

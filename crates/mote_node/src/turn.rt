@@ -134,7 +134,8 @@ fn turn_mote(
 
 /// Writes a line for each of these packets. The line reports that the packet was lost by a collision.
 fn write_collisions(moment: u64, packets: &[Arrival], out: &mut Out) -> Result<(), AllocError>
-    ensures lines { OnOk result (out.new.lines.items ≡ out.old.lines.items ++ map (collision_line moment) packets.now) }
+    ensures lines { OnOk result (out.new.lines.items ≡ out.old.lines.items
+        ++ map (collision_line moment) packets.now) }
     ensures sends { OnOk result (out.new.sends.items ≡ out.old.sends.items) }
 {
     for packet in packets {

@@ -10,7 +10,7 @@ use Rattle.mote_program.specs.Complete.{IsCompleteIn}
 use Rattle.mote_program.specs.Declarations.{Declarations, IsOneOf, NamesDeclared, of_process, at_callback, declared_at_thread}
 use Rattle.mote_program.specs.Declarations.{IsDeclaredIn, IsDeclared}
 use Rattle.mote_program.specs.Named.{named_by_block}
-use Rattle.mote_program.specs.Trees.{only, first_code, second_code, second_there, tree_of_blocks, names_what_is_there}
+use Rattle.mote_program.specs.Trees.{only, first_code, second_code, second_code_without_errors, tree_of_blocks, tree_without_errors}
 use Rattle.mote_program.specs.Trees.{TreesThatDeclare, TreesThatDoNot, TreesThatLack}
 
 -- a property of the second process
@@ -48,26 +48,26 @@ at_only : (P : ℕ → Body ℕ → Type 0) (a : Body ℕ) → P 0 a → (k : �
 at_only P a h zero b e = let same : a ≡ b = cc in subst (P 0) same h
 at_only P a h (suc k) b e = absurd cc
 
-first_declared : IsDeclaredIn names_what_is_there first_code
+first_declared : IsDeclaredIn tree_without_errors first_code
 first_declared = record {
   callbacks = λ k b e. absurd cc;
   threads = λ k b e. absurd cc;
   on_poll = λ b e. absurd cc;
   on_exit = λ b e. absurd cc;
-  body = named_in (of_process names_what_is_there first_code) end tt;
+  body = named_in (of_process tree_without_errors first_code) end tt;
 }
 
-second_declared : IsDeclaredIn names_what_is_there second_there
+second_declared : IsDeclaredIn tree_without_errors second_code_without_errors
 second_declared = record {
-  callbacks = λ k b e. at_only (λ j a. NamesDeclared (at_callback names_what_is_there second_there j) a)
-      (only (reset 2)) (named_in (at_callback names_what_is_there second_there 0) (only (reset 2))
+  callbacks = λ k b e. at_only (λ j a. NamesDeclared (at_callback tree_without_errors second_code_without_errors j) a)
+      (only (reset 2)) (named_in (at_callback tree_without_errors second_code_without_errors 0) (only (reset 2))
       ((omega arith, omega arith), tt)) k b e;
-  threads = λ k b e. at_only (λ j a. NamesDeclared (declared_at_thread names_what_is_there second_there j) a)
-      (only (print (variable 0))) (named_in (declared_at_thread names_what_is_there second_there 0) (only (print (variable 0)))
+  threads = λ k b e. at_only (λ j a. NamesDeclared (declared_at_thread tree_without_errors second_code_without_errors j) a)
+      (only (print (variable 0))) (named_in (declared_at_thread tree_without_errors second_code_without_errors 0) (only (print (variable 0)))
       (omega arith, tt)) k b e;
   on_poll = λ b e. absurd cc;
   on_exit = λ b e. absurd cc;
-  body = named_in (of_process names_what_is_there second_there) second_there.body (
+  body = named_in (of_process tree_without_errors second_code_without_errors) second_code_without_errors.body (
     omega arith,
     (
       omega arith,
@@ -85,36 +85,36 @@ second_declared = record {
   );
 }
 
-each_declared : (k : ℕ) (c : Code) → slice_get names_what_is_there.codes k ≡ Some c → IsDeclaredIn names_what_is_there c
-each_declared zero c e = let same : first_code ≡ c = cc in subst (IsDeclaredIn names_what_is_there) same first_declared
-each_declared (suc zero) c e = let same : second_there ≡ c = cc in
-    subst (IsDeclaredIn names_what_is_there) same second_declared
+each_declared : (k : ℕ) (c : Code) → slice_get tree_without_errors.codes k ≡ Some c → IsDeclaredIn tree_without_errors c
+each_declared zero c e = let same : first_code ≡ c = cc in subst (IsDeclaredIn tree_without_errors) same first_declared
+each_declared (suc zero) c e = let same : second_code_without_errors ≡ c = cc in
+    subst (IsDeclaredIn tree_without_errors) same second_declared
 each_declared (suc (suc k)) c e = absurd cc
 
-first_complete : IsCompleteIn names_what_is_there first_code
+first_complete : IsCompleteIn tree_without_errors first_code
 first_complete = record { starts = refl; callbacks = refl; thread_bodies = refl; timers = timers }
   where
-    timers : (i : ℕ) → 0 ≤ i → i < 0 + (1 + 0) → slice_get names_what_is_there.timers i
+    timers : (i : ℕ) → 0 ≤ i → i < 0 + (1 + 0) → slice_get tree_without_errors.timers i
         ≡ Some (record { process = 0; is_callback = nat_le (0 + 1) i })
     timers zero low high = refl
     timers (suc i) low high = absurd (omega (arith, high))
 
-second_complete : IsCompleteIn names_what_is_there second_there
+second_complete : IsCompleteIn tree_without_errors second_code_without_errors
 second_complete = record { starts = refl; callbacks = refl; thread_bodies = refl; timers = timers }
   where
-    timers : (i : ℕ) → 1 ≤ i → i < 1 + (1 + 1) → slice_get names_what_is_there.timers i
+    timers : (i : ℕ) → 1 ≤ i → i < 1 + (1 + 1) → slice_get tree_without_errors.timers i
         ≡ Some (record { process = 1; is_callback = nat_le (1 + 1) i })
     timers zero low high = absurd (omega (arith, low))
     timers (suc zero) low high = refl
     timers (suc (suc zero)) low high = refl
     timers (suc (suc (suc i))) low high = absurd (omega (arith, high))
 
-each_complete : (k : ℕ) (c : Code) → slice_get names_what_is_there.codes k ≡ Some c → (c.number ≡ k)
-    × IsCompleteIn names_what_is_there c
+each_complete : (k : ℕ) (c : Code) → slice_get tree_without_errors.codes k ≡ Some c → (c.number ≡ k)
+    × IsCompleteIn tree_without_errors c
 each_complete zero c e = let same : first_code ≡ c = cc in
-    subst (λ d. (d.number ≡ 0) × IsCompleteIn names_what_is_there d) same (refl, first_complete)
-each_complete (suc zero) c e = let same : second_there ≡ c = cc in
-    subst (λ d. (d.number ≡ 1) × IsCompleteIn names_what_is_there d) same (refl, second_complete)
+    subst (λ d. (d.number ≡ 0) × IsCompleteIn tree_without_errors d) same (refl, first_complete)
+each_complete (suc zero) c e = let same : second_code_without_errors ≡ c = cc in
+    subst (λ d. (d.number ≡ 1) × IsCompleteIn tree_without_errors d) same (refl, second_complete)
 each_complete (suc (suc k)) c e = absurd cc
 
 pub declares : TreesThatDeclare

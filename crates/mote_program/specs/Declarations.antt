@@ -53,7 +53,8 @@ declared_at_thread t c k = record (of_process t c) { threads = k }
 -- the names in the blocks of a process are declared
 pub record IsDeclaredIn (t : Tree) (c : Code) : Type 0 where
   pub callbacks : (k : ℕ) (b : Body ℕ) → slice_get c.callbacks k ≡ Some b → NamesDeclared (at_callback t c k) b
-  pub threads : (k : ℕ) (b : Body ℕ) → slice_get c.thread_bodies k ≡ Some b → NamesDeclared (declared_at_thread t c k) b
+  pub threads : (k : ℕ) (b : Body ℕ) → slice_get c.thread_bodies k ≡ Some b
+      → NamesDeclared (declared_at_thread t c k) b
   pub on_poll : ForSome c.on_poll (NamesDeclared (of_process t c))
   pub on_exit : ForSome c.on_exit (NamesDeclared (of_process t c))
   pub body : NamesDeclared (of_process t c) c.body

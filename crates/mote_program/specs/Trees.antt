@@ -67,11 +67,11 @@ names_each_class =
     (next (does (signal 0)) (next (does (poll 1))
     (next (does (reset 1)) (next (does (reset 2)) (only (spawn 0))))))
 
-abbrev pub second_there : Code
-second_there = second_code (only (reset 2)) (only (print (variable 0))) names_each_class
+abbrev pub second_code_without_errors : Code
+second_code_without_errors = second_code (only (reset 2)) (only (print (variable 0))) names_each_class
 
-abbrev pub names_what_is_there : Tree
-names_what_is_there = tree_of_blocks (only (reset 2)) (only (print (variable 0))) names_each_class
+abbrev pub tree_without_errors : Tree
+tree_without_errors = tree_of_blocks (only (reset 2)) (only (print (variable 0))) names_each_class
 
 abbrev pub no_such_variable : Tree
 no_such_variable = tree_of_blocks end end (only (print (variable 1)))
@@ -129,8 +129,8 @@ timer_without_place = record (tree_of_blocks end end end)
 
 -- the names are declared, and the declarations are complete
 pub record TreesThatDeclare : Type 0 where
-  pub declared : IsDeclared names_what_is_there
-  pub complete : IsComplete names_what_is_there
+  pub declared : IsDeclared tree_without_errors
+  pub complete : IsComplete tree_without_errors
 
 -- in each of these trees, a name isn't declared
 pub record TreesThatDoNot : Type 0 where

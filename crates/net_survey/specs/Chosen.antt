@@ -9,6 +9,7 @@ abbrev pub faults_at : (candidates : List Fault) → (set : List ℕ) → List F
 faults_at candidates set = map (λ k. slice_index_or candidates k (Silent 0)) set
 
 -- the claim holds in the report of the run with a set of the candidates as faults
-abbrev pub holds_with : (report : List Fault → ReportModel) → (holds : ReportModel → ℕ → Bool) → (candidates : List Fault)
+abbrev pub holds_with : (report : List Fault → ReportModel) → (holds : ReportModel → ℕ → Bool)
+    → (candidates : List Fault)
     → (set : List ℕ) → (claim : ℕ) → Bool
 holds_with report holds candidates set claim = holds (report (faults_at candidates set)) claim

@@ -20,7 +20,8 @@ pub record IsSurveyOf (net : NetModel) (claims : ℕ) (holds : ReportModel → �
   pub report : List Fault → ReportModel
   pub reports : (faults : List Fault) → IsReportOf (net_with faults net) (report faults)
   -- with each covered set of faults each claim holds, or a listed set within it breaks the claim
-  pub complete : IsComplete (length candidates) (IsCovered limits.faults s.stopped_at) (holds_with report holds candidates)
+  pub complete : IsComplete (length candidates) (IsCovered limits.faults s.stopped_at) (holds_with report holds
+      candidates)
       claims (breaks_of s.broken.items)
   -- each listed set breaks its claim
   pub sound : IsSound (length candidates) limits.faults (holds_with report holds candidates) claims

@@ -36,7 +36,8 @@ break_line candidates number b =
     if b.claim == number then codes "  if " ++ (set_text (faults_at candidates b.faults.items) ++ codes "\n") else []
 
 -- the claim with this number
-abbrev pub claim_text : (names : List (List ℕ)) → (candidates : List Fault) → List Broken → (number : ℕ) → Claim → List ℕ
+abbrev pub claim_text : (names : List (List ℕ)) → (candidates : List Fault) → List Broken → (number : ℕ) → Claim
+    → List ℕ
 claim_text names candidates broken number c =
     verdict_text (is_broken broken number)
     ++ (text_of names c ++ (codes "\n" ++ flat_map (break_line candidates number) broken))

@@ -18,5 +18,5 @@ pub trait FaultyRun {
     /// # Errors
     /// `AllocError` if an allocation fails.
     fn run(&self, alloc: Global, faults: &[Fault]) -> Result<Report, AllocError>
-        ensures { IfOk result (λ r. report_of r ≡ report self.now faults.now) };
+        ensures is_report { IfOk result (λ r. report_of r ≡ report self.now faults.now) };
 }

@@ -15,10 +15,10 @@ pub trait Judge {
 
     /// How many claims there are.
     fn claims(&self) -> u16
-        ensures { result ≡ claim_count self.now };
+        ensures value { result ≡ claim_count self.now };
 
     /// Whether a claim holds in a report.
     fn holds_in(&self, report: &Report, claim: u16) -> bool
-        requires { claim < claim_count self.now }
-        ensures { result ≡ holds self.now (report_of report.now) claim };
+        requires claim_exists { claim < claim_count self.now }
+        ensures value { result ≡ holds self.now (report_of report.now) claim };
 }

@@ -8,7 +8,7 @@ use Rattle.program_tree.specs.Code.{Code}
 use Rattle.protothread.specs.declared.part.Part.{Part}
 use Rattle.protothread.specs.declared.step.Step.TheVariants as step
 use Rattle.protothread.specs.declared.answer.PtState.TheVariants.{Ended}
-use Rattle.protothread.specs.declared.thread.Mark.TheVariants.{AtRest, RunAway}
+use Rattle.protothread.specs.declared.thread.LastAction.TheVariants.{AtRest, RunAway}
 use Rattle.protothread.specs.Looks.{Looks}
 use Rattle.protothread.specs.Remainder.{before, ended, Remainder, whole_of, fresh_of}
 use Rattle.protothread.specs.Step.{continued, advanced_of}
@@ -25,11 +25,11 @@ written_back (y ∷ ys) zero x is = let same : y ≡ x = cc in ap (λ z. z ∷ y
 written_back (y ∷ ys) (suc i) x is = ap (λ zs. y ∷ zs) (written_back ys i x is)
 
 abbrev at_end : Part → Remainder
-at_end part = record { part = part; mark = AtRest; place = ended }
+at_end part = record { part = part; last_action = AtRest; place = ended }
 
 module _ (code : Code) (part : Part) (none : whole_of code part ≡ []) where
   fresh : fresh_of code part ≡ at_end part
-  fresh = ap (λ w. record { part = part; mark = AtRest; place = before false w }) none
+  fresh = ap (λ w. record { part = part; last_action = AtRest; place = before false w }) none
 
   -- a fresh thread of this part ends at once
   goes_on : (e : Event) (looks : Looks) (vars : List ℕ) (units : ℕ)
@@ -46,7 +46,7 @@ module _ (code : Code) (part : Part) (none : whole_of code part ≡ []) where
       let all : units - 0 ≡ units = omega arith in
       ap (λ b. if b then record {
         step = step.Runaway;
-        remainder = record (at_end part) { mark = RunAway };
+        remainder = record (at_end part) { last_action = RunAway };
         variables = vars;
         units = 0;
       } else continued code part e looks ended vars (units - 0))

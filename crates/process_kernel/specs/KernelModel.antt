@@ -153,4 +153,5 @@ follow (ran.Left (suc n)) others u = others u
 unfoldable pub runs_of : (most : ℕ) → (moment : ℕ) → Underway → Underway
 runs_of zero moment u = u
 runs_of (suc most) moment u =
-    let given = run_given moment u.mote u.lines u.sends in follow given.ran (runs_of most moment) (underway_after given)
+    let given = run_given moment u.mote u.lines u.sends in follow given.ran (runs_of most moment) (underway_after
+    given)

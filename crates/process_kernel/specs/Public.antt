@@ -41,7 +41,8 @@ FailsAs (Some m) out e new out' = (e ≡ error.Memory) × (new ≡ None) × Begi
 -- the result of a kernel, and its change, when a run of its machine ends
 abbrev pub Closes : Kernel → Result ℕ Stop → Result Ran KernelError → Kernel → Type 0
 Closes old (Ok left) result new = (result ≡ Ok (ran.Left left)) × (new ≡ record old { booted = true })
-Closes old (Err stop.Halted) result new = (result ≡ Ok ran.Halted) × (new ≡ record old { booted = true; halted = true })
+Closes old (Err stop.Halted) result new = (result ≡ Ok ran.Halted)
+    × (new ≡ record old { booted = true; halted = true })
 Closes old (Err stop.Memory) result new =
     (result ≡ Err error.Memory) × (new ≡ record old { booted = true; failed = true })
 

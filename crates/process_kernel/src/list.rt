@@ -83,7 +83,8 @@ impl Machine {
     fn lift_thread(&mut self, process: u8) -> Option<Box<Thread>>
         ensures exact { (t : Tree) (code : Code) → slice_get t.codes process ≡ Some code
             → remainder_of_body code result ≡ remainder_at (kernel_state_of t self.old) code process }
-        ensures after { (t : Tree) → kernel_state_of t self.new ≡ with_fresh_body (kernel_state_of t self.old) process }
+        ensures after { (t : Tree) → kernel_state_of t self.new ≡
+            with_fresh_body (kernel_state_of t self.old) process }
         ensures continues { Continues self.old self.new }
         ensures grows { Grows self.old.out self.new.out }
     {
@@ -106,7 +107,8 @@ impl Machine {
         ensures exact { (t : Tree) (code : Code) → slice_get t.codes process ≡ Some code
             → IfOk result (λ thread. remainder_of code thread.value
             ≡ remainder_at (kernel_state_of t self.old) code process) }
-        ensures after { (t : Tree) → kernel_state_of t self.new ≡ with_fresh_body (kernel_state_of t self.old) process }
+        ensures after { (t : Tree) → kernel_state_of t self.new ≡
+            with_fresh_body (kernel_state_of t self.old) process }
         ensures continues { Continues self.old self.new }
         ensures grows { Grows self.old.out self.new.out }
     {
@@ -119,7 +121,8 @@ impl Machine {
     /// Makes the body of a process fresh.
     #[tactic(auto, using(crate::proofs::Remainders::remainders_fresh, crate::proofs::Remainders::fresh_past))]
     fn refresh_body(&mut self, process: u8)
-        ensures exact { (t : Tree) → kernel_state_of t self.new ≡ with_fresh_body (kernel_state_of t self.old) process }
+        ensures exact { (t : Tree) → kernel_state_of t self.new ≡
+            with_fresh_body (kernel_state_of t self.old) process }
         ensures continues { Continues self.old self.new }
         ensures grows { Grows self.old.out self.new.out }
     {

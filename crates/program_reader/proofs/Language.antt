@@ -10,7 +10,7 @@ use Rattle.program_tree.specs.Grammar.{form_marks, beginning_marks, keyword_mark
 use Rattle.program_tree.specs.Grammar.{else_marks, block_marks, variable_marks, etimer_marks, ctimer_marks}
 use Rattle.program_tree.specs.Grammar.{thread_marks, handler_marks, body_marks, code_marks, codes_marks, event_marks}
 use Rattle.program_tree.specs.Grammar.{semaphore_marks, process_marks, starting_marks, autostart_marks, receiver_marks}
-use Rattle.program_reader.specs.Machine.{Symbol, Pending, Step, unfit, take, step, semicolon, equals, open_sign, close}
+use Rattle.program_reader.specs.Machine.{Symbol, Pending, Step, unexpected_token, take, step, semicolon, equals, open_sign, close}
 use Rattle.program_reader.specs.Machine.{open_brace, operator, number as number_symbol, operand, expression, into_end}
 use Rattle.program_reader.specs.Machine.{block, items, items_else, new_name, new_thread, codes, this_name}
 use Rattle.program_reader.specs.Machine.{from_variables, from_etimers, from_ctimers, from_threads, from_on_poll}
@@ -359,14 +359,14 @@ with_last (y ∷ xs) x cs c = let q = with_last xs x cs.1 c in ((cs.0, q.0), ap 
 -- symbols before it.
 
 abbrev pub Back : Pending → Token → Step → Type 0
-Back f t unfit = Unit {0}
+Back f t unexpected_token = Unit {0}
 Back f t (take m f') = (m.token ≡ t) × ((ps : Parts f') → (qs : Parts f) × (spell_all f qs ≡ m ∷ spell_all f' ps))
 
 -- a symbol is skipped
 abbrev pub passed : (y z : Symbol) (f : Pending) (up : PartOf z → PartOf y)
     → ((p : PartOf z) (rest : List Mark) → spell y (up p) rest ≡ spell z p rest) → (t : Token) (s : Step)
     → Back (z ∷ f) t s → Back (y ∷ f) t s
-passed y z f up same t unfit b = tt
+passed y z f up same t unexpected_token b = tt
 passed y z f up same t (take m f') b =
     (b.0, λ ps. ((up (b.1 ps).0.0, (b.1 ps).0.1), same (b.1 ps).0.0 (spell_all f (b.1 ps).0.1) ∙ (b.1 ps).1))
 
@@ -554,7 +554,7 @@ back_events f t = passed from_events from_semaphores f (λ p. ([], p)) (λ p res
     (back_semaphores f t)
 
 abbrev pub back_this : (x : Name) (f : Pending) (y : Name) (b : Bool) → bytes_eq y x ≡ b
-    → Back (this_name x ∷ f) (token.Name y) (if b then take (sign (token.Name y)) f else unfit)
+    → Back (this_name x ∷ f) (token.Name y) (if b then take (sign (token.Name y)) f else unexpected_token)
 back_this x f y true e =
     (refl, λ ps. ((tt, ps), ap (λ z. sign (token.Name z) ∷ spell_all f ps) (sym (same_bytes y x e))))
 back_this x f y false e = tt

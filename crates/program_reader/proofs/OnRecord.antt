@@ -5,7 +5,7 @@ use Rattle.std.proofs.Common.{inl, inr}
 use Rattle.std.proofs.lemmas.List.{map-append, length-append, append-nil}
 use Rattle.std.proofs.lemmas.Bool.{ltb-true, ltb-false}
 use Rattle.program_tree.specs.Grammar.{Mark, tokens, program_marks}
-use Rattle.program_reader.specs.Machine.{Symbol, Pending, Step, unfit, take, step, tell, verdict_after, end_kind, Verdict}
+use Rattle.program_reader.specs.Machine.{Symbol, Pending, Step, unexpected_token, take, step, tell, verdict_after, end_kind, Verdict}
 use Rattle.program_reader.specs.Machine.{whole, fault, from_events, from_semaphores, first_process, first_broken_of}
 use Rattle.program_reader.specs.Machine.{rules_on_marks, first_broken, fault_or, unfit_kind, operand}
 use Rattle.program_tree.specs.Shapes.{ProgramShape}
@@ -256,7 +256,7 @@ same_front (a ∷ as') (b ∷ bs) x y e h =
     (cc (k, r.0), r.1)
 
 -- a bad token never fits
-bad_unfit : (f : Pending) → step f token.Bad ≡ unfit
+bad_unfit : (f : Pending) → step f token.Bad ≡ unexpected_token
 bad_unfit [] = refl
 bad_unfit (operand c (form.name k) ∷ f) = refl
 bad_unfit (operand c form.cast ∷ f) = refl
@@ -264,7 +264,7 @@ bad_unfit (operand c form.sent ∷ f) = refl
 bad_unfit (operand c form.any ∷ f) = refl
 bad_unfit (y ∷ f) = refl
 
-process_unfit : (y : Symbol) (f : Pending) → end_kind y ≡ Unexpected → step (y ∷ f) (token.Keyword word.Process) ≡ unfit
+process_unfit : (y : Symbol) (f : Pending) → end_kind y ≡ Unexpected → step (y ∷ f) (token.Keyword word.Process) ≡ unexpected_token
 process_unfit from_events f e = absurd cc
 process_unfit from_semaphores f e = absurd cc
 process_unfit (operand c (form.name k)) f e = refl
@@ -450,11 +450,11 @@ split_at (b ∷ bs) t more (x ∷ xs) e =
     (x ∷ r.0, r.1, r.2, ap (λ zs. x ∷ zs) r.3, cc (k, r.4), r.5)
 
 cannot : (before : List Token) (ms : List Mark) (f : Pending) (s : Scope) (t : Token) (ts : List Token)
-    → Reached before ms f s → step f t ≡ unfit → CanFollow before (t ∷ ts) → ⊥
+    → Reached before ms f s → step f t ≡ unexpected_token → CanFollow before (t ∷ ts) → ⊥
 cannot before ms f s t ts r is h =
     let x = split_at before t h.1 (program_marks h.0 []) h.2 in
     let o = r.only h.0 x.0 (x.1 ∷ x.2) x.3 x.4 in
-    on_at f o.1 x.1 x.2 t unfit o.2 x.5 is
+    on_at f o.1 x.1 x.2 t unexpected_token o.2 x.5 is
 
 cannot_end : (before : List Token) (ms : List Mark) (y : Symbol) (f : Pending) (s : Scope)
     → Reached before ms (y ∷ f) s → CanFollow before [] → ⊥
@@ -535,11 +535,11 @@ law [] before ms (y ∷ f) s r clean = ends_so before ms y f s r clean
 law (t ∷ ts) before ms f s r clean = go (step f t) refl
     (λ m f' r' c'. law ts (before ++ (t ∷ [])) (ms ++ (m ∷ [])) f' (scope_after s m) r' c')
   where
-    no : step f t ≡ unfit → CanFollow before (t ∷ ts) ⊎ LacksProcess before (t ∷ ts) → ⊥
+    no : step f t ≡ unexpected_token → CanFollow before (t ∷ ts) ⊎ LacksProcess before (t ∷ ts) → ⊥
     no is (inl h) = cannot before ms f s t ts r is h
     no is (inr h) = h
 
-    unexpected : (u : Token) → t ≡ u → step f t ≡ unfit
+    unexpected : (u : Token) → t ≡ u → step f t ≡ unexpected_token
         → Judged (fault (unfit_kind u) (suc (length ts))) (before ++ (t ∷ ts))
     unexpected token.Bad e is = subst (λ z. Judged (fault BadToken (suc (length ts))) (before ++ (z ∷ ts))) (sym e)
         (reports_bad before ts (subst (λ z. Clean before (z ∷ ts)) e clean))
@@ -549,7 +549,7 @@ law (t ∷ ts) before ms f s r clean = go (step f t) refl
         ((m : Mark) (f' : Pending) → Reached (before ++ (t ∷ [])) (ms ++ (m ∷ [])) f' (scope_after s m)
         → Clean (before ++ (t ∷ [])) ts → Judged (tell (scope_after s m) f' ts) ((before ++ (t ∷ [])) ++ ts)) →
         Judged (verdict_after s (suc (length ts)) t x (λ n g. tell n g ts)) (before ++ (t ∷ ts))
-    go unfit is ih = unexpected t refl is
+    go unexpected_token is ih = unexpected t refl is
     go (take m f') is ih = on_mark before ts ms f s t m f'
         (record { reached = r; is = is; clean = clean; go_on = ih m f' }) (first_broken s m) refl
 

@@ -4,7 +4,7 @@ use Rattle.program_tree.specs.Faults.{Scope}
 use Rattle.program_tree.specs.Forms.{Beginning, no_statement, action, branches, loops, goes_on, beginning}
 use Rattle.program_tree.specs.Grammar.{Context, begins_with, sign, operand_mark, expression_marks}
 use Rattle.program_tree.specs.InScope.{name_in, number_in}
-use Rattle.program_reader.specs.Machine.{Pending, begin_step, unfit, tell, fault, first, items}
+use Rattle.program_reader.specs.Machine.{Pending, begin_step, unexpected_token, tell, fault, first, items}
 use Rattle.program_reader.specs.Plain.{IsNoAction, bare_keyword, bare_action, valued_keyword, valued_action}
 use Rattle.program_reader.specs.Plain.{about_keyword, about_class, about_action}
 use Rattle.program_tree.specs.Scope.{expression_fits}
@@ -67,7 +67,7 @@ about_made c b i same class is = rw (same, class, is) (about_at c b i)
 -- a keyword that begins no statement
 
 unfit_of : (c : Context) (k : Keyword) (b : Beginning) (f : Pending) → IsPlain b → IsNoAction b
-    → begin_step c k b f ≡ unfit
+    → begin_step c k b f ≡ unexpected_token
 unfit_of c k no_statement f h g = refl
 unfit_of c k (action x) f h g = absurd g
 unfit_of c k branches f h g = absurd h

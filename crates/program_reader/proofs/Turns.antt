@@ -6,7 +6,7 @@ use Rattle.std.specs.Str.{bytes_eq}
 use Rattle.program_tree.specs.Forms.{Operand}
 use Rattle.program_tree.specs.Grammar.{Context, Mark, sign, operand_mark, expression_marks, items_marks, code_marks}
 use Rattle.program_tree.specs.Grammar.{codes_marks, process_marks, autostart_marks, receiver_marks, tokens}
-use Rattle.program_reader.specs.Machine.{Pending, Step, unfit, take, step, semicolon, equals, open_sign, close}
+use Rattle.program_reader.specs.Machine.{Pending, Step, unexpected_token, take, step, semicolon, equals, open_sign, close}
 use Rattle.program_reader.specs.Machine.{open_brace, operator, number as number_symbol, operand, expression, into_end}
 use Rattle.program_reader.specs.Machine.{block, items, items_else, new_name, new_thread, codes, this_name}
 use Rattle.program_reader.specs.Machine.{from_variables, from_etimers, from_ctimers, from_threads, from_on_poll}
@@ -32,7 +32,7 @@ use Rattle.program_tree.proofs.NameLaws.{bytes_same}
 -- a step forward: the marks begin with the mark that the step has, and continue with the marks of parts for its
 -- symbols
 abbrev pub On : Mark → List Mark → Step → Type 0
-On m ms unfit = ⊥
+On m ms unexpected_token = ⊥
 On m ms (take m' f') = (m' ≡ m) × (ps : Parts f') × (spell_all f' ps ≡ ms)
 
 abbrev pub IsDone : Pending → Type 0
@@ -45,7 +45,7 @@ Forth f (m ∷ ms) = On m ms (step f m.token)
 
 -- the same, if a step back leads to the parts again
 abbrev pub Again : (f : Pending) (m : Mark) → List Mark → Parts f → (s : Step) → Back f m.token s → Type 0
-Again f m ms ps unfit b = ⊥
+Again f m ms ps unexpected_token b = ⊥
 Again f m ms ps (take m' f') b = (m' ≡ m) × (ps' : Parts f') × (spell_all f' ps' ≡ ms) × ((b.1 ps').0 ≡ ps)
 
 abbrev pub Turns : (f : Pending) → Parts f → List Mark → Type 0
@@ -141,7 +141,7 @@ turns_nothing c f (next (while e a) b) ps = (refl, (e, (a, (b, ps))), refl, refl
 
 turns_this : (x : Name) (f : Pending) (ps : Parts (this_name x ∷ f)) (b : Bool) (e : bytes_eq x x ≡ b)
     → Again (this_name x ∷ f) (sign (token.Name x)) (spell_all f ps.1) ps (if b then take (sign (token.Name x)) f else
-    unfit) (back_this x f x b e)
+    unexpected_token) (back_this x f x b e)
 turns_this x f ps true e = (refl, ps.1, refl, refl)
 turns_this x f ps false e = absurd (cc (e, bytes_same x))
 
@@ -233,7 +233,7 @@ turns (more_starting ∷ f) (x ∷ xs, ps) = (refl, (x, (xs, ps)), refl, refl)
 
 weaker : (f : Pending) (m : Mark) (ms : List Mark) (ps : Parts f) (s : Step) (b : Back f m.token s)
     → Again f m ms ps s b → On m ms s
-weaker f m ms ps unfit b h = h
+weaker f m ms ps unexpected_token b h = h
 weaker f m ms ps (take m' f') b h = (h.0, h.1, h.2)
 
 forth_at : (f : Pending) (ps : Parts f) (ms : List Mark) → Turns f ps ms → Forth f ms
@@ -246,7 +246,7 @@ forth f ps = forth_at f ps (spell_all f ps) (turns f ps)
 both_same : (f : Pending) (m : Mark) (ms : List Mark) (ps qs : Parts f) (s : Step) (b : Back f m.token s) →
     ((g : Pending) (xs ys : Parts g) → spell_all g xs ≡ ms → spell_all g ys ≡ ms → xs ≡ ys) → Again f m ms ps s b
     → Again f m ms qs s b → ps ≡ qs
-both_same f m ms ps qs unfit b ih p q = absurd p
+both_same f m ms ps qs unexpected_token b ih p q = absurd p
 both_same f m ms ps qs (take m' f') b ih p q = sym p.3 ∙ ap (λ xs. (b.1 xs).0) (ih f' p.1 q.1 p.2 q.2) ∙ q.3
 
 -- parts of the remaining text that have the same marks are the same
@@ -265,7 +265,7 @@ head_mark f m ms ps t s e k h = subst (λ v. On m ms v) h
 heads : (f : Pending) (m n : Mark) (ms ns : List Mark) (s : Step)
     → ((g : Pending) (xs ys : Parts g) → spell_all g xs ≡ ms → spell_all g ys ≡ ns → ms ≡ ns) → On m ms s → On n ns s
     → m ∷ ms ≡ n ∷ ns
-heads f m n ms ns unfit ih p q = absurd p
+heads f m n ms ns unexpected_token ih p q = absurd p
 heads f m n ms ns (take m' f') ih p q = let a = ih f' p.1 q.1 p.2 q.2 in let b : m ≡ n = sym p.0 ∙ q.0 in cc (a, b)
 
 -- tokens have only one list of marks

@@ -5,7 +5,7 @@ use Rattle.program_tree.specs.Faults.{Scope}
 use Rattle.program_tree.specs.Forms.{alone, no_value, word_of}
 use Rattle.program_tree.specs.Grammar.{Context, inner, key, sign, operand_mark, expression_marks, Mark, tokens}
 use Rattle.program_tree.specs.InScope.{NamesInScope, name_in, number_in}
-use Rattle.program_reader.specs.Machine.{Pending, word_step, unfit, tell, fault, first, expression, operator, close}
+use Rattle.program_reader.specs.Machine.{Pending, word_step, unexpected_token, tell, fault, first, expression, operator, close}
 use Rattle.program_tree.specs.Scope.{expression_fits, Within}
 use Rattle.program_tree.specs.Shapes.{Name}
 use Rattle.program_reader.specs.Steps.{ReadsSign, Reads, Numbered, Fits, Extends}
@@ -107,7 +107,7 @@ telling_read {c = c} {d = d} {i = i} {e = e} t class is r numbered fits =
 
 no_word_at : (s : Scope) (c : Context) (k : Keyword) (f : Pending) (ts : List Token) → word_of k ≡ no_value
     → tell s (expression c ∷ f) (token.Keyword k ∷ ts) ≡ fault Unexpected (length (token.Keyword k ∷ ts))
-no_word_at s c k f ts e = let u : word_step c k (word_of k) f ≡ unfit = ap (λ w. word_step c k w f) e in rw u refl
+no_word_at s c k f ts e = let u : word_step c k (word_of k) f ≡ unexpected_token = ap (λ w. word_step c k w f) e in rw u refl
 
 pub no_word : (s : Scope) (c : Context) (k : Keyword) (f : Pending) (old : List Token)
     → first old ≡ Some (token.Keyword k) → word_of k ≡ no_value → tell s (expression c ∷ f) old

@@ -74,7 +74,7 @@ Pending = List Symbol
 
 -- the token doesn't fit; or it has this mark, and these symbols are pending after it
 pub data Step : Type 0 where
-  unfit : Step
+  unexpected_token : Step
   take : Mark → Pending → Step
 
 -- The step at a token, for each kind of symbol; the symbols `f` are pending after this symbol.
@@ -84,7 +84,7 @@ cast_step f (token.Keyword word.Continue) = take (key word.Continue) f
 cast_step f (token.Keyword word.Msg) = take (key word.Msg) f
 cast_step f (token.Keyword word.Com) = take (key word.Com) f
 cast_step f (token.Keyword word.Packet) = take (key word.Packet) f
-cast_step f t = unfit
+cast_step f t = unexpected_token
 
 abbrev pub sent_step : Pending → Token → Step
 sent_step f (token.Keyword word.Exit) = take (key word.Exit) f
@@ -99,7 +99,7 @@ any_step f t = sent_step f t
 
 abbrev pub name_step : Context → Class → Pending → Token → Step
 name_step c k f (token.Name x) = take (named x (used c k x)) f
-name_step c k f t = unfit
+name_step c k f t = unexpected_token
 
 abbrev pub operand_step : Context → Operand → Pending → Token → Step
 operand_step c (form.name k) f t = name_step c k f t
@@ -108,7 +108,7 @@ operand_step c form.sent f t = sent_step f t
 operand_step c form.any f t = any_step f t
 
 abbrev pub word_step : Context → Keyword → Word → Pending → Step
-word_step c k no_value f = unfit
+word_step c k no_value f = unexpected_token
 word_step c k alone f = take (key k) f
 word_step c k (tells_of o) f = take (key k) (open_sign ∷ operand c o ∷ close ∷ f)
 
@@ -119,7 +119,7 @@ expression_step c f (token.Keyword k) = word_step c k (word_of k) f
 expression_step c f token.Bang = take (opening token.Bang (c.level + 1)) (expression (inner c) ∷ f)
 expression_step c f token.Open =
     take (opening token.Open (c.level + 1)) (expression (inner c) ∷ operator ∷ expression (inner c) ∷ close ∷ f)
-expression_step c f t = unfit
+expression_step c f t = unexpected_token
 
 -- the symbols that a form requires
 abbrev pub symbols_of : Context → Form → Pending → Pending
@@ -129,17 +129,17 @@ symbols_of c (takes o g) f = operand c o ∷ symbols_of c g f
 symbols_of c (values g) f = expression c ∷ symbols_of c g f
 
 abbrev pub begin_step : Context → Keyword → Beginning → Pending → Step
-begin_step c k no_statement f = unfit
+begin_step c k no_statement f = unexpected_token
 begin_step c k (action g) f = take (begins_with c k) (symbols_of c g (items c ∷ f))
 begin_step c k branches f = take (begins_with c k) (expression c ∷ block c ∷ items_else c ∷ f)
 begin_step c k loops f = take (begins_with c k) (expression c ∷ block c ∷ items c ∷ f)
-begin_step c k goes_on f = unfit
+begin_step c k goes_on f = unexpected_token
 
 abbrev pub items_step : Context → Pending → Token → Step
 items_step c f token.CloseBrace = take (sign token.CloseBrace) f
 items_step c f (token.Name x) = take (target x) (equals ∷ expression c ∷ semicolon ∷ items c ∷ f)
 items_step c f (token.Keyword k) = begin_step c k (beginning k) f
-items_step c f t = unfit
+items_step c f t = unexpected_token
 
 abbrev pub else_step : Context → Keyword → Beginning → Pending → Step
 else_step c k goes_on f = take (key k) (block c ∷ items c ∷ f)
@@ -153,7 +153,7 @@ items_else_step c f t = items_step c f t
 
 abbrev pub body_step : Pending → Token → Step
 body_step f (token.Keyword word.Body) = take (key word.Body) (block at_body ∷ last_brace ∷ f)
-body_step f t = unfit
+body_step f t = unexpected_token
 
 abbrev pub on_exit_step : Pending → Token → Step
 on_exit_step f (token.Keyword word.OnExit) = take (key word.OnExit) (block at_simple ∷ from_body ∷ f)
@@ -189,7 +189,7 @@ codes_form (x ∷ xs) f = codes x xs ∷ f
 abbrev pub codes_step : Name → List Name → Pending → Token → Step
 codes_step x xs f (token.Keyword word.Code) =
     take (key word.Code) (this_name x ∷ open_brace ∷ from_variables ∷ codes_form xs f)
-codes_step x xs f t = unfit
+codes_step x xs f t = unexpected_token
 
 -- The stages of a program.
 
@@ -205,7 +205,7 @@ autostart_step x xs f t = receiver_step x xs f t
 
 abbrev pub process_step : Pending → Token → Step
 process_step f (token.Keyword word.Process) = take (key word.Process) (first_process ∷ f)
-process_step f t = unfit
+process_step f t = unexpected_token
 
 abbrev pub semaphores_step : Pending → Token → Step
 semaphores_step f (token.Keyword word.Semaphore) =
@@ -217,7 +217,7 @@ events_step f (token.Keyword word.Event) = take (key word.Event) (new_name an_ev
 events_step f t = semaphores_step f t
 
 abbrev pub step : Pending → Token → Step
-step [] t = unfit
+step [] t = unexpected_token
 step (semicolon ∷ f) token.Semicolon = take (sign token.Semicolon) f
 step (equals ∷ f) token.Equals = take (sign token.Equals) f
 step (open_sign ∷ f) token.Open = take (sign token.Open) f
@@ -236,7 +236,7 @@ step (items_else c ∷ f) t = items_else_step c f t
 step (new_name c ∷ f) (token.Name x) = take (named x (new c x)) f
 step (new_thread ∷ f) (token.Name x) = take (named x (new a_thread x)) (block (at_thread x) ∷ f)
 step (codes x xs ∷ f) t = codes_step x xs f t
-step (this_name x ∷ f) (token.Name y) = if bytes_eq y x then take (sign (token.Name y)) f else unfit
+step (this_name x ∷ f) (token.Name y) = if bytes_eq y x then take (sign (token.Name y)) f else unexpected_token
 step (from_variables ∷ f) t = variables_step f t
 step (from_etimers ∷ f) t = etimers_step f t
 step (from_ctimers ∷ f) t = ctimers_step f t
@@ -256,7 +256,7 @@ step (from_receiver x xs ∷ f) t = receiver_step x xs f t
 step (starting ∷ f) (token.Name x) = take (named x (starts x)) f
 step (more_starting ∷ f) token.Comma = take (sign token.Comma) (starting ∷ more_starting ∷ f)
 step (more_starting ∷ f) token.Semicolon = take (sign token.Semicolon) f
-step (s ∷ f) t = unfit
+step (s ∷ f) t = unexpected_token
 
 -- the text is a whole program, or has this first error; `left` is the number of tokens from the error's token on
 pub data Verdict : Type 0 where
@@ -304,7 +304,7 @@ unfit_at (Some t) = unfit_kind t
 
 -- the verdict at a token; `on` is the verdict on the tokens after it
 abbrev pub verdict_after : Scope → (left : ℕ) → Token → Step → (Scope → Pending → Verdict) → Verdict
-verdict_after s left t unfit on = fault (unfit_kind t) left
+verdict_after s left t unexpected_token on = fault (unfit_kind t) left
 verdict_after s left t (take m f) on = fault_or (first_broken s m) left (on (scope_after s m) f)
 
 -- the verdict of the machine on the remaining tokens of a text, which it reads one by one

@@ -184,7 +184,8 @@ pub record BeginsStatement (s s' : Scope) (c : Context) (k : Keyword) (old new :
 -- the variable to which a statement assigns is read, and the statement is counted
 pub record IsTarget (s s' : Scope) (c : Context) (i : ℕ) (old new : List Token) : Type 0 where
   pub spelled : (n : NamesInScope) → Extends s.names n → old ≡ token.Name (name_in n a_variable i) ∷ new
-  pub goes_on : (f : Pending) → tell s (items c ∷ f) old ≡ tell s' (equals ∷ expression c ∷ semicolon ∷ items c ∷ f) new
+  pub goes_on : (f : Pending) → tell s (items c ∷ f) old ≡ tell s' (equals ∷ expression c ∷ semicolon ∷ items c ∷ f)
+      new
 
 -- the part of the scope that statements don't change
 pub record Fixed : Type 0 where

@@ -41,11 +41,11 @@ impl Cursor<'_> {
             tell s (machine.codes name.now xs ∷ more) self.old ≡ fault f.kind f.left }
     {
         if !self.accept(Keyword::Code) {
-            return Err(self.unfit());
+            return Err(self.unexpected_token());
         }
         match self.peek() {
             Some(Token::Name(found)) if found == name => self.advance(),
-            _ => return Err(self.unfit()),
+            _ => return Err(self.unexpected_token()),
         }
         self.sign(Sign::OpenBrace)
     }
@@ -77,7 +77,7 @@ impl Cursor<'_> {
                 self.advance();
                 Ok(())
             }
-            _ => Err(self.unfit()),
+            _ => Err(self.unexpected_token()),
         }
     }
 }
@@ -175,7 +175,8 @@ impl Reader<'_> {
             (code_of t)
             (read_scope self.old.scope) (read_scope self.new.scope) self.old.cursor self.new.cursor) }
         ensures err { (f : Fault) → result ≡ Err (ReadFailure.Fault f) → (xs : List Name) (more : machine.Pending) →
-            machine.tell (read_scope self.old.scope) (machine.codes (slice_index_or self.old.scope.processes process [])
+            machine.tell (read_scope self.old.scope) (machine.codes (slice_index_or self.old.scope.processes process
+            [])
             xs ∷ more) self.old.cursor ≡ machine.fault f.kind f.left }
     {
         self.cursor.opening_of(&self.scope, process)?;

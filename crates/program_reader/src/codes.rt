@@ -82,7 +82,7 @@ impl Cursor<'_> {
         if self.left() == 0 {
             return Ok(());
         }
-        Err(self.unfit())
+        Err(self.unexpected_token())
     }
 }
 
@@ -98,7 +98,8 @@ struct Head {
 impl Reader<'_> {
     /// Reads the parts before the codes.
     fn head(&mut self) -> Result<Head, ReadFailure>
-        ensures ok { IfOk result (λ h. ReadsHead h.counts.items h.autostart.items h.receiver (read_scope self.old.scope)
+        ensures ok { IfOk result (λ h. ReadsHead h.counts.items h.autostart.items h.receiver (read_scope
+            self.old.scope)
             (read_scope self.new.scope) self.old.cursor self.new.cursor) }
         ensures err { FailsIn (read_scope self.old.scope) (machine.from_events ∷ []) self.old.cursor result }
     {

@@ -79,7 +79,7 @@ impl<'a> Cursor<'a> {
     }
 
     /// The error of a next token that isn't allowed here, or of a text that isn't allowed to end here.
-    pub(crate) fn unfit(&self) -> ReadFailure
+    pub(crate) fn unexpected_token(&self) -> ReadFailure
         ensures refusal { result
             ≡ ReadFailure.Fault (record { kind = unfit_at (first self.now); left = length self.now }) }
     {
@@ -104,7 +104,7 @@ impl<'a> Cursor<'a> {
                 self.advance();
                 Ok(())
             }
-            _ => Err(self.unfit()),
+            _ => Err(self.unexpected_token()),
         }
     }
 

@@ -100,7 +100,7 @@ impl Cursor<'_> {
                 self.advance();
                 Ok(number as u16)
             }
-            _ => Err(self.unfit()),
+            _ => Err(self.unexpected_token()),
         }
     }
 }
@@ -134,7 +134,7 @@ impl<'a> Cursor<'a> {
                 scope.declare(alloc, kind, name)?;
                 Ok(name)
             }
-            _ => Err(self.unfit()),
+            _ => Err(self.unexpected_token()),
         }
     }
 }

@@ -72,7 +72,7 @@ impl Cursor<'_> {
                 self.advance();
                 Ok(operator)
             }
-            _ => Err(self.unfit()),
+            _ => Err(self.unexpected_token()),
         }
     }
 }
@@ -118,7 +118,7 @@ impl Reader<'_> {
             }
             Some(ValueWord::Telling(telling)) => self.question(place, telling),
             Some(ValueWord::Is) => self.is(place),
-            None => Err(self.cursor.unfit()),
+            None => Err(self.cursor.unexpected_token()),
         }
     }
 
@@ -206,7 +206,7 @@ impl Reader<'_> {
             Some(Token::Keyword(keyword)) => self.word(place, keyword),
             Some(Token::Bang) => self.negation(place),
             Some(Token::Open) => self.binary(place),
-            _ => Err(self.cursor.unfit()),
+            _ => Err(self.cursor.unexpected_token()),
         }
     }
 }

@@ -85,7 +85,7 @@ impl Cursor<'_> {
                 }
                 Err(kind) => Err(self.fault(kind)),
             },
-            _ => Err(self.unfit()),
+            _ => Err(self.unexpected_token()),
         }
     }
 }
@@ -95,7 +95,8 @@ impl Reader<'_> {
     #[tactic(auto, using(crate::proofs::LineLaws::line_steps))]
     pub(crate) fn processes(&mut self) -> Result<(), ReadFailure>
         requires at_keyword { first self.old.cursor ≡ Some (token.Keyword word.Semaphore) → ⊥ }
-        ensures ok { OnOk result (ReadsProcesses (read_scope self.old.scope) (read_scope self.new.scope) self.old.cursor
+        ensures ok { OnOk result (ReadsProcesses (read_scope self.old.scope) (read_scope self.new.scope)
+            self.old.cursor
             self.new.cursor) }
         ensures err { FailsIn (read_scope self.old.scope) (machine.from_semaphores ∷ []) self.old.cursor result }
     {
@@ -103,7 +104,7 @@ impl Reader<'_> {
             return Err(self.cursor.fault(ReadErrorKind::NoProcess));
         }
         if !self.cursor.accept(Keyword::Process) {
-            return Err(self.cursor.unfit());
+            return Err(self.cursor.unexpected_token());
         }
         self.cursor
             .new_name(self.alloc, &mut self.scope, Kind::Process)?;

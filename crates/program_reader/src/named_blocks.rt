@@ -177,7 +177,7 @@ impl Reader<'_> {
         ensures err { FailsIn (read_scope self.old.scope) (machine.from_body ∷ []) self.old.cursor result }
     {
         if !self.cursor.accept(Keyword::Body) {
-            return Err(self.cursor.unfit());
+            return Err(self.cursor.unexpected_token());
         }
         let place = Context {
             level: 0,

@@ -46,7 +46,7 @@ impl Reader<'_> {
                 Found::Other => Err(self.cursor.fault(ReadErrorKind::BadTarget)),
                 Found::Unknown => Err(self.cursor.fault(ReadErrorKind::UnknownName)),
             },
-            _ => Err(self.cursor.unfit()),
+            _ => Err(self.cursor.unexpected_token()),
         }
     }
 
@@ -108,7 +108,7 @@ impl Reader<'_> {
                 self.cursor.advance();
                 Ok(BroadcastEvent::Packet)
             }
-            _ => Err(self.cursor.unfit()),
+            _ => Err(self.cursor.unexpected_token()),
         }
     }
 

@@ -151,7 +151,7 @@ impl Reader<'_> {
                 self.cursor.sign(Sign::Semicolon)?;
                 Ok(Some(variable))
             }
-            _ => Err(self.cursor.unfit()),
+            _ => Err(self.cursor.unexpected_token()),
         }
     }
 
@@ -266,7 +266,7 @@ impl Reader<'_> {
             Some(Plain::Broadcast) => self.broadcast(place),
             Some(Plain::Synch) => self.synch(place),
             Some(Plain::Set) => self.set(place),
-            None => Err(self.cursor.unfit()),
+            None => Err(self.cursor.unexpected_token()),
         }
     }
 
@@ -279,7 +279,7 @@ impl Reader<'_> {
         match self.cursor.peek() {
             Some(Token::Name(name)) => self.assign(place, name),
             Some(Token::Keyword(keyword)) => self.action(place, keyword),
-            _ => Err(self.cursor.unfit()),
+            _ => Err(self.cursor.unexpected_token()),
         }
     }
 
@@ -367,7 +367,7 @@ impl Reader<'_> {
     {
         match self.cursor.peek() {
             Some(Token::OpenBrace) => {}
-            _ => return Err(self.cursor.unfit()),
+            _ => return Err(self.cursor.unexpected_token()),
         }
         if place.level == LEVELS {
             return Err(self.cursor.fault(ReadErrorKind::TooDeep));

@@ -9,7 +9,7 @@ use Rattle.program_tree.specs.Code.{Code}
 use Rattle.program_tree.specs.Flat.{rest_at}
 use Rattle.protothread.specs.declared.part.Part.{Part}
 use Rattle.protothread.specs.declared.calls.Call.{Call}
-use Rattle.protothread.specs.declared.thread.Mark.TheVariants.{AtRest, UnderWay, Pausing, RunAway}
+use Rattle.protothread.specs.declared.thread.LastAction.TheVariants.{AtRest, UnderWay, Pausing, RunAway}
 use Rattle.protothread.specs.declared.thread.Thread.{Thread}
 use Rattle.protothread.specs.declared.step.Op.{Op}
 use Rattle.protothread.specs.declared.step.Step.TheVariants as step
@@ -46,49 +46,49 @@ pub yield_answer-thread_place : (code : Code) (t : Thread) → yield_answer (thr
 yield_answer-thread_place code t = yield_answer-nested (callers_of code t) t.is_yielded _ ∙ ap yielding (length-callers_in code (part_body code t.part) t.calls)
 
 module _ (code : Code) (event : Event) (looks : Looks) (t : Thread) (vars : List ℕ) (units : ℕ) where
-  pub resumes_at_rest : t.mark ≡ AtRest → length t.calls ≤ units
+  pub resumes_at_rest : t.last_action ≡ AtRest → length t.calls ≤ units
       → advanced_of code event looks (remainder_of code t) vars units ≡ continued code t.part event looks (thread_place code t) vars (units - length t.calls)
   unfolding advanced_of
   resumes_at_rest rests enough =
       let place : Place = thread_place code t in
-      ap (λ m. advanced_of code event looks (record { part = t.part; mark = m; place = place }) vars units) rests
-      ∙ ap (λ n. if nat_lt units n then record { step = step.Runaway; remainder = record { part = t.part; mark = RunAway; place = place }; variables = vars; units = 0 } else continued code t.part event looks place vars (units - n)) (passed-thread_place code t)
-      ∙ ap (λ b. if b then record { step = step.Runaway; remainder = record { part = t.part; mark = RunAway; place = place }; variables = vars; units = 0 } else continued code t.part event looks place vars (units - length t.calls)) (not_less units (length t.calls) enough)
+      ap (λ m. advanced_of code event looks (record { part = t.part; last_action = m; place = place }) vars units) rests
+      ∙ ap (λ n. if nat_lt units n then record { step = step.Runaway; remainder = record { part = t.part; last_action = RunAway; place = place }; variables = vars; units = 0 } else continued code t.part event looks place vars (units - n)) (passed-thread_place code t)
+      ∙ ap (λ b. if b then record { step = step.Runaway; remainder = record { part = t.part; last_action = RunAway; place = place }; variables = vars; units = 0 } else continued code t.part event looks place vars (units - length t.calls)) (not_less units (length t.calls) enough)
     where
       not_less : (a b : ℕ) → b ≤ a → nat_lt a b ≡ false
       not_less a b h = grind (arith, nat_tests)
 
-  pub cannot_resume : t.mark ≡ AtRest → units < length t.calls
-      → advanced_of code event looks (remainder_of code t) vars units ≡ record { step = step.Runaway; remainder = remainder_of code (record t { mark = RunAway }); variables = vars; units = 0 }
+  pub cannot_resume : t.last_action ≡ AtRest → units < length t.calls
+      → advanced_of code event looks (remainder_of code t) vars units ≡ record { step = step.Runaway; remainder = remainder_of code (record t { last_action = RunAway }); variables = vars; units = 0 }
   unfolding advanced_of
   cannot_resume rests short =
       let place : Place = thread_place code t in
-      ap (λ m. advanced_of code event looks (record { part = t.part; mark = m; place = place }) vars units) rests
-      ∙ ap (λ n. if nat_lt units n then record { step = step.Runaway; remainder = record { part = t.part; mark = RunAway; place = place }; variables = vars; units = 0 } else continued code t.part event looks place vars (units - n)) (passed-thread_place code t)
-      ∙ ap (λ b. if b then record { step = step.Runaway; remainder = record { part = t.part; mark = RunAway; place = place }; variables = vars; units = 0 } else continued code t.part event looks place vars (units - length t.calls)) (less units (length t.calls) short)
+      ap (λ m. advanced_of code event looks (record { part = t.part; last_action = m; place = place }) vars units) rests
+      ∙ ap (λ n. if nat_lt units n then record { step = step.Runaway; remainder = record { part = t.part; last_action = RunAway; place = place }; variables = vars; units = 0 } else continued code t.part event looks place vars (units - n)) (passed-thread_place code t)
+      ∙ ap (λ b. if b then record { step = step.Runaway; remainder = record { part = t.part; last_action = RunAway; place = place }; variables = vars; units = 0 } else continued code t.part event looks place vars (units - length t.calls)) (less units (length t.calls) short)
     where
       less : (a b : ℕ) → a < b → nat_lt a b ≡ true
       less a b h = grind (arith, nat_tests)
 
-  pub goes_on_under_way : (into : Option ℕ) → t.mark ≡ UnderWay into
+  pub goes_on_under_way : (into : Option ℕ) → t.last_action ≡ UnderWay into
       → advanced_of code event looks (remainder_of code t) vars units ≡ continued code t.part event looks (thread_place code t) vars units
   unfolding advanced_of
   goes_on_under_way into under =
-      ap (λ m. advanced_of code event looks (record { part = t.part; mark = m; place = thread_place code t }) vars units) under
+      ap (λ m. advanced_of code event looks (record { part = t.part; last_action = m; place = thread_place code t }) vars units) under
 
-  pub gives_up_now : t.mark ≡ Pausing
-      → advanced_of code event looks (remainder_of code t) vars units ≡ record { step = step.Done (yielding (length t.calls)); remainder = remainder_of code (record t { mark = AtRest }); variables = vars; units = units }
+  pub gives_up_now : t.last_action ≡ Pausing
+      → advanced_of code event looks (remainder_of code t) vars units ≡ record { step = step.Done (yielding (length t.calls)); remainder = remainder_of code (record t { last_action = AtRest }); variables = vars; units = units }
   unfolding advanced_of
   gives_up_now pausing =
-      ap (λ m. advanced_of code event looks (record { part = t.part; mark = m; place = thread_place code t }) vars units) pausing
-      ∙ ap (λ a. record { step = step.Done a; remainder = record { part = t.part; mark = AtRest; place = thread_place code t }; variables = vars; units = units }) (yield_answer-thread_place code t)
+      ap (λ m. advanced_of code event looks (record { part = t.part; last_action = m; place = thread_place code t }) vars units) pausing
+      ∙ ap (λ a. record { step = step.Done a; remainder = record { part = t.part; last_action = AtRest; place = thread_place code t }; variables = vars; units = units }) (yield_answer-thread_place code t)
 
-  pub stays_away : t.mark ≡ RunAway
+  pub stays_away : t.last_action ≡ RunAway
       → advanced_of code event looks (remainder_of code t) vars units ≡ record { step = step.Runaway; remainder = remainder_of code t; variables = vars; units = units }
   unfolding advanced_of
   stays_away away =
-      ap (λ m. advanced_of code event looks (record { part = t.part; mark = m; place = thread_place code t }) vars units) away
-      ∙ ap (λ m. record { step = step.Runaway; remainder = record { part = t.part; mark = m; place = thread_place code t }; variables = vars; units = units }) (sym away)
+      ap (λ m. advanced_of code event looks (record { part = t.part; last_action = m; place = thread_place code t }) vars units) away
+      ∙ ap (λ m. record { step = step.Runaway; remainder = record { part = t.part; last_action = m; place = thread_place code t }; variables = vars; units = units }) (sym away)
 
 -- a place at a statement is settled
 settled-at : (cs : List Caller) (y : Bool) (s : Statement ℕ) (rest : List (Statement ℕ)) → settled (nested cs (at y s rest)) ≡ nested cs (at y s rest)
@@ -111,8 +111,8 @@ module _ (code : Code) (part : Part) (event : Event) (looks : Looks) where
   follows vars units r =
       elim r [
         | goes_on changed p ↦ continued code part event looks p changed units
-        | operates o mark p ↦ record { step = step.Op o; remainder = record { part = part; mark = mark; place = p }; variables = vars; units = units }
-        | answers a p ↦ record { step = step.Done a; remainder = record { part = part; mark = AtRest; place = p }; variables = vars; units = units }
+        | operates o last_action p ↦ record { step = step.Op o; remainder = record { part = part; last_action = last_action; place = p }; variables = vars; units = units }
+        | answers a p ↦ record { step = step.Done a; remainder = record { part = part; last_action = AtRest; place = p }; variables = vars; units = units }
       ]
 
   abbrev finished : (vars : List ℕ) (units : ℕ) → Advanced
@@ -123,7 +123,7 @@ module _ (code : Code) (part : Part) (event : Event) (looks : Looks) where
   stepped vars zero q =
       elim q [
         | ended ↦ finished vars 0
-        | p ↦ record { step = step.Runaway; remainder = record { part = part; mark = RunAway; place = p }; variables = vars; units = 0 }
+        | p ↦ record { step = step.Runaway; remainder = record { part = part; last_action = RunAway; place = p }; variables = vars; units = 0 }
       ]
   stepped vars (suc units) q =
       elim q [
@@ -144,13 +144,13 @@ module _ (code : Code) (part : Part) (event : Event) (looks : Looks) where
   at_statement (c ∷ cs) y s rest vars units = refl
 
   without_unit : (cs : List Caller) (y : Bool) (s : Statement ℕ) (rest : List (Statement ℕ)) (vars : List ℕ)
-      → stepped vars 0 (nested cs (at y s rest)) ≡ record { step = step.Runaway; remainder = record { part = part; mark = RunAway; place = nested cs (at y s rest) }; variables = vars; units = 0 }
+      → stepped vars 0 (nested cs (at y s rest)) ≡ record { step = step.Runaway; remainder = record { part = part; last_action = RunAway; place = nested cs (at y s rest) }; variables = vars; units = 0 }
   without_unit [] y s rest vars = refl
   without_unit (c ∷ cs) y s rest vars = refl
 
   -- the remainder of a thread that runs this part
-  meant : (t : Thread) → t.part ≡ part → record { part = part; mark = t.mark; place = thread_place code t } ≡ remainder_of code t
-  meant t same = ap (λ p. record { part = p; mark = t.mark; place = thread_place code t }) (sym same)
+  meant : (t : Thread) → t.part ≡ part → record { part = part; last_action = t.last_action; place = thread_place code t } ≡ remainder_of code t
+  meant t same = ap (λ p. record { part = p; last_action = t.last_action; place = thread_place code t }) (sym same)
 
   place_at : (t : Thread) (s : Statement ℕ) (rest : List (Statement ℕ)) → rest_at (body_of_thread code t) t.position ≡ s ∷ rest → thread_place code t ≡ nested (callers_of code t) (at t.is_yielded s rest)
   place_at t s rest here = ap (λ l. nested (callers_of code t) (before t.is_yielded l)) here
@@ -158,7 +158,7 @@ module _ (code : Code) (part : Part) (event : Event) (looks : Looks) where
   -- a statement when no unit is left
   pub runs_away : (t : Thread) (s : Statement ℕ) (rest : List (Statement ℕ)) (vars : List ℕ) (units : ℕ)
       → t.part ≡ part → rest_at (body_of_thread code t) t.position ≡ s ∷ rest → units ≡ 0
-      → continued code part event looks (thread_place code t) vars units ≡ record { step = step.Runaway; remainder = remainder_of code (record t { mark = RunAway }); variables = vars; units = units }
+      → continued code part event looks (thread_place code t) vars units ≡ record { step = step.Runaway; remainder = remainder_of code (record t { last_action = RunAway }); variables = vars; units = units }
   runs_away t s rest vars units same here none =
       let place : Place = thread_place code t in
       let cs : List Caller = callers_of code t in
@@ -166,9 +166,9 @@ module _ (code : Code) (part : Part) (event : Event) (looks : Looks) where
       ap (λ u. continued code part event looks place vars u) none ∙ settles place vars 0
       ∙ ap (λ q. stepped vars 0 q) (ap settled in_state ∙ settled-at cs t.is_yielded s rest)
       ∙ without_unit cs t.is_yielded s rest vars
-      ∙ ap (λ q. record { step = step.Runaway; remainder = record { part = part; mark = RunAway; place = q }; variables = vars; units = 0 }) (sym in_state)
-      ∙ ap (λ u. record { step = step.Runaway; remainder = record { part = part; mark = RunAway; place = place }; variables = vars; units = u }) (sym none)
-      ∙ ap (λ r. record { step = step.Runaway; remainder = r; variables = vars; units = units }) (meant (record t { mark = RunAway }) same)
+      ∙ ap (λ q. record { step = step.Runaway; remainder = record { part = part; last_action = RunAway; place = q }; variables = vars; units = 0 }) (sym in_state)
+      ∙ ap (λ u. record { step = step.Runaway; remainder = record { part = part; last_action = RunAway; place = place }; variables = vars; units = u }) (sym none)
+      ∙ ap (λ r. record { step = step.Runaway; remainder = r; variables = vars; units = units }) (meant (record t { last_action = RunAway }) same)
 
   -- a statement that is paid for
   paid : (t : Thread) (s : Statement ℕ) (rest : List (Statement ℕ)) (vars : List ℕ) (units left : ℕ) (r : Reached)
@@ -194,7 +194,7 @@ module _ (code : Code) (part : Part) (event : Event) (looks : Looks) where
       → continued code part event looks (thread_place code old) vars units ≡ record { step = step.Op o; remainder = remainder_of code new; variables = changed; units = left }
   operates_at old s rest o new vars changed units left same here spent does =
       paid old s rest vars units left _ same here spent does.made_so
-      ∙ ap (λ v. record { step = step.Op o; remainder = record { part = part; mark = new.mark; place = thread_place code new }; variables = v; units = left }) (sym does.variables)
+      ∙ ap (λ v. record { step = step.Op o; remainder = record { part = part; last_action = new.last_action; place = thread_place code new }; variables = v; units = left }) (sym does.variables)
       ∙ ap (λ r. record { step = step.Op o; remainder = r; variables = changed; units = left }) (meant new (does.part ∙ same))
 
   pub answers_at : (old : Thread) (s : Statement ℕ) (rest : List (Statement ℕ)) (a : PtState) (new : Thread) (vars changed : List ℕ) (units left : ℕ)
@@ -203,8 +203,8 @@ module _ (code : Code) (part : Part) (event : Event) (looks : Looks) where
       → continued code part event looks (thread_place code old) vars units ≡ record { step = step.Done a; remainder = remainder_of code new; variables = changed; units = left }
   answers_at old s rest a new vars changed units left same here spent does =
       paid old s rest vars units left _ same here spent does.made_so
-      ∙ ap (λ m. record { step = step.Done a; remainder = record { part = part; mark = m; place = thread_place code new }; variables = vars; units = left }) (sym does.mark)
-      ∙ ap (λ v. record { step = step.Done a; remainder = record { part = part; mark = new.mark; place = thread_place code new }; variables = v; units = left }) (sym does.variables)
+      ∙ ap (λ m. record { step = step.Done a; remainder = record { part = part; last_action = m; place = thread_place code new }; variables = vars; units = left }) (sym does.last_action)
+      ∙ ap (λ v. record { step = step.Done a; remainder = record { part = part; last_action = new.last_action; place = thread_place code new }; variables = v; units = left }) (sym does.variables)
       ∙ ap (λ r. record { step = step.Done a; remainder = r; variables = changed; units = left }) (meant new (does.part ∙ same))
 
   ends_at : (vars : List ℕ) (units : ℕ) → continued code part event looks ended vars units ≡ finished vars units

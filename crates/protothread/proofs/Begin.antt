@@ -10,7 +10,7 @@ use Rattle.program_tree.specs.declared.instruction.Instruction.{Instruction}
 use Rattle.program_tree.proofs.Emitting.{rest_at-start}
 use Rattle.protothread.specs.declared.part.Part.{Part}
 use Rattle.protothread.specs.declared.calls.Call.{Call}
-use Rattle.protothread.specs.declared.thread.Mark.TheVariants.{AtRest}
+use Rattle.protothread.specs.declared.thread.LastAction.TheVariants.{AtRest}
 use Rattle.protothread.specs.Calls.{before_number}
 use Rattle.protothread.specs.Remainder.{before, fresh_of}
 use Rattle.protothread.proofs.CallLaws.{listed-part}
@@ -18,10 +18,10 @@ use Rattle.protothread.proofs.Reaching.{leads_to_rest}
 use Rattle.protothread.specs.Places.{body_or_end, part_body, nested, callers_in, innermost, remainder_of}
 
 pub begins : (code : Code) (part : Part) (calls : List Call) → calls ≡ []
-    → remainder_of code (record { part = part; mark = AtRest; is_yielded = false; position = 0; calls = calls }) ≡ fresh_of code part
+    → remainder_of code (record { part = part; last_action = AtRest; is_yielded = false; position = 0; calls = calls }) ≡ fresh_of code part
 begins code part calls none =
-    ap (λ cs. record { part = part; mark = AtRest; place = nested (callers_in code (part_body code part) cs) (before false (rest_at (innermost code (part_body code part) cs) 0)) }) none
-    ∙ ap (λ l. record { part = part; mark = AtRest; place = before false l }) (rest_at-start (part_body code part) ∙ listed-part code part)
+    ap (λ cs. record { part = part; last_action = AtRest; place = nested (callers_in code (part_body code part) cs) (before false (rest_at (innermost code (part_body code part) cs) 0)) }) none
+    ∙ ap (λ l. record { part = part; last_action = AtRest; place = before false l }) (rest_at-start (part_body code part) ∙ listed-part code part)
 
 -- a block without statements has no code
 none_left : (b : Body ℕ) (flat : List Instruction) → IsFlat b flat → flat ≡ [] → listed b ≡ []

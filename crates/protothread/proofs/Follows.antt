@@ -13,8 +13,8 @@ use Rattle.program_tree.specs.Code.{Code}
 use Rattle.protothread.specs.declared.answer.PtState.{PtState}
 use Rattle.protothread.specs.declared.answer.PtState.TheVariants.{Waiting, Yielded, Exited}
 use Rattle.protothread.specs.declared.part.Part.{Part}
-use Rattle.protothread.specs.declared.thread.Mark.TheVariants.{AtRest, UnderWay, Pausing, RunAway}
-use Rattle.protothread.specs.declared.deed.StatementEffect.TheVariants.{Yields}
+use Rattle.protothread.specs.declared.thread.LastAction.TheVariants.{AtRest, UnderWay, Pausing, RunAway}
+use Rattle.protothread.specs.declared.effect.StatementEffect.TheVariants.{Yields}
 use Rattle.protothread.specs.declared.step.Op.{Op}
 use Rattle.protothread.specs.declared.step.Op.TheVariants.{Post}
 use Rattle.protothread.specs.declared.step.Step.TheVariants as step
@@ -102,7 +102,7 @@ module _ (code : Code) (part : Part) where
 
   -- a run from this place on, within a call
   abbrev From : Place → (now : Sight) → (later : List Sight) → List ℕ → List Happening → Completion → Type 0
-  From p now later vars h out = Runs code (record { part = part; mark = UnderWay None; place = p }) vars now later h out
+  From p now later vars h out = Runs code (record { part = part; last_action = UnderWay None; place = p }) vars now later h out
 
   steps : (p : Place) (now : Sight) (vars : List ℕ) (units : ℕ) → IsLive p
       → continued code part now.event now.looks p vars (suc units) ≡ follows code part now.event now.looks vars units (reached code whole vars now.event now.looks p)
@@ -141,12 +141,12 @@ module _ (code : Code) (part : Part) where
 
   -- a call that comes back to a place
   called_again : (p : Place) (now : Sight) (later : List Sight) (vars : List ℕ) (h : List Happening) (out : Completion)
-      → From p now later vars h out → Runs code (record { part = part; mark = AtRest; place = p }) vars now later h out
+      → From p now later vars h out → Runs code (record { part = part; last_action = AtRest; place = p }) vars now later h out
   unfolding advanced_of
   called_again p now later vars h out run =
       later_run code (passed p) _ _ vars vars now later h out
       (λ units.
-      let away : ℕ → Advanced = λ u. record { step = step.Runaway; remainder = record { part = part; mark = RunAway; place = p }; variables = vars; units = 0 } in
+      let away : ℕ → Advanced = λ u. record { step = step.Runaway; remainder = record { part = part; last_action = RunAway; place = p }; variables = vars; units = 0 } in
       ap (λ b. if b then away 0 else continued code part now.event now.looks p vars (units + passed p - passed p)) (enough units (passed p))
       ∙ ap (λ u. continued code part now.event now.looks p vars u) (less_again units (passed p)))
       run
@@ -157,7 +157,7 @@ module _ (code : Code) (part : Part) where
       → From q next later vars h out → From p now (next ∷ later) vars (gives_up a ∷ h) out
   unfolding advanced_of
   gives p q a now next later vars h out live low does_so run =
-      gave_up _ (record { part = part; mark = AtRest; place = q }) vars vars now next later a h out
+      gave_up _ (record { part = part; last_action = AtRest; place = q }) vars vars now next later a h out
       (1, 0, steps p now vars 0 live ∙ ap (λ r. follows code part now.event now.looks vars 0 r) does_so) low
       (called_again q next later vars h out run)
 
@@ -168,7 +168,7 @@ module _ (code : Code) (part : Part) where
   gives_last p q a now vars h out live low does_so none window_position =
       subst (λ (x : List Happening). From p now [] vars (gives_up a ∷ x) out) (sym none)
       (subst (λ (o : Completion). From p now [] vars (gives_up a ∷ []) o) (sym window_position)
-      (gave_up_last _ (record { part = part; mark = AtRest; place = q }) vars vars now a
+      (gave_up_last _ (record { part = part; last_action = AtRest; place = q }) vars vars now a
       (1, 0, steps p now vars 0 live ∙ ap (λ r. follows code part now.event now.looks vars 0 r) does_so) low))
 
   -- a run after an `exit`: the run of the whole thread ends, and that of a spawned thread continues after its spawn
@@ -199,7 +199,7 @@ module _ (code : Code) (part : Part) where
   exits_so vars now later p q h out live e f =
       subst (λ (x : List Happening). From p now later vars x out) (sym f.0)
       (subst (λ (o : Completion). From p now later vars [] o) (sym f.1)
-      (has_exited _ (record { part = part; mark = AtRest; place = q }) vars vars now later
+      (has_exited _ (record { part = part; last_action = AtRest; place = q }) vars vars now later
       (1, 0, steps p now vars 0 live ∙ ap (λ r. follows code part now.event now.looks vars 0 r) e)))
 
   abbrev top : Context whole Yielded
@@ -262,10 +262,10 @@ module _ (code : Code) (part : Part) where
   does_op home y c p rest o into now [] vars h out live e f =
       subst (λ (x : List Happening). From (c.place p) now [] vars (operates o ∷ x) out) (sym f.0)
       (subst (λ (z : Completion). From (c.place p) now [] vars (operates o ∷ []) z) (sym f.1)
-      (operated_last _ (record { part = part; mark = UnderWay into; place = c.place (before false rest) }) vars vars now o
+      (operated_last _ (record { part = part; last_action = UnderWay into; place = c.place (before false rest) }) vars vars now o
       (1, 0, steps (c.place p) now vars 0 (c.live p live) ∙ ap (λ r. follows code part now.event now.looks vars 0 r) (c.operating vars now p (before false rest) o into e))))
   does_op home y c p rest o into now (next ∷ later) vars h out live e f =
-      operated _ (record { part = part; mark = UnderWay into; place = c.place (before false rest) }) vars vars now next later o h out
+      operated _ (record { part = part; last_action = UnderWay into; place = c.place (before false rest) }) vars vars now next later o h out
       (1, 0, steps (c.place p) now vars 0 (c.live p live) ∙ ap (λ r. follows code part now.event now.looks vars 0 r) (c.operating vars now p (before false rest) o into e))
       (subst (λ (v : List ℕ). From (c.place (before false rest)) next later v h out) (heard into vars next.answer) f)
 
@@ -344,8 +344,8 @@ module _ (code : Code) (part : Part) where
       → From (c.place (at false (does pause) rest)) now (next ∷ second ∷ later) vars (operates (Post (One (Own code.number)) 0x85 0) ∷ gives_up y ∷ h) out
   unfolding advanced_of
   paused home y c rest now next second later vars h out run =
-      let held : Remainder = record { part = part; mark = Pausing; place = c.place (at true (does pause) rest) } in
-      let resting : Remainder = record { part = part; mark = AtRest; place = c.place (at true (does pause) rest) } in
+      let held : Remainder = record { part = part; last_action = Pausing; place = c.place (at true (does pause) rest) } in
+      let resting : Remainder = record { part = part; last_action = AtRest; place = c.place (at true (does pause) rest) } in
       operated _ held vars vars now next (second ∷ later) (Post (One (Own code.number)) 0x85 0) (gives_up y ∷ h) out
       (1, 0, steps (c.place (at false (does pause) rest)) now vars 0 (c.live (at false (does pause) rest) tt) ∙ ap (λ r. follows code part now.event now.looks vars 0 r) (c.pausing vars now (at false (does pause) rest) (at true (does pause) rest) (Post (One (Own code.number)) 0x85 0) refl))
       (gave_up held resting vars vars next second later y h out
@@ -357,8 +357,8 @@ module _ (code : Code) (part : Part) where
       → From (c.place (at false (does pause) rest)) now (next ∷ []) vars (operates (Post (One (Own code.number)) 0x85 0) ∷ gives_up y ∷ h) out
   unfolding advanced_of
   paused_last home y c rest now next vars h out f =
-      let held : Remainder = record { part = part; mark = Pausing; place = c.place (at true (does pause) rest) } in
-      let resting : Remainder = record { part = part; mark = AtRest; place = c.place (at true (does pause) rest) } in
+      let held : Remainder = record { part = part; last_action = Pausing; place = c.place (at true (does pause) rest) } in
+      let resting : Remainder = record { part = part; last_action = AtRest; place = c.place (at true (does pause) rest) } in
       subst (λ (x : List Happening). From (c.place (at false (does pause) rest)) now (next ∷ []) vars (operates (Post (One (Own code.number)) 0x85 0) ∷ gives_up y ∷ x) out) (sym f.0)
       (subst (λ (z : Completion). From (c.place (at false (does pause) rest)) now (next ∷ []) vars (operates (Post (One (Own code.number)) 0x85 0) ∷ gives_up y ∷ []) z) (sym f.1)
       (operated _ held vars vars now next [] (Post (One (Own code.number)) 0x85 0) (gives_up y ∷ []) (in_state vars)
@@ -373,7 +373,7 @@ module _ (code : Code) (part : Part) where
   posted_last home y c rest now vars h out f =
       subst (λ (x : List Happening). From (c.place (at false (does pause) rest)) now [] vars (operates (Post (One (Own code.number)) 0x85 0) ∷ x) out) (sym f.0)
       (subst (λ (z : Completion). From (c.place (at false (does pause) rest)) now [] vars (operates (Post (One (Own code.number)) 0x85 0) ∷ []) z) (sym f.1)
-      (operated_last _ (record { part = part; mark = Pausing; place = c.place (at true (does pause) rest) }) vars vars now (Post (One (Own code.number)) 0x85 0)
+      (operated_last _ (record { part = part; last_action = Pausing; place = c.place (at true (does pause) rest) }) vars vars now (Post (One (Own code.number)) 0x85 0)
       (1, 0, steps (c.place (at false (does pause) rest)) now vars 0 (c.live (at false (does pause) rest) tt) ∙ ap (λ r. follows code part now.event now.looks vars 0 r) (c.pausing vars now (at false (does pause) rest) (at true (does pause) rest) (Post (One (Own code.number)) 0x85 0) refl))))
 
   mutual

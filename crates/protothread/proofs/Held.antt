@@ -8,9 +8,9 @@ use Rattle.program_tree.specs.Tree.{restart, exit, pause, acquire, signal, post,
 use Rattle.program_tree.specs.Tree.{set, reset, restart_timer, stop, Statement, does, branch, while}
 use Rattle.program_tree.specs.Code.{Code}
 use Rattle.protothread.specs.declared.part.Part.{Part}
-use Rattle.protothread.specs.declared.thread.Mark.{Mark}
-use Rattle.protothread.specs.declared.thread.Mark.TheVariants.{AtRest, UnderWay, Pausing, RunAway}
-use Rattle.protothread.specs.declared.deed.StatementEffect.TheVariants.{Pauses, Waits, Yields, Operates}
+use Rattle.protothread.specs.declared.thread.LastAction.{LastAction}
+use Rattle.protothread.specs.declared.thread.LastAction.TheVariants.{AtRest, UnderWay, Pausing, RunAway}
+use Rattle.protothread.specs.declared.effect.StatementEffect.TheVariants.{Pauses, Waits, Yields, Operates}
 use Rattle.protothread.specs.declared.step.Op.{Op}
 use Rattle.protothread.specs.declared.step.Step.TheVariants as step
 use Rattle.protothread.specs.declared.answer.PtState.{PtState}
@@ -19,7 +19,7 @@ use Rattle.protothread.specs.State.{state_number}
 use Rattle.protothread.specs.Looks.{Looks}
 use Rattle.protothread.specs.Value.{value, holds}
 use Rattle.protothread.specs.Remainder.{Place, ended, at, within, before, settled, Remainder, thread_block, whole_of}
-use Rattle.protothread.specs.Step.{Reached, goes_on, operates, answers, passes_where, deed_of, performed}
+use Rattle.protothread.specs.Step.{Reached, goes_on, operates, answers, passes_where, effect_of, performed}
 use Rattle.protothread.specs.Step.{spawner_reached, reached, continued, passed, advanced_of}
 use Rattle.protothread.specs.Laws.{is_wait, IsHeld, IsSound, GivesUpAtAWait, ControlIsGivenUpAtWaits}
 use Rattle.protothread.proofs.Units.{called, follows, stepped}
@@ -53,7 +53,7 @@ module _ (code : Code) (whole : List (Statement ℕ)) (vars : List ℕ) where
   acquires_so n rest false o = tt
 
   held_action : (process : ℕ) (y : Bool) (event : Event) (looks : Looks) (rest : List (Statement ℕ)) (a : Action ℕ)
-      → HeldBy code whole (performed code whole vars (does a) rest (deed_of process y vars event looks a))
+      → HeldBy code whole (performed code whole vars (does a) rest (effect_of process y vars event looks a))
   held_action process y event looks rest (assign i e) = tt
   held_action process y event looks rest (print e) = tt
   held_action process y event looks rest (send e) = tt
@@ -121,14 +121,14 @@ module _ (code : Code) (part : Part) (event : Event) (looks : Looks) where
       not_low Ended e l = absurd (omega arith)
   answered Ended p vars units h = record { gives_up = λ answer k low. absurd (ended_high answer (let l : step.Done Ended ≡ step.Done answer = k in cc) low); stays_sound = λ k. absurd (cc) }
 
-  operated : (o : Op) (mark : Mark) (p : Place) (vars : List ℕ) (units : ℕ) → HeldBy code (whole_of code part) (operates o mark p)
-      → GivesUpAtAWait code (follows code part event looks vars units (operates o mark p))
+  operated : (o : Op) (last_action : LastAction) (p : Place) (vars : List ℕ) (units : ℕ) → HeldBy code (whole_of code part) (operates o last_action p)
+      → GivesUpAtAWait code (follows code part event looks vars units (operates o last_action p))
   operated o AtRest p vars units h = record { gives_up = λ answer k low. absurd (cc); stays_sound = λ k. absurd (cc) }
   operated o (UnderWay into) p vars units h = record { gives_up = λ answer k low. absurd (cc); stays_sound = λ k. absurd (cc) }
   operated o Pausing p vars units h = record { gives_up = λ answer k low. absurd (cc); stays_sound = λ k. h }
   operated o RunAway p vars units h = record { gives_up = λ answer k low. absurd (cc); stays_sound = λ k. absurd (cc) }
 
-  ran_away : (p : Place) (vars : List ℕ) → GivesUpAtAWait code (record { step = step.Runaway; remainder = record { part = part; mark = RunAway; place = p }; variables = vars; units = 0 })
+  ran_away : (p : Place) (vars : List ℕ) → GivesUpAtAWait code (record { step = step.Runaway; remainder = record { part = part; last_action = RunAway; place = p }; variables = vars; units = 0 })
   ran_away p vars = record { gives_up = λ answer k low. absurd (cc); stays_sound = λ k. absurd (cc) }
 
   held_step : (units : ℕ) (p : Place) (vars : List ℕ) → GivesUpAtAWait code (continued code part event looks p vars units)
@@ -142,7 +142,7 @@ module _ (code : Code) (part : Part) (event : Event) (looks : Looks) where
       let after : (r : Reached) → HeldBy code (whole_of code part) r → GivesUpAtAWait code (follows code part event looks vars units r) =
       λ r. elim r as (λ r. HeldBy code (whole_of code part) r → GivesUpAtAWait code (follows code part event looks vars units r)) [
         | goes_on changed q ↦ λ h. held_step units q changed
-        | operates o mark q ↦ λ h. operated o mark q vars units h
+        | operates o last_action q ↦ λ h. operated o last_action q vars units h
         | answers a q ↦ λ h. answered a q vars units h
       ] in
       elim (settled p) as (λ q. GivesUpAtAWait code (stepped code part event looks vars (suc units) q)) [
@@ -151,8 +151,8 @@ module _ (code : Code) (part : Part) (event : Event) (looks : Looks) where
         | within t q rest ↦ after (reached code (whole_of code part) vars event looks (within t q rest)) (held code (whole_of code part) vars event looks (within t q rest))
       ]
 
-held_from : (m : Mark) (code : Code) (event : Event) (looks : Looks) (r : Remainder) (vars : List ℕ) (units : ℕ) → IsSound code (record r { mark = m })
-    → GivesUpAtAWait code (advanced_of code event looks (record r { mark = m }) vars units)
+held_from : (m : LastAction) (code : Code) (event : Event) (looks : Looks) (r : Remainder) (vars : List ℕ) (units : ℕ) → IsSound code (record r { last_action = m })
+    → GivesUpAtAWait code (advanced_of code event looks (record r { last_action = m }) vars units)
 unfolding advanced_of
 held_from AtRest code event looks r vars units sound =
     elim (nat_lt units (passed r.place)) as (λ b. GivesUpAtAWait code (called code event looks r vars units b)) [
@@ -166,4 +166,4 @@ held_from RunAway code event looks r vars units sound =
     record { gives_up = λ answer h low. absurd (cc); stays_sound = λ h. absurd (cc) }
 
 pub given_up_at_waits : ControlIsGivenUpAtWaits
-given_up_at_waits code event looks r vars units sound = held_from r.mark code event looks r vars units sound
+given_up_at_waits code event looks r vars units sound = held_from r.last_action code event looks r vars units sound

@@ -1,7 +1,7 @@
 pub mod Advance
 pub mod Begin
 pub mod CallLaws
-pub mod Deeds
+pub mod Effects
 pub mod Follows
 pub mod Goes
 pub mod Held

@@ -15,11 +15,11 @@ use Rattle.program_tree.specs.Tree.{restart, exit, pause, acquire, signal, post,
 use Rattle.program_tree.specs.Tree.{set, reset, restart_timer, stop, Statement, does, branch, while}
 use Rattle.program_tree.specs.Code.{Code}
 use Rattle.protothread.specs.declared.part.Part.{Part}
-use Rattle.protothread.specs.declared.thread.Mark.{Mark}
-use Rattle.protothread.specs.declared.thread.Mark.TheVariants.{AtRest, UnderWay, Pausing, RunAway}
-use Rattle.protothread.specs.declared.deed.StatementEffect.{StatementEffect}
-use Rattle.protothread.specs.declared.deed.StatementEffect.TheVariants.{Passes, Assigns, Operates, Pauses, Waits}
-use Rattle.protothread.specs.declared.deed.StatementEffect.TheVariants.{Yields, Spawns, Restarts, Exits}
+use Rattle.protothread.specs.declared.thread.LastAction.{LastAction}
+use Rattle.protothread.specs.declared.thread.LastAction.TheVariants.{AtRest, UnderWay, Pausing, RunAway}
+use Rattle.protothread.specs.declared.effect.StatementEffect.{StatementEffect}
+use Rattle.protothread.specs.declared.effect.StatementEffect.TheVariants.{Passes, Assigns, Operates, Pauses, Waits}
+use Rattle.protothread.specs.declared.effect.StatementEffect.TheVariants.{Yields, Spawns, Restarts, Exits}
 use Rattle.protothread.specs.declared.step.Op.{Op}
 use Rattle.protothread.specs.declared.step.Op.TheVariants.{Post, Synch, Poll, Start, Kill}
 use Rattle.protothread.specs.declared.step.Step.{Step}
@@ -28,7 +28,7 @@ use Rattle.protothread.specs.declared.answer.PtState.TheVariants.{Waiting, Yield
 use Rattle.protothread.specs.Looks.{Looks}
 use Rattle.protothread.specs.Value.{value, holds}
 use Rattle.protothread.specs.Remainder.{Place, ended, at, within, settled, Remainder, thread_block, whole_of}
-use Rattle.protothread.specs.Step.{Reached, goes_on, operates, answers, passes_where, deed_of, performed}
+use Rattle.protothread.specs.Step.{Reached, goes_on, operates, answers, passes_where, effect_of, performed}
 use Rattle.protothread.specs.Step.{spawner_reached, reached, continued, passed, advanced_of}
 use Rattle.protothread.proofs.Units.{called, follows, stepped}
 
@@ -55,7 +55,7 @@ DeedNamesOwn (Pauses o) = NamesOwn o
 DeedNamesOwn d = Unit {0}
 
 abbrev ReachedNamesOwn : Reached → Type 0
-ReachedNamesOwn (operates o mark p) = NamesOwn o
+ReachedNamesOwn (operates o last_action p) = NamesOwn o
 ReachedNamesOwn r = Unit {0}
 
 cast_is_no_exit : (e : BroadcastEvent ℕ) → cast_number e ≡ system_number Exit → ⊥
@@ -73,7 +73,7 @@ either_own : (b : Bool) (c d : StatementEffect) → DeedNamesOwn c → DeedNames
 either_own true c d h k = h
 either_own false c d h k = k
 
-own_deed : (process : ℕ) (y : Bool) (vars : List ℕ) (event : Event) (looks : Looks) (a : Action ℕ) → DeedNamesOwn (deed_of process y vars event looks a)
+own_deed : (process : ℕ) (y : Bool) (vars : List ℕ) (event : Event) (looks : Looks) (a : Action ℕ) → DeedNamesOwn (effect_of process y vars event looks a)
 own_deed process y vars event looks (assign i e) = tt
 own_deed process y vars event looks (print e) = tt
 own_deed process y vars event looks (send e) = tt
@@ -112,7 +112,7 @@ own_performed code whole vars s rest Exits h = tt
 
 own_spawner : (t : ℕ) (rest : List (Statement ℕ)) (vars : List ℕ) (r : Reached) → ReachedNamesOwn r → ReachedNamesOwn (spawner_reached t rest vars r)
 own_spawner t rest vars (goes_on changed p) h = tt
-own_spawner t rest vars (operates o mark p) h = h
+own_spawner t rest vars (operates o last_action p) h = h
 own_spawner t rest vars (answers Waiting p) h = tt
 own_spawner t rest vars (answers Yielded p) h = tt
 own_spawner t rest vars (answers Exited p) h = tt
@@ -121,7 +121,7 @@ own_spawner t rest vars (answers Ended p) h = tt
 own_reached : (code : Code) (whole : List (Statement ℕ)) (vars : List ℕ) (event : Event) (looks : Looks) (p : Place) → ReachedNamesOwn (reached code whole vars event looks p)
 own_reached code whole vars event looks ended = tt
 own_reached code whole vars event looks (at y (does a) rest) =
-    own_performed code whole vars (does a) rest (deed_of code.number y vars event looks a) (own_deed code.number y vars event looks a)
+    own_performed code whole vars (does a) rest (effect_of code.number y vars event looks a) (own_deed code.number y vars event looks a)
 own_reached code whole vars event looks (at y (branch c a o) rest) = tt
 own_reached code whole vars event looks (at y (while c a) rest) = tt
 own_reached code whole vars event looks (within t p rest) =
@@ -143,7 +143,7 @@ module _ (code : Code) (part : Part) (event : Event) (looks : Looks) where
       let after : (r : Reached) → ReachedNamesOwn r → StepNamesOwn (follows code part event looks vars units r).step =
       λ r. elim r as (λ r. ReachedNamesOwn r → StepNamesOwn (follows code part event looks vars units r).step) [
         | goes_on changed q ↦ λ h. own_step units q changed
-        | operates o mark q ↦ λ h. h
+        | operates o last_action q ↦ λ h. h
         | answers a q ↦ λ h. tt
       ] in
       elim (settled p) as (λ q. StepNamesOwn (stepped code part event looks vars (suc units) q).step) [
@@ -152,8 +152,8 @@ module _ (code : Code) (part : Part) (event : Event) (looks : Looks) where
         | within t q rest ↦ after (reached code (whole_of code part) vars event looks (within t q rest)) (own_reached code (whole_of code part) vars event looks (within t q rest))
       ]
 
-own_from : (m : Mark) (code : Code) (event : Event) (looks : Looks) (r : Remainder) (vars : List ℕ) (units : ℕ)
-    → StepNamesOwn (advanced_of code event looks (record r { mark = m }) vars units).step
+own_from : (m : LastAction) (code : Code) (event : Event) (looks : Looks) (r : Remainder) (vars : List ℕ) (units : ℕ)
+    → StepNamesOwn (advanced_of code event looks (record r { last_action = m }) vars units).step
 unfolding advanced_of
 own_from AtRest code event looks r vars units =
     elim (nat_lt units (passed r.place)) as (λ b. StepNamesOwn (called code event looks r vars units b).step) [
@@ -167,4 +167,4 @@ own_from RunAway code event looks r vars units = tt
 -- each operation of a step names only the program's own processes
 pub step_names_own : (code : Code) (event : Event) (looks : Looks) (r : Remainder) (vars : List ℕ) (units : ℕ)
     → StepNamesOwn (advanced_of code event looks r vars units).step
-step_names_own code event looks r vars units = own_from r.mark code event looks r vars units
+step_names_own code event looks r vars units = own_from r.last_action code event looks r vars units

@@ -12,12 +12,12 @@ use Rattle.program_tree.specs.Scope.{earlier_threads}
 use Rattle.program_tree.proofs.Emitting.{rest_at-start}
 use Rattle.program_tree.proofs.Spawning.{action_fits_there}
 use Rattle.protothread.specs.declared.calls.Call.{Call}
-use Rattle.protothread.specs.declared.deed.StatementEffect.{StatementEffect}
-use Rattle.protothread.specs.declared.deed.StatementEffect.TheVariants.{Passes, Assigns, Operates, Pauses, Waits}
-use Rattle.protothread.specs.declared.deed.StatementEffect.TheVariants.{Yields, Spawns, Restarts, Exits}
+use Rattle.protothread.specs.declared.effect.StatementEffect.{StatementEffect}
+use Rattle.protothread.specs.declared.effect.StatementEffect.TheVariants.{Passes, Assigns, Operates, Pauses, Waits}
+use Rattle.protothread.specs.declared.effect.StatementEffect.TheVariants.{Yields, Spawns, Restarts, Exits}
 use Rattle.protothread.specs.declared.thread.Thread.{Thread}
-use Rattle.protothread.specs.declared.thread.Mark.{Mark}
-use Rattle.protothread.specs.declared.thread.Mark.TheVariants.{AtRest}
+use Rattle.protothread.specs.declared.thread.LastAction.{LastAction}
+use Rattle.protothread.specs.declared.thread.LastAction.TheVariants.{AtRest}
 use Rattle.protothread.specs.declared.step.Op.{Op}
 use Rattle.protothread.specs.declared.answer.PtState.TheVariants.{Waiting, Yielded, Exited}
 use Rattle.protothread.specs.Calls.{before_number, below_last, CanSpawn, SpawnsSo}
@@ -27,7 +27,7 @@ use Rattle.protothread.specs.Remainder.{Place, at, within, before, thread_block,
 use Rattle.protothread.specs.Step.{goes_on, operates, answers, spawner_reached, statement_reached, reached}
 use Rattle.protothread.specs.Places.{part_body, thread_body, innermost, Caller, callers_in, nested, yielding}
 use Rattle.protothread.specs.Places.{body_of_thread, callers_of, thread_place, place_by}
-use Rattle.protothread.specs.Reach.{home_of, made_of, reached_at, IsDoneBy, DeedCanSpawn, IsFoundIn, GoesOnAt}
+use Rattle.protothread.specs.Reach.{home_of, made_of, reached_at, IsDoneBy, EffectCanSpawn, IsFoundIn, GoesOnAt}
 use Rattle.protothread.proofs.CallLaws.{innermost-push, callers_in-push, listed-thread, listed-part, home_of-calls}
 
 -- the statement of the innermost thread
@@ -42,9 +42,9 @@ pub made_of-goes_on : (cs : List Caller) (vars changed : List ℕ) (p : Place) �
 made_of-goes_on [] vars changed p = refl
 made_of-goes_on (c ∷ cs) vars changed p = ap (λ r. spawner_reached c.thread c.rest vars r) (made_of-goes_on cs vars changed p)
 
-pub made_of-operates : (cs : List Caller) (vars : List ℕ) (o : Op) (mark : Mark) (p : Place) → made_of cs vars (operates o mark p) ≡ operates o mark (nested cs p)
-made_of-operates [] vars o mark p = refl
-made_of-operates (c ∷ cs) vars o mark p = ap (λ r. spawner_reached c.thread c.rest vars r) (made_of-operates cs vars o mark p)
+pub made_of-operates : (cs : List Caller) (vars : List ℕ) (o : Op) (last_action : LastAction) (p : Place) → made_of cs vars (operates o last_action p) ≡ operates o last_action (nested cs p)
+made_of-operates [] vars o last_action p = refl
+made_of-operates (c ∷ cs) vars o last_action p = ap (λ r. spawner_reached c.thread c.rest vars r) (made_of-operates cs vars o last_action p)
 
 pub made_of-waits : (cs : List Caller) (vars : List ℕ) (p : Place) → made_of cs vars (answers Waiting p) ≡ answers Waiting (nested cs p)
 made_of-waits [] vars p = refl
@@ -73,7 +73,7 @@ reached_here code t vars event looks s rest =
     (ap (λ whole. home_of code whole (callers_of code t)) (sym (listed-part code t.part)) ∙ home_of-calls code (part_body code t.part) t.calls)
 
 -- an action spawns the threads of its statement
-pub deed_can : (cs : List Call) (s : Statement ℕ) (d : StatementEffect) → IsDoneBy s d → ((t : ℕ) → s ≡ does (spawn t) → CanSpawn cs t) → DeedCanSpawn cs d
+pub deed_can : (cs : List Call) (s : Statement ℕ) (d : StatementEffect) → IsDoneBy s d → ((t : ℕ) → s ≡ does (spawn t) → CanSpawn cs t) → EffectCanSpawn cs d
 deed_can cs s Passes by can = tt
 deed_can cs s (Assigns i v) by can = tt
 deed_can cs s (Operates o into) by can = tt
@@ -122,19 +122,19 @@ leads_to_rest left_at i here h = by_task (task_of i) here h
 
 module _ (code : Code) (old : Thread) (s : Statement ℕ) (rest : List (Statement ℕ)) (here : rest_at (body_of_thread code old) old.position ≡ s ∷ rest) where
   -- the thread continues at a place
-  pub moves_so : (mark : Mark) (p : ℕ) (new : Thread) → new ≡ record old { mark = mark; is_yielded = false; position = p }
+  pub moves_so : (last_action : LastAction) (p : ℕ) (new : Thread) → new ≡ record old { last_action = last_action; is_yielded = false; position = p }
       → thread_place code new ≡ nested (callers_of code old) (before false (rest_at (body_of_thread code old) p))
-  moves_so mark p new moved = ap (λ t. thread_place code t) moved
+  moves_so last_action p new moved = ap (λ t. thread_place code t) moved
 
   -- the thread stays at the statement
-  pub stays_so : (mark : Mark) (y : Bool) (new : Thread) → new ≡ record old { mark = mark; is_yielded = y }
+  pub stays_so : (last_action : LastAction) (y : Bool) (new : Thread) → new ≡ record old { last_action = last_action; is_yielded = y }
       → thread_place code new ≡ nested (callers_of code old) (at y s rest)
-  stays_so mark y new moved = ap (λ t. thread_place code t) moved ∙ ap (λ l. nested (callers_of code old) (before y l)) here
+  stays_so last_action y new moved = ap (λ t. thread_place code t) moved ∙ ap (λ l. nested (callers_of code old) (before y l)) here
 
   -- the thread begins again
-  pub restarts_so : (mark : Mark) (new : Thread) → new ≡ record old { mark = mark; is_yielded = false; position = 0 }
+  pub restarts_so : (last_action : LastAction) (new : Thread) → new ≡ record old { last_action = last_action; is_yielded = false; position = 0 }
       → thread_place code new ≡ nested (callers_of code old) (before false (listed (body_of_thread code old)))
-  restarts_so mark new moved = moves_so mark 0 new moved ∙ ap (λ l. nested (callers_of code old) (before false l)) (rest_at-start (body_of_thread code old))
+  restarts_so last_action new moved = moves_so last_action 0 new moved ∙ ap (λ l. nested (callers_of code old) (before false l)) (rest_at-start (body_of_thread code old))
 
   -- the thread continues in a thread that is spawned
   pub enters_thread : (c : Call) (new : Thread) → new ≡ record old { is_yielded = false; position = 0; calls = old.calls ++ c ∷ [] }
@@ -150,8 +150,8 @@ module _ (code : Code) (old : Thread) (s : Statement ℕ) (rest : List (Statemen
       ∙ ap (λ l. nested (callers_of code old) (within c.thread (before false (thread_block code c.thread)) l)) after
 
   -- the flat code stays the same
-  pub same_code : (flat : List Instruction) (mark : Mark) (y : Bool) (p : ℕ) (new : Thread) → IsFoundIn code old flat → new ≡ record old { mark = mark; is_yielded = y; position = p } → IsFoundIn code new flat
-  same_code flat mark y p new inside moved = subst (λ t. IsFoundIn code t flat) (sym moved) (record { flat_of = inside.flat_of; earlier = inside.earlier })
+  pub same_code : (flat : List Instruction) (last_action : LastAction) (y : Bool) (p : ℕ) (new : Thread) → IsFoundIn code old flat → new ≡ record old { last_action = last_action; is_yielded = y; position = p } → IsFoundIn code new flat
+  same_code flat last_action y p new inside moved = subst (λ t. IsFoundIn code t flat) (sym moved) (record { flat_of = inside.flat_of; earlier = inside.earlier })
 
   -- an `if` or a `while`
   pub goes_by_test : (flat : List Instruction) (vars : List ℕ) (event : Event) (looks : Looks) (c : Expression ℕ) (held failed p : ℕ) (new : Thread) → IsFoundIn code old flat
@@ -163,13 +163,13 @@ module _ (code : Code) (old : Thread) (s : Statement ℕ) (rest : List (Statemen
       let P : List (Statement ℕ) → Type 0 = λ l. Tests (rest_at b) c held failed l in
       record {
         part = ap (λ t. t.part) moved;
-        inside = same_code flat old.mark false p new inside moved;
+        inside = same_code flat old.last_action false p new inside moved;
         made_so =
             reached_here code old vars event looks s rest
             ∙ ap (λ r. made_of (callers_of code old) vars r)
             (takes_test (rest_at b) c held failed code (listed b) old.is_yielded vars event looks s rest (subst P here test) ∙ ap (λ n. goes_on vars (before false (rest_at b n))) (sym chosen))
             ∙ made_of-goes_on (callers_of code old) vars vars (before false (rest_at b p))
-            ∙ ap (λ q. goes_on vars q) (sym (moves_so old.mark p new moved));
+            ∙ ap (λ q. goes_on vars q) (sym (moves_so old.last_action p new moved));
       }
 
   -- an assignment
@@ -185,14 +185,14 @@ module _ (code : Code) (old : Thread) (s : Statement ℕ) (rest : List (Statemen
       let left : rest ≡ rest_at b next = cc in
       record {
         part = ap (λ t. t.part) moved;
-        inside = same_code flat old.mark false next new inside moved;
+        inside = same_code flat old.last_action false next new inside moved;
         made_so =
             reached_here code old vars event looks s rest
             ∙ ap (λ t. made_of cs vars (statement_reached code (listed b) old.is_yielded vars event looks t rest)) is
             ∙ made_of-goes_on cs vars _ (before false rest)
             ∙ ap (λ l. goes_on l (nested cs (before false rest))) (ap (λ n. slice_set vars i n) (sym is_value) ∙ sym is_set)
             ∙ ap (λ l. goes_on after (nested cs (before false l))) left
-            ∙ ap (λ p. goes_on after p) (sym (moves_so old.mark next new moved));
+            ∙ ap (λ p. goes_on after p) (sym (moves_so old.last_action next new moved));
       }
 
   -- the thread that was spawned has exited, and its spawner continues
@@ -207,7 +207,7 @@ module _ (code : Code) (old : Thread) (s : Statement ℕ) (rest : List (Statemen
       ∙ ap (λ t. goes_on vars (thread_place code t)) (sym moved)
 
   -- the part has exited
-  pub exits_last : (new : Thread) (vars : List ℕ) → old.calls ≡ [] → new ≡ record old { mark = AtRest; is_yielded = false; position = 0 }
+  pub exits_last : (new : Thread) (vars : List ℕ) → old.calls ≡ [] → new ≡ record old { last_action = AtRest; is_yielded = false; position = 0 }
       → made_of (callers_of code old) vars (answers Exited (before false (listed (body_of_thread code old)))) ≡ answers Exited (thread_place code new)
   exits_last new vars none moved =
       ap (λ ds. made_of (callers_in code (part_body code old.part) ds) vars (answers Exited (before false (listed (body_of_thread code old))))) none

@@ -12,9 +12,9 @@ use Rattle.program_tree.specs.Code.{Code}
 use Rattle.protothread.specs.declared.answer.PtState.{PtState}
 use Rattle.protothread.specs.declared.answer.PtState.TheVariants.{Waiting, Yielded, Exited, Ended}
 use Rattle.protothread.specs.declared.part.Part.{Part}
-use Rattle.protothread.specs.declared.thread.Mark.TheVariants.{UnderWay, Pausing}
-use Rattle.protothread.specs.declared.deed.StatementEffect.{StatementEffect}
-use Rattle.protothread.specs.declared.deed.StatementEffect.TheVariants.{Passes, Assigns, Operates, Waits, Yields}
+use Rattle.protothread.specs.declared.thread.LastAction.TheVariants.{UnderWay, Pausing}
+use Rattle.protothread.specs.declared.effect.StatementEffect.{StatementEffect}
+use Rattle.protothread.specs.declared.effect.StatementEffect.TheVariants.{Passes, Assigns, Operates, Waits, Yields}
 use Rattle.protothread.specs.declared.step.Op.{Op}
 use Rattle.protothread.specs.declared.step.Op.TheVariants.{Post, Take}
 use Rattle.protothread.specs.State.{state_number}
@@ -24,7 +24,7 @@ use Rattle.protothread.specs.Remainder.{whole_of, fresh_of}
 use Rattle.protothread.specs.Step.{goes_on, operates as stops, answers, passes_where, performed, other_block}
 use Rattle.protothread.specs.Step.{spawner_reached, reached, yield_answer}
 use Rattle.protothread.specs.Reading.{Sight, Happening, operates, gives_up, Completion, done, restarts, exits, in_state}
-use Rattle.protothread.specs.Reading.{Restarts, with_answer, deed, meaning, Awaits, met, again, never, Reads, passes}
+use Rattle.protothread.specs.Reading.{Restarts, with_answer, effect, meaning, Awaits, met, again, never, Reads, passes}
 use Rattle.protothread.specs.Reading.{assigns, performs, waits, waits_last, yields, yields_until, yields_until_last}
 use Rattle.protothread.specs.Reading.{pauses, pauses_last, posts_last, spawn_ends, spawn_exits, spawn_in_state}
 use Rattle.protothread.specs.Reading.{restarted, restarted_last, exited, chooses, repeats, leaves, ReadsAll}
@@ -216,7 +216,7 @@ module _ (code : Code) (part : Part) where
   -- the effect of an ordinary action
   module _ (home : List (Statement ℕ)) (y : PtState) (c : Inside home y) (rest : List (Statement ℕ)) (k : ℕ) (one : OneAt k) (a : Action ℕ) where
     operates_so : (o : Op) (into : Option ℕ) (n : ℕ) (now : Sight) (later : List Sight) (vars : List ℕ) (h : List Happening) (out : Completion)
-        → deed code a now vars ≡ Operates o into
+        → effect code a now vars ≡ Operates o into
         → Behind (λ q call calls v k o. To n q call calls v k o) (stops o (UnderWay into) (c.place (before false rest))) now later vars h out
         → One_split home y c (does a) rest n now later vars h out
     operates_so o into n now [] vars h out e f =
@@ -226,7 +226,7 @@ module _ (code : Code) (part : Part) where
         (subst (λ (v : List ℕ). To n (c.place (before false rest)) next later v f.0 out) (sym (heard into vars next.answer)) f.2)
 
     waits_so : (n : ℕ) → n ≤ k → (now : Sight) (later : List Sight) (vars : List ℕ) (h : List Happening) (out : Completion)
-        → deed code a now vars ≡ Waits
+        → effect code a now vars ≡ Waits
         → Again (λ q call calls v k o. To n q call calls v k o) Waiting (c.place (at false (does a) rest)) later vars h out
         → One_split home y c (does a) rest n now later vars h out
     waits_so n low now [] vars h out e f =
@@ -238,7 +238,7 @@ module _ (code : Code) (part : Part) where
         (one n (omega arith) home y c (does a) rest next later vars f.0 out f.2)
 
     ordinary : (d : StatementEffect) (n : ℕ) → n ≤ k → (now : Sight) (later : List Sight) (vars : List ℕ) (h : List Happening) (out : Completion)
-        → deed code a now vars ≡ d → IsOrdinary d
+        → effect code a now vars ≡ d → IsOrdinary d
         → To (suc n) (c.place (at false (does a) rest)) now later vars h out → One_split home y c (does a) rest n now later vars h out
     ordinary Passes n low now later vars h out e i g =
         simple home y c rest (λ a' b. Reads code y (does a) now later vars a' b) n n h [] h (done now later vars) out (omega arith) refl (passes y a now later vars e)
@@ -362,9 +362,9 @@ module _ (code : Code) (part : Part) where
   -- one statement
   module _ (k : ℕ) (all : AllAt k) (one : OneAt k) (n : ℕ) (low : n ≤ k) (home : List (Statement ℕ)) (y : PtState) (c : Inside home y) (rest : List (Statement ℕ)) (now : Sight) (later : List Sight) (vars : List ℕ) (h : List Happening) (out : Completion) where
     by_action : (a : Action ℕ) → To (suc n) (c.place (at false (does a) rest)) now later vars h out → One_split home y c (does a) rest n now later vars h out
-    by_action (wait_until e) g = ordinary home y c rest k one (wait_until e) (deed code (wait_until e) now vars) n low now later vars h out refl (ordinary_test (holds (meaning e now vars))) g
-    by_action (wait_while e) g = ordinary home y c rest k one (wait_while e) (deed code (wait_while e) now vars) n low now later vars h out refl (ordinary_test (not (holds (meaning e now vars)))) g
-    by_action (acquire s) g = ordinary home y c rest k one (acquire s) (deed code (acquire s) now vars) n low now later vars h out refl (ordinary_take (slice_index now.looks.counts s == 0) (Take s)) g
+    by_action (wait_until e) g = ordinary home y c rest k one (wait_until e) (effect code (wait_until e) now vars) n low now later vars h out refl (ordinary_test (holds (meaning e now vars))) g
+    by_action (wait_while e) g = ordinary home y c rest k one (wait_while e) (effect code (wait_while e) now vars) n low now later vars h out refl (ordinary_test (not (holds (meaning e now vars)))) g
+    by_action (acquire s) g = ordinary home y c rest k one (acquire s) (effect code (acquire s) now vars) n low now later vars h out refl (ordinary_take (slice_index now.looks.counts s == 0) (Take s)) g
     by_action yield g =
         yields_so home y c rest n now later vars h out
         (again_of (λ q call calls v k o. To n q call calls v k o) y (c.place (at true (does yield) rest)) now later vars h out c.low
@@ -392,7 +392,7 @@ module _ (code : Code) (part : Part) where
     by_action exit g =
         simple home y c rest (λ a b. Reads code y (does exit) now later vars a b) n n h [] h (exits now later vars) out (omega arith) refl (exited y now later vars)
         (left_of c.behind n (c.place (at false (does exit) rest)) now later vars h out (c.live (at false (does exit) rest) tt) (c.leaving vars now (at false (does exit) rest) (before false home) refl) g)
-    by_action a g = ordinary home y c rest k one a (deed code a now vars) n low now later vars h out refl tt g
+    by_action a g = ordinary home y c rest k one a (effect code a now vars) n low now later vars h out refl tt g
 
     by_statement : (s : Statement ℕ) → To (suc n) (c.place (at false s rest)) now later vars h out → One_split home y c s rest n now later vars h out
     by_statement (does a) g = by_action a g

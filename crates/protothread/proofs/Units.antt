@@ -5,8 +5,8 @@ use Rattle.std.proofs.lemmas.Bool.Decides.{nat_tests}
 use Rattle.program_tree.specs.declared.event.Event.{Event}
 use Rattle.program_tree.specs.Code.{Code}
 use Rattle.protothread.specs.declared.part.Part.{Part}
-use Rattle.protothread.specs.declared.thread.Mark.{Mark}
-use Rattle.protothread.specs.declared.thread.Mark.TheVariants.{AtRest, UnderWay, Pausing, RunAway}
+use Rattle.protothread.specs.declared.thread.LastAction.{LastAction}
+use Rattle.protothread.specs.declared.thread.LastAction.TheVariants.{AtRest, UnderWay, Pausing, RunAway}
 use Rattle.protothread.specs.declared.step.Step.{Step}
 use Rattle.protothread.specs.declared.step.Step.TheVariants as step
 use Rattle.protothread.specs.declared.answer.PtState.TheVariants.{Ended}
@@ -29,15 +29,15 @@ module _ (code : Code) (part : Part) (event : Event) (looks : Looks) where
   follows vars units r =
       elim r [
         | goes_on changed p ↦ continued code part event looks p changed units
-        | operates o mark p ↦ record { step = step.Op o; remainder = record { part = part; mark = mark; place = p }; variables = vars; units = units }
-        | answers a p ↦ record { step = step.Done a; remainder = record { part = part; mark = AtRest; place = p }; variables = vars; units = units }
+        | operates o last_action p ↦ record { step = step.Op o; remainder = record { part = part; last_action = last_action; place = p }; variables = vars; units = units }
+        | answers a p ↦ record { step = step.Done a; remainder = record { part = part; last_action = AtRest; place = p }; variables = vars; units = units }
       ]
 
   abbrev pub stepped : (vars : List ℕ) (units : ℕ) → Place → Advanced
   stepped vars zero q =
       elim q [
         | ended ↦ record { step = step.Done Ended; remainder = fresh_of code part; variables = vars; units = 0 }
-        | p ↦ record { step = step.Runaway; remainder = record { part = part; mark = RunAway; place = p }; variables = vars; units = 0 }
+        | p ↦ record { step = step.Runaway; remainder = record { part = part; last_action = RunAway; place = p }; variables = vars; units = 0 }
       ]
   stepped vars (suc units) q =
       elim q [
@@ -72,7 +72,7 @@ module _ (code : Code) (part : Part) (event : Event) (looks : Looks) where
       let after : (r : Reached) → Same (follows vars units r) (follows vars (units + n) r) n =
       λ r. elim r as (λ r. Same (follows vars units r) (follows vars (units + n) r) n) [
         | goes_on changed q ↦ λ k. more units q changed n k
-        | operates o mark q ↦ λ k. refl
+        | operates o last_action q ↦ λ k. refl
         | answers a q ↦ λ k. refl
       ] in
       let there : (q : Place) → Same (stepped vars (suc units) q) (stepped vars (suc (units + n)) q) n =
@@ -84,23 +84,23 @@ module _ (code : Code) (part : Part) (event : Event) (looks : Looks) where
       ap (λ u. continued code part event looks p vars u) added
       ∙ settles p vars (suc (units + n)) ∙ there (settled p) (subst P (settles p vars (suc units)) h) ∙ ap (λ a. with_more a n) (sym (settles p vars (suc units)))
 
-  -- a step that ran away leaves the mark of a thread that has run away
+  -- a step that ran away leaves the last action of a thread that has run away
   away : (units : ℕ) (p : Place) (vars : List ℕ) → (continued code part event looks p vars units).step ≡ step.Runaway
-      → (continued code part event looks p vars units).remainder.mark ≡ RunAway
+      → (continued code part event looks p vars units).remainder.last_action ≡ RunAway
   away zero p vars =
-      elim (settled p) as (λ q. (stepped vars 0 q).step ≡ step.Runaway → (stepped vars 0 q).remainder.mark ≡ RunAway) [
+      elim (settled p) as (λ q. (stepped vars 0 q).step ≡ step.Runaway → (stepped vars 0 q).remainder.last_action ≡ RunAway) [
         | ended ↦ λ h. cc
         | at y s rest ↦ λ h. refl
         | within t p' rest ↦ λ h. refl
       ]
   away (suc units) p vars =
-      let after : (r : Reached) → (follows vars units r).step ≡ step.Runaway → (follows vars units r).remainder.mark ≡ RunAway =
-      λ r. elim r as (λ r. (follows vars units r).step ≡ step.Runaway → (follows vars units r).remainder.mark ≡ RunAway) [
+      let after : (r : Reached) → (follows vars units r).step ≡ step.Runaway → (follows vars units r).remainder.last_action ≡ RunAway =
+      λ r. elim r as (λ r. (follows vars units r).step ≡ step.Runaway → (follows vars units r).remainder.last_action ≡ RunAway) [
         | goes_on changed q ↦ λ k. away units q changed k
-        | operates o mark q ↦ λ k. cc
+        | operates o last_action q ↦ λ k. cc
         | answers a q ↦ λ k. cc
       ] in
-      elim (settled p) as (λ q. (stepped vars (suc units) q).step ≡ step.Runaway → (stepped vars (suc units) q).remainder.mark ≡ RunAway) [
+      elim (settled p) as (λ q. (stepped vars (suc units) q).step ≡ step.Runaway → (stepped vars (suc units) q).remainder.last_action ≡ RunAway) [
         | ended ↦ λ h. cc
         | at y s rest ↦ after (reached code (whole_of code part) vars event looks (at y s rest))
         | within t p' rest ↦ after (reached code (whole_of code part) vars event looks (within t p' rest))
@@ -119,7 +119,7 @@ module _ (code : Code) (part : Part) (event : Event) (looks : Looks) where
       let after : (r : Reached) → PaysFor (follows vars units r).step (suc units) (follows vars units r).units =
       λ r. elim r as (λ r. PaysFor (follows vars units r).step (suc units) (follows vars units r).units) [
         | goes_on changed q ↦ one_more (continued code part event looks q changed units).step units (continued code part event looks q changed units).units (pays units q changed)
-        | operates o mark q ↦ omega arith
+        | operates o last_action q ↦ omega arith
         | answers a q ↦ omega arith
       ] in
       elim (settled p) as (λ q. PaysFor (stepped vars (suc units) q).step (suc units) (stepped vars (suc units) q).units) [
@@ -134,13 +134,13 @@ not_less a b h = grind (arith, nat_tests)
 by_test : (a b : ℕ) → ((nat_lt a b ≡ true) × (a < b)) ⊎ ((nat_lt a b ≡ false) × (b ≤ a))
 by_test a b = grind (arith, nat_tests)
 
-more_from : (m : Mark) (code : Code) (event : Event) (looks : Looks) (r : Remainder) (vars : List ℕ) (units n : ℕ)
-    → Same code r.part event looks (advanced_of code event looks (record r { mark = m }) vars units) (advanced_of code event looks (record r { mark = m }) vars (units + n)) n
+more_from : (m : LastAction) (code : Code) (event : Event) (looks : Looks) (r : Remainder) (vars : List ℕ) (units n : ℕ)
+    → Same code r.part event looks (advanced_of code event looks (record r { last_action = m }) vars units) (advanced_of code event looks (record r { last_action = m }) vars (units + n)) n
 unfolding advanced_of
 more_from AtRest code event looks r vars units n h =
     let k : ℕ = passed r.place in
-    let few : Bool → Advanced = λ b. if b then record { step = step.Runaway; remainder = record r { mark = RunAway }; variables = vars; units = 0 } else continued code r.part event looks r.place vars (units - k) in
-    let many : Bool → Advanced = λ b. if b then record { step = step.Runaway; remainder = record r { mark = RunAway }; variables = vars; units = 0 } else continued code r.part event looks r.place vars (units + n - k) in
+    let few : Bool → Advanced = λ b. if b then record { step = step.Runaway; remainder = record r { last_action = RunAway }; variables = vars; units = 0 } else continued code r.part event looks r.place vars (units - k) in
+    let many : Bool → Advanced = λ b. if b then record { step = step.Runaway; remainder = record r { last_action = RunAway }; variables = vars; units = 0 } else continued code r.part event looks r.place vars (units + n - k) in
     let P : Advanced → Type 0 = λ a. a.step ≡ step.Runaway → ⊥ in
     elim (by_test units k) [
       | inl short ↦ absurd (subst P (ap few short.0) h refl)
@@ -156,18 +156,18 @@ more_from Pausing code event looks r vars units n h = refl
 more_from RunAway code event looks r vars units n h = absurd (h refl)
 
 pub more_units : MoreUnitsChangeNothing
-more_units code event looks r vars units n h = more_from r.mark code event looks r vars units n h
+more_units code event looks r vars units n h = more_from r.last_action code event looks r vars units n h
 
 -- a call of a thread at rest, depending on whether it has enough units for the spawns that it passes
 abbrev pub called : Code → Event → Looks → Remainder → (vars : List ℕ) (units : ℕ) → Bool → Advanced
 called code event looks r vars units b =
-    if b then record { step = step.Runaway; remainder = record r { mark = RunAway }; variables = vars; units = 0 } else continued code r.part event looks r.place vars (units - passed r.place)
+    if b then record { step = step.Runaway; remainder = record r { last_action = RunAway }; variables = vars; units = 0 } else continued code r.part event looks r.place vars (units - passed r.place)
 
-away_from : (m : Mark) (code : Code) (event : Event) (looks : Looks) (r : Remainder) (vars : List ℕ) (units : ℕ)
-    → (advanced_of code event looks (record r { mark = m }) vars units).step ≡ step.Runaway → (advanced_of code event looks (record r { mark = m }) vars units).remainder.mark ≡ RunAway
+away_from : (m : LastAction) (code : Code) (event : Event) (looks : Looks) (r : Remainder) (vars : List ℕ) (units : ℕ)
+    → (advanced_of code event looks (record r { last_action = m }) vars units).step ≡ step.Runaway → (advanced_of code event looks (record r { last_action = m }) vars units).remainder.last_action ≡ RunAway
 unfolding advanced_of
 away_from AtRest code event looks r vars units h =
-    (elim (nat_lt units (passed r.place)) as (λ b. (called code event looks r vars units b).step ≡ step.Runaway → (called code event looks r vars units b).remainder.mark ≡ RunAway) [
+    (elim (nat_lt units (passed r.place)) as (λ b. (called code event looks r vars units b).step ≡ step.Runaway → (called code event looks r vars units b).remainder.last_action ≡ RunAway) [
       | true ↦ λ h. refl
       | false ↦ λ k. away code r.part event looks (units - passed r.place) r.place vars k
     ]) h
@@ -175,24 +175,24 @@ away_from (UnderWay into) code event looks r vars units h = away code r.part eve
 away_from Pausing code event looks r vars units h = absurd (cc)
 away_from RunAway code event looks r vars units h = refl
 
-stays_away : (r : Remainder) → r.mark ≡ RunAway → (code : Code) (event : Event) (looks : Looks) (vars : List ℕ) (units : ℕ)
+stays_away : (r : Remainder) → r.last_action ≡ RunAway → (code : Code) (event : Event) (looks : Looks) (vars : List ℕ) (units : ℕ)
     → advanced_of code event looks r vars units ≡ record { step = step.Runaway; remainder = r; variables = vars; units = units }
 unfolding advanced_of
 stays_away r is code event looks vars units =
-    ap (λ m. advanced_of code event looks (record r { mark = m }) vars units) is
-    ∙ ap (λ m. record { step = step.Runaway; remainder = record r { mark = m }; variables = vars; units = units }) (sym is)
+    ap (λ m. advanced_of code event looks (record r { last_action = m }) vars units) is
+    ∙ ap (λ m. record { step = step.Runaway; remainder = record r { last_action = m }; variables = vars; units = units }) (sym is)
 
 pub run_away : RunAwayIsForGood
 run_away code event looks r vars units h = λ next seen changed more.
-    stays_away (advanced_of code event looks r vars units).remainder (away_from r.mark code event looks r vars units h) code next seen changed more
+    stays_away (advanced_of code event looks r vars units).remainder (away_from r.last_action code event looks r vars units h) code next seen changed more
 
 less_first : (s : Step) (units k left : ℕ) → PaysFor s (units - k) left → PaysFor s units left
 less_first (step.Op o) units k left h = omega arith
 less_first (step.Done a) units k left h = omega arith
 less_first step.Runaway units k left h = omega arith
 
-pays_from : (m : Mark) (code : Code) (event : Event) (looks : Looks) (r : Remainder) (vars : List ℕ) (units : ℕ)
-    → PaysFor (advanced_of code event looks (record r { mark = m }) vars units).step units (advanced_of code event looks (record r { mark = m }) vars units).units
+pays_from : (m : LastAction) (code : Code) (event : Event) (looks : Looks) (r : Remainder) (vars : List ℕ) (units : ℕ)
+    → PaysFor (advanced_of code event looks (record r { last_action = m }) vars units).step units (advanced_of code event looks (record r { last_action = m }) vars units).units
 unfolding advanced_of
 pays_from AtRest code event looks r vars units =
     elim (nat_lt units (passed r.place)) as (λ b. PaysFor (called code event looks r vars units b).step units (called code event looks r vars units b).units) [
@@ -204,4 +204,4 @@ pays_from Pausing code event looks r vars units = omega arith
 pays_from RunAway code event looks r vars units = omega arith
 
 pub costs : OperationsCostWork
-costs code event looks r vars units = pays_from r.mark code event looks r vars units
+costs code event looks r vars units = pays_from r.last_action code event looks r vars units

@@ -5,7 +5,7 @@ use Rattle.program_tree.specs.Code.{Code}
 use Rattle.program_tree.specs.Tree.{Statement, does, wait_until, wait_while, yield, yield_until, pause, acquire}
 use Rattle.protothread.specs.declared.step.Step.TheVariants.{Runaway, Done}
 use Rattle.protothread.specs.declared.answer.PtState.{PtState}
-use Rattle.protothread.specs.declared.thread.Mark.TheVariants.{AtRest, Pausing}
+use Rattle.protothread.specs.declared.thread.LastAction.TheVariants.{AtRest, Pausing}
 use Rattle.protothread.specs.State.{state_number}
 use Rattle.protothread.specs.Looks.{Looks}
 use Rattle.protothread.specs.Remainder.{Place, ended, at, within, before, Remainder, thread_block, whole_of}
@@ -58,13 +58,13 @@ IsHeld code whole (within t p rest) = IsHeld code (thread_block code t) p
 
 -- after the post of a `pause`, a thread is held at its place
 abbrev pub IsSound : Code → Remainder → Type 0
-IsSound code r = r.mark ≡ Pausing → IsHeld code (whole_of code r.part) r.place
+IsSound code r = r.last_action ≡ Pausing → IsHeld code (whole_of code r.part) r.place
 
 -- A step that gives up control leaves the thread at rest and held at its place. The next call continues from there. Any
 -- step leaves the thread sound.
 pub record GivesUpAtAWait (code : Code) (a : Advanced) : Type 0 where
   pub gives_up : (answer : PtState) → a.step ≡ Done answer → state_number answer < 2
-      → (a.remainder.mark ≡ AtRest) × IsHeld code (whole_of code a.remainder.part) a.remainder.place
+      → (a.remainder.last_action ≡ AtRest) × IsHeld code (whole_of code a.remainder.part) a.remainder.place
   pub stays_sound : IsSound code a.remainder
 
 -- a sound thread, such as a fresh one, gives up control only at waits, and stays sound

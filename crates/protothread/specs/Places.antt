@@ -68,7 +68,7 @@ thread_place code t = nested (callers_of code t) (before t.is_yielded (rest_at (
 
 -- the remainder of a thread, given the code of its process
 abbrev pub remainder_of : Code → Thread → Remainder
-remainder_of code t = record { part = t.part; mark = t.mark; place = thread_place code t }
+remainder_of code t = record { part = t.part; last_action = t.last_action; place = thread_place code t }
 
 -- the place at which a thread continues after a test with this value
 abbrev pub place_by : (value held failed : ℕ) → ℕ

@@ -7,13 +7,13 @@ use Rattle.program_tree.specs.Flat.{IsFlat}
 use Rattle.program_tree.specs.Tree.{Statement, does, spawn, listed}
 use Rattle.protothread.specs.declared.answer.PtState.{PtState}
 use Rattle.protothread.specs.declared.thread.Thread.{Thread}
-use Rattle.protothread.specs.declared.thread.Mark.TheVariants.{AtRest}
+use Rattle.protothread.specs.declared.thread.LastAction.TheVariants.{AtRest}
 use Rattle.protothread.specs.declared.thread.Reach.{Reach}
 use Rattle.protothread.specs.declared.thread.Reach.TheVariants.{GoesOn, Operates, Answers}
 use Rattle.protothread.specs.declared.step.Op.{Op}
 use Rattle.protothread.specs.declared.step.Step.{Step}
-use Rattle.protothread.specs.declared.deed.StatementEffect.{StatementEffect}
-use Rattle.protothread.specs.declared.deed.StatementEffect.TheVariants.{Spawns}
+use Rattle.protothread.specs.declared.effect.StatementEffect.{StatementEffect}
+use Rattle.protothread.specs.declared.effect.StatementEffect.TheVariants.{Spawns}
 use Rattle.protothread.specs.declared.calls.Call.{Call}
 use Rattle.protothread.specs.Looks.{Looks}
 use Rattle.protothread.specs.Calls.{CanSpawn, SpawnsSo}
@@ -50,9 +50,9 @@ IsDoneBy s (Spawns t) = s ≡ does (spawn t)
 IsDoneBy s d = Unit {0}
 
 -- an action spawns only threads that the innermost thread can spawn
-abbrev pub DeedCanSpawn : List Call → StatementEffect → Type 0
-DeedCanSpawn cs (Spawns t) = CanSpawn cs t
-DeedCanSpawn cs d = Unit {0}
+abbrev pub EffectCanSpawn : List Call → StatementEffect → Type 0
+EffectCanSpawn cs (Spawns t) = CanSpawn cs t
+EffectCanSpawn cs d = Unit {0}
 
 -- this flat code is that of the thread's innermost thread, which spawns only threads that it can spawn
 pub record IsFoundIn (code : Code) (t : Thread) (flat : List Instruction) : Type 0 where
@@ -70,13 +70,13 @@ pub record GoesOnAt (code : Code) (flat : List Instruction) (made : Reached) (ol
 pub record OperatesSo (code : Code) (made : Reached) (o : Op) (old new : Thread) (vars after : List ℕ) : Type 0 where
   pub part : new.part ≡ old.part
   pub variables : after ≡ vars
-  pub made_so : made ≡ operates o new.mark (thread_place code new)
+  pub made_so : made ≡ operates o new.last_action (thread_place code new)
 
 -- the thread gives up control
 pub record AnswersSo (code : Code) (made : Reached) (answer : PtState) (old new : Thread)
     (vars after : List ℕ) : Type 0 where
   pub part : new.part ≡ old.part
-  pub mark : new.mark ≡ AtRest
+  pub last_action : new.last_action ≡ AtRest
   pub variables : after ≡ vars
   pub made_so : made ≡ answers answer (thread_place code new)
 

@@ -12,14 +12,14 @@ use Rattle.program_tree.specs.Tree.{does, branch, while, Body, Otherwise, listed
 use Rattle.program_tree.specs.Code.{Code}
 use Rattle.protothread.specs.declared.answer.PtState.{PtState}
 use Rattle.protothread.specs.declared.answer.PtState.TheVariants.{Waiting}
-use Rattle.protothread.specs.declared.deed.StatementEffect.{StatementEffect}
-use Rattle.protothread.specs.declared.deed.StatementEffect.TheVariants.{Passes, Assigns, Operates, Waits}
+use Rattle.protothread.specs.declared.effect.StatementEffect.{StatementEffect}
+use Rattle.protothread.specs.declared.effect.StatementEffect.TheVariants.{Passes, Assigns, Operates, Waits}
 use Rattle.protothread.specs.declared.step.Op.{Op}
 use Rattle.protothread.specs.declared.step.Op.TheVariants.{Post}
 use Rattle.protothread.specs.Looks.{Looks}
 use Rattle.protothread.specs.Value.{value, holds}
 use Rattle.protothread.specs.Remainder.{thread_block}
-use Rattle.protothread.specs.Step.{deed_of, other_block}
+use Rattle.protothread.specs.Step.{effect_of, other_block}
 
 -- The sight of a thread each time it is advanced: the answer to its last operation, the event, and its view of its
 -- mote. Each operation may change this view.
@@ -63,8 +63,8 @@ resumed into [] vars = in_state vars
 resumed into (next ∷ later) vars = done next later (with_answer into vars next.answer)
 
 -- the immediate effect of a statement that is reached
-abbrev pub deed : Code → Action ℕ → Sight → (variables : List ℕ) → StatementEffect
-deed code a now vars = deed_of code.number false vars now.event now.looks a
+abbrev pub effect : Code → Action ℕ → Sight → (variables : List ℕ) → StatementEffect
+effect code a now vars = effect_of code.number false vars now.event now.looks a
 
 -- the value of an expression in a sight
 abbrev pub meaning : Expression ℕ → Sight → (variables : List ℕ) → ℕ
@@ -88,21 +88,21 @@ mutual
   pub data Reads (code : Code) : (yields : PtState) → Statement ℕ → (now : Sight) → (later : List Sight)
       → (variables : List ℕ) → List Happening → Completion → Type 0 where
     passes : (y : PtState) (a : Action ℕ) (now : Sight) (later : List Sight) (vars : List ℕ)
-        → deed code a now vars ≡ Passes → Reads code y (does a) now later vars [] (done now later vars)
+        → effect code a now vars ≡ Passes → Reads code y (does a) now later vars [] (done now later vars)
     assigns : (y : PtState) (a : Action ℕ) (i v : ℕ) (now : Sight) (later : List Sight) (vars : List ℕ)
-        → deed code a now vars ≡ Assigns i v
+        → effect code a now vars ≡ Assigns i v
         → Reads code y (does a) now later vars [] (done now later (slice_set vars i v))
     performs : (y : PtState) (a : Action ℕ) (o : Op) (into : Option ℕ) (now : Sight) (later : List Sight)
         (vars : List ℕ)
-        → deed code a now vars ≡ Operates o into
+        → effect code a now vars ≡ Operates o into
         → Reads code y (does a) now later vars (operates o ∷ []) (resumed into later vars)
     -- `wait_until`, `wait_while` and `acquire`: the answer WAITING, and then the statement again in the next sight
     waits : (y : PtState) (a : Action ℕ) (now next : Sight) (later : List Sight) (vars : List ℕ) (h : List Happening)
         (out : Completion)
-        → deed code a now vars ≡ Waits → Reads code y (does a) next later vars h out
+        → effect code a now vars ≡ Waits → Reads code y (does a) next later vars h out
         → Reads code y (does a) now (next ∷ later) vars (gives_up Waiting ∷ h) out
     waits_last : (y : PtState) (a : Action ℕ) (now : Sight) (vars : List ℕ)
-        → deed code a now vars ≡ Waits → Reads code y (does a) now [] vars (gives_up Waiting ∷ []) (in_state vars)
+        → effect code a now vars ≡ Waits → Reads code y (does a) now [] vars (gives_up Waiting ∷ []) (in_state vars)
     -- the thread gives up control once
     yields : (y : PtState) (now : Sight) (later : List Sight) (vars : List ℕ)
         → Reads code y (does yield) now later vars (gives_up y ∷ []) (resumed None later vars)

@@ -4,8 +4,8 @@ use Rattle.program_tree.specs.Tree.{Statement, Body, listed}
 use Rattle.program_tree.specs.Code.{Code, callback_at}
 use Rattle.protothread.specs.declared.part.Part.{Part}
 use Rattle.protothread.specs.declared.part.Part.TheVariants as part
-use Rattle.protothread.specs.declared.thread.Mark.{Mark}
-use Rattle.protothread.specs.declared.thread.Mark.TheVariants.{AtRest}
+use Rattle.protothread.specs.declared.thread.LastAction.{LastAction}
+use Rattle.protothread.specs.declared.thread.LastAction.TheVariants.{AtRest}
 
 -- The position of a thread. The thread is at its end; or at a statement, which may have yielded, with the rest after
 -- it (the statements of the innermost block first); or at the spawn of a thread, which has a position of its own, with
@@ -34,7 +34,7 @@ settled p = p
 -- position
 pub record Remainder : Type 0 where
   pub part : Part
-  pub mark : Mark
+  pub last_action : LastAction
   pub place : Place
 
 -- a block that a code lacks is empty
@@ -55,4 +55,4 @@ whole_of code (part.Callback timer) = statements_of (callback_at code timer)
 
 -- a fresh thread: it is at rest, before the whole block
 abbrev pub fresh_of : Code → Part → Remainder
-fresh_of code part = record { part = part; mark = AtRest; place = before false (whole_of code part) }
+fresh_of code part = record { part = part; last_action = AtRest; place = before false (whole_of code part) }

@@ -15,12 +15,12 @@ use Rattle.program_tree.specs.EventNames.{cast_number, sent_number}
 use Rattle.protothread.specs.declared.answer.PtState.{PtState}
 use Rattle.protothread.specs.declared.answer.PtState.TheVariants.{Waiting, Yielded, Exited, Ended}
 use Rattle.protothread.specs.declared.part.Part.{Part}
-use Rattle.protothread.specs.declared.thread.Mark.{Mark}
-use Rattle.protothread.specs.declared.thread.Mark.TheVariants.{AtRest, UnderWay, Pausing, RunAway}
-use Rattle.protothread.specs.declared.deed.StatementEffect.{StatementEffect}
-use Rattle.protothread.specs.declared.deed.StatementEffect.TheVariants.{Passes, Assigns, Operates, Pauses, Waits}
-use Rattle.protothread.specs.declared.deed.StatementEffect.TheVariants.{Yields, Spawns}
-use Rattle.protothread.specs.declared.deed.StatementEffect.TheVariants.{Restarts, Exits}
+use Rattle.protothread.specs.declared.thread.LastAction.{LastAction}
+use Rattle.protothread.specs.declared.thread.LastAction.TheVariants.{AtRest, UnderWay, Pausing, RunAway}
+use Rattle.protothread.specs.declared.effect.StatementEffect.{StatementEffect}
+use Rattle.protothread.specs.declared.effect.StatementEffect.TheVariants.{Passes, Assigns, Operates, Pauses, Waits}
+use Rattle.protothread.specs.declared.effect.StatementEffect.TheVariants.{Yields, Spawns}
+use Rattle.protothread.specs.declared.effect.StatementEffect.TheVariants.{Restarts, Exits}
 use Rattle.protothread.specs.declared.step.Op.{Op}
 use Rattle.protothread.specs.declared.step.Op.TheVariants as op
 use Rattle.protothread.specs.declared.step.Step.{Step}
@@ -46,44 +46,44 @@ passes_where test other = if test then Passes else other
 -- `yield` is PT_YIELD, `yield_until` is PT_YIELD_UNTIL, `spawn` is PT_SPAWN, `restart` is PT_RESTART, and `exit` is
 -- PT_EXIT; `pause` is PROCESS_PAUSE of `process.h`, which posts CONTINUE to its own process and then waits for a
 -- CONTINUE; `acquire` and `signal` are PT_SEM_WAIT and PT_SEM_SIGNAL of `pt-sem.h`.
-abbrev pub deed_of : (process : ℕ) → (is_yielded : Bool) → (variables : List ℕ) → Event → Looks → Action ℕ
+abbrev pub effect_of : (process : ℕ) → (is_yielded : Bool) → (variables : List ℕ) → Event → Looks → Action ℕ
     → StatementEffect
-deed_of process yielded vars event looks (assign i e) = Assigns i (value vars event looks e)
-deed_of process yielded vars event looks (print e) = Operates (op.Print (value vars event looks e)) None
-deed_of process yielded vars event looks (send e) = Operates (op.Send (value vars event looks e)) None
-deed_of process yielded vars event looks (wait_until c) = passes_where (holds (value vars event looks c)) Waits
-deed_of process yielded vars event looks (wait_while c) = passes_where (not (holds (value vars event looks c))) Waits
-deed_of process yielded vars event looks yield = passes_where yielded Yields
-deed_of process yielded vars event looks (yield_until c) =
+effect_of process yielded vars event looks (assign i e) = Assigns i (value vars event looks e)
+effect_of process yielded vars event looks (print e) = Operates (op.Print (value vars event looks e)) None
+effect_of process yielded vars event looks (send e) = Operates (op.Send (value vars event looks e)) None
+effect_of process yielded vars event looks (wait_until c) = passes_where (holds (value vars event looks c)) Waits
+effect_of process yielded vars event looks (wait_while c) = passes_where (not (holds (value vars event looks c))) Waits
+effect_of process yielded vars event looks yield = passes_where yielded Yields
+effect_of process yielded vars event looks (yield_until c) =
     passes_where (yielded && holds (value vars event looks c)) Yields
-deed_of process yielded vars event looks (spawn t) = Spawns t
-deed_of process yielded vars event looks restart = Restarts
-deed_of process yielded vars event looks exit = Exits
-deed_of process yielded vars event looks pause =
+effect_of process yielded vars event looks (spawn t) = Spawns t
+effect_of process yielded vars event looks restart = Restarts
+effect_of process yielded vars event looks exit = Exits
+effect_of process yielded vars event looks pause =
     if yielded then passes_where (event.number == system_number Continue) Yields else Pauses
     (op.Post (One (Own process)) (system_number Continue) 0)
-deed_of process yielded vars event looks (acquire s) =
+effect_of process yielded vars event looks (acquire s) =
     if slice_index looks.counts s == 0 then Waits else Operates (op.Take s) None
-deed_of process yielded vars event looks (signal s) = Operates (op.Signal s) None
-deed_of process yielded vars event looks (post p e w into) =
+effect_of process yielded vars event looks (signal s) = Operates (op.Signal s) None
+effect_of process yielded vars event looks (post p e w into) =
     Operates (op.Post (One (Own p)) (sent_number e) (value vars event looks w)) into
-deed_of process yielded vars event looks (broadcast e w into) =
+effect_of process yielded vars event looks (broadcast e w into) =
     Operates (op.Post All (cast_number e) (value vars event looks w)) into
-deed_of process yielded vars event looks (synch p e w) =
+effect_of process yielded vars event looks (synch p e w) =
     Operates (op.Synch (Own p) (sent_number e) (value vars event looks w)) None
-deed_of process yielded vars event looks (poll p) = Operates (op.Poll (Own p)) None
-deed_of process yielded vars event looks (start p) = Operates (op.Start (Own p)) None
-deed_of process yielded vars event looks (kill p) = Operates (op.Kill (Own p)) None
-deed_of process yielded vars event looks (set t e) = Operates (op.Set t (value vars event looks e)) None
-deed_of process yielded vars event looks (reset t) = Operates (op.Reset t) None
-deed_of process yielded vars event looks (restart_timer t) = Operates (op.RestartTimer t) None
-deed_of process yielded vars event looks (stop t) = Operates (op.Stop t) None
+effect_of process yielded vars event looks (poll p) = Operates (op.Poll (Own p)) None
+effect_of process yielded vars event looks (start p) = Operates (op.Start (Own p)) None
+effect_of process yielded vars event looks (kill p) = Operates (op.Kill (Own p)) None
+effect_of process yielded vars event looks (set t e) = Operates (op.Set t (value vars event looks e)) None
+effect_of process yielded vars event looks (reset t) = Operates (op.Reset t) None
+effect_of process yielded vars event looks (restart_timer t) = Operates (op.RestartTimer t) None
+effect_of process yielded vars event looks (stop t) = Operates (op.Stop t) None
 
 -- the effect of one statement on a thread: the thread continues with these variables from a place, stops with an
--- operation and this mark, or gives up control
+-- operation and this last action, or gives up control
 pub data Reached : Type 0 where
   goes_on : (variables : List ℕ) → Place → Reached
-  operates : Op → Mark → Place → Reached
+  operates : Op → LastAction → Place → Reached
   answers : PtState → Place → Reached
 
 -- the effect of an action on the thread whose block is `whole`, at the statement `s`; the rest is after this statement
@@ -104,7 +104,7 @@ performed code whole vars s rest Exits = answers Exited (before false whole)
 abbrev pub statement_reached : Code → (whole : List (Statement ℕ)) → (is_yielded : Bool) → (variables : List ℕ)
     → Event → Looks → (s : Statement ℕ) → (rest : List (Statement ℕ)) → Reached
 statement_reached code whole yielded vars event looks (does a) rest =
-    performed code whole vars (does a) rest (deed_of code.number yielded vars event looks a)
+    performed code whole vars (does a) rest (effect_of code.number yielded vars event looks a)
 statement_reached code whole yielded vars event looks (branch c a o) rest =
     goes_on vars (before false ((if holds (value vars event looks c) then listed a else other_block o) ++ rest))
 statement_reached code whole yielded vars event looks (while c a) rest =
@@ -114,7 +114,7 @@ statement_reached code whole yielded vars event looks (while c a) rest =
 -- PT_YIELDED, the spawner answers PT_WAITING; after PT_EXITED or PT_ENDED the spawner continues after the spawn.
 abbrev pub spawner_reached : (thread : ℕ) → (rest : List (Statement ℕ)) → (variables : List ℕ) → Reached → Reached
 spawner_reached thread rest vars (goes_on changed p) = goes_on changed (within thread p rest)
-spawner_reached thread rest vars (operates o mark p) = operates o mark (within thread p rest)
+spawner_reached thread rest vars (operates o last_action p) = operates o last_action (within thread p rest)
 spawner_reached thread rest vars (answers Waiting p) = answers Waiting (within thread p rest)
 spawner_reached thread rest vars (answers Yielded p) = answers Waiting (within thread p rest)
 spawner_reached thread rest vars (answers Exited p) = goes_on vars (before false rest)
@@ -135,7 +135,7 @@ continued code part event looks place vars zero =
       | ended ↦ record { step = step.Done Ended; remainder = fresh_of code part; variables = vars; units = 0 }
       | p ↦ record {
         step = step.Runaway;
-        remainder = record { part = part; mark = RunAway; place = p };
+        remainder = record { part = part; last_action = RunAway; place = p };
         variables = vars;
         units = 0;
       }
@@ -145,15 +145,15 @@ continued code part event looks place vars (suc units) =
       | ended ↦ record { step = step.Done Ended; remainder = fresh_of code part; variables = vars; units = suc units }
       | p ↦ elim (reached code (whole_of code part) vars event looks p) [
         | goes_on changed q ↦ continued code part event looks q changed units
-        | operates o mark q ↦ record {
+        | operates o last_action q ↦ record {
           step = step.Op o;
-          remainder = record { part = part; mark = mark; place = q };
+          remainder = record { part = part; last_action = last_action; place = q };
           variables = vars;
           units = units;
         }
         | answers a q ↦ record {
           step = step.Done a;
-          remainder = record { part = part; mark = AtRest; place = q };
+          remainder = record { part = part; last_action = AtRest; place = q };
           variables = vars;
           units = units;
         }
@@ -174,11 +174,11 @@ yield_answer p = Yielded
 -- the post of a `pause`, the thread gives up control. A thread that has run away runs away again.
 unfoldable pub advanced_of : Code → Event → Looks → Remainder → (variables : List ℕ) → (units : ℕ) → Advanced
 advanced_of code event looks r vars units =
-    elim r.mark [
+    elim r.last_action [
       | AtRest ↦
           if nat_lt units (passed r.place) then record {
             step = step.Runaway;
-            remainder = record r { mark = RunAway };
+            remainder = record r { last_action = RunAway };
             variables = vars;
             units = 0;
           }
@@ -186,7 +186,7 @@ advanced_of code event looks r vars units =
       | UnderWay into ↦ continued code r.part event looks r.place vars units
       | Pausing ↦ record {
         step = step.Done (yield_answer r.place);
-        remainder = record r { mark = AtRest };
+        remainder = record r { last_action = AtRest };
         variables = vars;
         units = units;
       }
@@ -199,19 +199,22 @@ pub record Answered : Type 0 where
   pub variables : List ℕ
 
 -- only the first answer counts: a variable named after `into` doesn't get a later one
-abbrev pub marked_answered : Mark → Mark
-marked_answered (UnderWay into) = UnderWay None
-marked_answered m = m
+abbrev pub action_answered : LastAction → LastAction
+action_answered (UnderWay into) = UnderWay None
+action_answered m = m
 
 -- the variable that waits for an answer, if there is one, gets it
-abbrev pub variables_answered : Mark → (variables : List ℕ) → (answer : ℕ) → List ℕ
+abbrev pub variables_answered : LastAction → (variables : List ℕ) → (answer : ℕ) → List ℕ
 variables_answered (UnderWay (Some i)) vars answer = slice_set vars i answer
 variables_answered m vars answer = vars
 
 -- the thread gets this answer
 abbrev pub answered_of : Remainder → (variables : List ℕ) → (answer : ℕ) → Answered
 answered_of r vars answer =
-    record { remainder = record r { mark = marked_answered r.mark }; variables = variables_answered r.mark vars answer }
+    record {
+      remainder = record r { last_action = action_answered r.last_action };
+      variables = variables_answered r.last_action vars answer;
+    }
 
 -- an operation costs at least one unit of work, and no step adds units
 abbrev pub PaysFor : Step → (before after : ℕ) → Type 0

@@ -3,7 +3,7 @@
 
 mod answer;
 mod calls;
-mod deed;
+mod effect;
 mod fuel;
 mod laws;
 mod look;

@@ -7,11 +7,11 @@ ghost use Rattle.program_tree.specs.Program.{code_of};
 ghost use Rattle.protothread.specs.Remainder.{fresh_of};
 ghost use Rattle.protothread.specs.Step.{advanced_of, answered_of, PaysFor};
 ghost use Rattle.protothread.specs.Places.{place_by, yielding, body_of_thread, remainder_of};
-ghost use Rattle.protothread.specs.Reach.{DeedCanSpawn, IsFoundIn, Reaches, Resumes, performed_at, reached_at};
+ghost use Rattle.protothread.specs.Reach.{EffectCanSpawn, IsFoundIn, Reaches, Resumes, performed_at, reached_at};
 
 use crate::answer::PtState;
 use crate::calls::{Call, Calls};
-use crate::deed::{StatementEffect, done_by};
+use crate::effect::{StatementEffect, done_by};
 use crate::fuel::Fuel;
 use crate::look::Look;
 use crate::part::{Part, thread_code};
@@ -22,7 +22,7 @@ use program_tree::{Event, Instruction, ProcessText};
 
 /// The last action of a thread.
 #[derive(Clone, Copy)]
-enum Mark {
+enum LastAction {
     /// The thread answered `Done`, or is fresh.
     AtRest,
     /// The thread answered an operation. If a variable is given, it hasn't got the answer to the post yet.
@@ -39,7 +39,7 @@ enum Mark {
 #[derive(Drop)]
 pub struct Thread {
     part: Part,
-    mark: Mark,
+    last_action: LastAction,
     is_yielded: bool,
     position: u16,
     calls: Calls,
@@ -68,7 +68,7 @@ impl Thread {
     {
         Thread {
             part,
-            mark: Mark::AtRest,
+            last_action: LastAction::AtRest,
             is_yielded: false,
             position: 0,
             calls: Calls::new(),
@@ -109,16 +109,16 @@ impl Thread {
         requires no_calls { self.old.calls ≡ [] }
         ensures fresh { (code : Code) → remainder_of code self.new ≡ fresh_of code self.old.part }
     {
-        self.mark = Mark::AtRest;
+        self.last_action = LastAction::AtRest;
         self.is_yielded = false;
         self.position = 0;
     }
 
     /// Gives up control at the statement, and records whether the statement has yielded.
     fn give_up(&mut self, is_yielded: bool)
-        ensures after { self.new ≡ record self.old { mark = Mark.AtRest; is_yielded = is_yielded } }
+        ensures after { self.new ≡ record self.old { last_action = LastAction.AtRest; is_yielded = is_yielded } }
     {
-        self.mark = Mark::AtRest;
+        self.last_action = LastAction::AtRest;
         self.is_yielded = is_yielded;
     }
 
@@ -127,22 +127,22 @@ impl Thread {
         &mut self,
         text: &'a ProcessText,
         flat: &'a [Instruction],
-        deed: StatementEffect,
+        effect: StatementEffect,
         next: u16,
         vars: &mut Vars,
     ) -> Reach<'a>
         requires inside { IsFoundIn (code_of text.now) self.old flat.now }
-        requires earlier { DeedCanSpawn self.old.calls deed }
+        requires earlier { EffectCanSpawn self.old.calls effect }
         ensures kept { length vars.new ≡ length vars.old }
         ensures calls { length self.new.calls ≤ length self.old.calls + 1 }
         ensures reaches { (s : Statement ℕ) (rest : List (Statement ℕ))
             → rest_at (body_of_thread (code_of text.now) self.old) self.old.position ≡ s ∷ rest
             → rest_at (body_of_thread (code_of text.now) self.old) next ≡ rest
             → Reaches (code_of text.now)
-            (performed_at (code_of text.now) self.old vars.old s rest deed) result self.old self.new vars.old
+            (performed_at (code_of text.now) self.old vars.old s rest effect) result self.old self.new vars.old
             vars.new }
     {
-        match deed {
+        match effect {
             StatementEffect::Passes => {
                 self.go_on(next);
                 Reach::GoesOn(flat)
@@ -153,12 +153,12 @@ impl Thread {
                 Reach::GoesOn(flat)
             }
             StatementEffect::Operates(op, into) => {
-                self.mark = Mark::UnderWay(into);
+                self.last_action = LastAction::UnderWay(into);
                 self.go_on(next);
                 Reach::Operates(op)
             }
             StatementEffect::Pauses(op) => {
-                self.mark = Mark::Pausing;
+                self.last_action = LastAction::Pausing;
                 self.is_yielded = true;
                 Reach::Operates(op)
             }
@@ -176,7 +176,7 @@ impl Thread {
                 Reach::GoesOn(thread_code(text, thread))
             }
             StatementEffect::Restarts => {
-                self.mark = Mark::AtRest;
+                self.last_action = LastAction::AtRest;
                 self.go_on(0);
                 Reach::Answers(PtState::Waiting)
             }
@@ -186,7 +186,7 @@ impl Thread {
                     Reach::GoesOn(self.innermost(text))
                 }
                 None => {
-                    self.mark = Mark::AtRest;
+                    self.last_action = LastAction::AtRest;
                     self.go_on(0);
                     Reach::Answers(PtState::Exited)
                 }
@@ -217,8 +217,8 @@ impl Thread {
     {
         match instruction {
             Instruction::Act(action, next) => {
-                let deed = done_by(action, text.number(), self.is_yielded, vars, event, look);
-                self.perform(text, flat, deed, *next, vars)
+                let effect = done_by(action, text.number(), self.is_yielded, vars, event, look);
+                self.perform(text, flat, effect, *next, vars)
             }
             Instruction::Assign(variable, value, next) => {
                 let value = formula_value(value, vars, event, look);
@@ -264,10 +264,10 @@ impl Thread {
     fn resume(&mut self, fuel: &mut Fuel) -> Option<Step>
         ensures resumes { Resumes result self.old self.new fuel.old fuel.new }
     {
-        if let Mark::UnderWay(_) = self.mark {
+        if let LastAction::UnderWay(_) = self.last_action {
             return None;
         }
-        if let Mark::AtRest = self.mark {
+        if let LastAction::AtRest = self.last_action {
             if self.calls.len() == 0 {
                 return None;
             }
@@ -275,26 +275,26 @@ impl Thread {
         self.come_back(fuel)
     }
 
-    /// The same as `resume`, for any mark.
+    /// The same as `resume`, for any last action.
     #[inline(never)]
     #[tactic(auto, unfolding(crate::specs::Step::advanced_of))]
     fn come_back(&mut self, fuel: &mut Fuel) -> Option<Step>
         ensures resumes { Resumes result self.old self.new fuel.old fuel.new }
     {
-        match self.mark {
-            Mark::AtRest => {
+        match self.last_action {
+            LastAction::AtRest => {
                 if fuel.pay(self.calls.len()) {
                     return None;
                 }
-                self.mark = Mark::RunAway;
+                self.last_action = LastAction::RunAway;
                 Some(Step::Runaway)
             }
-            Mark::UnderWay(_) => None,
-            Mark::Pausing => {
-                self.mark = Mark::AtRest;
+            LastAction::UnderWay(_) => None,
+            LastAction::Pausing => {
+                self.last_action = LastAction::AtRest;
                 Some(Step::Done(self.yield_answer()))
             }
-            Mark::RunAway => Some(Step::Runaway),
+            LastAction::RunAway => Some(Step::Runaway),
         }
     }
 
@@ -343,7 +343,7 @@ impl Thread {
                 },
                 Some(instruction) => {
                     if !fuel.spend() {
-                        self.mark = Mark::RunAway;
+                        self.last_action = LastAction::RunAway;
                         return Step::Runaway;
                     }
                     match self.reach(text, flat, instruction, event, vars, look) {
@@ -364,11 +364,11 @@ impl Thread {
             ≡ record { remainder = remainder_of code self.new; variables = vars.new } }
         ensures kept { length vars.new ≡ length vars.old }
     {
-        if let Mark::UnderWay(into) = self.mark {
+        if let LastAction::UnderWay(into) = self.last_action {
             if let Some(variable) = into {
                 vars.set(variable, answer);
             }
-            self.mark = Mark::UnderWay(None);
+            self.last_action = LastAction::UnderWay(None);
         }
     }
 }

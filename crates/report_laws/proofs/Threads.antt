@@ -9,8 +9,8 @@ use Rattle.program_tree.specs.EventNames.{BroadcastEvent, PostedEvent, cast_numb
 use Rattle.program_tree.specs.Tree.{Action, assign, print, send, wait_until, wait_while, yield, yield_until, spawn, restart, exit, pause, acquire, signal, post, broadcast, synch, poll, start, kill, set, reset, restart_timer, stop, Statement, does, branch, while, listed, other_block}
 use Rattle.program_tree.specs.Code.{Code, Tree}
 use Rattle.protothread.specs.declared.part.Part.{Part}
-use Rattle.protothread.specs.declared.thread.Mark.{Mark}
-use Rattle.protothread.specs.declared.thread.Mark.TheVariants.{AtRest, UnderWay, Pausing, RunAway}
+use Rattle.protothread.specs.declared.thread.LastAction.{LastAction}
+use Rattle.protothread.specs.declared.thread.LastAction.TheVariants.{AtRest, UnderWay, Pausing, RunAway}
 use Rattle.protothread.specs.declared.step.Op.{Op}
 use Rattle.protothread.specs.declared.step.Op.TheVariants as op
 use Rattle.protothread.specs.declared.step.Step.{Step}
@@ -19,7 +19,7 @@ use Rattle.protothread.specs.declared.answer.PtState.TheVariants.{Waiting, Yield
 use Rattle.protothread.specs.Looks.{Looks}
 use Rattle.protothread.specs.Value.{value, holds}
 use Rattle.protothread.specs.Remainder.{Place, ended, at, within, before, settled, spawner_place, Remainder, thread_block, whole_of, fresh_of}
-use Rattle.protothread.specs.Step.{Reached, goes_on, operates, answers, deed_of, performed, spawner_reached, reached, Advanced, continued, passed, advanced_of}
+use Rattle.protothread.specs.Step.{Reached, goes_on, operates, answers, effect_of, performed, spawner_reached, reached, Advanced, continued, passed, advanced_of}
 use Rattle.protothread.proofs.Units.{called, follows, stepped}
 use Rattle.trace_printer.specs.Named.{HasProcess, HasTarget, HasEvent}
 use Rattle.report_laws.proofs.Blocks.{FitsCast, FitsSent, FitsAction, FitsStatement, AllFit, FitsCode, listed_fit, joined_fit, other_fit, chosen_fit}
@@ -47,7 +47,7 @@ pub record FitsAdvanced (t : Tree) (a : Advanced) : Type 0 where
 
 abbrev FitsReached : Tree → Reached → Type 0
 FitsReached t (goes_on vars p) = FitsPlace t p
-FitsReached t (operates o mark p) = FitsOp t o × FitsPlace t p
+FitsReached t (operates o last_action p) = FitsOp t o × FitsPlace t p
 FitsReached t (answers a p) = FitsPlace t p
 
 cast_known : (t : Tree) (e : BroadcastEvent ℕ) → FitsCast t e → HasEvent t (cast_number e)
@@ -72,7 +72,7 @@ either_fits t D f false c d h k = k
 module _ (t : Tree) (code : Code) (fits : FitsCode t code) where
   module _ (whole : List (Statement ℕ)) (all : AllFit t whole) (y : Bool) (vars : List ℕ) (event : Event) (looks : Looks) (rest : List (Statement ℕ)) (left : AllFit t rest) where
     abbrev Done : Action ℕ → Reached
-    Done a = performed code whole vars (does a) rest (deed_of code.number y vars event looks a)
+    Done a = performed code whole vars (does a) rest (effect_of code.number y vars event looks a)
 
     on : FitsPlace t (before false rest)
     on = before_fits t false rest left
@@ -105,7 +105,7 @@ module _ (t : Tree) (code : Code) (fits : FitsCode t code) where
 
   spawner_fits : (n : ℕ) (rest : List (Statement ℕ)) (vars : List ℕ) (r : Reached) → AllFit t rest → FitsReached t r → FitsReached t (spawner_reached n rest vars r)
   spawner_fits n rest vars (goes_on changed p) r h = (h, r)
-  spawner_fits n rest vars (operates o mark p) r h = (h.0, (h.1, r))
+  spawner_fits n rest vars (operates o last_action p) r h = (h.0, (h.1, r))
   spawner_fits n rest vars (answers Waiting p) r h = (h, r)
   spawner_fits n rest vars (answers Yielded p) r h = (h, r)
   spawner_fits n rest vars (answers Exited p) r h = before_fits t false rest r
@@ -147,7 +147,7 @@ module _ (t : Tree) (code : Code) (fits : FitsCode t code) where
         let after : (r : Reached) → FitsReached t r → FitsAdvanced t (follows code part event looks vars units r) =
         λ r. elim r as (λ r. FitsReached t r → FitsAdvanced t (follows code part event looks vars units r)) [
           | goes_on changed q ↦ λ k. continued_fits units q changed k
-          | operates o mark q ↦ λ k. record { step = k.0; place = k.1 }
+          | operates o last_action q ↦ λ k. record { step = k.0; place = k.1 }
           | answers a q ↦ λ k. record { step = tt; place = k }
         ] in
         (elim (settled p) as (λ q. FitsPlace t q → FitsAdvanced t (stepped code part event looks vars (suc units) q)) [
@@ -156,7 +156,7 @@ module _ (t : Tree) (code : Code) (fits : FitsCode t code) where
           | within n q rest ↦ λ k. after (reached code (whole_of code part) vars event looks (within n q rest)) (reached_fits (whole_of code part) vars event looks (within n q rest) (fits.parts part) k)
         ]) (settled_fits p h)
 
-  advanced_from : (m : Mark) (event : Event) (looks : Looks) (r : Remainder) (vars : List ℕ) (units : ℕ) → FitsPlace t r.place → FitsAdvanced t (advanced_of code event looks (record r { mark = m }) vars units)
+  advanced_from : (m : LastAction) (event : Event) (looks : Looks) (r : Remainder) (vars : List ℕ) (units : ℕ) → FitsPlace t r.place → FitsAdvanced t (advanced_of code event looks (record r { last_action = m }) vars units)
   unfolding advanced_of
   advanced_from AtRest event looks r vars units h =
       elim (nat_lt units (passed r.place)) as (λ b. FitsAdvanced t (called code event looks r vars units b)) [
@@ -168,4 +168,4 @@ module _ (t : Tree) (code : Code) (fits : FitsCode t code) where
   advanced_from RunAway event looks r vars units h = record { step = tt; place = h }
 
   pub advanced_fits : (event : Event) (looks : Looks) (r : Remainder) (vars : List ℕ) (units : ℕ) → FitsPlace t r.place → FitsAdvanced t (advanced_of code event looks r vars units)
-  advanced_fits event looks r vars units h = advanced_from r.mark event looks r vars units h
+  advanced_fits event looks r vars units h = advanced_from r.last_action event looks r vars units h

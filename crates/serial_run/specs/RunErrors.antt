@@ -1,7 +1,8 @@
 -- The texts of the errors of a run.
 use Rattle.std.specs.Prelude.{ℕ, List, codes}
 use Rattle.serial_run.specs.declared.error.RunError.{RunError}
-use Rattle.serial_run.specs.declared.error.RunError.TheVariants.{Workers, CutLength, CutWorker, Memory, Thread, Stopped}
+use Rattle.serial_run.specs.declared.error.RunError.TheVariants.{Workers, CutLength, CutWorker, Memory, Thread}
+use Rattle.serial_run.specs.declared.error.RunError.TheVariants.{Stopped}
 
 abbrev pub text_of_run_error : RunError → List ℕ
 text_of_run_error Workers = codes "run fault 1"

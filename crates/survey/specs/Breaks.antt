@@ -1,5 +1,6 @@
 -- The result of a survey. A break is a set of faults with a claim that doesn't hold in the run with this set.
-use Rattle.std.specs.Prelude.{◌≡◌, ◌≢◌, ℕ, ◌<◌, ◌≤◌, ◌⊎◌, Bool, true, false, List, [], ◌∷◌, length, map, slice_index_or}
+use Rattle.std.specs.Prelude.{◌≡◌, ◌≢◌, ℕ, ◌<◌, ◌≤◌, ◌⊎◌, Bool, true, false, List, [], ◌∷◌, length, map}
+use Rattle.std.specs.Prelude.{slice_index_or}
 use Rattle.std.specs.Prelude.{Option, Vec, MatchOption}
 use Rattle.std.specs.Global.{Global}
 use Rattle.std.specs.List.{Contains}

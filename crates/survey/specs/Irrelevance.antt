@@ -12,4 +12,5 @@ abbrev pub IrrelevantNeedsNoRun : Type 0
 IrrelevantNeedsNoRun =
     (holds : List ℕ → ℕ → Bool) (claims : ℕ) (breaks : List (List ℕ × ℕ)) (F : List ℕ) (f : ℕ) (G : List ℕ)
     → IsWithFault F f G
-    → ((c : ℕ) → c < claims → holds G c ≡ holds F c) → IsSettled holds claims breaks F → IsSettled holds claims breaks G
+    → ((c : ℕ) → c < claims → holds G c ≡ holds F c) → IsSettled holds claims breaks F
+    → IsSettled holds claims breaks G

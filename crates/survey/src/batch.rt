@@ -32,7 +32,7 @@ pub fn gather(
     set: &mut [u16],
     room: usize,
 ) -> Result<Batch, AllocError>
-    requires { IsSet candidates set.old }
+    requires is_set { IsSet candidates set.old }
     ensures sets { IfOk result (λ b. All
         (λ s. IsSet candidates s.items × (length s.items ≡ length set.old)) b.sets.items) }
     ensures room { IfOk result (λ b. length b.sets.items ≤ room) }
@@ -68,7 +68,7 @@ fn take_set(
     room: usize,
     sets: &mut Vec<Vec<u16>>,
 ) -> Result<bool, AllocError>
-    ensures { IfOk result (TakesSet claims (breaks_of found.now) set.now room sets.old.items sets.new.items) }
+    ensures takes_set { IfOk result (TakesSet claims (breaks_of found.now) set.now room sets.old.items sets.new.items) }
 {
     if is_pruned(found, set, claims) {
         return Ok(true);

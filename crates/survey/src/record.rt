@@ -6,7 +6,8 @@ ghost use Rattle.std.specs.List.{All, Contains};
 ghost use Rattle.survey.specs.FaultSet.{IsSet, IsWithin};
 ghost use Rattle.survey.specs.Answers.{AreAnswers, AreAnswersOf};
 ghost use Rattle.survey.specs.Breaks.{breaks_of, HasBreak, IsSettled};
-ghost use Rattle.survey.specs.Search.{IsKept, AreSmallerSettled, Grows, IsPruned, IsUnpruned, ListsOnly, AddsBreak, items_of};
+ghost use Rattle.survey.specs.Search.{IsKept, AreSmallerSettled, Grows, IsPruned, IsUnpruned, ListsOnly, AddsBreak};
+ghost use Rattle.survey.specs.Search.{items_of};
 
 use crate::broken::Broken;
 use crate::sets::is_within;
@@ -15,7 +16,7 @@ use std::alloc::{AllocError, Global};
 
 /// Whether a set within this one is listed for the claim.
 pub fn has_break(found: &[Broken], set: &[u16], claim: u16) -> bool
-    ensures { IsTrue result ↔ HasBreak (breaks_of found.now) set.now claim }
+    ensures has_break { IsTrue result ↔ HasBreak (breaks_of found.now) set.now claim }
 {
     for known in found {
         if breaks(known, set, claim) {
@@ -27,14 +28,14 @@ pub fn has_break(found: &[Broken], set: &[u16], claim: u16) -> bool
 
 /// Whether a listed break is of this claim, and its set is within this one.
 fn breaks(known: &Broken, set: &[u16], claim: u16) -> bool
-    ensures { IsTrue result ↔ ((known.now.claim ≡ claim) × IsWithin known.now.faults.items set.now) }
+    ensures covers { IsTrue result ↔ ((known.now.claim ≡ claim) × IsWithin known.now.faults.items set.now) }
 {
     known.claim == claim && is_within(&known.faults, set)
 }
 
 /// Whether a set within this one is listed for each claim.
 pub fn is_pruned(found: &[Broken], set: &[u16], claims: u16) -> bool
-    ensures { MatchBool result (IsPruned claims (breaks_of found.now) set.now)
+    ensures is_pruned { MatchBool result (IsPruned claims (breaks_of found.now) set.now)
         (IsUnpruned claims (breaks_of found.now) set.now) }
 {
     for claim in 0..claims {
@@ -87,7 +88,7 @@ fn record_break(
     set: &[u16],
     claim: u16,
 ) -> Result<(), AllocError>
-    ensures { OnOk result (AddsBreak (breaks_of found.old.items) set.now claim (breaks_of found.new.items)) }
+    ensures adds_break { OnOk result (AddsBreak (breaks_of found.old.items) set.now claim (breaks_of found.new.items)) }
 {
     if !has_break(found, set, claim) {
         let faults = set.to_vec(alloc)?;

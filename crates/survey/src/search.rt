@@ -89,7 +89,7 @@ struct SizeEnd {
 
 /// How many runs may be made at a time, after so many.
 fn room_after(limits: Limits, made: u64) -> u16
-    requires { made ≤ limits.trials }
+    requires within_limit { made ≤ limits.trials }
     ensures fits { made + result ≤ limits.trials }
     ensures none { result ≡ 0 → 0 < limits.at_a_time → made ≡ limits.trials }
 {
@@ -170,8 +170,9 @@ fn search_size<T: Trial, F: Fn(&[Vec<u16>]) -> Result<Vec<Vec<bool>>, AllocError
 /// # Errors
 /// `AllocError` if an allocation fails.
 pub fn survey<T: Trial>(alloc: Global, trial: &T, limits: Limits) -> Result<Survey, AllocError>
-    requires { 0 < limits.at_a_time }
-    ensures complete { IfOk result (λ s. IsComplete (T.candidate_count trial.now) (IsCovered limits.faults s.stopped_at)
+    requires batch_not_empty { 0 < limits.at_a_time }
+    ensures complete { IfOk result (λ s. IsComplete (T.candidate_count trial.now) (IsCovered limits.faults
+        s.stopped_at)
         (T.holds trial.now) (T.claim_count trial.now) (breaks_of s.broken.items)) }
     ensures sound { IfOk result (λ s. IsSound (T.candidate_count trial.now) limits.faults (T.holds trial.now)
         (T.claim_count trial.now) (breaks_of s.broken.items)) }
@@ -208,7 +209,8 @@ pub fn survey_with<T: Trial, F: Fn(&[Vec<u16>]) -> Result<Vec<Vec<bool>>, AllocE
     requires may_try { MayTry (T.candidate_count trial.now) (F.pre try_all.now) }
     requires answers { GivesAnswers (T.candidate_count trial.now) (T.holds trial.now) (T.claim_count trial.now)
         (F.post try_all.now) }
-    ensures complete { IfOk result (λ s. IsComplete (T.candidate_count trial.now) (IsCovered limits.faults s.stopped_at)
+    ensures complete { IfOk result (λ s. IsComplete (T.candidate_count trial.now) (IsCovered limits.faults
+        s.stopped_at)
         (T.holds trial.now) (T.claim_count trial.now) (breaks_of s.broken.items)) }
     ensures sound { IfOk result (λ s. IsSound (T.candidate_count trial.now) limits.faults (T.holds trial.now)
         (T.claim_count trial.now) (breaks_of s.broken.items)) }

@@ -10,7 +10,7 @@ use std::alloc::{AllocError, Global};
 
 /// Whether each fault of `part` is one of `whole`.
 pub fn is_within(part: &[u16], whole: &[u16]) -> bool
-    ensures { IsTrue result ↔ IsWithin part.now whole.now }
+    ensures is_within { IsTrue result ↔ IsWithin part.now whole.now }
 {
     for fault in part {
         if !has(whole, *fault) {
@@ -22,7 +22,7 @@ pub fn is_within(part: &[u16], whole: &[u16]) -> bool
 
 /// Whether a fault is one of the set.
 fn has(set: &[u16], fault: u16) -> bool
-    ensures { IsTrue result ↔ Contains set.now fault }
+    ensures contains { IsTrue result ↔ Contains set.now fault }
 {
     set.contains(&fault)
 }
@@ -32,7 +32,7 @@ fn has(set: &[u16], fault: u16) -> bool
 /// # Errors
 /// `AllocError` if an allocation fails.
 pub fn first_set(alloc: Global, size: u16) -> Result<Vec<u16>, AllocError>
-    ensures { IfOk result (λ v. (n : ℕ) → size ≤ n → IsFirst n size v.items) }
+    ensures is_first { IfOk result (λ v. (n : ℕ) → size ≤ n → IsFirst n size v.items) }
 {
     let mut set = Vec::new(alloc);
     for fault in 0..size {
@@ -43,7 +43,7 @@ pub fn first_set(alloc: Global, size: u16) -> Result<Vec<u16>, AllocError>
 
 /// Turns a set into the next one of its size. Returns `false` if the set is the last of its size.
 pub fn advance(set: &mut [u16], candidates: u16) -> bool
-    requires { IsSet candidates set.old }
+    requires is_set { IsSet candidates set.old }
     ensures next { OnTrue result (IsNext candidates set.old set.new) }
     ensures last { OnFalse result (IsLast candidates set.old) }
 {
@@ -61,7 +61,7 @@ pub fn advance(set: &mut [u16], candidates: u16) -> bool
 fn count_from(set: &mut [u16], place: usize)
     requires place { place < length set.old }
     requires room { slice_index set.old place + (length set.old - place) < 2 ^ 16 - 1 }
-    ensures { set.new ≡ take place set.old ++ counting (slice_index set.old place + 1) (length set.old - place) }
+    ensures value { set.new ≡ take place set.old ++ counting (slice_index set.old place + 1) (length set.old - place) }
 {
     let start = set[place];
     for at in place..set.len() {

@@ -20,19 +20,19 @@ pub trait Trial {
 
     /// How many faults there are to choose from.
     fn candidates(&self) -> u16
-        ensures { result ≡ candidate_count self.now };
+        ensures value { result ≡ candidate_count self.now };
 
     /// How many claims there are.
     fn claims(&self) -> u16
-        ensures { result ≡ claim_count self.now };
+        ensures value { result ≡ claim_count self.now };
 
     /// Runs with a set of faults, and answers for each claim whether it holds.
     ///
     /// # Errors
     /// `AllocError` if an allocation fails.
     fn try_set(&self, alloc: Global, set: &[u16]) -> Result<Vec<bool>, AllocError>
-        requires { IsSet (candidate_count self.now) set.now }
-        ensures { IfOk result (λ v. AreAnswers (holds self.now set.now) (claim_count self.now) v.items) };
+        requires is_set { IsSet (candidate_count self.now) set.now }
+        ensures answered { IfOk result (λ v. AreAnswers (holds self.now set.now) (claim_count self.now) v.items) };
 }
 
 /// Runs with each of the sets, one run after another.
@@ -44,8 +44,8 @@ pub fn try_in_turn<T: Trial>(
     trial: &T,
     sets: &[Vec<u16>],
 ) -> Result<Vec<Vec<bool>>, AllocError>
-    requires { All (λ set. IsSet (T.candidate_count trial.now) set.items) sets.now }
-    ensures { IfOk result (λ v. AreAnswersOf (T.holds trial.now) (T.claim_count trial.now) sets.now v.items) }
+    requires are_sets { All (λ set. IsSet (T.candidate_count trial.now) set.items) sets.now }
+    ensures answered { IfOk result (λ v. AreAnswersOf (T.holds trial.now) (T.claim_count trial.now) sets.now v.items) }
 {
     let mut answers = Vec::new(alloc);
     for set in sets {

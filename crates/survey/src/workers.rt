@@ -32,7 +32,8 @@ pub fn survey_in_threads<R: Threads + Sync, T: Trial + Sync, P: Progress>(
 ) -> Result<Survey, AllocError>
     requires workers { 0 < workers }
     requires at_a_time { 0 < limits.at_a_time }
-    ensures complete { IfOk result (λ s. IsComplete (T.candidate_count trial.now) (IsCovered limits.faults s.stopped_at)
+    ensures complete { IfOk result (λ s. IsComplete (T.candidate_count trial.now) (IsCovered limits.faults
+        s.stopped_at)
         (T.holds trial.now) (T.claim_count trial.now) (breaks_of s.broken.items)) }
     ensures sound { IfOk result (λ s. IsSound (T.candidate_count trial.now) limits.faults (T.holds trial.now)
         (T.claim_count trial.now) (breaks_of s.broken.items)) }

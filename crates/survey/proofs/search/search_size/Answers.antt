@@ -12,7 +12,7 @@ use Rattle.survey.proofs.search.search_size.Goals as goal
 
 pub loop-set-init : goal.loop-set-init
 loop-set-init g c =
-    let first = c.in_ok-set.ensures (g.T.Trial.candidate_count c.args.trial.now) c.requires.size in
+    let first = c.in_ok-set.ensures.is_first (g.T.Trial.candidate_count c.args.trial.now) c.requires.size in
     record {
       set = first.0;
       size = first.1;

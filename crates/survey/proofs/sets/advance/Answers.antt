@@ -20,8 +20,8 @@ returns-then-from-size-clause-next c =
     let Q : List ℕ → Type 0 = λ t. IsNext n t c.count_from.new.set in
     let R : List ℕ → Type 0 = λ t. IsSet n t in
     subst Q c.loop-place.invariant.same
-    (next_at n s c.count_from.new.set place (omega arith) (subst R (sym c.loop-place.invariant.same) c.requires)
-    (subst P one c.loop-place.invariant.last) (omega (arith, c.from.ensures, c.from-in-loop-place.ensures)) c.count_from.ensures)
+    (next_at n s c.count_from.new.set place (omega arith) (subst R (sym c.loop-place.invariant.same) c.requires.is_set)
+    (subst P one c.loop-place.invariant.last) (omega (arith, c.from.ensures, c.from-in-loop-place.ensures)) c.count_from.ensures.value)
 
 pub loop-place-preserved : goal.loop-place-preserved
 loop-place-preserved c =

@@ -10,7 +10,9 @@ loop-fault-preserved c =
     c.in_ok-push.ensures.items ∙ ap (λ t. t ++ c.loop-fault.fault ∷ []) c.loop-fault.invariant ∙ ap (λ n. counting 0 c.loop-fault.fault ++ n ∷ []) zero_more ∙ sym (counting-snoc 0 c.loop-fault.fault) ∙ ap (counting 0) (sym one)
 
 pub returns : goal.returns
-returns c n le =
-    let at : c.loop-fault.fault ≡ c.args.size = omega arith in
-    let P : List ℕ → Type 0 = λ t. IsFirst n c.args.size t in
-    subst P (sym (c.loop-fault.invariant ∙ ap (counting 0) at)) (counting_first n c.args.size le)
+returns c = record {
+  is_first = λ n le.
+      let at : c.loop-fault.fault ≡ c.args.size = omega arith in
+      let P : List ℕ → Type 0 = λ t. IsFirst n c.args.size t in
+      subst P (sym (c.loop-fault.invariant ∙ ap (counting 0) at)) (counting_first n c.args.size le);
+}

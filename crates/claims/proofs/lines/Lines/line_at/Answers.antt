@@ -11,27 +11,31 @@ abbrev no_watch : Watch
 no_watch = record { mote = 0; when = record { from = 0; to = 0 } }
 
 pub returns-then-left-count : goal.returns-then-left-count
-returns-then-left-count c =
-    let w = get_or c.deref-watch-items.result.now c.loop-watch.watch-index no_watch in
-    let here : c.loop-watch.left < length (counted_in c.args.self.now (report_of c.args.report.now) w) = omega (arith, length-counted c.args.self.now (report_of c.args.report.now) w) in
-    c.line_in.ensures
-    ∙ sym (get-here (counted_in c.args.self.now (report_of c.args.report.now)) c.deref-watch-items.result.now c.loop-watch.watch-index c.loop-watch.left no_watch c.loop-watch-test.true here)
-    ∙ c.loop-watch.invariant
-    ∙ ap (λ l. slice_get (flat_map (counted_in c.args.self.now (report_of c.args.report.now)) l) c.args.index) c.deref-watch-items.ensures.value
-    ∙ ap (λ l. slice_get l c.args.index) (sym (wanted-by-watch c.args.self.now (report_of c.args.report.now)))
+returns-then-left-count c = record {
+  value =
+      let w = get_or c.deref-watch-items.result.now c.loop-watch.watch-index no_watch in
+      let here : c.loop-watch.left < length (counted_in c.args.self.now (report_of c.args.report.now) w) = omega (arith, length-counted c.args.self.now (report_of c.args.report.now) w) in
+      c.line_in.ensures.value
+      ∙ sym (get-here (counted_in c.args.self.now (report_of c.args.report.now)) c.deref-watch-items.result.now c.loop-watch.watch-index c.loop-watch.left no_watch c.loop-watch-test.true here)
+      ∙ c.loop-watch.invariant
+      ∙ ap (λ l. slice_get (flat_map (counted_in c.args.self.now (report_of c.args.report.now)) l) c.args.index) c.deref-watch-items.ensures.value
+      ∙ ap (λ l. slice_get l c.args.index) (sym (wanted-by-watch c.args.self.now (report_of c.args.report.now)));
+}
 
 pub loop-watch-preserved : goal.loop-watch-preserved
 loop-watch-preserved c =
     let w = get_or c.deref-watch-items.result.now c.loop-watch.watch-index no_watch in
     let past : length (counted_in c.args.self.now (report_of c.args.report.now) w) ≤ c.loop-watch.left = omega (arith, length-counted c.args.self.now (report_of c.args.report.now) w) in
     ap (λ n. slice_get (flat_map (counted_in c.args.self.now (report_of c.args.report.now)) (drop (c.loop-watch.watch-index + 1) c.deref-watch-items.result.now)) (c.loop-watch.left - n))
-    (c.count_in-count.ensures ∙ sym (length-counted c.args.self.now (report_of c.args.report.now) w))
+    (c.count_in-count.ensures.value ∙ sym (length-counted c.args.self.now (report_of c.args.report.now) w))
     ∙ sym (get-later (counted_in c.args.self.now (report_of c.args.report.now)) c.deref-watch-items.result.now c.loop-watch.watch-index c.loop-watch.left no_watch c.loop-watch-test.true past)
     ∙ c.loop-watch.invariant
 
 pub returns : goal.returns
-returns c =
-    ap (λ l. slice_get (flat_map (counted_in c.args.self.now (report_of c.args.report.now)) l) c.loop-watch.left) (sym (drop_all c.loop-watch.watch-index c.deref-watch-items.result.now c.loop-watch-test.false))
-    ∙ c.loop-watch.invariant
-    ∙ ap (λ l. slice_get (flat_map (counted_in c.args.self.now (report_of c.args.report.now)) l) c.args.index) c.deref-watch-items.ensures.value
-    ∙ ap (λ l. slice_get l c.args.index) (sym (wanted-by-watch c.args.self.now (report_of c.args.report.now)))
+returns c = record {
+  value =
+      ap (λ l. slice_get (flat_map (counted_in c.args.self.now (report_of c.args.report.now)) l) c.loop-watch.left) (sym (drop_all c.loop-watch.watch-index c.deref-watch-items.result.now c.loop-watch-test.false))
+      ∙ c.loop-watch.invariant
+      ∙ ap (λ l. slice_get (flat_map (counted_in c.args.self.now (report_of c.args.report.now)) l) c.args.index) c.deref-watch-items.ensures.value
+      ∙ ap (λ l. slice_get l c.args.index) (sym (wanted-by-watch c.args.self.now (report_of c.args.report.now)));
+}

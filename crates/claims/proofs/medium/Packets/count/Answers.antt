@@ -5,4 +5,4 @@ use Rattle.claims.proofs.ListLaws.{count_by-map}
 use Rattle.claims.proofs.medium.Packets.count.Goals as goal
 
 pub returns : goal.returns
-returns c = c.count_sent.ensures ∙ sym (count_by-map (λ l. is_such_packet c.args.self.now l.sent) line_model c.args.report.now.medium.items)
+returns c = record { value = c.count_sent.ensures.value ∙ sym (count_by-map (λ l. is_such_packet c.args.self.now l.sent) line_model c.args.report.now.medium.items) }

@@ -6,6 +6,8 @@ use Rattle.claims.proofs.ValueLaws.{count_by-any}
 use Rattle.claims.proofs.trace.Deed.has_length.Goals as goal
 
 pub returns : goal.returns
-returns c =
-    ap (λ n. c.args.wanted == n)
-    (c.count_marked.ensures ∙ count_by-any (lines_of (report_of c.args.report.now) c.args.self.now))
+returns c = record {
+  value =
+      ap (λ n. c.args.wanted == n)
+      (c.count_marked.ensures.value ∙ count_by-any (lines_of (report_of c.args.report.now) c.args.self.now));
+}

@@ -6,6 +6,8 @@ use Rattle.claims.proofs.DeedLaws.{list_any-lines_of}
 use Rattle.claims.proofs.trace.Deed.is_there.Goals as goal
 
 pub returns : goal.returns
-returns c =
-    c.is_there_somewhere.ensures
-    ∙ sym (list_any-lines_of (is_such (lines_of (report_of c.args.report.now) c.args.self.now) c.args.index c.args.set.now) (report_of c.args.report.now) c.args.self.now)
+returns c = record {
+  value =
+      c.is_there_somewhere.ensures.value
+      ∙ sym (list_any-lines_of (is_such (lines_of (report_of c.args.report.now) c.args.self.now) c.args.index c.args.set.now) (report_of c.args.report.now) c.args.self.now);
+}

@@ -6,6 +6,8 @@ use Rattle.claims.proofs.DeedLaws.{list_any-lines_of}
 use Rattle.claims.proofs.trace.Deed.last_has.Goals as goal
 
 pub returns : goal.returns
-returns c =
-    c.last_has_somewhere.ensures
-    ∙ sym (list_any-lines_of (ends_in c.args.set.now (lines_of (report_of c.args.report.now) c.args.self.now)) (report_of c.args.report.now) c.args.self.now)
+returns c = record {
+  value =
+      c.last_has_somewhere.ensures.value
+      ∙ sym (list_any-lines_of (ends_in c.args.set.now (lines_of (report_of c.args.report.now) c.args.self.now)) (report_of c.args.report.now) c.args.self.now);
+}

@@ -29,10 +29,10 @@ pub loop-preserved-in-Continue-1 : goal.loop-preserved-in-Continue-1
 loop-preserved-in-Continue-1 g c =
     let item = c.in-Some-take_next.item in
     let matches = c.in-Some-take_next.ensures in
-    let heard = c.in_ok-hear-in-Some-take_next.ensures in
+    let heard = c.in_ok-record_item-in-Some-take_next.ensures in
     record {
-      took = takes_more (position_of c.args.window_position.now) c.args.taker.now c.loop.taker c.take_next.new.taker item c.loop.arrived.items c.hear.new.arrived.items c.loop.invariant.took matches.next.number matches.taken heard.arrived;
-      counts = subst (λ (t : TakerView). AreTakersCounts c.hear.new.marks.items t.state) (sym matches.taken) (heard.counts c.loop.taker.state c.loop.invariant.counts matches.next);
+      took = takes_more (position_of c.args.window_position.now) c.args.taker.now c.loop.taker c.take_next.new.taker item c.loop.arrived.items c.record_item.new.arrived.items c.loop.invariant.took matches.next.number matches.taken heard.arrived;
+      counts = subst (λ (t : TakerView). AreTakersCounts c.record_item.new.marks.items t.state) (sym matches.taken) (heard.counts c.loop.taker.state c.loop.invariant.counts matches.next);
     }
 
 pub loop-preserved : goal.loop-preserved
@@ -45,12 +45,12 @@ loop-preserved g c =
       counts = subst (λ (t : TakerView). AreTakersCounts c.loop.self.counts.items t.state) same c.loop.invariant.counts;
     }
 
-pub returns-in_err-hear-in-Some-take_next-clause-unexpected :
-    goal.returns-in_err-hear-in-Some-take_next-clause-unexpected
-returns-in_err-hear-in-Some-take_next-clause-unexpected g c =
+pub returns-in_err-record_item-in-Some-take_next-clause-unexpected :
+    goal.returns-in_err-record_item-in-Some-take_next-clause-unexpected
+returns-in_err-record_item-in-Some-take_next-clause-unexpected g c =
     let p = position_of c.args.window_position.now in
-    let refused = c.in_err-hear-in-Some-take_next.ensures.refused in
-    of_error c.from_residual.result c.in_err-hear-in-Some-take_next.field-0.0 Unexpected _ c.from_residual.ensures.1
+    let refused = c.in_err-record_item-in-Some-take_next.ensures.refused in
+    of_error c.from_residual.result c.in_err-record_item-in-Some-take_next.field-0.0 Unexpected _ c.from_residual.ensures.1
     (λ e. takes_unexpected p c.args.taker.now c.loop.taker c.take_next.new.taker c.in-Some-take_next.item
     c.loop.arrived.items c.loop.invariant.took c.in-Some-take_next.ensures.taken
     (subst (Refuses p c.in-Some-take_next.item) e refused))
@@ -62,12 +62,12 @@ returns-in_err-wait-in-None-take_next-clause-unexpected g c =
     of_error c.from_residual-in_err-wait-in-None-take_next.result c.in_err-wait-in-None-take_next.field-0.0 Unexpected _
     c.from_residual-in_err-wait-in-None-take_next.ensures.1 (λ e. cc)
 
-pub returns-in_err-hear-in-Some-take_next-clause-stopped :
-    goal.returns-in_err-hear-in-Some-take_next-clause-stopped
-returns-in_err-hear-in-Some-take_next-clause-stopped g c =
+pub returns-in_err-record_item-in-Some-take_next-clause-stopped :
+    goal.returns-in_err-record_item-in-Some-take_next-clause-stopped
+returns-in_err-record_item-in-Some-take_next-clause-stopped g c =
     let p = position_of c.args.window_position.now in
-    let refused = c.in_err-hear-in-Some-take_next.ensures.refused in
-    of_error c.from_residual.result c.in_err-hear-in-Some-take_next.field-0.0 Stopped _ c.from_residual.ensures.1
+    let refused = c.in_err-record_item-in-Some-take_next.ensures.refused in
+    of_error c.from_residual.result c.in_err-record_item-in-Some-take_next.field-0.0 Stopped _ c.from_residual.ensures.1
     (λ e. absurd (subst (Refuses p c.in-Some-take_next.item) e refused))
 
 pub returns-in_err-wait-in-None-take_next-clause-stopped :

@@ -5,7 +5,7 @@ use Rattle.std.proofs.lemmas.Grind.{common_steps}
 use Rattle.program_tree.specs.declared.instruction.Instruction.{Instruction}
 use Rattle.program_tree.specs.Program.{code_of}
 use Rattle.program_tree.specs.Flat.{rest_at, Leads}
-use Rattle.protothread.specs.declared.thread.Mark.TheVariants.{RunAway}
+use Rattle.protothread.specs.declared.thread.LastAction.TheVariants.{RunAway}
 use Rattle.protothread.specs.declared.thread.Thread.{Thread}
 use Rattle.protothread.specs.declared.step.Step.TheVariants as step
 use Rattle.protothread.specs.declared.answer.PtState.TheVariants.{Ended}
@@ -62,7 +62,7 @@ returns-then-not-spend-clause-exact g c =
     let left : c.spend.new.self ≡ c.loop-self.fuel = omega (arith, none, c.if-not-spend.ensures.units) in
     c.loop-self.invariant.goes_on
     ∙ runs_away code c.args.self.now.part c.args.event.now (g.L.Look.looks c.args.look.now) t here.0 here.1 c.loop-self.vars c.loop-self.fuel c.loop-self.invariant.part here.2 none
-    ∙ ap (λ u. record { step = step.Runaway; remainder = remainder_of code (record t { mark = RunAway }); variables = c.loop-self.vars; units = u }) (sym left)
+    ∙ ap (λ u. record { step = step.Runaway; remainder = remainder_of code (record t { last_action = RunAway }); variables = c.loop-self.vars; units = u }) (sym left)
 
 pub loop-self-preserved : goal.loop-self-preserved
 loop-self-preserved g c =

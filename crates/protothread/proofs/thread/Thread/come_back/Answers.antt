@@ -1,6 +1,6 @@
 use Rattle.std.proofs.Common.{◌≡◌, ◌-◌, ◌<◌, ◌≤◌, length, refl, ap, sym, ◌∙◌, arith}
 use Rattle.std.proofs.lemmas.Grind.{common_steps}
-use Rattle.protothread.specs.declared.thread.Mark.TheVariants.{AtRest, RunAway}
+use Rattle.protothread.specs.declared.thread.LastAction.TheVariants.{AtRest, RunAway}
 use Rattle.protothread.specs.declared.step.Step.TheVariants as step
 use Rattle.protothread.specs.Step.{continued}
 use Rattle.protothread.specs.Places.{thread_place, remainder_of}
@@ -34,7 +34,7 @@ returns-else-pay c = record {
         stops_so =
             λ code event looks vars.
             cannot_resume code event looks t vars c.args.fuel.now c.in-AtRest.is short
-            ∙ ap (λ u. record { step = step.Runaway; remainder = remainder_of code (record t { mark = RunAway }); variables = vars; units = u }) none;
+            ∙ ap (λ u. record { step = step.Runaway; remainder = remainder_of code (record t { last_action = RunAway }); variables = vars; units = u }) none;
       };
 }
 
@@ -47,6 +47,6 @@ returns-in-Pausing c = record {
         stops_so =
             λ code event looks vars.
             gives_up_now code event looks t vars c.args.fuel.now c.in-Pausing.is
-            ∙ ap (λ a. record { step = step.Done a; remainder = remainder_of code (record t { mark = AtRest }); variables = vars; units = c.args.fuel.now }) (sym c.yield_answer.ensures.value);
+            ∙ ap (λ a. record { step = step.Done a; remainder = remainder_of code (record t { last_action = AtRest }); variables = vars; units = c.args.fuel.now }) (sym c.yield_answer.ensures.value);
       };
 }

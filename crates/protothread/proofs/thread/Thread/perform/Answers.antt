@@ -4,7 +4,7 @@ use Rattle.program_tree.specs.Tree.{listed}
 use Rattle.program_tree.specs.Program.{code_of}
 use Rattle.program_tree.specs.Flat.{rest_at}
 use Rattle.protothread.specs.declared.calls.Call.{Call}
-use Rattle.protothread.specs.declared.thread.Mark.TheVariants.{AtRest, UnderWay, Pausing}
+use Rattle.protothread.specs.declared.thread.LastAction.TheVariants.{AtRest, UnderWay, Pausing}
 use Rattle.protothread.specs.declared.answer.PtState.TheVariants.{Waiting}
 use Rattle.protothread.specs.Remainder.{at, before}
 use Rattle.protothread.specs.Step.{goes_on, operates, answers}
@@ -24,12 +24,12 @@ returns-in-Passes-clause-reaches c =
     λ s rest here after.
     record {
       part = ap (λ t. t.part) c.go_on.ensures.after;
-      inside = same_code code old s rest here c.args.flat.now old.mark false c.args.next c.go_on.new.self c.requires.inside c.go_on.ensures.after;
+      inside = same_code code old s rest here c.args.flat.now old.last_action false c.args.next c.go_on.new.self c.requires.inside c.go_on.ensures.after;
       made_so =
           ap (λ d. performed_at code old vars s rest d) c.in-Passes.is
           ∙ made_of-goes_on cs vars vars (before false rest)
           ∙ ap (λ l. goes_on vars (nested cs (before false l))) (sym after)
-          ∙ ap (λ p. goes_on vars p) (sym (moves_so code old s rest here old.mark c.args.next c.go_on.new.self c.go_on.ensures.after));
+          ∙ ap (λ p. goes_on vars p) (sym (moves_so code old s rest here old.last_action c.args.next c.go_on.new.self c.go_on.ensures.after));
     }
 
 pub returns-in-Assigns-clause-reaches : goal.returns-in-Assigns-clause-reaches
@@ -43,13 +43,13 @@ returns-in-Assigns-clause-reaches c =
     let new = c.go_on-in-Assigns.new.self in
     record {
       part = ap (λ t. t.part) c.go_on-in-Assigns.ensures.after;
-      inside = same_code code old s rest here c.args.flat.now old.mark false c.args.next new c.requires.inside c.go_on-in-Assigns.ensures.after;
+      inside = same_code code old s rest here c.args.flat.now old.last_action false c.args.next new c.requires.inside c.go_on-in-Assigns.ensures.after;
       made_so =
           ap (λ d. performed_at code old vars s rest d) c.in-Assigns.is
           ∙ made_of-goes_on cs vars _ (before false rest)
           ∙ ap (λ v. goes_on v (nested cs (before false rest))) (sym c.set.ensures.after)
           ∙ ap (λ l. goes_on c.set.new.self (nested cs (before false l))) (sym after)
-          ∙ ap (λ p. goes_on c.set.new.self p) (sym (moves_so code old s rest here old.mark c.args.next new c.go_on-in-Assigns.ensures.after));
+          ∙ ap (λ p. goes_on c.set.new.self p) (sym (moves_so code old s rest here old.last_action c.args.next new c.go_on-in-Assigns.ensures.after));
     }
 
 pub returns-in-Operates-clause-reaches : goal.returns-in-Operates-clause-reaches
@@ -68,8 +68,8 @@ returns-in-Operates-clause-reaches c =
           ap (λ d. performed_at code old vars s rest d) c.in-Operates.is
           ∙ made_of-operates cs vars c.in-Operates.op (UnderWay c.in-Operates.into) (before false rest)
           ∙ ap (λ l. operates c.in-Operates.op (UnderWay c.in-Operates.into) (nested cs (before false l))) (sym after)
-          ∙ ap (λ m. operates c.in-Operates.op m (nested cs (before false (rest_at b c.args.next)))) (sym (ap (λ t. t.mark) c.go_on-in-Operates.ensures.after))
-          ∙ ap (λ p. operates c.in-Operates.op new.mark p) (sym (moves_so code old s rest here (UnderWay c.in-Operates.into) c.args.next new c.go_on-in-Operates.ensures.after));
+          ∙ ap (λ m. operates c.in-Operates.op m (nested cs (before false (rest_at b c.args.next)))) (sym (ap (λ t. t.last_action) c.go_on-in-Operates.ensures.after))
+          ∙ ap (λ p. operates c.in-Operates.op new.last_action p) (sym (moves_so code old s rest here (UnderWay c.in-Operates.into) c.args.next new c.go_on-in-Operates.ensures.after));
     }
 
 pub returns-in-Pauses-clause-reaches : goal.returns-in-Pauses-clause-reaches
@@ -97,7 +97,7 @@ returns-in-Waits-clause-reaches c =
     λ s rest here after.
     record {
       part = ap (λ t. t.part) c.give_up.ensures.after;
-      mark = ap (λ t. t.mark) c.give_up.ensures.after;
+      last_action = ap (λ t. t.last_action) c.give_up.ensures.after;
       variables = refl;
       made_so =
           ap (λ d. performed_at code old vars s rest d) c.in-Waits.is
@@ -116,7 +116,7 @@ returns-in-Yields-clause-reaches c =
     let new = c.give_up-in-Yields.new.self in
     record {
       part = ap (λ t. t.part) c.give_up-in-Yields.ensures.after;
-      mark = ap (λ t. t.mark) c.give_up-in-Yields.ensures.after;
+      last_action = ap (λ t. t.last_action) c.give_up-in-Yields.ensures.after;
       variables = refl;
       made_so =
           ap (λ d. performed_at code old vars s rest d) c.in-Yields.is
@@ -157,7 +157,7 @@ returns-in-Restarts-clause-reaches c =
     let new = c.go_on-in-Restarts.new.self in
     record {
       part = ap (λ t. t.part) c.go_on-in-Restarts.ensures.after;
-      mark = ap (λ t. t.mark) c.go_on-in-Restarts.ensures.after;
+      last_action = ap (λ t. t.last_action) c.go_on-in-Restarts.ensures.after;
       variables = refl;
       made_so =
           ap (λ d. performed_at code old vars s rest d) c.in-Restarts.is
@@ -192,10 +192,10 @@ returns-in-None-clause-reaches c =
     λ s rest here after.
     let new = c.go_on-in-None.new.self in
     let none : old.calls ≡ [] = grind (arith, common_steps) in
-    let moved = c.go_on-in-None.ensures.after ∙ ap (λ ds. record old { mark = AtRest; is_yielded = false; position = 0; calls = ds }) c.in-None.ensures.empty in
+    let moved = c.go_on-in-None.ensures.after ∙ ap (λ ds. record old { last_action = AtRest; is_yielded = false; position = 0; calls = ds }) c.in-None.ensures.empty in
     record {
       part = ap (λ t. t.part) moved;
-      mark = ap (λ t. t.mark) moved;
+      last_action = ap (λ t. t.last_action) moved;
       variables = refl;
       made_so =
           ap (λ d. performed_at code old vars s rest d) c.in-Exits.is

@@ -5,11 +5,11 @@ use Rattle.program_tree.specs.Meaning.{action_of}
 use Rattle.program_tree.specs.Formula.{term_of, formula_of}
 use Rattle.program_tree.specs.Program.{code_of}
 use Rattle.program_tree.specs.Flat.{rest_at, Leads}
-use Rattle.protothread.specs.declared.deed.StatementEffect.{StatementEffect}
-use Rattle.protothread.specs.Step.{Reached, deed_of, performed, statement_reached}
+use Rattle.protothread.specs.declared.effect.StatementEffect.{StatementEffect}
+use Rattle.protothread.specs.Step.{Reached, effect_of, performed, statement_reached}
 use Rattle.protothread.specs.Places.{body_of_thread, callers_of, place_by}
-use Rattle.protothread.specs.Reach.{DeedCanSpawn, Reaches, made_of, performed_at, reached_at}
-use Rattle.protothread.proofs.Deeds.{done_by_action}
+use Rattle.protothread.specs.Reach.{EffectCanSpawn, Reaches, made_of, performed_at, reached_at}
+use Rattle.protothread.proofs.Effects.{done_by_action}
 use Rattle.protothread.proofs.Reaching.{reached_here, deed_can, spawn_there, goes_by_test, goes_by_assignment}
 use Rattle.protothread.proofs.thread.Thread.reach.Goals as goal
 
@@ -24,11 +24,11 @@ perform-requires-clause-earlier g c =
     let b = body_of_thread code old in
     let P : Instruction → Type 0 = λ i. Leads (rest_at b) i (rest_at b old.position) in
     let leads : rest_at b old.position ≡ does a ∷ rest_at b c.in-Act.next = subst P c.in-Act.is c.requires.leads in
-    let deed : c.done_by-deed.result ≡ deed_of code.number old.is_yielded vars event looks a =
-    c.done_by-deed.ensures.value ∙ ap (λ (n : ℕ). deed_of n old.is_yielded vars event looks a) c.number.ensures.number in
-    let Q : StatementEffect → Type 0 = λ d. DeedCanSpawn old.calls d in
-    subst Q (sym deed)
-    (deed_can old.calls (does a) (deed_of code.number old.is_yielded vars event looks a) (done_by_action code.number old.is_yielded vars event looks a)
+    let effect : c.done_by-effect.result ≡ effect_of code.number old.is_yielded vars event looks a =
+    c.done_by-effect.ensures.value ∙ ap (λ (n : ℕ). effect_of n old.is_yielded vars event looks a) c.number.ensures.number in
+    let Q : StatementEffect → Type 0 = λ d. EffectCanSpawn old.calls d in
+    subst Q (sym effect)
+    (deed_can old.calls (does a) (effect_of code.number old.is_yielded vars event looks a) (done_by_action code.number old.is_yielded vars event looks a)
     (λ t is. spawn_there old.calls b old.position t (rest_at b c.in-Act.next) c.requires.inside.earlier (leads ∙ ap (λ s. s ∷ rest_at b c.in-Act.next) is)))
 
 pub returns-in-Act-clause-reaches : goal.returns-in-Act-clause-reaches
@@ -42,15 +42,15 @@ returns-in-Act-clause-reaches g c =
     let b = body_of_thread code old in
     let P : Instruction → Type 0 = λ i. Leads (rest_at b) i (rest_at b old.position) in
     let leads : rest_at b old.position ≡ does a ∷ rest_at b c.in-Act.next = subst P c.in-Act.is c.requires.leads in
-    let deed : c.done_by-deed.result ≡ deed_of code.number old.is_yielded vars event looks a =
-    c.done_by-deed.ensures.value ∙ ap (λ (n : ℕ). deed_of n old.is_yielded vars event looks a) c.number.ensures.number in
+    let effect : c.done_by-effect.result ≡ effect_of code.number old.is_yielded vars event looks a =
+    c.done_by-effect.ensures.value ∙ ap (λ (n : ℕ). effect_of n old.is_yielded vars event looks a) c.number.ensures.number in
     λ s rest here.
     let same : s ∷ rest ≡ does a ∷ rest_at b c.in-Act.next = sym here ∙ leads in
     let is : s ≡ does a = cc in
     let after : rest_at b c.in-Act.next ≡ rest = cc in
-    let made : performed_at code old vars s rest c.done_by-deed.result ≡ reached_at code old vars event looks s rest =
-    ap (λ d. performed_at code old vars s rest d) deed
-    ∙ ap (λ t. made_of (callers_of code old) vars (performed code (listed b) vars t rest (deed_of code.number old.is_yielded vars event looks a))) is
+    let made : performed_at code old vars s rest c.done_by-effect.result ≡ reached_at code old vars event looks s rest =
+    ap (λ d. performed_at code old vars s rest d) effect
+    ∙ ap (λ t. made_of (callers_of code old) vars (performed code (listed b) vars t rest (effect_of code.number old.is_yielded vars event looks a))) is
     ∙ ap (λ t. made_of (callers_of code old) vars (statement_reached code (listed b) old.is_yielded vars event looks t rest)) (sym is)
     ∙ sym (reached_here code old vars event looks s rest) in
     let R : Reached → Type 0 = λ m. Reaches code m c.perform.result old c.perform.new.self vars c.perform.new.vars in

@@ -1,6 +1,6 @@
 use Rattle.std.proofs.Common.{arith}
 use Rattle.copy_exchange.proofs.MarksCounted.{count_fits, counts_packet, counts_mark}
-use Rattle.copy_exchange.proofs.take.hear.Goals as goal
+use Rattle.copy_exchange.proofs.take.record_item.Goals as goal
 
 pub overflow_add-index_mut : goal.overflow_add-index_mut
 overflow_add-index_mut c =

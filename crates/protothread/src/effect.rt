@@ -1,7 +1,7 @@
 //! The effect of a statement without blocks.
 ghost use Rattle.std.specs.Prelude.{◌≡◌};
 ghost use Rattle.program_tree.specs.Meaning.{action_of};
-ghost use Rattle.protothread.specs.Step.{deed_of, passes_where as by_test};
+ghost use Rattle.protothread.specs.Step.{effect_of, passes_where as by_test};
 
 use crate::look::Look;
 use crate::step::Op;
@@ -48,7 +48,8 @@ pub(crate) fn done_by<L: Look>(
     event: &Event,
     look: &L,
 ) -> StatementEffect
-    ensures value { result ≡ deed_of process is_yielded vars.now event.now (L.looks look.now) (action_of action.now) }
+    ensures value { result ≡
+        effect_of process is_yielded vars.now event.now (L.looks look.now) (action_of action.now) }
 {
     match action {
         Action::Assign(variable, value) => {

@@ -9,12 +9,12 @@ use Rattle.program_tree.specs.Tree.{yield_until, spawn, restart, exit, pause, ac
 use Rattle.program_tree.specs.Tree.{poll, start, kill, set, reset, restart_timer, stop, Statement, does, branch, while}
 use Rattle.program_tree.specs.Tree.{Body, Otherwise, listed}
 use Rattle.program_tree.specs.Code.{Code}
-use Rattle.protothread.specs.declared.deed.StatementEffect.TheVariants.{Operates, Pauses, Waits, Yields}
+use Rattle.protothread.specs.declared.effect.StatementEffect.TheVariants.{Operates, Pauses, Waits, Yields}
 use Rattle.protothread.specs.declared.step.Op.{Op}
 use Rattle.protothread.specs.Looks.{Looks}
 use Rattle.protothread.specs.Value.{value, holds}
 use Rattle.protothread.specs.Remainder.{before}
-use Rattle.protothread.specs.Step.{passes_where, deed_of, goes_on, statement_reached, other_block}
+use Rattle.protothread.specs.Step.{passes_where, effect_of, goes_on, statement_reached, other_block}
 use Rattle.protothread.specs.Reach.{IsDoneBy}
 
 waits_where : (s : Statement ℕ) (b : Bool) → IsDoneBy s (passes_where b Waits)
@@ -35,7 +35,7 @@ takes_where s false o = tt
 
 -- an effect that spawns a thread is that of a `spawn`
 pub done_by_action : (process : ℕ) (y : Bool) (vars : List ℕ) (event : Event) (looks : Looks) (a : Action ℕ)
-    → IsDoneBy (does a) (deed_of process y vars event looks a)
+    → IsDoneBy (does a) (effect_of process y vars event looks a)
 done_by_action process y vars event looks (assign i e) = tt
 done_by_action process y vars event looks (print e) = tt
 done_by_action process y vars event looks (send e) = tt
