@@ -1,16 +1,19 @@
-"""Tests web/motesim.wasm: tools/dev/check_module [--build]
+"""Tests web/motesim.wasm and web/motecheck.wasm: tools/dev/check_module [--build]
 
-Node runs the module on the scenarios of all cases, on all examples, and on 300 random scenarios. The module has to
-write the expected texts of the cases, and for the other scenarios what the built program writes. If its memory has a
-limit, it has to write the report or `motesim: out of memory`. web/motesim.json has to name the sources of this tree.
+Node runs the first module on the scenarios of all cases, on all examples, and on 300 random scenarios. It has to write
+the expected texts of the cases, and for the other scenarios what the built program writes. If its memory has a limit,
+it has to write the report or `motesim: out of memory`. The second module has to give the answers of the built motecheck
+to the claims of all examples, to some that can't be read, and about scenarios that are refused. The files web/NAME.json
+have to name the sources of this tree.
 
-With --build, the module is also made again, from the intermediate code of the proved program if `rt ci` has proved the
-libraries here. If the same kit and version of binaryen made the committed module from the same kind of code, both have
+With --build, the modules are also made again, from the intermediate code of the proved programs if `rt ci` has proved
+the libraries here. If the same kit and version of binaryen made a committed module from the same kind of code, both have
 to be the same, byte for byte; in any case the new one has to pass the same tests. tools/dev/build_web replaces a module
 that fails.
 """
 from __future__ import annotations
 
+import contextlib
 import subprocess
 from collections.abc import Iterator
 from pathlib import Path
@@ -19,15 +22,19 @@ import pytest
 from differences import answer, check_answer
 from project.differential.random_scenario import random_scenario
 from motesim.runner import Answer
+from motesim.judge.claims import Claims, NoClaim
+from motesim.judge.expectations import parts_of
+from motesim.judge.sentences import names_of, read_sentence
 from motesim.runner.module import SOURCES, about_of, file_of, read_about, script_of
 from motesim.runner.programs import CODE, TOP, digest
+from motesim.scenario import Scenario
 from project import web
 from project.tree import commit
 from test_cases import Case, all_cases
 
 COUNT = 300
 RENEW = 'tools/dev/build_web makes the module again'
-SCRIPT = script_of('motesim')
+SCRIPT, CHECKER = map(script_of, ('motesim', 'motecheck'))
 RUNS = Path(__file__).with_name('run_module.js')
 # A scenario with a small report, whose run needs memory beyond that which the module has at its start.
 SMALL = TOP / 'tests/cases/nets/two_senders.toml'
@@ -153,3 +160,35 @@ def test_the_script_writes_to_a_file_and_to_a_pipe(tmp_path: Path) -> None:
     done = subprocess.run(['bash', '-c', words, SCRIPT, TOP / 'examples/flooding.toml'], capture_output=True)
     first = (tmp_path / 'whole').read_bytes().split(b'\n')[0] + b'\n'
     assert (done.stdout, done.stderr, done.returncode) == (first, b'motesim: write fault\n', 1)
+
+
+def claims_of(scenario: Path) -> str:
+    """The claims that the expectations next to a scenario mean."""
+    known = Scenario.parse(scenario.read_bytes())
+    part, found, claims = parts_of(scenario.with_suffix('.expect.toml').read_text('utf-8'), '')[0], '', Claims(known)
+    known.fields = part.fields
+    for sentence in part.sentences:
+        with contextlib.suppress(NoClaim):
+            found += ''.join(row + '\n' for row in claims.of(read_sentence(sentence, names_of(known))))
+    return found
+
+
+def test_the_second_module_has_the_answers_of_motecheck(modules: dict[str, Path], checker: Path, tmp_path: Path) -> None:
+    inputs = [(it, claims_of(it)) for it in sorted(TOP.glob('examples/*.toml'))
+              if it.with_suffix('.expect.toml').is_file() and not it.name.endswith('.expect.toml')]
+    refused = sorted(TOP.glob('tests/cases/faults/*.toml'))[:20]
+    inputs += [(it, 'the net: always\n') for it in refused] + [(SMALL, it) for it in ('', 'the net: never', 'x\ny')]
+    texts = {str(place): claims.encode() + b'\0' + it.read_bytes() for place, (it, claims) in enumerate(inputs)}
+    found = answers(modules['motecheck'], texts, tmp_path)
+    for place, (scenario, claims) in enumerate(inputs):
+        (tmp_path / 'claims').write_text(claims, 'utf-8')
+        expected = answer(checker, b'', str(scenario), str(tmp_path / 'claims'))
+        check_answer(scenario.name, expected, found[str(place)])
+
+
+def test_the_second_script_is_a_program(checker: Path, tmp_path: Path) -> None:
+    (tmp_path / 'claims').write_text('the net: exactly 0 packets sent\n')
+    for words in ([str(SMALL), str(tmp_path / 'claims')], ['/dev/stdin', str(tmp_path / 'claims')],
+                  ['/nowhere', str(tmp_path / 'claims')], [str(SMALL), '/nowhere']):
+        check_answer('answers', answer(checker, SMALL.read_bytes(), *words), answer(CHECKER, SMALL.read_bytes(), *words))
+    assert answer(CHECKER, b'', '--links', 'one', 'two').status == 2

@@ -28,12 +28,12 @@ function readBytes(file) {
   return Buffer.concat(pieces);
 }
 
-// The same, for a program of this name, which ends if it can't read them.
-function inputOf(name, file) {
+// The same, for a program of this name, which ends if it can't read them; `of` says of what, if not of its scenario.
+function inputOf(name, file, of = '') {
   try {
     return readBytes(file);
   } catch {
-    end(FAILED, name + ': read fault');
+    end(FAILED, name + ': read fault' + of);
   }
 }
 

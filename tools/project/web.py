@@ -1,14 +1,15 @@
-"""Makes web/motesim.wasm from the crates, and web/motesim.html with it: tools/dev/build_web
+"""Makes web/motesim.wasm and web/motecheck.wasm from the crates, and web/motesim.html: tools/dev/build_web [NAME ..]
 
-The module is made from the program `serial_program`, which simulates the scenario in its standard input on one thread.
-The kit compiles this program to LLVM's intermediate code. If all libraries below it are proved here (`rt ci` and
-./prove do this), the kit first proves the program too; otherwise it compiles the sources without a proof. The intermediate code is then edited for WebAssembly with addresses of 64 bits (the names of the target, attributes of
-functions, and the name of `main`), compiled and linked with tools/project/runtime.c by the kit's own clang, and
-lowered to addresses of 32 bits by Debian's `binaryen`. Code with a part that the tool doesn't know, such as an external
-function, is refused.
+The modules are made from the programs `serial_program`, which simulates the scenario in its standard input on one
+thread, and `serial_check`, which answers claims about one. The kit compiles a program to LLVM's intermediate code. If
+all libraries below it are proved here (`rt ci` and ./prove do this), the kit first proves the program too; otherwise it
+compiles the sources without a proof. The intermediate code is then edited for WebAssembly with addresses of 64 bits (the
+names of the target, attributes of functions, and the name of `main`), compiled and linked with tools/project/runtime.c
+by the kit's own clang, and lowered to addresses of 32 bits by Debian's `binaryen`. Code with a part that the tool doesn't
+know, such as an external function, is refused.
 
 web/NAME.json names the sources, the kit and the kind of the intermediate code. From the same sources, with the same
-kit and the same version of binaryen, the module is the same, byte for byte.
+kit and the same version of binaryen, a module is the same, byte for byte.
 """
 from __future__ import annotations
 

@@ -1,6 +1,7 @@
-"""The WebAssembly module web/motesim.wasm, and what it was made from.
+"""The WebAssembly modules web/motesim.wasm and web/motecheck.wasm, and what they were made from.
 
-The script web/motesim runs the module in node, as a program. So the tools can run it instead of a compiled motesim.
+The scripts web/motesim and web/motecheck run them in node, as programs. So the tools can run them instead of compiled
+ones.
 """
 from __future__ import annotations
 
@@ -11,7 +12,7 @@ from typing import NamedTuple
 
 WEB = Path(__file__).resolve().parents[3] / 'web'
 # For each program, the crate from which its module is made.
-SOURCES = {'motesim': 'serial_program'}
+SOURCES = {'motesim': 'serial_program', 'motecheck': 'serial_check'}
 
 
 class About(NamedTuple):
