@@ -95,7 +95,7 @@ def call(tool: str, *words: str, cwd: Path | str | None = None, env: Mapping[str
 def on_terminal(words: list[str], cwd: Path, env: Mapping[str, str]) -> tuple[int, str]:
     """The status of a program, and what it writes on a terminal, to which standard output goes too."""
     ours, its = pty.openpty()
-    done = subprocess.run(words, cwd=cwd, stdin=subprocess.DEVNULL, stdout=its, stderr=its, timeout=60, env=env)
+    done = subprocess.run(words, cwd=cwd, stdin=subprocess.DEVNULL, stdout=its, stderr=its, timeout=SECONDS, env=env)
     os.close(its)
     said = b''
     with contextlib.suppress(OSError):

@@ -12,11 +12,14 @@
 A step may have further keys: `out` and `err` are parts of what it writes on its streams, `lacks` are in neither, `whole`
 is all of standard output, and `like` is a regular expression; `made` has parts of files, `lacks_in` what they lack,
 `like_in` regular expressions, `names` the names in folders, and `absent` files that there aren't; `files` are written,
-and `remove` removed, before the command. Spaces and line ends count as one space each. A session of one step has its keys itself. Commands that are
-refused, each with a part of the reason, may be listed at the end of a session: refuses."tool WORD .." = "..".
+and `remove` removed, before the command. Spaces and line ends count as one space each. A session of one step has its
+keys itself, and `patch` has values that the tools then have under other names: patch."motesim.MODULE.NAME" = 1.
+Commands that are refused, each with a part of the reason, may be listed at the end of a session:
+refuses."tool WORD .." = "..".
 """
 from __future__ import annotations
 
+import contextlib
 import os
 import re
 import shlex
@@ -26,15 +29,16 @@ import tomllib
 from collections.abc import Callable, Iterator, Mapping
 from pathlib import Path
 from typing import Any
+from unittest import mock
 
-from here import TOOLS, TOP, call
+from here import TOOLS, TOP, call, load_tools
 from skips import need_built
 from stub import write_stub
 
 TABLES = TOOLS / 'tests/sessions'
 OF_A_STEP = {'run', 'status', 'out', 'err', 'lacks', 'whole', 'like', 'made', 'lacks_in', 'like_in',
              'names', 'absent', 'files', 'remove'}
-OF_A_SESSION = OF_A_STEP | {'name', 'do', 'program', 'refuses'}
+OF_A_SESSION = OF_A_STEP | {'name', 'do', 'program', 'refuses', 'patch'}
 
 
 def squeezed(text: str) -> str:
@@ -99,13 +103,17 @@ def play(table: Table, session: dict[str, Any], room: Path) -> None:
     if program == 'file':
         (room / 'motesim').chmod(0o755)
         environment |= {'MOTESIM': str(room / 'motesim'), 'MOTECHECK': ''}
-    for step in steps(session):
-        for name in listed(step.get('remove', [])):
-            shutil.rmtree(room / name) if (room / name).is_dir() else (room / name).unlink()
-        table.write(room, step.get('files', {}))
-        command = table.filled(step['run'])
-        tool, *words = shlex.split(command)
-        check(table, step, command, call(tool, *words, cwd=room, env=environment), room)
+    load_tools()
+    with contextlib.ExitStack() as patches:
+        for name, value in session.get('patch', {}).items():
+            patches.enter_context(mock.patch(name, value))
+        for step in steps(session):
+            for name in listed(step.get('remove', [])):
+                shutil.rmtree(room / name) if (room / name).is_dir() else (room / name).unlink()
+            table.write(room, step.get('files', {}))
+            command = table.filled(step['run'])
+            tool, *words = shlex.split(command)
+            check(table, step, command, call(tool, *words, cwd=room, env=environment), room)
 
 
 def check(table: Table, step: dict[str, Any], command: str, done: subprocess.CompletedProcess[str], room: Path) -> None:

@@ -15,9 +15,7 @@ import tempfile
 import time
 from collections.abc import Iterator
 from pathlib import Path
-from unittest import mock
 
-from here import TOOLS
 from motesim.scenario import Scenario
 from motesim.scenario.faults import find_fault
 
@@ -26,11 +24,13 @@ STARTS = ['0 start %s' % name for name in ('etimer', 'ctimer', 'radio')]
 
 @contextlib.contextmanager
 def program() -> Iterator[Path]:
-    """A program that stands in, named by MOTESIM."""
+    """A program that stands in, named by MOTESIM. It starts without the modules of the tests."""
+    from unittest import mock
+    tests = Path(__file__).resolve().parent
     with tempfile.TemporaryDirectory() as room:
         path = Path(room, 'motesim')
-        folders = [str(TOOLS / 'tests'), str(TOOLS)]
-        path.write_text('#!%s\nimport sys\nsys.dont_write_bytecode = True\nsys.path[:0] = %r\n'
+        folders = [str(tests), str(tests.parent)]
+        path.write_text('#!%s -S\nimport sys\nsys.dont_write_bytecode = True\nsys.path[:0] = %r\n'
                         'import stand_in\nsys.exit(stand_in.main())\n' % (sys.executable, folders))
         path.chmod(0o755)
         with mock.patch.dict(os.environ, MOTESIM=str(path)):

@@ -3,19 +3,18 @@
 Mote n prints P at moment P * (n + 1), where P is what the first `print` of its program has. A comment `// wait`,
 `// burn`, `// long` or `// refuse` in the program makes it answer nothing for a minute, use a minute of processor
 time, or answer a long report or a fault. It can't grow: it ends at a gigabyte of memory, at two minutes of processor
-time, and after 100 megabytes of its report.
+time, and after 100 megabytes of its report. It is in Perl, which starts in a tenth of Python's time.
 """
-import sys
 from pathlib import Path
 
 from here import text_of
 
-STUB = text_of('stub.py.txt')
+STUB = text_of('stub.pl.txt')
 
 
 def write_stub(folder: Path) -> Path:
     """Writes the program into a folder."""
     path = folder / 'stub'
-    path.write_text(STUB % sys.executable)
+    path.write_text(STUB)
     path.chmod(0o755)
     return path

@@ -3,7 +3,7 @@ import subprocess
 import tomllib
 from pathlib import Path
 
-from here import TOOLS, TOP, call, Room
+from here import SECONDS, TOOLS, TOP, Room, call
 from skips import long, need_command, need_program
 
 from motesim.report.run import program_path
@@ -28,7 +28,7 @@ class Host(Room):
         folder = self.room / name
         subprocess.run(['make', '-s', '-C', str(folder), 'host', 'HOSTCC=' + compiler, 'HOSTFLAGS=' + flags], check=True,
                        capture_output=True)
-        return subprocess.run([str(folder / 'host')], check=True, capture_output=True, text=True, timeout=60).stdout
+        return subprocess.run([str(folder / 'host')], check=True, capture_output=True, text=True, timeout=SECONDS).stdout
 
     def reports(self) -> list[str]:
         return [self.report(path.stem, 'tcc') for path in SCENARIOS]

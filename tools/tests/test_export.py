@@ -5,7 +5,7 @@ import re
 import subprocess
 from collections import Counter
 
-from here import TOOLS, TOP, Room, call, rows_of, text_of
+from here import SECONDS, TOOLS, TOP, Room, call, rows_of, text_of
 from motesim.export import pcapng, perfetto, times, vcd
 from motesim.report import Report
 from skips import interpreter_with, need_command
@@ -62,7 +62,7 @@ class ExportTest(Room):
         self.report = Report.parse(REPORT)
 
     def run_it(self, *words: str) -> subprocess.CompletedProcess[str]:
-        return subprocess.run(words, cwd=self.room, capture_output=True, text=True, timeout=120,
+        return subprocess.run(words, cwd=self.room, capture_output=True, text=True, timeout=SECONDS,
                               env={**os.environ, 'LC_ALL': 'C.UTF-8'})
 
     def export(self, *words: str) -> str:

@@ -81,7 +81,7 @@ class Proof(Tree):
             running = self.begin(self.top / 'prove')
             assert running.stdout
             self.assertIn('proving 1 crate:', running.stdout.readline())
-            self.assertTrue(until(lambda: bool(self.provers()), 60))
+            self.assertTrue(until(lambda: bool(self.provers())))
             running.send_signal(number)
             self.assertEqual(running.wait(10), 128 + number)
             self.assertIn('./prove continues', running.stdout.read())

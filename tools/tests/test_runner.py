@@ -11,7 +11,7 @@ import unittest
 from collections.abc import Iterator
 from pathlib import Path
 
-from here import TOOLS, Room, scenario_of
+from here import SECONDS, TOOLS, Room, scenario_of
 from motesim.faults import Fault
 from motesim.runner import LimitMet, Limits, NoReport, ProgramFault, Runner, Stopped, ending, run_each
 from motesim.runner.batch import each_part
@@ -40,20 +40,20 @@ class Runs(Programs):
             Runner(self.program('kill -15 $$')).report(b'')
 
     def test_a_run_ends_at_its_time_with_all_that_it_started(self) -> None:
-        # (the shell ends at once by the signal, its child would hold the pipes for a minute)
-        runner = Runner(self.program('sleep 60 & echo $! > "$0.child"; wait'), Limits(seconds=0.3))
+        # (the shell ends at once by the signal, its child would hold the pipes for 15 minutes)
+        runner = Runner(self.program('sleep 900 & echo $! > "$0.child"; wait'), Limits(seconds=0.3))
         began = time.monotonic()
         with self.assertRaisesRegex(LimitMet, '^no answer in 0.3 seconds$') as met:
             runner.answer(b'')
         self.assertEqual(met.exception.limit, 'seconds')
-        self.assertLess(time.monotonic() - began, 10)
+        self.assertLess(time.monotonic() - began, SECONDS)
         child = int((self.room / 'program.child').read_text())
-        self.assertTrue(until(lambda: not is_alive(child), 5))
+        self.assertTrue(until(lambda: not is_alive(child)))
 
     def test_what_outlives_the_program_holds_nothing_up(self) -> None:
         began = time.monotonic()
-        self.assertEqual(Runner(self.program('sleep 60 & echo done')).report(b''), b'done\n')
-        self.assertLess(time.monotonic() - began, 10)
+        self.assertEqual(Runner(self.program('sleep 900 & echo done')).report(b''), b'done\n')
+        self.assertLess(time.monotonic() - began, SECONDS)
 
     def test_a_report_that_is_too_long_ends_the_run(self) -> None:
         with self.assertRaisesRegex(LimitMet, '^the report is longer than 100,000 bytes$') as met:
@@ -97,13 +97,13 @@ class Runs(Programs):
             with self.subTest(number), subprocess.Popen(
                     words, cwd=self.room, env={**os.environ, 'MOTESIM': str(program)}, stdout=subprocess.DEVNULL,
                     stderr=subprocess.PIPE, start_new_session=True) as tool:
-                self.assertTrue(until(lambda: noted.is_file() and noted.read_text().endswith('\n'), 60))
+                self.assertTrue(until(lambda: noted.is_file() and noted.read_text().endswith('\n')))
                 run = int(noted.read_text())
                 noted.unlink()
                 self.assertNotEqual(os.getpgid(run), os.getpgid(tool.pid))
                 os.killpg(tool.pid, number)
-                said = tool.communicate(timeout=30)[1]
-                is_over = until(lambda: not is_alive(run), 5)
+                said = tool.communicate(timeout=SECONDS)[1]
+                is_over = until(lambda: not is_alive(run))
                 if not is_over:
                     os.kill(run, signal.SIGKILL)
                 self.assertEqual((is_over, tool.returncode, said), (True, status, b''))
@@ -225,9 +225,9 @@ class Batches(Programs):
             return Runner(program).answer(b'').status
         with contextlib.closing(run_each(work, range(9), workers=2)) as found:
             next(found)
-            self.assertTrue(until(lambda: len(list(self.room.glob('*.run'))) == 2, 10))
+            self.assertTrue(until(lambda: len(list(self.room.glob('*.run'))) == 2))
         for path in self.room.glob('*.run'):
-            self.assertTrue(until(lambda: not is_alive(int(path.stem)), 5))
+            self.assertTrue(until(lambda: not is_alive(int(path.stem))))
 
     def test_stop_begins_nothing_more(self) -> None:
         stop = threading.Event()
@@ -259,7 +259,7 @@ class Batches(Programs):
             assert ran.stdout
             ran.stdout.readline()
             os.killpg(ran.pid, signal.SIGINT)
-            said, fault = ran.communicate(timeout=30)
+            said, fault = ran.communicate(timeout=SECONDS)
         self.assertEqual((said.splitlines()[-1], fault, ran.returncode), ('stopped', '', 0))
 
     def test_with_threads_about_workers_are_not_forked(self) -> None:

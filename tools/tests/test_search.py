@@ -8,7 +8,6 @@ import signal
 import subprocess
 import sys
 import tempfile
-import time
 from collections import defaultdict
 from collections.abc import Iterator, Sequence
 from pathlib import Path
@@ -16,7 +15,7 @@ from typing import Any
 from unittest import mock
 
 import pytest
-from here import TOOLS, TOP, call
+from here import SECONDS, TOOLS, TOP, call
 from motesim.faults import Fault
 from motesim.judge.expectations import beside
 from motesim.judge.judge import Judge
@@ -39,6 +38,7 @@ from motesim.search.work import RUN, Outcome, Task
 from properties import given, settings, st
 from sessions import TABLES, Table
 from skips import need_built
+from unbuilt_tree import until
 
 TABLE = Table(TABLES / 'search.toml')
 PROGRAM, DIAMOND, ANSWERED = (TABLE.texts[it] for it in ('program', 'diamond', 'answered'))
@@ -456,10 +456,9 @@ def test_hostile_programs_are_stopped() -> None:
     head, *motes = DIAMOND.replace('end = 100', 'end = 1000000').split('[[mote]]')
     motes[3] = motes[3].replace('"p"', '"loud"')
     with folder_with('[[mote]]'.join([head + loud, *motes])) as folder:
-        begin = time.monotonic()
-        _, said, seen = search(folder, '--faults', 'motes', '--bytes', '1000000', '--seconds', '2')
+        _, said, seen = search(folder, '--faults', 'motes', '--bytes', '1000000')
         assert '4 single faults: 3 run, 1 STOPPED at a limit, of which nothing is known' in said, seen
-        assert 'in every run;' not in said and time.monotonic() - begin < 30
+        assert 'in every run;' not in said
 
 
 def test_interruption_and_resumption() -> None:
@@ -469,11 +468,10 @@ def test_interruption_and_resumption() -> None:
         whole = minimal_sets(folder, *words, '-o', 'whole')[0]
         with subprocess.Popen([sys.executable, '-B', str(TOOLS / 'search'), 'diamond.toml', *words, '-o', 'part', '--jobs', '1'],
                               cwd=folder, stdout=subprocess.PIPE, stderr=subprocess.PIPE, text=True) as begun:
-            tried, end = folder / 'part/tried.txt', time.monotonic() + 30
-            while time.monotonic() < end and not (tried.exists() and tried.stat().st_size > 40):
-                time.sleep(0.05)
+            tried = folder / 'part/tried.txt'
+            assert until(lambda: tried.exists() and tried.stat().st_size > 40)
             begun.send_signal(signal.SIGINT)
-            said, seen = begun.communicate(timeout=60)
+            said, seen = begun.communicate(timeout=SECONDS)
         assert begun.returncode == 130 and 'NOT ALL WAS TRIED: it was stopped' in said, seen
         assert minimal_sets(folder, *words, '-o', 'part', '--resume')[0] == whole
         status, _, seen = search(folder, '--faults', 'links', '-o', 'part', '--resume')

@@ -3,14 +3,13 @@ follow motes with other numbers, and that an interrupt ends it. What the command
 import signal
 import subprocess
 import sys
-import time
 import tomllib
 from pathlib import Path
 from typing import Any
 from unittest import mock
 
 import pytest
-from here import TOOLS, TOP, call, text_of
+from here import SECONDS, TOOLS, TOP, call, text_of
 from motesim.faults import Fault
 from motesim.judge.judge import Judge
 from motesim.judge.sentences import Names, motes_named, names_of, read_sentence
@@ -233,14 +232,12 @@ def test_an_interrupt_ends_it_at_once_and_writes_the_smallest_scenario_so_far(fo
     (folder / 'slow').write_text(SLOW % program_path())
     (folder / 'slow').chmod(0o755)
     source = 'import sys\nsys.path.insert(0, %r)\n%sfrom motesim.commands.shrink import main\nmain()\n' % (str(TOOLS), before)
-    with subprocess.Popen([sys.executable, '-B', '-c', source, 'diamond.toml', REACHED, '--fault', 'silent 0', '--seconds', '60'],
+    with subprocess.Popen([sys.executable, '-B', '-c', source, 'diamond.toml', REACHED, '--fault', 'silent 0', '--seconds', '600'],
                           cwd=folder, stdout=subprocess.PIPE, stderr=subprocess.PIPE, text=True) as running:
         assert running.stdout
         while running.stdout.readline() not in ('', 'now\n'):
             pass
-        begin = time.monotonic()
         running.send_signal(signal.SIGINT)
-        said, seen = running.communicate(timeout=100)
-    assert time.monotonic() - begin < 30
+        said, seen = running.communicate(timeout=SECONDS)
     assert (running.returncode, (folder / 'diamond.small.toml').exists()) == (130, is_written), seen
     assert ('1 steps' in said and 'STOPPED' in said and not seen) if is_written else seen == 'shrink: %s\n' % STOPPED

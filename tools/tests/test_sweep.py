@@ -6,12 +6,11 @@ import re
 import signal
 import subprocess
 import sys
-import time
 from pathlib import Path
 from unittest import mock
 
 import pytest
-from here import TOOLS, Room, rows_of, scenario_of, text_of
+from here import SECONDS, TOOLS, Room, rows_of, scenario_of, text_of
 from motesim.experiments.asked import known_names, measures_of, sweep_of
 from motesim.experiments.doubts import of_full
 from motesim.experiments.measures import Bench, MeasureFault, imports_of, read_measure
@@ -27,6 +26,7 @@ from motesim.report.run import Run
 from motesim.scenario import Scenario
 from sessions import TABLES, Table
 from stub import write_stub
+from unbuilt_tree import until
 
 TABLE = Table(TABLES / 'sweep.toml')
 MINE = TABLE.texts['mine']
@@ -189,16 +189,14 @@ class SweepTest(Bed):
                 self.assertEqual(list(measures_of(sweep, known_names(sweep), {})), ['x'])
 
     def test_ctrl_c_keeps_what_is_finished(self) -> None:
-        self.put('burn.mote', TABLE.texts['mote'] + '// burn\n')
-        words = '--vary', 'name=a,burn', '--vary', 'motes=1..4', '--measure', 'prints', '--jobs', '2', '--seconds', '3'
+        self.put('wait.mote', TABLE.texts['mote'] + '// wait\n')
+        words = '--vary', 'name=a,wait', '--vary', 'motes=1..4', '--measure', 'prints', '--jobs', '2', '--seconds', '3'
         with subprocess.Popen([sys.executable, '-B', TOOLS / 'sweep', 'net.plan.toml', *words], cwd=self.room,
                               env={**os.environ, 'MOTESIM': str(self.stub)}, stdout=subprocess.PIPE,
                               stderr=subprocess.PIPE, text=True, start_new_session=True) as run:
-            end = time.monotonic() + 30
-            while time.monotonic() < end and (not (self.room / 'net.csv').exists() or len(self.rows()) < 4):
-                time.sleep(0.05)
+            self.assertTrue(until(lambda: (self.room / 'net.csv').exists() and len(self.rows()) >= 4))
             os.killpg(run.pid, signal.SIGINT)
-            out, seen = run.communicate(timeout=60)
+            out, seen = run.communicate(timeout=SECONDS)
         self.assertEqual((run.returncode, out), (130, ''), seen)
         # (a slow machine also writes lines of progress)
         self.assertRegex(seen, r'^(?:\d of 8 runs, .*\n)*sweep: stopped with [1-4] runs missing; the same command '

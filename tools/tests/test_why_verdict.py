@@ -2,6 +2,7 @@
 
 The judge is the second way: it reads the report by the strict reader, and looks at all motes by itself.
 """
+import contextlib
 import random
 import unittest
 from itertools import product
@@ -124,21 +125,20 @@ class Verdicts(unittest.TestCase):
     def test_every_form_on_random_reports(self) -> None:
         chance, scenario = random.Random(20), Scenario.parse(SCENARIO)
         names = names_of(scenario)
-        readable = []
-        for text in sentences():
-            try:
-                read_sentence(text, names)
-                readable.append(text)
-            except SentenceFault:
-                continue
-        self.assertGreater(len(readable), 15_000)
-        seen: dict[str, int] = {}
+        tried, read, seen = 0, 0, dict[str, int]()
+        forms = sentences()
         for turn in range(6):
             data = report_of(chance)
             asker, judge = Asker(Source('test', data.encode(), scenario)), Judge(Report.parse(data.encode()), scenario)
-            for text in chance.sample(readable, 600):
-                kind = self.check(asker, judge, text)
-                seen[kind] = seen.get(kind, 0) + 1
+            for text in chance.sample(forms, 600):
+                tried += 1
+                with contextlib.suppress(SentenceFault):
+                    read_sentence(text, names)
+                    read += 1
+                    kind = self.check(asker, judge, text)
+                    seen[kind] = seen.get(kind, 0) + 1
+        # (some combinations make no sentence)
+        self.assertGreater(read / tried, 0.6)
         self.assertEqual(set(seen), {'holds', 'broken', 'missing', 'holds, no line', 'broken, no line'})
         self.assertGreater(min(seen.values()), 25, seen)
 

@@ -25,7 +25,7 @@ class Endless(Room):
 
     def said(self, tool: str, word: str, *words: str) -> str:
         self.put('net.toml', scenario_of(PROGRAM % word, end=1_000_000))
-        done = call(tool, 'net.toml', *words, cwd=self.room, env=dict(os.environ), timeout=120)
+        done = call(tool, 'net.toml', *words, cwd=self.room, env=dict(os.environ))
         self.assertEqual((done.returncode, done.stdout), (2, ''), done)
         return done.stderr
 
@@ -59,7 +59,7 @@ class Endless(Room):
                 (late.replace('while 1', 'if 1'), None, '', (), (), False),
                 (POSTS.replace('while 1', 'if 1'), None, '', (), (), False)):
             motes = [(x, 0) for x in range(10 if 'receiver' in text else 1)]
-            data = scenario_of(text, *motes, end=60 if text == STORM else 5000)
+            data = scenario_of(text, *motes, end=60 if text == STORM else 5000 if 'set t 1030' in text else 1500)
             if len(motes) > 1:
                 data = data.replace('per = 100', 'per = 40')
             with self.subTest(text):
