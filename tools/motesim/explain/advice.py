@@ -16,7 +16,7 @@ from motesim.notation.parentheses import rewritten
 from motesim.text import nearest
 
 # The kinds of faults that more than the rule and the allowed words are said about.
-BAD_TOKEN, UNEXPECTED, UNKNOWN, BAD_TARGET = 1, 2, 3, 10
+BAD_TOKEN, UNEXPECTED, UNKNOWN_NAME, BAD_TARGET = 1, 2, 3, 10
 # What the parts of a statement's form are in an example.
 PARTS = {'E': 'x', 'B': '{ .. }', 'THREAD': 'th', 'SEMAPHORE': 's', 'PROCESS': 'p', 'SENT': 'msg', 'CAST': 'msg',
          'INTO': 'into y', 'TIMER': 't'}
@@ -61,9 +61,9 @@ def _attempts(source: str, fault: ProgramError) -> Iterator[Correction]:
         yield from _small_letters(source, fault.token)
     if fault.kind == UNEXPECTED:
         yield from _signs(source, tokens, at, fault)
-    if fault.kind in (UNEXPECTED, UNKNOWN, BAD_TARGET):
+    if fault.kind in (UNEXPECTED, UNKNOWN_NAME, BAD_TARGET):
         yield from _nearest(source, fault)
-    if fault.kind == UNKNOWN:
+    if fault.kind == UNKNOWN_NAME:
         yield from _declarations(source, fault)
 
 

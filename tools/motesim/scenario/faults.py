@@ -39,6 +39,8 @@ RULES: dict[str, str] = {
     'write fault': 'The report could not be written. Perhaps the scenario has no error.',
     'out of memory': 'There was not enough memory. Perhaps the scenario has no error.',
 }
+# Numbers of `scenario fault`.
+BAD_NAME, WRONG_KIND, OUT_OF_RANGE, NO_PROGRAM = 3, 4, 5, 6
 
 
 @dataclass
@@ -129,43 +131,43 @@ def _check_table(table: dict[str, Any], path: Path, keys: dict[str, Rule]) -> No
             raise ScenarioError('scenario fault 2', path, 'the key %s' % may_of(name, key), missing=name)
     for name in table:
         if name not in keys:
-            raise _fault(3, path + (name,), 'one of the keys %s' % ', '.join('`%s`' % it for it in keys))
+            raise _fault(BAD_NAME, path + (name,), 'one of the keys %s' % ', '.join('`%s`' % it for it in keys))
     for name, key in keys.items():
         _check_kind(table, path, name, key)
     for name, key in keys.items():
         if name in table and key.kind in (int, list):
             number = table[name] if key.kind is int else len(table[name])
             if not key.least <= number <= key.most:
-                raise _fault(5, path + (name,), may_of(name, key))
+                raise _fault(OUT_OF_RANGE, path + (name,), may_of(name, key))
 
 
 def _check_kind(table: dict[str, Any], path: Path, name: str, key: Rule) -> None:
     if name in table and type(table[name]) is not key.kind:
-        raise _fault(4, path + (name,), may_of(name, key))
+        raise _fault(WRONG_KIND, path + (name,), may_of(name, key))
     if name in table and key.kind is list:
         for index, member in enumerate(table[name]):
             if type(member) is not dict:
-                raise _fault(4, path + (name, index), 'a table')
+                raise _fault(WRONG_KIND, path + (name, index), 'a table')
 
 
 def _check_programs(programs: dict[str, Any]) -> None:
     for name in programs:
         if not re.fullmatch('[A-Za-z0-9_-]{1,32}', name):
-            raise _fault(3, ('programs', name), 'a name of 1 to 32 of `A-Z a-z 0-9 _ -`')
+            raise _fault(BAD_NAME, ('programs', name), 'a name of 1 to 32 of `A-Z a-z 0-9 _ -`')
     for name, text in programs.items():
         if type(text) is not str:
-            raise _fault(4, ('programs', name), 'a text, which is the program')
+            raise _fault(WRONG_KIND, ('programs', name), 'a text, which is the program')
     if len(programs) > MOST_PROGRAMS:
-        raise _fault(5, ('programs',), 'at most %d programs' % MOST_PROGRAMS)
+        raise _fault(OUT_OF_RANGE, ('programs',), 'at most %d programs' % MOST_PROGRAMS)
 
 
 def _check_queue(queue: dict[str, Any]) -> None:
     for name, length in queue.items():
         if type(length) is not int:
-            raise _fault(4, ('queue', name), may_of(name, QUEUE))
+            raise _fault(WRONG_KIND, ('queue', name), may_of(name, QUEUE))
     for name, length in queue.items():
         if not QUEUE.least <= length <= QUEUE.most:
-            raise _fault(5, ('queue', name), may_of(name, QUEUE))
+            raise _fault(OUT_OF_RANGE, ('queue', name), may_of(name, QUEUE))
 
 
 def _check_names(tables: dict[str, Any]) -> None:
@@ -173,10 +175,10 @@ def _check_names(tables: dict[str, Any]) -> None:
     may = 'the name of a program (%s)' % (', '.join(tables['programs']) or 'there is none')
     for name in tables.get('queue', {}):
         if name not in tables['programs']:
-            raise _fault(6, ('queue', name), may)
+            raise _fault(NO_PROGRAM, ('queue', name), may)
     for index, mote in enumerate(tables['mote']):
         if mote['program'] not in tables['programs']:
-            raise _fault(6, ('mote', index, 'program'), may)
+            raise _fault(NO_PROGRAM, ('mote', index, 'program'), may)
 
 
 def _check_texts(programs: dict[str, Any]) -> None:
