@@ -30,6 +30,7 @@ except ImportError:
 NAMES = ['chromium', 'chromium-browser', 'google-chrome', 'google-chrome-stable', 'chrome']
 START_SECONDS = 60
 CALL_SECONDS = 120
+STILL = [{'name': 'prefers-reduced-motion', 'value': 'reduce'}]
 
 
 class BrowserFault(Exception):
@@ -130,7 +131,7 @@ class Browser:
 
     def dark(self, is_dark: bool) -> None:
         scheme = {'name': 'prefers-color-scheme', 'value': 'dark' if is_dark else 'light'}
-        self.call('Emulation.setEmulatedMedia', features=[scheme])
+        self.call('Emulation.setEmulatedMedia', features=[*STILL, scheme])
 
     def open(self, path: Path, fragment: str = '') -> None:
         """Opens a page, and waits until it is ready."""
@@ -244,7 +245,9 @@ class InBrowser(unittest.TestCase):
     browser: Any
     known = ('const m = motesim, pane = m.panes[0], run = pane && pane.run, web = m.web, text = web.history.text, '
              'by = id => document.getElementById(id), button = (box, words) => '
-             '[...by(box).querySelectorAll("button")].find(it => it.textContent.includes(words))')
+             '[...by(box).querySelectorAll("button")].find(it => it.textContent.includes(words)), find = words => {'
+             'const it = by("log-asked"); it.value = words; if (by("log").hidden) by("tab-log").click(); '
+             'it.form.requestSubmit(); m.chosen.line = -1; m.act("n"); }')
 
     @classmethod
     def setUpClass(cls) -> None:
@@ -254,7 +257,8 @@ class InBrowser(unittest.TestCase):
 
     def setUp(self) -> None:
         self.browser.call('Page.navigate', url='about:blank')
-        self.browser.call('Emulation.setEmulatedMedia', features=[])
+        # (nothing moves by itself, which would need most of the time)
+        self.browser.call('Emulation.setEmulatedMedia', features=STILL)
         self.browser.call('Storage.clearDataForOrigin', origin='file://', storageTypes='local_storage')
         self.browser.faults.clear()
 

@@ -204,7 +204,7 @@ def data(tmp_path_factory: pytest.TempPathFactory) -> str:
             continue
         runs[name] = run, text
         for other in [text, *others]:
-            after = run_of(name, other)
+            after = run if other == text else run_of(name, other)
             if after and len(after.report.text()) < LONGEST:
                 found.append({'name': name, 'report': after.report.text(), 'scenario': other,
                               'found': difference(run, after)})
@@ -218,6 +218,8 @@ def data(tmp_path_factory: pytest.TempPathFactory) -> str:
     return str(path)
 
 
-@pytest.mark.parametrize('path', TESTS, ids=[path.name.removesuffix('.test.js') for path in TESTS])
-def test_in_node(path: Path, data: str) -> None:
-    node('--test', str(path), MOTESIM_PAGE_DATA=data)
+def test_in_node(data: str, tmp_path: Path) -> None:
+    """All in one process, because the wanted results are long."""
+    script = tmp_path / 'all.mjs'
+    script.write_text(''.join('await import(%s);\n' % json.dumps(path.as_uri()) for path in TESTS))
+    node(str(script), MOTESIM_PAGE_DATA=data)

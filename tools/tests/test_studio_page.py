@@ -6,13 +6,14 @@ import threading
 from typing import Any
 from unittest import mock
 
-from here import TOP, room_of
+from here import SECONDS, TOP, room_of
 import skips
 import stand_in
 from browser import InBrowser
 from motesim.runner import Limits
 from motesim.studio.desk import Desk
-from motesim.studio.runs import LIMITS, Runs
+from motesim.studio.runs import LIMITS as USUAL
+from motesim.studio.runs import Runs
 from motesim.studio.server import Server
 from motesim.studio.session import Session
 
@@ -77,6 +78,8 @@ code b {
 }
 '''
 """
+# (no run is stopped because the machine is busy)
+LIMITS = USUAL._replace(seconds=SECONDS)
 READY = 'window.motesim && motesim.ready && (motesim.web.judged || document.body.classList.contains("stale"))'
 
 
@@ -144,7 +147,7 @@ class Page(InStudio):
 
     def test_zoom_place_and_selection_stay(self) -> None:
         self.open()
-        self.value('(m.act("+"), m.act("+"), pane.zoomLanes(1.5), m.find("recv 6"))')
+        self.value('(m.act("+"), m.act("+"), pane.zoomLanes(1.5), find("recv 6"))')
         view = '[m.time.begin, m.time.scale, pane.lane, pane.top, m.play.now, run.text(m.chosen.line)]'
         before = self.value(view)
         self.assertEqual(before[-1], '23 recv 0 1 6')
@@ -174,8 +177,7 @@ class Page(InStudio):
         self.wait('m.panes.length === 1 && by("fault").hidden')
 
     def test_a_run_is_stopped_by_a_button_and_at_its_limit(self) -> None:
-        # (on a busy machine, it takes seconds until the program that stands in has started)
-        self.open(limits=LIMITS._replace(seconds=100))
+        self.open()
         self.put('# never_ends\n' + NET)
         self.wait('!by("stop").hidden')
         self.press('stop')
@@ -185,7 +187,7 @@ class Page(InStudio):
         runs.limits = LIMITS._replace(seconds=2)
         self.put('# never_ends again\n' + NET)
         self.said('stopped: no answer in 2 seconds. Start tools/studio with a larger --seconds')
-        runs.limits = LIMITS._replace(seconds=100)
+        runs.limits = LIMITS
         self.assertTrue(self.value('document.body.classList.contains("stale")'))
         self.put('# ends\n' + NET)
         self.wait('!document.body.classList.contains("stale")')
@@ -365,7 +367,7 @@ class Causes(InStudio):
 
     def stop_at(self, line: str) -> None:
         """Goes on to a line, and looks at the state there."""
-        self.value('m.find(%s)' % json.dumps(line))
+        self.value('find(%s)' % json.dumps(line))
         self.press('tab-state') if self.value('by("state").hidden') else None
 
     def test_why_and_why_not(self) -> None:
@@ -396,10 +398,10 @@ class Causes(InStudio):
         """Mote 3 takes message 1 at 49, in line 113; the step after it changes `newest`, which line 114 prints."""
         self.open()
         self.stop_at('mote 3 prints 1')
-        self.waits('state-cards', 'newest = 1')
-        self.assertEqual(self.value('document.querySelectorAll("#state-cards .changed").length'), 0)
+        self.waits('state-rows', 'newest = 1')
+        self.assertEqual(self.value('document.querySelectorAll("#state-rows .changed").length'), 0)
         self.stop_at('mote 3 takes at 49')
-        self.waits('state-cards', 'newest = 1 (changed)')
+        self.waits('state-rows', 'newest = 1 (changed)')
         self.waits('state-at', 'take 0 flood')
         self.press_in('log', 'line ›')
         self.waits('state-at', 'Mote 3')
@@ -407,14 +409,15 @@ class Causes(InStudio):
     def test_the_process_that_runs_after_a_poll_and_after_another_has_exited(self) -> None:
         """The report has no line for the call of a poll: the replay names the process that is called."""
         exits = POLLED.replace('is(poll); send 7;', 'gone(a); send 7;').replace('print 1; yield;', 'print 1;')
-        for text, lines in ((POLLED, [('mote 0 takes timer', 'a, called with timer 0', 'b\nwaits at'),
-                                      ('mote 0 sends', 'b, called with poll', 'b\nis being called'),
-                                      ('mote 0 prints 2', 'nothing', 'b\nwaits at')]),
+        for text, lines in ((POLLED, [('mote 0 takes timer', 'a, called with timer 0', 'b waits at'),
+                                      ('mote 0 sends', 'b, called with poll', 'b is being called'),
+                                      ('mote 0 prints 2', '', 'b waits at')]),
                             (exits, [('mote 0 sends', 'b, called with exited: a has exited', ''),
-                                     ('mote 0 leaves', 'nothing', '')])):
+                                     ('mote 0 leaves', '', '')])):
             self.open(text)
             for line, runs, state in lines:
                 self.stop_at(line)
-                self.waits('state-cards', 'Runs now\n%s\n' % runs)
-                self.waits('state-cards', state)
+                self.waits('state-rows', state)
+                self.wait('(by("state-rows").innerText.match(/runs now: (.*)/) || ["", ""])[1] === %s'
+                          % json.dumps(runs))
             self.stop()

@@ -124,14 +124,14 @@ def sentences_for(text: str, saved: str, expected: tuple[str, str] | None) -> li
     return part_for(text, saved, expectations.parts_of(expected[1], expected[0])).sentences
 
 
-def changes_of(expected: tuple[str, str] | None) -> list[dict[str, Any]]:
-    """The changes of a file of expectations, each of which gets a button."""
+def change_of(expected: tuple[str, str] | None) -> dict[str, Any] | None:
+    """The first change of a file of expectations, with the words of its button."""
     if expected is None:
-        return []
+        return None
+    name, source = expected
     try:
-        parts = expectations.parts_of(expected[1], expected[0])
-    except Fault:
-        return []
-    unnamed = {'change %d of %s' % (number, expected[0]) for number in range(1, len(parts))}
-    return [{'about': part.name if part.name not in unnamed else '', 'replace': part.replace}
-            for part in parts if part.replace]
+        first = expectations.parts_of(source, name)[1]
+    except (Fault, IndexError):
+        return None
+    about = 'the first change' if first.name == 'change 1 of %s' % name else first.name
+    return {'try': 'Try: ' + about, 'replace': first.replace}

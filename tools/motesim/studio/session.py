@@ -85,10 +85,10 @@ class Session:
     # Files.
 
     def opened(self, it: Document) -> dict[str, Any]:
-        """A document for the page, with the changes that its expectations name."""
-        expected = self.desk.expectations(it.where, it.name) if it.stamp else None
-        return {'document': it._asdict(), 'may_save': self.desk.may_save(it._asdict()),
-                'changes': answers.changes_of(expected)}
+        """A document for the page, with the first change that its expectations name."""
+        expected, document = self.desk.expectations(it.where, it.name) if it.stamp else None, it._asdict()
+        return {'document': {**document, 'maySave': self.desk.may_save(document)},
+                'example': answers.change_of(expected)}
 
     def begin(self, asked: dict[str, Any]) -> Answered:
         """The content of the page when it opens."""

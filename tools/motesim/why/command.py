@@ -59,7 +59,7 @@ def show_state(source: Source, asked: argparse.Namespace) -> int:
     """Shows the state of a mote."""
     replay, at, heading = read_state(source, ' '.join(asked.state))
     state = state_as_json(replay, at)
-    print(json.dumps(state, indent=1) if asked.json else '\n'.join(state_rows(state, heading)))
+    print(json.dumps(state, indent=1) if asked.json else '\n'.join([heading, *state_rows(state)]))
     return 0
 
 

@@ -5,6 +5,7 @@ A report doesn't show at which statement a process waits, or which timers run. T
 from __future__ import annotations
 
 import re
+from collections.abc import Sequence
 from typing import Any
 
 from motesim.faults import Fault
@@ -101,15 +102,25 @@ def as_json(replay: Replay, at: int) -> dict[str, Any]:
     }
 
 
-def rows(state: dict[str, Any], heading: str) -> list[str]:
-    """A state as text."""
-    lines = [heading]
+def call_in_words(call: dict[str, Any], processes: list[dict[str, Any]]) -> str:
+    """A call, `b, called with timer 0`."""
+    if call['how'] == 'callback':
+        return '%s, in the callback of its timer' % call['process']
+    event = ('exited: %s has exited' % processes[call['word']]['name'] if call['how'] == 'exited' else
+             call['event'] if call['event'] in ('init', 'exit', 'poll') else '%(event)s %(word)d' % call)
+    return '%s, called with %s' % (call['process'], event)
+
+
+def rows(state: dict[str, Any], changed: Sequence[str] = ()) -> list[str]:
+    """A state as text, with a mark at the variables that are changed next."""
     if state['halted']:
-        return lines + ['  it has halted']
+        return ['  it has halted']
+    lines = ['  runs now: ' + call_in_words(state['call'], state['processes'])] if state['call'] else []
     for it in state['processes']:
         polled = ', and is to be polled' if it['polled'] else ''
         lines.append('  process %s %s%s' % (it['name'], it['waits'], polled))
-        lines += ['    %s = %d' % pair for pair in it['variables'].items()]
+        lines += ['    %s = %d%s' % (name, value, ' (changed)' if '%s.%s' % (it['name'], name) in changed else '')
+                  for name, value in it['variables'].items()]
     for it in state['timers']:
         left = it['due'] - state['at']
         when = 'in %d moments' % left if left > 1 else 'in 1 moment' if left else 'now'

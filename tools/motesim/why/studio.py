@@ -14,8 +14,7 @@ from motesim.why.miss import misses
 from motesim.why.pages import source_of
 from motesim.why.question import Asked, Asker
 from motesim.why.source import At, Source
-from motesim.why.state import after_line, after_moment
-from motesim.why.state import as_json as state_as_json
+from motesim.why.state import after_line, as_json, rows
 
 MOST_KEPT = 4
 Said = dict[str, Any]
@@ -26,6 +25,13 @@ def _whole(asked: Said, name: str) -> int:
     if type(value) is not int:
         raise Fault('the page asked without a number %s' % name)
     return value
+
+
+def _line(source: Source, asked: Said) -> At:
+    where = source.traces.at_row(_whole(asked, 'row'))
+    if where is None or where.place < 0:
+        raise Fault('this line is in no trace')
+    return where
 
 
 class Causes:
@@ -65,19 +71,10 @@ class Causes:
         return misses_as_json(found, misses(asker, found))
 
     def state(self, source: Source, asked: Said) -> Said:
-        """The state of a mote after a line, or at the end of a moment, and the variables that the step of the line
-        changed."""
-        mote = _whole(asked, 'mote')
-        if not 0 <= mote < source.traces.motes:
-            raise Fault('there is no mote %d' % mote)
-        if 'row' not in asked:
-            at = _whole(asked, 'at')
-            return {**state_as_json(after_moment(source, mote, at), at), 'changed': []}
-        where = source.traces.at_row(_whole(asked, 'row'))
-        if where is None or where.mote != mote or where.place < 0:
-            raise Fault('this line is not in the trace of mote %d' % mote)
-        state = state_as_json(after_line(source, where), source.traces.moment(where))
-        return {**state, 'changed': self.changed(source, where)}
+        """The state of a mote after a line, in words, with a mark at the variables that the step of the line changed."""
+        where = _line(source, asked)
+        state = as_json(after_line(source, where), source.traces.moment(where))
+        return {'rows': rows(state, self.changed(source, where))}
 
     @staticmethod
     def changed(source: Source, where: At) -> list[str]:
@@ -90,9 +87,7 @@ class Causes:
 
     def statement(self, source: Source, asked: Said) -> Said:
         """The row of the text, from 0, with the statement that wrote a line or that set its timer; -1 if none did."""
-        where = source.traces.at_row(_whole(asked, 'row'))
-        if where is None or where.place < 0:
-            raise Fault('this line is in no trace')
+        where = _line(source, asked)
         number, program = source.replay(where.mote).links[where.place].row, source.program(where.mote)
         if not number or program.place is None:
             return {'statement': -1}

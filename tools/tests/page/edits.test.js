@@ -1,7 +1,6 @@
 // Changes of a scenario's text by the map and the form: only what they name becomes another.
 import assert from 'node:assert/strict';
 import {test} from 'node:test';
-import {applied} from '../../motesim/web/page/text.js';
 import {Refused} from '../../motesim/timeline/page/stage.js';
 import {edit} from '../../motesim/web/page/edits.js';
 import {readToml} from '../../motesim/web/page/toml.js';
@@ -12,7 +11,7 @@ const NET = '# Three motes.\nend = 60\n[programs]\ntalk = \'\'\'\nprocess talker
   `${mote(0, 0, '   # the first')}${mote(8, 0)}\n${mote(100, 50)}`;
 const LOSSES = `${NET}\n# what is lost\n[[loss]]\nfrom = 0   # the first\nto = 1\nevery = 2\n` +
   '[[loss]]\nfrom = 2\nto = 0\nevery = 3';
-const made = (text, what, wish) => applied(text, edit(text, {what, ...wish}).changes);
+const made = (text, what, wish) => edit(text, {what, ...wish}).text;
 const tables = (text, what, wish) => readToml(made(text, what, wish)).tables;
 const loss = (from, to, every) => ({from, to, every});
 
@@ -51,7 +50,7 @@ test('losses are set, changed and taken away', () => {
   assert.equal(made(text, 'lose', loss(1, 0, 0)), NET);
   assert.equal(tables(LOSSES, 'lose', loss(1, 0, 4)).loss.length, 3);
   assert.deepEqual(tables(LOSSES, 'lose', loss(0, 1, 0)).loss, [loss(2, 0, 3)]);
-  assert.deepEqual(edit(NET, {what: 'lose', ...loss(0, 1, 0)}).changes, []);
+  assert.equal(made(NET, 'lose', loss(0, 1, 0)), NET);
 });
 
 for (const between of [', ', ',\n  ', ', # {x = 7, y = 7}\n', ' , ']) {

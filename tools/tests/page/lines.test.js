@@ -2,7 +2,7 @@
 import assert from 'node:assert/strict';
 import {test} from 'node:test';
 import {stateInWords} from '../../motesim/timeline/page/near.js';
-import {findLines, orderOf} from '../../motesim/timeline/page/query.js';
+import {findLines, orderOf} from '../../motesim/timeline/page/log.js';
 import {names, runOf} from './data.js';
 
 test('all words of a search fit a line', async () => {

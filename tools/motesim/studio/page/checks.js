@@ -54,7 +54,6 @@ function checkItem({sentence, holds, row, required, more, remark}) {
     element('span', why, [], {className: 'why'})])], {className: holds ? 'holds' : 'broken'});
 }
 
-/** Shows the results of runs from now on. */
 export function beginChecks() {
   page.reactions.outdated.push(() => {
     labelTab('checks', 'Checks');

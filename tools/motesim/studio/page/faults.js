@@ -12,7 +12,6 @@ const {faults} = page, POLL = 300, SHOWN_SETS = 12, FIRST_KINDS = ['links', 'mot
 const CHANGES = [['', 'counter-example', 'Change the text so that it has this fault'],
   ['Shrink', 'shrink', 'Replace the text by the smallest scenario in which this fault breaks the expectation']];
 
-/** Offers kinds of faults, and searches from now on. */
 export function beginFaults(kinds) {
   page.reactions.opened.push(() => {
     stopSearch('');

@@ -6,16 +6,8 @@ import {attempt, change, open, say} from '../../web/page/web.js';
 
 const {web} = page;
 
-/** The document that was opened, and what its page says and offers: the first change that its expectations name.
- * @param {any} opened @returns {[any, any]} */
-export function documentOf({document, may_save: maySave, changes: [first]}) {
-  return [{...document, maySave},
-    first ? {try: `Try: ${first.about || 'the first change'}`, replace: first.replace} : null];
-}
-
 const isDirty = () => web.document && web.history.text !== web.saved;
 
-/** The name of the draft of the document in the browser's storage. */
 const draftName = () => `motesim draft ${web.folder} ${web.document.where} ${web.document.name}`;
 
 const forgetDraft = () => stored(it => it.removeItem(draftName()));
@@ -23,15 +15,14 @@ const forgetDraft = () => stored(it => it.removeItem(draftName()));
 /** Keeps a text that isn't saved in the browser's storage. */
 const keepDraft = text => isDirty() ? stored(it => it.setItem(draftName(), text)) : forgetDraft();
 
-/** Offers the draft of the document that was opened, if it has one. */
 function offerDraft() {
   const draft = stored(it => it.getItem(draftName()));
   if (draft === null || draft === web.saved) return;
-  say(`This browser has a text of ${web.document.name} that was not saved.`, '', {offers: [
+  say(`This browser has a text of ${web.document.name} that was not saved.`, '', [], [
     ['Take it', () => change(draft, 'edit')], ['Forget it', () => {
       forgetDraft();
       say('The text is that of the file.');
-    }]]});
+    }]]);
 }
 
 /** Shows the name of the document, and whether it is saved. */
@@ -40,10 +31,9 @@ function nameDocument() {
   byId('save').disabled = web.document.maySave && !isDirty() && web.document.stamp !== '';
 }
 
-/** Opens a file of the folder. */
 function openFile(name) {
   return attempt(async () => {
-    const [document, example] = documentOf(await page.backend.ask('open', {where: 'folder', name}));
+    const {document, example} = await page.backend.ask('open', {where: 'folder', name});
     await open(document, {example});
   });
 }
@@ -55,8 +45,8 @@ async function save(over = false, named = '') {
   const said = await attempt(() => page.backend.ask('save', {...file, text, over, ...(named ? {new: named} : {})}));
   if (!said) return;
   if (said.changed) {
-    return say(`${said.changed}.`, 'bad', {offers: named ? [] : [['Overwrite it with mine', () => save(true)],
-      ['Load the other', () => openFile(web.document.name)]]});
+    return say(`${said.changed}.`, 'bad', [], named ? [] : [['Overwrite it with mine', () => save(true)],
+      ['Load the other', () => openFile(web.document.name)]]);
   }
   forgetDraft();
   Object.assign(web, {document: {...file, ...said, maySave: true}, saved: text});
@@ -64,14 +54,12 @@ async function save(over = false, named = '') {
   say(`It is saved as ${said.name}.`);
 }
 
-/** Writes the text under a new name. */
 function saveAs() {
   const {name, maySave} = web.document, wish = maySave ? name.replace(/\.toml$/, '_2.toml') : `my_${name}`;
   const named = prompt(`A new file, in ${web.folder}:`, wish)?.trim();
   if (named) return save(false, named);
 }
 
-/** Hands the reader the page of the run that is shown. */
 async function exportPage() {
   const {name} = web.document;
   const made = await attempt(() => page.backend.ask('export', {number: web.number, title: name}));

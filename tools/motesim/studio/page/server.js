@@ -11,7 +11,6 @@ const LOST = 'The studio doesn\'t answer. Start it again, and open its page: the
 export class Server {
   isStopped = false;
 
-  /** Runs a text. */
   async run(asked) {
     this.isStopped = false;
     const got = await this.ask('run', asked), length = new DataView(got).getUint32(0, true);
@@ -23,7 +22,6 @@ export class Server {
     return {...answer, run};
   }
 
-  /** Stops the run. */
   stop() {
     this.isStopped = true;
     return this.ask('stop', {});

@@ -5,7 +5,7 @@ import {page} from '../../timeline/page/stage.js';
 import {begin, open} from '../../web/page/web.js';
 import {beginChecks} from './checks.js';
 import {beginFaults} from './faults.js';
-import {beginFiles, documentOf} from './files.js';
+import {beginFiles} from './files.js';
 import {Server} from './server.js';
 import {beginStates} from './states.js';
 import {beginWhy} from './whys.js';
@@ -18,8 +18,7 @@ async function start() {
   beginChecks();
   beginFaults(began.kinds);
   beginFiles(began);
-  const [document, example] = documentOf(began);
-  await open(document, {example, against: began.against});
+  await open(began.document, began);
 }
 
 window.motesim = page;

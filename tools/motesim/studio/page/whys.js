@@ -13,12 +13,11 @@ const ask = asked => page.backend.ask('why', {number: page.web.number, ...asked}
 const hopsOf = ({chain}) => chain.map(({line: row, how, for: wait, ...hop}) =>
   ({...hop, row, line: how === 'start' ? -1 : row - hop.mote - 2, wait: wait || ''}));
 
-/** The chain of a line. */
 async function chainOf(run, line) {
   const answer = await ask({row: run.numberOf(line, run.moteOf(line))});
   showTab('why');
   if (answer.said) throw new Error(answer.said);
-  return {hops: hopsOf(answer), about: ''};
+  return hopsOf(answer);
 }
 
 /** Asks a question in the tab *Why*: answers it with a chain, or with the near misses. */
@@ -39,7 +38,6 @@ export async function askQuestion(question) {
     misses.map(it => rowButton(pane, it.line, `mote ${mote}: ${it.words}`))));
 }
 
-/** Lets the server find causes from now on. */
 export function beginWhy() {
   page.chainOf = chainOf;
   onSubmit('why-form', () => askQuestion(byId('why-asked').value.trim()));

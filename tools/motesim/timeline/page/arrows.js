@@ -6,9 +6,8 @@ import {arrivalOf} from './index.js';
 import {FULL_LANE, awayFrom, nearest} from './layout.js';
 import {page} from './stage.js';
 
-const FEW = 250, MANY = 2500, MOST_VISITED = 15000;
+const FEW = 250, MANY = 2500, LEAST_LANE = 4;
 
-/** The ends of the arrow of a copy. */
 function arrowEnds(pane, k, c) {
   const {run} = pane, sender = run.packetSender[k], to = run.copyTo[c], line = run.copyLine[c], send = run.sendLine[k];
   const x0 = send >= 0 ? pane.lineX(send, sender) : pane.x(run.packetAt[k] + 0.5);
@@ -16,37 +15,32 @@ function arrowEnds(pane, k, c) {
   return [x0, pane.lineY(SEND, sender), x1, pane.lineY(pane.lane < FULL_LANE ? SEND : RECV, to)];
 }
 
-/** Collects the copies whose arrows cross the view, as packets and copies; from a great many packets a sample is
- * counted. */
-function copiesInView(pane) {
-  const {run, width, gutter, height, lane} = pane, found = [], begin = pane.moment(gutter);
-  const first = lowerBound(run.packetAt, begin - run.longest - 1);
-  const last = lowerBound(run.packetAt, pane.moment(width) + 1, first);
-  const stride = Math.max(1, Math.ceil((last - first) / MOST_VISITED));
-  let copies = 0;
-  for (let k = first; k < last; k += stride) {
+/** The copies whose arrows cross the view, as packets and copies; null if there are too many to draw. */
+function copiesInView(pane, first, last) {
+  const {run, height, lane} = pane, begin = pane.moment(pane.gutter), found = [];
+  for (let k = first; k < last; k++) {
     const y0 = pane.laneTop(run.packetSender[k]);
     for (let c = run.copyStart[k]; c < run.copyStart[k + 1]; c++) {
       const y1 = pane.laneTop(run.copyTo[c]);
       if (Math.max(y0, y1) < -lane || Math.min(y0, y1) > height) continue;
       if (run.packetAt[k] + (run.copyAfter[c] || run.longest) < begin) continue;
-      copies++;
-      if (found.length < MANY) found.push([k, c]);
+      if (found.push([k, c]) > MANY) return null;
     }
   }
-  pane.drawn.copies = copies * stride;
   return found;
 }
 
 export function drawArrows(pane) {
-  const found = copiesInView(pane), {drawn, run, context, lane} = pane;
-  if (drawn.copies > MANY || lane < 4) return;
-  for (const [k, copy] of found) {
+  const {drawn, run, context, lane} = pane, {packetAt, copyStart} = run;
+  const first = lowerBound(packetAt, pane.moment(pane.gutter) - run.longest - 1);
+  const last = lowerBound(packetAt, pane.moment(pane.width) + 1, first);
+  const found = lane < LEAST_LANE ? null : copiesInView(pane, first, last);
+  drawn.copies = found ? found.length : copyStart[last] - copyStart[first];
+  for (const [k, copy] of found || []) {
     const ends = arrowEnds(pane, k, copy);
     drawArrow(context, ends, run.copyFate[copy], 1, lane < 14 ? 3 : 4, drawn.copies > FEW ? 0.4 : 0.85);
     pane.arrows.push({ends, k, copy});
   }
-  drawn.arrows = found.length;
 }
 
 /** The copy whose arrow passes near a point, as packet and copy, or null. */

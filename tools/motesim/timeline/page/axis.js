@@ -14,7 +14,6 @@ function moments(pane) {
   return Array.from({length: Math.max(0, Math.floor((last - first) / step) + 1)}, (_, i) => first + i * step);
 }
 
-/** The axis of moments. */
 export function drawAxis(pane) {
   const {context: c, gutter, width} = pane, middle = page.time.scale > 26 ? 0.5 : 0;
   box(c, 'panel', 0, 0, width, AXIS);
@@ -50,13 +49,6 @@ export function drawBands(pane, from, to) {
   }
 }
 
-/** The column of the names of motes. */
-export function drawColumn({context: c, gutter, height}) {
-  box(c, 'panel', 0, AXIS, gutter - 1, height);
-  box(c, 'edge', gutter - 1, AXIS, 1, height);
-}
-
-/** The names of motes, in that column. */
 export function drawNames(pane, from, to) {
   const {run, context: c, lane, gutter} = pane, shown = page.chosen.pane === pane ? page.chosen.mote : -1;
   const step = lane >= 11 ? 1 : niceStep(13 / lane), hasPrograms = run.programs.length > 1 && lane >= 30;

@@ -1,6 +1,6 @@
 // @ts-check
 // The causes of a run's lines, and the chains that they make.
-import {COLLIDE, DROP, LOST, POST, RECV, START, TAKE} from './data.js';
+import {COLLIDE, DROP, LOST, POST, RECV, TAKE, isCall} from './data.js';
 import {unpacked} from './packing.js';
 import {count} from './words.js';
 
@@ -17,7 +17,6 @@ async function readCauses(run) {
 }
 
 const isArrival = kind => kind === RECV || kind === LOST || kind === COLLIDE;
-const isCall = kind => kind === START || kind === TAKE;
 
 /** The line that led to a line, or -1, and the reason, as far as the report shows them: what set a timer isn't there.
  * @returns {[number, string]} */
@@ -66,7 +65,7 @@ export async function chainOf(run, line) {
     hops.push({line: -1, mote, at: 0, cause: -1, row: run.traceStart[mote] + mote + 1,
       words: `mote ${mote} ${run.programs[run.begins[mote]]}`, waited: 0, wait: '', because: 'the start'});
   }
-  return {hops, about: ''};
+  return hops;
 }
 
 /** The moments of a chain by their uses, in words. */

@@ -11,6 +11,7 @@ export const FIELDS = ['p', 'p', 'xpew', 'pew', 'xp', 'xp', 'pw', 'p', 'xw', 'sx
 /** The number of the process `all`. */
 export const ALL = 0xffff;
 export const ARRAYS = {u8: Uint8Array, u16: Uint16Array, u32: Uint32Array};
+export const isCall = kind => kind === START || kind === TAKE;
 const NONE = new Uint32Array(0), NO_NAMES = /** @type {string[]} */ ([]);
 
 /** The first place of a sorted array, from `low` on and below `high`, whose number isn't below `value`. */
@@ -56,7 +57,6 @@ export class Run {
 
   process(p) { return p === ALL ? 'all' : this.processes[p]; }
 
-  /** The mote whose trace has a line. */
   moteOf(line) { return lowerBound(this.traceStart, line + 1) - 1; }
 
   /** The row of a trace's line in the report, counted from 1. */
@@ -94,7 +94,6 @@ export class Run {
   /** The words of a trace line, with the fields of its value. */
   told(i) { return this.words(i) + ([PRINT, SEND, RECV].includes(this.kind[i]) && this.fields[this.w[i]] || ''); }
 
-  /** The copies of a packet. */
   copiesOf(k) { return numbers(this.copyStart[k], this.copyStart[k + 1]); }
 
   packetText(k) {

@@ -13,7 +13,6 @@ import {count} from './words.js';
 
 const MOST_LISTED = 120, FIRST_LINES = 40, MOST_NAMED = 30;
 
-/** A line of a trace as a button that selects it. */
 function traceButton(pane, line, what = '') {
   const {run} = pane;
   return lineButton(`line ${run.numberOf(line, run.moteOf(line))}`, `${run.at[line]} ${run.told(line)}`, what,
@@ -34,7 +33,6 @@ export function chooseLine(pane, line, show = false) {
   select(pane, {mote, line, k, copy: k >= 0 && kind !== SEND ? run.copyFor(k, mote) : -1}, show);
 }
 
-/** Selects a copy of a packet by its arrow. */
 export function chooseCopy(pane, k, copy, show = false) {
   const {run} = pane;
   if (run.copyLine[copy] >= 0) return chooseLine(pane, run.copyLine[copy], show);
@@ -69,9 +67,11 @@ function select(pane, it, show) {
     if (show) revealMoment(moment);
   }
   if (show) pane.reveal(mote);
-  byId('details').replaceChildren(...(page.panes.length > 1 ? [element('p', `In ${run.name}:`)] : []),
-    ...(k >= 0 ? packetParts(pane, k) : []), ...(line >= 0 ? [...eventParts(pane, line, mote), ...turnParts(pane, line,
-      mote, k)] : k < 0 ? moteParts(pane, mote) : []));
+  const parts = page.panes.length > 1 ? [element('p', `In ${run.name}:`)] : [];
+  if (k >= 0) parts.push(...packetParts(pane, k));
+  if (line >= 0) parts.push(...eventParts(pane, line, mote), ...turnParts(pane, line, mote, k));
+  else if (k < 0) parts.push(...moteParts(pane, mote));
+  byId('details').replaceChildren(...parts);
   byId('spoken').textContent = [`Mote ${mote}`, line >= 0 && `moment ${run.at[line]}, ${run.told(line)}`,
     k >= 0 && `packet ${run.packetNumber[k]} of mote ${run.packetSender[k]}`,
     copy >= 0 && FATE_WORDS[run.copyFate[copy]]].filter(Boolean).join(', ');
@@ -90,7 +90,6 @@ function packetParts(pane, k) {
     list('ul', items)];
 }
 
-/** A copy as a button that selects it. */
 function copyButton(pane, k, copy) {
   const {run} = pane, to = run.copyTo[copy], fate = run.copyFate[copy], what = `mote ${to}: ${FATE_WORDS[fate]}`;
   if (run.copyLine[copy] >= 0) return traceButton(pane, run.copyLine[copy], what);

@@ -19,7 +19,6 @@ export function element(name, text = '', inside = [], its = {}) {
 /** A list of items: `ul` or `ol`. */
 export const list = (name, items) => element(name, '', items.map(item => element('li', '', [item])));
 
-/** A table with a row of headings. */
 export function table(headings, rows) {
   const head = element('tr', '', headings.map(name => element('th', name)));
   return element('table', '', [element('thead', '', [head]), element('tbody', '', rows)]);
@@ -28,7 +27,6 @@ export function table(headings, rows) {
 export const makeButton = (name, act, its = {}) =>
   element('button', name, [], {type: 'button', onclick: act, ...its});
 
-/** Calls a function when a form is sent. */
 export function onSubmit(id, act) {
   byId(id).addEventListener('submit', event => {
     event.preventDefault();
@@ -80,7 +78,6 @@ export function stored(work) {
   }
 }
 
-/** Hands the reader a file. */
 export function handOut(name, parts, type) {
   const href = URL.createObjectURL(new Blob(parts, {type}));
   element('a', '', [], {href, download: name}).click();

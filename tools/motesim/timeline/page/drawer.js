@@ -49,7 +49,6 @@ export function showSums() {
   if (page.panes.length && !byId('sums').hidden) fillSums(byId('sums'), page.panes[0].run);
 }
 
-/** Lets each tab of the drawer open its panel. */
 export function beginDrawer() {
   beginCard();
   beginLog();

@@ -2,7 +2,6 @@
 // The forms of lines and copies, each drawn around a point. No two differ only by colour.
 import {MEDIUM} from './index.js';
 
-/** The colours of the page by their names. */
 export const colours = {};
 // (pictures of forms in these colours)
 const stamps = new Map();
@@ -25,14 +24,12 @@ export function path(c, points, close = false) {
   if (close) c.closePath();
 }
 
-/** Strokes the path in a colour. */
 export function stroke(c, colour, width) {
   c.strokeStyle = colours[colour];
   c.lineWidth = width;
   c.stroke();
 }
 
-/** Fills the path with a colour. */
 export function fill(c, colour) {
   c.fillStyle = colours[colour];
   c.fill();
@@ -50,7 +47,6 @@ export function write(c, text, x, y, colour, most) {
   c.fillText(text, x, y, most);
 }
 
-/** Draws the lines between points. */
 export function drawPath(c, points, colour, width, alpha = 1, dash = /** @type {number[]} */ ([])) {
   c.save();
   c.globalAlpha = alpha;
@@ -107,7 +103,6 @@ const FORMS = {
   bar: [{lines: [0, -1, 0, 1], edge: 'quiet', wide: 2}],
 };
 
-/** Draws a form around a point, with a radius. */
 export function drawForm(c, name, x, y, r) {
   for (const {lines, circle, fill: inside, edge, wide = 1.4} of FORMS[name]) {
     if (lines) path(c, lines.map((it, i) => (i % 2 ? y : x) + it * r), Boolean(inside));
@@ -157,7 +152,6 @@ export function drawArrow(c, places, fate, width, size, alpha = 1) {
   c.globalAlpha = 1;
 }
 
-/** Draws the forms of the legend. */
 export function drawLegend() {
   const dots = window.devicePixelRatio || 1;
   for (const canvas of /** @type {NodeListOf<HTMLCanvasElement>} */ (document.querySelectorAll('#forms canvas'))) {

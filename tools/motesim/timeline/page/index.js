@@ -3,7 +3,6 @@
 // together, which motes hear each other, and what each island sends.
 import {COLLIDE, DEAF, DROP, FULL, HALT, LOST, POST, PRINT, RECV, SEND, START, TAKE} from './data.js';
 
-/** The fates of a copy. */
 export const FATE_WORDS = ['received and handed on', 'received, but the event queue was full',
   'received, but the program has no receiver', 'overflowed: eight packets were waiting already', 'collided with others',
   'lost on the way', 'arrived at a mote that had halted', 'would arrive after the end', 'received, but not handed on'];
@@ -142,7 +141,6 @@ function findGroups(run) {
     shown.length > 1 ? `Island ${g + 1}: ${motesInWords(motes)}` : `Net: ${motesInWords(motes)}`}));
 }
 
-/** Motes by their numbers. */
 function motesInWords(motes) {
   const [first] = motes, last = motes[motes.length - 1];
   return motes.length === 1 ? `mote ${first}` : last - first === motes.length - 1 ? `motes ${first} to ${last}` :

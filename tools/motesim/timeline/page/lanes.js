@@ -1,8 +1,8 @@
 // @ts-check
 // The lanes of a pane: a mark for each line. Marks closer than a pixel or two are thinned, and counted.
 import {drawArrows, drawChosen} from './arrows.js';
-import {drawAxis, drawBands, drawColumn, drawGrid, drawHeads, drawNames} from './axis.js';
-import {HALT, KINDS, LEAVE, POST, PRINT, RECV, SEND, START, TAKE} from './data.js';
+import {drawAxis, drawBands, drawGrid, drawHeads, drawNames} from './axis.js';
+import {HALT, KINDS, LEAVE, POST, PRINT, RECV, SEND, START, TAKE, isCall} from './data.js';
 import {box, colours, drawPath, ring, setFont, stampOf, stroke, write} from './forms.js';
 import {APART, AXIS, FULL_LANE, SMALL_LANE} from './layout.js';
 import {drawOverview} from './overview.js';
@@ -12,15 +12,11 @@ const MOST_MARKS = 12000, MOST_RINGS = 3000;
 /** The kinds of lines without marks in low lanes. */
 const LOW = [START, LEAVE, POST, TAKE];
 
-const isCall = kind => kind === START || kind === TAKE;
-
-/** The form of a line. */
 function formOf({kind, silent, e, timerEvent}, line) {
   if (silent[line]) return 'silent';
   return (kind[line] === TAKE || kind[line] === POST) && e[line] === timerEvent ? 'timer' : KINDS[kind[line]];
 }
 
-/** The radius of marks in lanes of a height. */
 const radiusOf = lane => lane >= FULL_LANE ? Math.max(3, Math.min(6.5, Math.round(lane * 0.17) / 2)) :
   Math.max(2.5, Math.min(5.5, Math.round(lane * 0.5) / 2));
 
@@ -84,7 +80,6 @@ function drawRuns(lane, [from, to], xOf) {
   }
 }
 
-/** Draws the mark of a line, and notes its label. */
 function drawLine(lane, line, x) {
   const {pane, mote, isFull, r, marks, labels} = lane, {run} = pane, kind = run.kind[line], form = formOf(run, line);
   if (!isFull && form !== 'silent' && LOW.includes(kind)) {
@@ -141,7 +136,7 @@ export function drawLanesOf(pane) {
   }, 0);
   const isCrowded = pane.lane < SMALL_LANE || lines > (pane.lane >= FULL_LANE ? MOST_MARKS : MOST_MARKS * 4);
   Object.assign(pane, {hits: [], arrows: [], lanes: [from, to],
-    drawn: {lines, thinned: 0, low: 0, rings: 0, unlabelled: 0, asColours: false, copies: 0, arrows: 0}});
+    drawn: {lines, thinned: 0, low: 0, rings: 0, unlabelled: 0, asColours: false, copies: 0}});
   c.save();
   c.beginPath();
   c.rect(gutter, AXIS, width - gutter, height - AXIS);
@@ -155,7 +150,8 @@ export function drawLanesOf(pane) {
   drawFound(pane);
   for (const draw of page.overlays) draw(pane);
   c.restore();
-  drawColumn(pane);
+  box(c, 'panel', 0, AXIS, gutter - 1, height);
+  box(c, 'edge', gutter - 1, AXIS, 1, height);
   drawHeads(pane);
   // (over the heads: the name of a low lane is taller than the lane)
   drawNames(pane, from, to);

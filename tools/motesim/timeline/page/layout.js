@@ -38,6 +38,8 @@ export class Pane {
   canvas = /** @type {any} */ (null);
   context = /** @type {any} */ (null);
   dots = 1;
+  /** What `overview.js` keeps of the last picture. */
+  kept = /** @type {any} */ ({});
   top = 0;
   lane = 20;
   gutter = 70;
@@ -162,10 +164,7 @@ export class Pane {
 
   /** The places of the lanes in view: from, to. */
   lanesInView() {
-    const from = this.placeAt(AXIS);
-    let to = from;
-    while (to < this.order.length && this.laneTopOfPlace(to) < this.height) to++;
-    return [from, to];
+    return [this.placeAt(AXIS), Math.min(this.placeAt(this.height) + 1, this.order.length)];
   }
 
   /** The lines of a mote that are in view: from, to. */

@@ -2,10 +2,10 @@
 // The page of runs: shows them, and reacts to mouse, keys and buttons.
 import {chooseAgain, chooseCopy, chooseLine, chooseMote, chosenInWords, selectNothing, walk} from './details.js';
 import {byId, element} from './dom.js';
-import {drawAll, redraw} from './draw.js';
+import {drawAll, redraw, redrawLanes} from './draw.js';
 import {drawLegend, readColours} from './forms.js';
-import {AXIS, Pane, TALL_LANE} from './layout.js';
-import {find, walkLog} from './log.js';
+import {Pane} from './layout.js';
+import {walkLog} from './log.js';
 import {MapView} from './map.js';
 import {itemAt, itemInWords} from './near.js';
 import {chooseSpeed, followNow, setNow, startPlaying, step, stopPlaying} from './play.js';
@@ -23,11 +23,8 @@ const TITLE = 28, LEAST_PANE = 150, SHARE = 0.2, LEAST_STEP = 40;
 export function resize() {
   if (!panes.length) return;
   const titles = panes.length > 1 ? panes.length * TITLE : 0, fits = panes.map(pane => pane.isFit);
-  const each = (Math.max(120, byId('panes').clientHeight) - titles) / panes.length;
-  for (const pane of panes) {
-    const wanted = pane.heads + AXIS + pane.order.length * TALL_LANE;
-    pane.resize(Math.round(Math.max(LEAST_PANE, Math.min(wanted, each))));
-  }
+  const each = Math.round((byId('panes').clientHeight - titles) / panes.length);
+  for (const pane of panes) pane.resize(Math.max(LEAST_PANE, each));
   const width = panes[0].width - panes[0].gutter, shown = time.width / time.scale, wasWhole = isWhole();
   time.width = width;
   time.scale = wasWhole ? leastScale() : width / shown;
@@ -36,17 +33,10 @@ export function resize() {
   for (const map of maps) map.resize();
 }
 
-/** Shows the whole run. */
 export function whole() {
   time.scale = leastScale();
   keepTime();
   for (const pane of panes) pane.fit();
-}
-
-/** The place at which keys and buttons zoom: that of the moment that is shown, if it is in view, or the middle. */
-function aim() {
-  const x = (Math.floor(play.now) + 0.5 - time.begin) * time.scale;
-  return play.now > 0 && x >= 0 && x <= time.width ? x : time.width / 2;
 }
 
 /** The pane that keys are for: the one with the keyboard, or with the selection. */
@@ -57,8 +47,8 @@ const scroll = by => panes.forEach(pane => { pane.top += Math.max(LEAST_STEP, pa
 
 /** What keys do; a button names the key that does the same. */
 const KEYS = {
-  '+': () => zoomTime(1.5, aim()),
-  '-': () => zoomTime(1 / 1.5, aim()),
+  '+': () => zoomTime(1.5),
+  '-': () => zoomTime(1 / 1.5),
   0: whole,
   ArrowLeft: () => pan(-1),
   ArrowRight: () => pan(1),
@@ -91,10 +81,9 @@ Object.assign(KEYS, {'=': KEYS['+'], _: KEYS['-']});
 function show() {
   keepTime();
   for (const pane of panes) pane.keep();
-  redraw();
+  redrawLanes();
 }
 
-/** Does what a key does. */
 function act(key) {
   KEYS[key]();
   show();
@@ -153,7 +142,6 @@ function listenTo(pane) {
   });
 }
 
-/** Fits everything to the window, and draws it. */
 function refit() {
   resize();
   drawAll();
@@ -163,7 +151,7 @@ function refit() {
 function listen() {
   page.overlays.push(drawChain);
   page.mapOverlays.push(drawChainOnMap);
-  Object.assign(page, {redraw, drawAll, find, act, setNow, askWhy});
+  Object.assign(page, {redraw, drawAll, act, setNow, askWhy});
   document.addEventListener('keydown', onKey);
   for (const button of /** @type {NodeListOf<HTMLElement>} */ (document.querySelectorAll('[data-key]')))
     button.addEventListener('click', () => act(button.dataset.key));

@@ -13,8 +13,6 @@ import {page} from './stage.js';
 import {count} from './words.js';
 
 const MOST_LINKS = 12000, MOST_FLYING = 4000;
-// The radius below which a disc is drawn as a square.
-const LEAST_ROUND = 2.5;
 // The height of a label, and its distance from its link.
 const TALL = 12, APART = 6;
 // How far a packet on its way is from its sender at first and at last, as shares; and a lost one, from some share on.
@@ -37,7 +35,6 @@ export class MapView extends MapLayout {
     this.listen();
   }
 
-  /** Shows another run. */
   take(run) {
     super.take(run);
     this.still = null;
@@ -59,7 +56,12 @@ export class MapView extends MapLayout {
     const c = still.getContext('2d');
     c.scale(dots, dots);
     if (this.linkCount <= MOST_LINKS) {
-      this.trace(c);
+      c.beginPath();
+      for (const [s, r] of this.links()) {
+        const [x0, y0, x1, y1] = this.way(s, r);
+        c.moveTo(x0, y0);
+        c.lineTo(x1, y1);
+      }
       stroke(c, 'line', this.radius > 4 ? 1.2 : 0.8);
     }
     const losses = run.losses.filter(([s, r]) => run.hearers[s] && run.hearers[s].includes(r));
@@ -131,7 +133,6 @@ export class MapView extends MapLayout {
   /** Draws a disc by its picture, because a large net has thousands of them in each frame. */
   drawDisc(x, y, r, colour, edge = '', wide = 0) {
     const {dots, context} = this;
-    if (r < LEAST_ROUND) return box(context, colour, x - r, y - r, 2 * r, 2 * r);
     const picture = stampOf(`disc ${colour} ${edge} ${wide}`, r, dots, (c, middle) => {
       ring(c, middle, middle, r);
       fill(c, colour);
@@ -154,7 +155,6 @@ export class MapView extends MapLayout {
     return deeds;
   }
 
-  /** Draws a mote and its action at this moment. */
   drawMote(m) {
     const {context: c, radius: r} = this, x = this.x(m), y = this.y(m);
     if (x < -20 || y < -20 || x > this.width + 20 || y > this.height + 20) return;
@@ -176,7 +176,6 @@ export class MapView extends MapLayout {
     if (r >= 5) this.drawPrinted(m, x, y + r + 2);
   }
 
-  /** Draws the value that a mote printed last. */
   drawPrinted(m, x, y) {
     const {context: c, run} = this, prints = run.prints[m];
     const last = lowerBound(prints, run.lineAt(m, Math.floor(page.play.now) + 1)) - 1;
@@ -185,7 +184,6 @@ export class MapView extends MapLayout {
     write(c, String(run.w[prints[last]]), x, y, 'print');
   }
 
-  /** The mote or the link at a point, in words. */
   wordsAt(x, y) {
     const mote = this.moteNear(x, y), link = mote < 0 && this.linkNear(x, y);
     return mote >= 0 ? moteInWords(this.run, mote) : link ? linkInWords(this.run, link[0], link[1]) : '';

@@ -1,7 +1,7 @@
 // @ts-check
 // What is near a point of the lanes or of a map, and its words.
 import {arrowNear} from './arrows.js';
-import {DROP, HALT, PRINT, START, TAKE, lowerBound} from './data.js';
+import {DROP, HALT, PRINT, START, isCall, lowerBound} from './data.js';
 import {FATE_WORDS, delayOf} from './index.js';
 import {SMALL_LANE} from './layout.js';
 import {page} from './stage.js';
@@ -27,7 +27,6 @@ export function itemAt(pane, x, y) {
   return near < to && (pane.run.at[near] - moment) * page.time.scale < 6 ? {line: near} : null;
 }
 
-/** An item of the lanes in words. */
 export function itemInWords(run, item) {
   const {mote, line, k, copy} = item;
   if (mote !== undefined) return moteInWords(run, mote);
@@ -47,7 +46,7 @@ export function stateInWords(run, mote, last) {
   const {at, kind, p, e, w} = run, printed = new Map();
   let call = -1;
   for (let i = run.traceStart[mote]; i <= last; i++) {
-    if (kind[i] === START || kind[i] === TAKE) call = i;
+    if (isCall(kind[i])) call = i;
     else if (kind[i] === DROP || kind[i] === HALT) call = -1;
     else if (kind[i] === PRINT) printed.set(run.process(p[i]), `${w[i]} at ${at[i]}`);
   }

@@ -1,8 +1,9 @@
 // @ts-check
 // Lanes with too many lines for forms: as colours of pixels.
-import {BUSY, COLLIDE, DEAF, DROP, FULL, HALT, KINDS, LEAVE, LOST, POST, PRINT, RECV, SEND, START, TAKE
+import {BUSY, COLLIDE, DEAF, DROP, FULL, HALT, KINDS, LEAVE, LOST, POST, PRINT, RECV, SEND, START, TAKE, lowerBound
 } from './data.js';
 import {colours} from './forms.js';
+import {HEAD} from './layout.js';
 import {page} from './stage.js';
 
 /** The colours of lines, the most notable last, with their kinds. Silences have no kind. */
@@ -11,17 +12,40 @@ const RANKED = [['paper'], ['run', START, LEAVE, POST, TAKE], ['recv', RECV], ['
 const RANKS = Uint8Array.from(KINDS, (_, kind) => RANKED.findIndex(its => its.includes(kind)));
 const SILENT = RANKED.findIndex(([colour]) => colour === 'quiet');
 
-/** Adds the ranks of a mote's lines to those of columns, each a pixel wide, which have the most notable one, or 0. */
-export function addRanks(pane, mote, ranks) {
-  const {at, kind, silent} = pane.run, {begin, scale} = page.time, [from, to] = pane.linesInView(mote);
-  const wide = Math.max(1, Math.floor(scale * 0.7));
-  for (let i = from; i < to;) {
-    const moment = at[i], x = Math.round((moment + 0.5 - begin) * scale - wide / 2);
-    const end = Math.min(ranks.length, x + wide);
-    let rank = 0;
-    for (; i < to && at[i] === moment; i++) rank = Math.max(rank, silent[i] ? SILENT : RANKS[kind[i]]);
-    for (let j = Math.max(0, x); j < end; j++) if (ranks[j] < rank) ranks[j] = rank;
+/** The turns of a run: the first one of each mote, and for each its moment and the rank of its most notable line. */
+function turnsOf({at, kind, silent, traceStart, count}) {
+  const starts = new Uint32Array(traceStart.length), moments = new Uint32Array(count), ranks = new Uint8Array(count);
+  let turn = -1;
+  traceStart.forEach((from, mote) => {
+    starts[mote] = turn + 1;
+    for (let i = from, end = traceStart[mote + 1]; i < end; i++) {
+      if (i === from || at[i] !== at[i - 1]) moments[++turn] = at[i];
+      ranks[turn] = Math.max(ranks[turn], silent[i] ? SILENT : RANKS[kind[i]]);
+    }
+  });
+  return {starts, moments, ranks};
+}
+
+/** The ranks of columns from one of them on, each a pixel wide, counted from moment 0: that of a mote's most notable
+ * turn there, or 0. */
+export function ranksOf(run, mote, scale, from, count) {
+  const {starts, moments, ranks} = run.turns ||= turnsOf(run), wide = Math.max(1, Math.floor(scale * 0.7));
+  const columns = new Uint8Array(count), last = (from + count) / scale + 1, end = starts[mote + 1];
+  for (let i = lowerBound(moments, from / scale - 1, starts[mote], end); i < end && moments[i] < last; i++) {
+    const x = Math.round((moments[i] + 0.5) * scale - wide / 2) - from, behind = Math.min(count, x + wide);
+    for (let j = Math.max(0, x); j < behind; j++) if (columns[j] < ranks[i]) columns[j] = ranks[i];
   }
+  return columns;
+}
+
+/** The ranks of the columns in view, of each mote when it is asked for. They are kept with those of a view to the left
+ * and one to the right, for panning. */
+function ranksInView(pane, wide) {
+  const {run} = pane, {begin, scale} = page.time, at = Math.round(begin * scale), {from} = pane.kept;
+  if (pane.kept.run !== run || pane.kept.scale !== scale || at < from || at > from + 2 * wide)
+    pane.kept = {run, scale, from: at - wide, rows: []};
+  const {kept} = pane, first = at - kept.from;
+  return mote => (kept.rows[mote] ||= ranksOf(run, mote, scale, kept.from, 3 * wide)).subarray(first, first + wide);
 }
 
 /** A colour #rrggbb as a picture's number. */
@@ -33,19 +57,25 @@ function pixelOf(colour) {
 /** Draws lanes too low for forms: each pixel has the colour of its most notable line. */
 export function drawOverview(pane, from, to) {
   const {context: c, gutter, lane} = pane, wide = Math.floor(pane.width - gutter), rows = new Map();
+  const inView = ranksInView(pane, wide);
   for (let place = from; place < to; place++) {
     // (lanes below a pixel share one)
-    const top = pane.laneTopOfPlace(place), y = lane < 1 ? Math.floor(top) : top;
-    if (!rows.has(y)) rows.set(y, new Uint8Array(wide));
-    addRanks(pane, pane.order[place], rows.get(y));
+    const top = pane.laneTopOfPlace(place), y = lane < 1 ? Math.floor(top) : top, ranks = inView(pane.order[place]);
+    const row = rows.get(y);
+    if (!row) rows.set(y, ranks.slice());
+    else for (let j = 0; j < wide; j++) if (row[j] < ranks[j]) row[j] = ranks[j];
   }
-  const table = RANKED.map(([colour], rank) => rank && pixelOf(colours[colour]));
+  const tops = [...rows.keys()], table = Uint32Array.from(RANKED, ([it], rank) => rank && pixelOf(colours[it]));
   const pixels = new Uint32Array(wide * rows.size), picture = new OffscreenCanvas(wide, rows.size);
   let pixel = 0;
   for (const ranks of rows.values()) for (let j = 0; j < wide; j++) pixels[pixel++] = table[ranks[j]];
   picture.getContext('2d').putImageData(new ImageData(new Uint8ClampedArray(pixels.buffer), wide), 0, 0);
   c.imageSmoothingEnabled = false;
-  [...rows.keys()].forEach((y, row) => c.drawImage(picture, 0, row, wide, 1, gutter, y, wide, Math.max(1, lane)));
+  // (the lanes of an island are drawn at once)
+  for (let row = 0, end; row < tops.length; row = end) {
+    for (end = row + 1; tops[end] - tops[end - 1] < HEAD;) end++;
+    c.drawImage(picture, 0, row, wide, end - row, gutter, tops[row], wide, (end - row) * Math.max(1, lane));
+  }
   c.imageSmoothingEnabled = true;
   pane.drawn.asColours = true;
 }

@@ -19,7 +19,6 @@ export function unpacked(letters, format = 'deflate', most = Infinity) {
   return piped(Uint8Array.from(atob(letters.trim()), it => it.charCodeAt(0)), new DecompressionStream(format), most);
 }
 
-/** A text, compressed and written in base64. */
 export async function packed(text, format = 'deflate-raw') {
   const bytes = await piped(new TextEncoder().encode(text), new CompressionStream(format));
   return btoa(Array.from(bytes, it => String.fromCharCode(it)).join(''));

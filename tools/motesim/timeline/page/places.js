@@ -43,7 +43,6 @@ export class MapLayout {
     this.linkCount = run.hearers.reduce((sum, list) => sum + list.length, 0) / 2;
   }
 
-  /** Takes the size of the view. */
   fitTo(width, height) {
     this.width = width;
     this.height = height;
@@ -98,16 +97,6 @@ export class MapLayout {
   * links() {
     const {hearers, places} = this.run;
     for (const [s, list] of hearers.entries()) for (const r of list) if (r > s || !places) yield [s, r];
-  }
-
-  /** Makes the links between motes the path of a picture. */
-  trace(c) {
-    c.beginPath();
-    for (const [s, r] of this.links()) {
-      const [x0, y0, x1, y1] = this.way(s, r);
-      c.moveTo(x0, y0);
-      c.lineTo(x1, y1);
-    }
   }
 
   /** The radius of a mote: by the room that each has. */

@@ -2,7 +2,7 @@
 // The moment that the maps show, and playing from moment to moment.
 import {lowerBound} from './data.js';
 import {byId} from './dom.js';
-import {redraw, redrawNow} from './draw.js';
+import {redrawLanes, redrawNow} from './draw.js';
 import {page} from './stage.js';
 import {keepTime} from './time.js';
 
@@ -27,12 +27,10 @@ function nextBusy(now, by) {
   return Math.max(0, Math.min(page.time.end, moment));
 }
 
-/** True if a packet may be on its way. */
-const isFlying = (run, now) => lowerBound(run.packetAt, now - run.longest) < lowerBound(run.packetAt, now + 1e-9);
-
 /** The moment at which playing goes on: just before the next one at which anything happens, if that is far. */
 export function pastIdle(now, far) {
-  if (isBusy(Math.floor(now)) || page.panes.some(pane => isFlying(pane.run, now))) return now;
+  const isFlying = ({run}) => lowerBound(run.packetAt, now - run.longest) < lowerBound(run.packetAt, now + 1e-9);
+  if (isBusy(Math.floor(now)) || page.panes.some(isFlying)) return now;
   const next = nextBusy(now, 1);
   return next - now > far ? next - 1 : now;
 }
@@ -49,18 +47,18 @@ export function followNow() {
   if (x >= 0 && x <= time.width * 0.92) return;
   time.begin = play.now - time.width * 0.1 / time.scale;
   keepTime();
-  redraw();
+  redrawLanes();
 }
 
 export function stopPlaying() {
-  Object.assign(page.play, {runs: false, loop: null});
+  page.play.runs = false;
   byId('play').textContent = 'Play';
 }
 
-/** Plays from the moment that is shown on; between two moments again and again, if there is a `loop`. */
-export function startPlaying(loop = /** @type {number[]|null} */ (null)) {
+/** Plays from the moment that is shown on. */
+export function startPlaying() {
   if (page.play.now >= page.time.end) setNow(0);
-  Object.assign(page.play, {runs: true, last: performance.now(), loop});
+  Object.assign(page.play, {runs: true, last: performance.now()});
   byId('play').textContent = 'Stop';
   requestAnimationFrame(playOn);
 }
@@ -70,8 +68,7 @@ function playOn(now) {
   if (!play.runs) return;
   const past = Math.min(MOST_LATE, Math.max(0, now - play.last) / 1000);
   play.last = now;
-  const next = pastIdle(play.now + past * speed, Math.max(2, speed * IDLE)), again = play.loop && next >= play.loop[1];
-  setNow(again ? play.loop[0] : next, again ? play.loop[0] : play.now);
+  setNow(pastIdle(play.now + past * speed, Math.max(2, speed * IDLE)), play.now);
   followNow();
   if (play.now >= page.time.end) stopPlaying(); else requestAnimationFrame(playOn);
 }

@@ -61,6 +61,7 @@ export function offerTips(canvas, wordsAt) {
     box.textContent = buttons || pointerType === 'touch' ? '' : wordsAt(offsetX, offsetY);
     box.hidden = !box.textContent;
     canvas.classList.toggle('points', !box.hidden);
+    if (box.hidden) return;
     const {width, height} = box.getBoundingClientRect();
     const left = Math.max(EDGE, Math.min(x + AWAY, innerWidth - width - EDGE));
     Object.assign(box.style, {left: `${left}px`,

@@ -17,15 +17,15 @@ const does = () => /** @type {((...its: any[]) => any)[]} */ ([]);
 export const page = {
   /** True when the page shows what it was opened for. */
   ready: false,
-  /** Whether a picture is asked for, and whether with the lanes. */
-  wanted: {waits: false, lanes: false},
+  /** The parts that the next picture draws: lanes, maps. */
+  wanted: new Set(),
   backend: /** @type {Backend} */ (none),
   panes: list(),
   maps: list(),
   /** The stretch in view: the moment at the left edge, the pixels of a moment, and the pixels of the view. */
   time: {begin: 0, scale: 1, end: 0, width: 100},
-  /** The moment that the maps show, and the one before it; and those between which playing goes round, or null. */
-  play: {now: 0, before: -1, runs: false, last: 0, loop: none},
+  /** The moment that the maps show, and the one before it; when the last picture was played. */
+  play: {now: 0, before: -1, runs: false, last: 0},
   /** The selection: a mote of a pane (null: nothing), and its line (or -1), or a packet k with a copy (or -1). `times`
    * counts selections. */
   chosen: {pane: none, mote: -1, line: -1, k: -1, copy: -1, times: 0},
@@ -69,7 +69,6 @@ export const page = {
 /** Something that a backend refuses to do. The message is for the reader. */
 export class Refused extends Error {}
 
-/** Replaces the selection. */
 export function choose(it) {
   Object.assign(page.chosen, {pane: null, mote: -1, line: -1, k: -1, copy: -1}, it);
   page.chosen.times++;

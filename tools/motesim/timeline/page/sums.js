@@ -71,7 +71,6 @@ function sumTable([names, ...rows]) {
     element('td', shown(value), [], {className: names[i]})), {className: row[0]})));
 }
 
-/** Shows the totals of a run. */
 export function fillSums(box, run) {
   const {motes, links} = sums(run);
   box.replaceChildren(sumTable(motes), sumTable(links));

@@ -28,5 +28,4 @@ export function beginTabs(list, show, mayClose = false) {
   });
 }
 
-/** Opens a panel. */
 export function showTab(name) { if (byId(name).hidden) byId(`tab-${name}`).click(); }

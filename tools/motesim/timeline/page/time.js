@@ -7,7 +7,6 @@ const {time} = page, MOST_SCALE = 600;
 /** The scale at which the whole run is in view. */
 export const leastScale = () => time.width / (time.end + 1) * 0.98;
 
-/** True if the whole run is in view. */
 export const isWhole = () => time.scale <= leastScale() * 1.001;
 
 /** Keeps the view within the run. */
@@ -25,7 +24,6 @@ export function zoomTime(factor, x = time.width / 2) {
   keepTime();
 }
 
-/** Shows a moment in the middle of the view. */
 function centre(moment) {
   time.begin = moment - time.width / time.scale / 2;
   keepTime();
@@ -44,7 +42,6 @@ export function revealMoment(moment) {
   if (x < 20 || x > time.width - 20) centre(moment + 0.5);
 }
 
-/** The moments in view, in words. */
 export function momentsInWords() {
   const last = Math.min(time.end, Math.ceil(time.begin + time.width / time.scale) - 1);
   return `Moments ${Math.max(0, Math.floor(time.begin))} to ${last} of ${time.end}.`;

@@ -9,11 +9,9 @@ import {SMALL_LANE} from './layout.js';
 import {page} from './stage.js';
 import {count} from './words.js';
 
-/** Shows why a line is there. */
 export async function askWhy(pane, line) {
   try {
-    const {hops, about} = await page.chainOf(pane.run, line);
-    showChain(pane, hops, about);
+    showChain(pane, await page.chainOf(pane.run, line));
   } catch (fault) {
     sayWhy(fault.message);
   }
@@ -28,14 +26,13 @@ function show(title, texts, items, spoken) {
   redraw();
 }
 
-/** Shows a sentence instead of a chain. */
 export function sayWhy(text, items = []) {
   closeWhy();
   show('Why', [text], items, text);
 }
 
 /** Shows a chain: on the lanes and the map, and as buttons. */
-export function showChain(pane, hops, about) {
+export function showChain(pane, hops, about = '') {
   const [first] = hops, path = pathOf(hops);
   page.why = {pane, run: pane.run, hops};
   show(`Why mote ${first.mote} writes: ${first.at} ${first.words}`, about ? [about, path] : [path],

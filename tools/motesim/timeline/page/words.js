@@ -1,8 +1,10 @@
 // @ts-check
 // Words for readers: numbers with their nouns.
 
+const FORM = new Intl.NumberFormat('en');
+
 /** A number with commas between thousands. */
-export const digits = number => number.toLocaleString('en');
+export const digits = number => FORM.format(number);
 
 /** A number with its noun, in the plural unless it is 1: `3 packets`, `1 copy`, `2 copies`. */
 export function count(number, noun) {

@@ -5,17 +5,17 @@ import {indexRun} from '../../timeline/page/index.js';
 import {Refused} from '../../timeline/page/stage.js';
 import {placeOfFault, ruleOf, scenarioOf} from './scenario.js';
 
-/** The milliseconds after which a run is ended. */
-const MOST_TIME = 5000, SLOW = 'The run took longer than 5 seconds, so it was stopped.';
+const SLOW = 'The run took longer than 5 seconds, so it was stopped.';
 
 /** @implements {Backend}
  * @typedef {import('../../timeline/page/stage.js').Backend} Backend */
 export class Alone {
   number = 0;
+  /** The milliseconds after which a run is ended. */
+  most = 5000;
   worker = /** @type {Worker|null} */ (null);
-  /** Takes the answer of the run that goes on. */
-  done = /** @type {((answer: any) => void)|null} */ (null);
-  timer = 0;
+  /** Ends the run that goes on, with its worker. */
+  end = /** @type {(answer: any) => void} */ (() => {});
 
   /** @param {Promise<WebAssembly.Module>} module @param {string} script the worker's
    * @param {Record<string, string>} rules those that errors break */
@@ -33,10 +33,19 @@ export class Alone {
     if (number !== this.number) return {superseded: true};
     const got = await new Promise(done => {
       const worker = this.worker ||= new Worker(this.script);
-      this.done = done;
-      worker.onmessage = ({data}) => this.finish(data);
+      const timer = setTimeout(() => this.end({limit: SLOW}), this.most);
+      const finish = answer => {
+        clearTimeout(timer);
+        this.end = () => {};
+        done(answer);
+      };
+      this.end = answer => {
+        worker.terminate();
+        this.worker = null;
+        finish(answer);
+      };
+      worker.onmessage = ({data}) => finish(data);
       worker.onerror = event => this.end({limit: `The run failed in this browser: ${event.message}`});
-      this.timer = window.setTimeout(() => this.end({limit: SLOW}), MOST_TIME);
       worker.postMessage({module, number, text});
     });
     if (got.superseded || got.limit) return got;
@@ -47,22 +56,6 @@ export class Alone {
     return number === this.number ? {run, number, took: got.took} : {superseded: true};
   }
 
-  /** Ends the run that goes on, with its worker. */
-  end(answer) {
-    if (!this.done) return;
-    this.worker.terminate();
-    this.worker = null;
-    this.finish(answer);
-  }
-
-  finish(answer) {
-    clearTimeout(this.timer);
-    const {done} = this;
-    this.done = null;
-    done(answer);
-  }
-
-  /** Ends the run at the reader's wish. */
   stop() {
     this.number++;
     this.end({limit: 'You stopped the run.'});

@@ -15,7 +15,6 @@ const delivered = typeof document === 'undefined' ? '' : `<!DOCTYPE html>\n${doc
 /** The text and the name that this page was saved with, as JSON; `null` if it was saved with none. */
 const savedHere = () => byId('saved').textContent;
 
-/** Keeps the text as the draft of this page. */
 export const keepDraft = (text, name) =>
   stored(it => it.setItem(DRAFT, JSON.stringify({text, name, of: savedHere()})));
 
@@ -68,7 +67,6 @@ function savePage(text, name) {
   handOut(name.replace(/(\.toml)?$/, '.html'), [delivered.slice(0, begin), inside, delivered.slice(end)], 'text/html');
 }
 
-/** Shows the ways to share a text. */
 export async function showSharing(text, name) {
   const {line, mote, pane} = page.chosen, [copy, field] = [byId('copy-link'), byId('link')];
   const bare = await linkTo(text), link = bare && line >= 0 ? `${bare}&line=${pane.run.numberOf(line, mote)}` : bare;
@@ -78,14 +76,9 @@ export async function showSharing(text, name) {
   field.hidden = copy.hidden = !link;
   field.value = link || '';
   copy.textContent = 'Copy the link';
-  copy.onclick = async () => {
+  copy.onclick = () => {
     field.select();
-    try {
-      await navigator.clipboard.writeText(link);
-    } catch {
-      document.execCommand('copy');
-    }
-    copy.textContent = 'Copied';
+    if (document.execCommand('copy')) copy.textContent = 'Copied';
   };
   byId('download').onclick = () => handOut(name, [text], 'text/plain');
   byId('save-page').onclick = () => savePage(text, name);

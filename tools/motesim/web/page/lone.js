@@ -28,15 +28,10 @@ async function start() {
     forgetDraft();
     keepInAddress(null);
   });
-  let opened = null, broken = false;
-  try {
-    opened = await textToOpen();
-  } catch {
-    broken = true;
-  }
+  const opened = await textToOpen().catch(() => undefined);
   if (opened) await open({where: '', ...opened}, {intro: ORIGINS[opened.from]});
   else await openExample(first);
-  if (broken) say('The link is broken: no text can be read from it. This is the first example.', 'bad');
+  if (opened === undefined) say('The link is broken: no text can be read from it. This is the first example.', 'bad');
   if (opened?.from === 'link' && page.panes.length) openAsAddressed();
 }
 

@@ -14,8 +14,6 @@ const {ground, maps, chosen} = page;
 const ARROWS = {ArrowLeft: [-1, 0], ArrowRight: [1, 0], ArrowUp: [0, -1], ArrowDown: [0, 1]};
 const MAP_KEYS = 'Map of the motes: { and } choose a mote, arrows move it by a tenth of the range, with Shift by 1. ' +
   'Enter shows its next link, whose losses follow in the order of Tab. Delete removes the mote.';
-// The most motes whose links are shown while one of them is moved.
-const MOST_LINKED = 400;
 
 export const sayOnMap = words => { byId('map-said').textContent = words; };
 
@@ -45,7 +43,7 @@ const groundEdits = {
     ground.held ||= {mote, place: run.places[mote]};
     [map.xs[mote], map.ys[mote]] = map.shownAt(x, y);
     run.places[mote] = isFree ? map.placeAt(x, y) : map.snappedAt(x, y, mote);
-    if (run.begins.length <= MOST_LINKED) findHearers(run);
+    findHearers(run);
     sayOnMap(`Mote ${mote} to ${run.places[mote].join(', ')}`);
     map.redraw();
   },
@@ -131,7 +129,6 @@ function wayOf(run, s, r) {
     [element('label', 'loses 1 in ', [input])]);
 }
 
-/** Draws the selected link on the map. */
 function drawWay(map) {
   const {way} = ground;
   if (way && Math.max(...way) < map.run.begins.length) drawPath(map.context, map.way(way[0], way[1]), 'mark', 5, 0.55);
@@ -152,14 +149,12 @@ export function renewMotes() {
   if (typing) byId('way').querySelector(`[data-way="${typing}"]`)?.focus();
 }
 
-/** Names the button that removes the selected mote. */
 function nameRemove() {
   const button = byId('remove'), {mote} = chosen, name = mote < 0 ? 'Remove the mote' : `Remove mote ${mote}`;
   button.disabled = mote < 0 || page.panes[0].run.begins.length < 2;
   if (button.textContent !== name) button.textContent = name;
 }
 
-/** Lets the map change the text from now on. */
 export function beginMotes() {
   page.followers.push(nameRemove);
   page.mapOverlays.push(drawWay);

@@ -1,13 +1,75 @@
 // @ts-check
 // The text area: it shows the whole text, or one program of it, in colours; and marks an error.
-import {byId} from '../../timeline/page/dom.js';
+import {byId, element} from '../../timeline/page/dom.js';
 import {numbers} from '../../timeline/page/data.js';
 import {lineAndColumn} from './text.js';
-import {Tint} from './tint.js';
-import {firstState} from './tokens.js';
+import {firstState, rowTokens} from './tokens.js';
 
 // Pixels above and below the line that the reader types.
 const MARGIN = 8;
+// Rows above and below those in view that are coloured too.
+const MORE = 20;
+
+/** The colours: a picture of the rows in view, behind the transparent text of the area. */
+class Tint {
+  /** An error as [row, begin, end]; and the row of a statement. */
+  marks = {place: /** @type {number[]|null} */ (null), row: -1};
+  /** The state before the first row, which may be in a program; and those before the next ones, as far as known. */
+  first = firstState();
+  states = [this.first];
+  rows = /** @type {string[]|null} */ (null);
+
+  /** @param {HTMLTextAreaElement} area @param {HTMLElement} box @param {any} words those of the notation */
+  constructor(area, box, words) {
+    this.area = area;
+    this.box = box;
+    this.tokens = rowTokens(words);
+    area.addEventListener('scroll', () => this.draw());
+    new ResizeObserver(() => this.draw()).observe(area);
+  }
+
+  /** Takes the text of the area, once before the next picture: a paste may change each of its rows in turn. */
+  take() {
+    this.rows = null;
+    this.marks.row = -1;
+    requestAnimationFrame(() => this.draw());
+  }
+
+  /** Draws other marks. @param {{place?: number[]|null, row?: number}} marks */
+  mark(marks) {
+    Object.assign(this.marks, marks);
+    this.draw();
+  }
+
+  draw() {
+    if (!this.rows) Object.assign(this, {rows: this.area.value.split('\n'), states: [this.first]});
+    const {area, rows, box, states} = this, high = parseFloat(getComputedStyle(area).lineHeight) || 19.5, made = [];
+    const first = Math.max(0, Math.floor(area.scrollTop / high) - MORE);
+    const end = Math.min(rows.length, Math.ceil((area.scrollTop + area.clientHeight) / high) + MORE);
+    for (let row = Math.min(first, states.length - 1); row < end; row++) {
+      const state = {...states[row]}, pieces = this.tokens(rows[row], state);
+      states[row + 1] = state;
+      if (row >= first) made.push(this.rowOf(row, pieces));
+    }
+    box.replaceChildren(...made);
+    box.style.transform = `translate(${-area.scrollLeft}px, ${first * high - area.scrollTop}px)`;
+  }
+
+  /** @param {number} row @param {[string, string|null][]} pieces */
+  rowOf(row, pieces) {
+    const {place, row: selected} = this.marks, isFault = place && place[0] === row;
+    return element('div', pieces.length ? '' : '\n', [...(isFault ? [this.markOf(place)] : []),
+      ...pieces.map(([text, colour]) => colour ? element('span', text, [], {className: `token-${colour}`}) : text)],
+    {className: isFault ? 'fault-line' : row === selected ? 'statement-line' : ''});
+  }
+
+  /** The mark of a place: its text once more, which can't be seen, behind the other. @param {number[]} place */
+  markOf(place) {
+    const [row, from, to] = place, text = this.rows[row], marked = text.slice(from, Math.max(from + 1, to)) || ' ';
+    return element('span', text.slice(0, from), [element('span', marked, [], {className: 'fault-mark'})],
+      {className: 'marks'});
+  }
+}
 
 export class Pad {
   area = /** @type {HTMLTextAreaElement} */ (byId('text'));
@@ -59,29 +121,19 @@ export class Pad {
     this.tint.mark({place: place && [place[0] - this.rowsBefore, place[1], place[2]]});
   }
 
-  /** Brings a row of the shown text into view. */
   showRow(row) {
     const {area} = this, {lineHeight, paddingTop} = getComputedStyle(area), high = parseFloat(lineHeight);
     const top = parseFloat(paddingTop) + row * high;
     area.scrollTop = Math.min(Math.max(area.scrollTop, top + high + MARGIN - area.clientHeight), top - MARGIN);
   }
 
-  /** Selects a stretch of the shown text. */
   select(begin, end) {
     this.area.setSelectionRange(begin, end);
     this.area.focus({preventScroll: true});
     this.showRow(lineAndColumn(this.area.value, begin)[0]);
   }
 
-  /** Marks a piece of the shown text as the one that was changed, until the text is changed again. */
-  light(piece) {
-    const begin = this.area.value.indexOf(piece), [row, column] = lineAndColumn(this.area.value, Math.max(0, begin));
-    if (begin < 0) return;
-    this.tint.mark({lit: [row, column, column + piece.length]});
-    this.showRow(row);
-  }
-
-  /** Marks a row of the whole text as the statement that is selected; -1 marks none. */
+  /** Marks a row of the whole text as the one that was changed, or the statement that is selected; -1 marks none. */
   lightRow(row) {
     const shown = row < 0 ? -1 : row - this.rowsBefore;
     this.tint.mark({row: shown});

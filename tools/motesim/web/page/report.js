@@ -7,31 +7,13 @@ const TYPES = {traceStart: 'u32', at: 'u32', x: 'u32', packetAt: 'u32', copyAfte
   begins: 'u16', packetSender: 'u16', packetValue: 'u16', copyCount: 'u16', copyTo: 'u16', kind: 'u8'};
 const LINE_END = 10;
 
-/** A column that grows. */
-class Growing {
-  constructor(Type) {
-    this.numbers = new Type(1024);
-    this.length = 0;
-  }
-
-  push(number) {
-    const {numbers} = this;
-    if (this.length === numbers.length) {
-      this.numbers = new numbers.constructor(2 * this.length);
-      this.numbers.set(numbers);
-    }
-    this.numbers[this.length++] = number;
-  }
-}
-
 /** The place of a name among those that were met.
  * @param {Map<string, number>} names @param {string} name @returns {number} */
 const placeIn = (names, name) => names.get(name) ?? names.set(name, names.size).size - 1;
 
 /** The columns of a report, its names, and how many copies were left at its end. */
 export function columnsOf(text) {
-  const columns = /** @type {any} */ (Object.fromEntries(Object.entries(TYPES).map(
-    ([name, type]) => [name, new Growing(ARRAYS[type])])));
+  const columns = /** @type {any} */ (Object.fromEntries(Object.keys(TYPES).map(name => [name, []])));
   const processes = new Map(), events = new Map(), programs = new Map();
   const codes = new Map(KINDS.map((kind, code) => [kind, code]));
   let place = 0, left = 0;
@@ -94,5 +76,5 @@ export function columnsOf(text) {
   }
   columns.traceStart.push(columns.at.length);
   return {table: {left, programs: [...programs.keys()], processes: [...processes.keys()], events: [...events.keys()]},
-    columns: Object.fromEntries(Object.entries(columns).map(([name, it]) => [name, it.numbers.slice(0, it.length)]))};
+    columns: Object.fromEntries(Object.entries(TYPES).map(([name, type]) => [name, new ARRAYS[type](columns[name])]))};
 }

@@ -12,13 +12,3 @@ export function offsetOf(text, [line, column]) {
   const before = text.split('\n').slice(0, line);
   return Math.min(before.reduce((sum, row) => sum + row.length + 1, column), text.length);
 }
-
-/** A piece of a text, from one offset to another, and its replacement.
- * @typedef {{begin: number, end: number, text: string}} Change */
-
-/** The text with changes that don't overlap.
- * @param {string} text @param {Change[]} changes */
-export function applied(text, changes) {
-  const sorted = [...changes].sort((a, b) => a.begin - b.begin || a.end - b.end);
-  return sorted.reduceRight((made, it) => made.slice(0, it.begin) + it.text + made.slice(it.end), text);
-}

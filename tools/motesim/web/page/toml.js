@@ -14,9 +14,8 @@ const unescaped = text => text.replace(ESCAPE, (all, short, long, sign) =>
 /** Reads a text from front to back. A path has the names and the numbers that lead to an item. */
 class Reader {
   at = 0;
-  /** The offsets of the header or key of each item, and of its value, if it has one. */
+  /** The offsets of the header or key of each item, of its value, if it has one, and of its end. */
   places = new Map();
-  headers = /** @type {number[]} */ ([]);
   tables = /** @type {any} */ ({});
 
   constructor(text) { this.text = text; }
@@ -39,19 +38,23 @@ class Reader {
 
   gaps() { this.take(/(?:[ \t\r\n]|#[^\n]*)*/y); }
 
-  note(path, key, value) { this.places.set(JSON.stringify(path), {key, value}); }
+  note(path, key, value) {
+    const place = {key, value, end: this.at};
+    this.places.set(JSON.stringify(path), place);
+    return place;
+  }
 
   document() {
-    let base = [], table = this.tables;
+    let base = [], table = this.tables, opened = this.note([], [0, 0], null);
     for (this.gaps(); this.at < this.text.length; this.gaps()) {
       const from = this.at, end = this.pass('[[') ? ']]' : this.pass('[') ? ']' : '';
       if (end) {
         const names = this.key();
         if (!this.pass(end)) this.fail();
-        this.headers.push(from);
         [table, base] = this.opened(names, end === ']]');
-        this.note(base, [from, this.at], null);
+        opened = this.note(base, [from, this.at], null);
       } else this.pair(table, base);
+      opened.end = this.at;
       if (!this.take(/[ \t]*(?:#[^\n]*)?(?:\r?\n|$)/y)) this.fail();
     }
     return this;
@@ -80,7 +83,6 @@ class Reader {
     return [list[list.length - 1], path];
   }
 
-  /** A key with dots, as its names. */
   key() {
     const names = [];
     do {
@@ -92,7 +94,6 @@ class Reader {
     return names;
   }
 
-  /** A key with its value. */
   pair(table, base) {
     const from = this.at, names = this.key(), behind = this.at, path = [...base], last = names.pop();
     if (!this.take(/=[ \t]*/y)) this.fail();
@@ -142,9 +143,8 @@ class Reader {
   }
 }
 
-/** A text with its values (`tables`), the `places` of all items by their paths in JSON, and the offsets of `headers`.
- * @param {string} text */
+/** A text with its values (`tables`), and the `place` of the item at a path. @param {string} text */
 export function readToml(text) {
-  const {tables, places, headers} = new Reader(text).document();
-  return {tables, headers, places, place: (...path) => places.get(JSON.stringify(path))};
+  const {tables, places} = new Reader(text).document();
+  return {tables, place: (...path) => places.get(JSON.stringify(path))};
 }

@@ -11,15 +11,14 @@ import {setNow, startPlaying, stopPlaying} from '../../timeline/page/play.js';
 import {page, Refused} from '../../timeline/page/stage.js';
 import {beginTabs} from '../../timeline/page/tabs.js';
 import {count} from '../../timeline/page/words.js';
-import {difference, effectInWords} from './diff.js';
+import {difference, drawDifference, effectInWords, goToDifference} from './diff.js';
 import {edit} from './edits.js';
-import {drawDifference, goToDifference} from './flag.js';
 import {beginGallery, firstSentence} from './gallery.js';
 import {beginFiles, showSharing} from './keeping.js';
 import {beginMotes, renewMotes, restoreMotes, sayOnMap} from './motes.js';
 import {Pad} from './pad.js';
 import {programsOf} from './scenario.js';
-import {applied, offsetOf} from './text.js';
+import {lineAndColumn, offsetOf} from './text.js';
 
 /** Milliseconds from a key to its run, to the sign of a long run, and to the keeping of the text. */
 const PAUSE = 150, LONG = 500, KEEP = 1000;
@@ -27,16 +26,17 @@ const PAUSE = 150, LONG = 500, KEEP = 1000;
 const {web} = page;
 const react = (name, ...words) => page.reactions[name].forEach(does => does(...words));
 
-/** Shows a sentence, with the buttons that belong to it; `offers` are pairs of a name and a function. */
-export function say(words, is = '', {tries = false, shows = false, reverts = false,
-  offers = /** @type {[string, () => void][]} */ ([])} = {}) {
+/** Shows a sentence, with those of its buttons that belong to it, and others: pairs of a name and a function.
+ * @param {string} words @param {string[]} buttons @param {[string, () => void][]} offers */
+export function say(words, is = '', buttons = [], offers = []) {
   byId('said').textContent = words;
   byId('sentence').dataset.is = is;
-  byId('try').hidden = !tries;
-  byId('show').hidden = !shows;
-  byId('revert').hidden = !reverts;
+  for (const id of ['try', 'show', 'revert']) byId(id).hidden = !buttons.includes(id);
   byId('offers').replaceChildren(...offers.map(([name, does]) => makeButton(name, does)));
 }
+
+/** The button that goes back, if there is a text before. */
+const reverting = () => web.history.before ? ['revert'] : [];
 
 /** Does something that may be refused: then says why, and returns null.
  * @param {() => any} work */
@@ -52,9 +52,10 @@ export async function attempt(work) {
 
 /** Says what the open example is about, and offers its change; or where the text came from. */
 function sayIntro() {
-  const {example, intro, history} = web, tries = Boolean(example?.replace);
-  if (tries) byId('try').textContent = example.try;
-  say(example?.about || intro || firstSentence(history.text) || `This is ${web.document.name}.`, '', {tries});
+  const {example, intro, history} = web;
+  if (example) byId('try').textContent = example.try;
+  say(example?.about || intro || firstSentence(history.text) || `This is ${web.document.name}.`, '',
+    example?.replace ? ['try'] : []);
 }
 
 // The text.
@@ -91,7 +92,7 @@ async function changeByMap(wish, how = 'edit') {
   const {text} = web.history, made = await attempt(() => edit(text, wish));
   if (!made) return restoreMotes();
   sayOnMap(made.said);
-  if (made.changes.length) change(applied(text, made.changes), how);
+  if (made.text !== text) change(made.text, how);
 }
 
 /** Goes back to an earlier text, or on to a later one. */
@@ -125,7 +126,6 @@ export async function open(document, {example = /** @type {any} */ (null), intro
   goToDifference();
 }
 
-/** Makes the change that the example offers. */
 function makeTry() {
   const {history, example, pad} = web, pieces = Object.entries(example.replace);
   const text = pieces.reduce((made, [old, piece]) => made.split(old).join(piece), history.text);
@@ -134,7 +134,7 @@ function makeTry() {
     return say('The text no longer has what this would change. Undo, or open the example again.');
   }
   change(text, 'try');
-  pad.light(pieces[0][1]);
+  pad.lightRow(lineAndColumn(text, text.indexOf(pieces[0][1]))[0]);
 }
 
 /** Selects a stretch of a row of the whole text. */
@@ -170,7 +170,7 @@ function showFault(fault) {
   byId('fault-place').hidden = !place;
   byId('fault-correct').hidden = !corrected;
   say(`The text has an error${place ? ` in line ${place[0] + 1 - above}` : ''}${
-    page.panes.length ? ': the last run is shown' : ''}.`, 'bad', {reverts: Boolean(web.history.before)});
+    page.panes.length ? ': the last run is shown' : ''}.`, 'bad', reverting());
 }
 
 /** Marks the place of an error, and shows the words about it; or that there is none. */
@@ -182,11 +182,11 @@ function markFault(place = null, words = '') {
 
 /** Says that a run was stopped, and then, if the backend finds it out, what the run does so often. */
 async function showLimit({limit, number}, text) {
-  const reverts = Boolean(web.history.before), {asked} = web;
+  const {asked} = web;
   markFault();
-  say(`${limit} Does a loop repeat without waiting?`, 'bad', {reverts});
+  say(`${limit} Does a loop repeat without waiting?`, 'bad', reverting());
   const found = number && await attempt(() => page.backend.ask('advise', {text, number}));
-  if (found?.does && asked === web.asked) say(limit + found.does, 'bad', {reverts});
+  if (found?.does && asked === web.asked) say(limit + found.does, 'bad', reverting());
 }
 
 async function showRun({run, number, took}, step) {
@@ -202,8 +202,7 @@ async function showRun({run, number, took}, step) {
     (took === undefined ? '' : `, ${Math.max(1, Math.round(took))} ms`);
   if (web.fresh) beginShow();
   else if (found) {
-    say(effectInWords(run, against, found), found.same ? 'same' : 'differs',
-      {shows: Boolean(found.first), reverts: true});
+    say(effectInWords(run, against, found), found.same ? 'same' : 'differs', [found.first && 'show', 'revert']);
     // (the button that was pressed is hidden now)
     if (document.activeElement === document.body && step.how === 'try') byId('revert').focus();
   } else if (!before) sayIntro();
@@ -223,10 +222,10 @@ function beginShow() {
   sayIntro();
   stopPlaying();
   byId('try').classList.toggle('breathes', Boolean(example));
-  if (!example?.to) return setNow(0);
+  if (!example?.speed) return setNow(0);
   byId('speed').value = example.speed;
   setNow(isStill ? example.still : example.from);
-  if (!isStill) startPlaying([example.from, example.to]);
+  if (!isStill) startPlaying();
 }
 
 // The page.
@@ -280,6 +279,5 @@ export function begin(backend, {cards, texts, words}) {
   return examples;
 }
 
-/** Opens an example. */
 export const openExample = it =>
   open({where: 'example', name: `${it.file}.toml`, text: it.text}, {example: it});
