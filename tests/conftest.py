@@ -13,7 +13,7 @@ from pathlib import Path
 import pytest
 
 sys.path.insert(0, str(Path(__file__).resolve().parents[1] / 'tools'))
-from motesim.runner.programs import checker_path, is_module, program_path  # noqa: E402
+from motesim.runner.programs import CHECKER, is_module, program_path  # noqa: E402
 from project.counts import pytest_terminal_summary  # noqa: E402, F401
 
 
@@ -31,7 +31,7 @@ def program() -> Path:
 @pytest.fixture(scope='session')
 def checker() -> Path:
     """The motecheck whose answers are compared."""
-    found = checker_path()
-    if found is None or is_module(found):
+    found = program_path(CHECKER)
+    if is_module(found):
         pytest.skip('motecheck isn\'t built')
     return found.resolve()

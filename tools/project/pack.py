@@ -19,8 +19,7 @@ lists the files that it adds to the repository's own files, and the files that i
 The archive has the binary that the environment variable MOTESIM names. If MOTESIM isn't set, the archive has the proved
 `motesim` that ./prove has built from these sources, and a page PROVED.md about the proof and the kit. If ./prove hasn't
 built it, the archive has a binary that is compiled without a proof. Then tools/pack and the archive's ./run say so.
-The same holds for `motecheck` and MOTECHECK; with MOTESIM alone, the archive has no `motecheck`. The same tree and
-binaries yield the same archive, byte for byte.
+The same holds for `motecheck` and MOTECHECK. The same tree and binaries yield the same archive, byte for byte.
 """
 from __future__ import annotations
 
@@ -40,7 +39,7 @@ from motesim.command import command
 from motesim.faults import Fault
 from motesim.files import refuse_inputs
 from motesim.plan.plan import Plan
-from motesim.runner.programs import CHECKER, COMPILED, TOP, checker_path, is_proved, program_of_sources, program_path
+from motesim.runner.programs import CHECKER, COMPILED, PROGRAM, TOP, is_proved, program_of_sources, program_path
 from motesim.scenario import kinds
 from motesim.terminal import one_line
 from motesim.version import KIT, VERSION
@@ -65,17 +64,10 @@ def template(name: str) -> str:
     return Path(__file__).with_name('archive').joinpath(name + '.txt').read_text('utf-8')
 
 
-def program() -> Path:
-    """The binary that MOTESIM names, or the proved binary of these sources, or one that is compiled without a
-    proof."""
-    return program_path() if os.environ.get('MOTESIM') else program_of_sources() or compile_program()
-
-
-def checker() -> Path | None:
-    """The motecheck that MOTECHECK names, or that of these sources as in `program`; none if only MOTESIM is set."""
-    if os.environ.get('MOTESIM') or os.environ.get('MOTECHECK'):
-        return checker_path()
-    return program_of_sources(name=CHECKER) or compile_program(CHECKER)
+def program(name: str = PROGRAM) -> Path:
+    """The binary that the environment variable of this name, such as MOTESIM, names, or the proved binary of these
+    sources, or one that is compiled without a proof."""
+    return program_path(name) if os.environ.get(name.upper()) else program_of_sources(name=name) or compile_program(name)
 
 
 def licenses() -> dict[str, bytes]:
@@ -323,7 +315,7 @@ def main() -> int:
     folder = 'motesim-%s' % VERSION
     path = asked.output or Path(folder + '.tar.gz')
     refuse_inputs(path, [*its.packed.values(), *(file for _, file in own_files(asked.own, TOP))])
-    packed, other = program(), checker()
+    packed, other = program(), program(CHECKER)
     refuse_inputs(path, [packed, *filter(None, [other])])
     data = archive(folder, packed, its, other)
     path.write_bytes(data)

@@ -33,7 +33,7 @@ from unittest import mock
 
 from here import TOOLS, TOP, call, load_tools
 from skips import need_built
-from stub import write_stub
+from stub import programs_of, write_stub
 
 TABLES = TOOLS / 'tests/sessions'
 OF_A_STEP = {'run', 'status', 'out', 'err', 'lacks', 'whole', 'like', 'made', 'lacks_in', 'like_in',
@@ -94,15 +94,14 @@ def play(table: Table, session: dict[str, Any], room: Path) -> None:
     program = session.get('program', table.program)
     if program == 'stub':
         (room / '.stub').mkdir()
-        environment['MOTESIM'] = str(write_stub(room / '.stub'))
-        environment.pop('MOTECHECK', None)
+        environment |= programs_of(write_stub(room / '.stub'))
     elif program == 'built':
         need_built()
     table.write(room, table.files)
     table.write(room, session.get('files', {}))
     if program == 'file':
         (room / 'motesim').chmod(0o755)
-        environment |= {'MOTESIM': str(room / 'motesim'), 'MOTECHECK': ''}
+        environment |= programs_of(room / 'motesim')
     load_tools()
     with contextlib.ExitStack() as patches:
         for name, value in session.get('patch', {}).items():

@@ -10,7 +10,7 @@ from unittest import mock
 from here import TOOLS, Room, scenario_of, text_of
 import motesim
 from motesim import packages
-from stub import write_stub
+from stub import programs_of, write_stub
 from skips import long
 
 SCENARIO = scenario_of('process a; autostart a; code a { body { print 7; } }', (0, 0), (10, 0), (20, 0))
@@ -22,7 +22,7 @@ class Calls(Room):
     def setUp(self) -> None:
         super().setUp()
         # (mote n of the stand-in prints P at moment P * (n + 1))
-        patch = mock.patch.dict(os.environ, MOTESIM=str(write_stub(self.room)), MOTECHECK='')
+        patch = mock.patch.dict(os.environ, programs_of(write_stub(self.room)))
         patch.start()
         self.addCleanup(patch.stop)
 

@@ -1,5 +1,5 @@
 """The claims that expectations mean: their texts; the verdicts of motecheck on random runs, which are those of a judge
-that was written from the page alone; and a survey of motecheck."""
+that was written from the page alone, and of a second judge of claims; and a survey of motecheck."""
 import contextlib
 import json
 import os
@@ -10,6 +10,7 @@ import unittest
 from itertools import permutations
 from pathlib import Path
 
+from claim_judge import answers_to
 from here import TOP, call, room_of
 from motesim.judge.claims import Claims, NoClaim
 from motesim.judge.sentences import names_of, read_sentence
@@ -88,7 +89,8 @@ class Verdicts(unittest.TestCase):
                     rows += claims.of(sentence)
                     said.append((words, holds, len(rows)))
             lines = answers(self, text, rows)
-            self.assertEqual(len(lines), len(rows))
+            self.assertEqual([it.split(' -- ')[0] for it in lines],
+                             [it.split(' -- ')[0] for it in answers_to(rows, text.encode(), report)])
             for (words, holds, end), (_, _, begin) in zip(said, [('', True, 0), *said]):
                 found[holds] += 1
                 with self.subTest(seed=seed, sentence=words, claims=rows[begin:end]):
@@ -114,15 +116,17 @@ class Searches(unittest.TestCase):
         need_program(self)
         need_motecheck(self)
         room = room_of(self)
+        (room / 'without').write_text('#!/bin/sh\ncase $1 in --*) exit 2 ;; esac\nexec %s "$@"\n' % CHECK)
+        (room / 'without').chmod(0o755)
         hops = '"mote 8 prints news 7", "every mote never prints news at 1 plus 0 for each hop from mote 0"'
         its = '"every mote but 0 prints just news 7", "every mote sends at most once"'
         (room / 'net.toml').write_bytes((TOP / 'examples/news.toml').read_bytes())
         for faults, sentences in ('links,motes', its), ('links', hops), ('motes', hops):
             (room / 'net.expect.toml').write_text('expect = [%s]' % sentences)
             found = []
-            for program in str(CHECK), '':
+            for program in CHECK, room / 'without':
                 done = call('search', 'net.toml', '--faults', faults, '--at-most', '2', '--json', '-', cwd=room,
-                            env={**os.environ, 'MOTECHECK': program})
+                            env={**os.environ, 'MOTECHECK': str(program)})
                 tried = len((room / 'net.search/tried.txt').read_text().splitlines()) - 1
                 found.append((tried, done.returncode, done.stderr, {**json.loads(done.stdout), 'seconds': 0}))
             (few, *one), (many, *other) = found

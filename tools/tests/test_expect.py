@@ -11,9 +11,11 @@ from pathlib import Path
 from unittest import mock
 
 import pytest
+from claim_judge import ClaimJudge, deciding_by
 from here import TOP, call, rows_of
 from motesim.faults import Fault
 from motesim.judge import remarks, sentences
+from motesim.judge.claims import OF_TEXT, Claims
 from motesim.judge.expectations import UnknownSentence, expect, judged, parts_of, read_all
 from motesim.judge.judge import Judge
 from motesim.judge.sentences import EXAMPLES, Does, Names, SentenceFault, Value, names_of, read_sentence
@@ -22,6 +24,7 @@ from motesim.runner import Answer, programs
 from motesim.scenario import Scenario
 from motesim.scenario.fields import of_line, read_fields
 from sessions import TABLES, Table
+from stub import programs_of
 
 TABLE = Table(TABLES / 'expect.toml')
 SCENARIO, REPORT, RELAY = (TABLE.texts[it] for it in ('flood', 'flood_report', 'relay'))
@@ -35,10 +38,13 @@ def test_a_program_has_these_names() -> None:
 
 @pytest.mark.parametrize('net, sentence, kind, row', rows_of('sentences.tsv'))
 def test_what_holds_and_what_is_broken_by_which_line(net: str, sentence: str, kind: str, row: str) -> None:
-    broken = JUDGES[net].broken(read_sentence(sentence, NAMES[net]))
-    assert (broken is None) == (kind == 'holds')
-    if broken:
-        assert (broken.kind if kind != 'broken' else kind, broken.row) == (kind, int(row) if row else None)
+    it, judge, judge_of_claims = read_sentence(sentence, NAMES[net]), JUDGES[net], ClaimJudge(
+        JUDGES[net].scenario, TABLE.texts[net + '_report'])
+    broken = judge.broken(it)
+    if type(it) not in OF_TEXT:
+        assert all(map(judge_of_claims.holds, Claims(judge.scenario).of(it))) == (kind == 'holds')
+    if kind != 'holds':
+        assert broken and (broken.kind if kind != 'broken' else kind, broken.row) == (kind, int(row) if row else None)
 
 
 @pytest.mark.parametrize('net, sentence, word, wanted', rows_of('sentence_errors.tsv'))
@@ -158,7 +164,7 @@ def room(tmp_path: Path) -> Path:
     return tmp_path
 
 
-def said(room: Path, text: str, motecheck: str = '') -> 'subprocess.CompletedProcess[str]':
+def said(room: Path, text: str, motecheck: str) -> 'subprocess.CompletedProcess[str]':
     (room / 'a.expect.toml').write_text(text)
     return call('expect', 'a.toml', cwd=room, env={**os.environ, 'MOTESIM': str(room / 'motesim'), 'MOTECHECK': motecheck})
 
@@ -178,17 +184,18 @@ def test_the_verdict_is_that_of_motecheck(room: Path) -> None:
 def test_a_program_that_is_not_compiled_is_no_fault_of_the_expectations(room: Path) -> None:
     # (an earlier test of this process may have found a program)
     uncached = programs._program_here.__wrapped__
-    with mock.patch.dict(os.environ), mock.patch.multiple(
-            programs, program_of_sources=lambda: None, module_program=lambda: None, _program_here=uncached):
-        os.environ.pop('MOTESIM', None)
-        (room / 'a.expect.toml').write_text('expect = ["mote 0 sends"]')
-        done = call('expect', 'a.toml', cwd=room)
-    assert (done.stdout, done.returncode, done.stderr) == ('', 2, 'expect: %s\n' % programs.nothing_runs())
+    (room / 'a.expect.toml').write_text('expect = ["mote 0 sends"]')
+    for name in 'motesim', 'motecheck':
+        with mock.patch.dict(os.environ, programs_of(room / 'motesim')), mock.patch.multiple(
+                programs, program_of_sources=lambda name: None, module_program=lambda name: None, _program_here=uncached):
+            os.environ.pop(name.upper())
+            done = call('expect', 'a.toml', cwd=room)
+        assert (done.stdout, done.returncode, done.stderr) == ('', 2, 'expect: %s\n' % programs.nothing_runs(name))
 
 
 def test_quietly_only_what_is_broken_is_told(room: Path, capsys: pytest.CaptureFixture[str]) -> None:
     (room / 'a.expect.toml').write_text('expect = ["mote 0 sends", "no mote halts"]')
-    with mock.patch.dict(os.environ, MOTESIM=str(room / 'motesim'), MOTECHECK=''):
+    with mock.patch.dict(os.environ, programs_of(room / 'motesim')):
         assert expect(room / 'a.toml', room / 'a.expect.toml', is_quiet=True) == (1, 1)
     assert 'mote 0 sends' not in capsys.readouterr().out
 
@@ -268,7 +275,7 @@ class Fields(unittest.TestCase):
         text = 'fields = { seq = "value % 16" }\nexpect = ["mote 0 sends with seq 1"]\n'
         part = parts_of(text + "[[change]]\nreplace = { a = 'b' }\nexpect = ['mote 0 sends with seq 2']\n", 'a')
         self.assertEqual([it.fields for it in part], [read_fields({'seq': 'value % 16'})] * 2)
-        with mock.patch.dict(os.environ, MOTECHECK=''):
+        with deciding_by(REPORT):
             verdicts = judged(SCENARIO, part[0], lambda scenario: Answer(0, REPORT.encode(), b''))
         self.assertEqual([it.holds for it in verdicts], [True])
         with self.assertRaisesRegex(Fault, 'fields of a is not a table, such as'):

@@ -30,7 +30,7 @@ from motesim.report.run import Answer
 from motesim.runner import Limits
 from motesim.scenario import Scenario
 from sessions import TABLES, Table
-from stub import write_stub
+from stub import programs_of, write_stub
 from unbuilt_tree import until
 
 TEXTS = Table(TABLES / 'grade.toml').texts
@@ -43,7 +43,7 @@ class Class:
 
     def __init__(self, top: Path) -> None:
         self.top, self.folder, self.stub = top, top / 'class', write_stub(top)
-        self.env = {**os.environ, 'MOTESIM': str(self.stub), 'MOTECHECK': ''}
+        self.env = {**os.environ, **programs_of(self.stub)}
         self.folder.mkdir()
         (top / 'task.expect.toml').write_text(EXPECT)
         (top / 'task.toml').write_text(NET)

@@ -106,7 +106,7 @@ class Pack(Room):
 
     def test_the_program_of_the_sources_is_packed_or_compiled_first(self) -> None:
         for found, packed, times in [(TOP / 'proved-x/motesim',) * 2 + (0,), (None, TOP / 'compiled-x/motesim', 1)]:
-            with mock.patch.object(pack, 'program_of_sources', lambda: found), mock.patch.object(
+            with mock.patch.object(pack, 'program_of_sources', lambda name: found), mock.patch.object(
                     pack, 'compile_program', return_value=TOP / 'compiled-x/motesim') as compiled:
                 self.assertEqual((pack.program(), compiled.call_count), (packed, times))
 

@@ -1,11 +1,14 @@
-"""Sentences and reports by chance: the judge has the verdicts of one that was written from the page alone, and the same
-witness in a report that is read as far as it is needed."""
+"""Sentences and reports by chance: their claims have the verdicts of a judge that was written from the page alone, and
+the tools find a reason for what is broken, the same in a report that is read as far as it is needed."""
 import os
 import random
 import unittest
+from contextlib import suppress
 from itertools import product
 
 import here  # noqa: F401
+from claim_judge import ClaimJudge
+from motesim.judge.claims import Claims, NoClaim
 from motesim.judge.judge import Judge
 from motesim.judge.sentences import names_of, read_sentence
 from motesim.report import Report
@@ -29,13 +32,15 @@ class Verdicts(unittest.TestCase):
             scenario, report, motes = net_of(chance)
             page, its = PageJudge(scenario, report), Scenario.parse(scenario)
             judge, lazy = Judge(Report.parse(report), its), Judge(LazyReport(report.encode()), its)
-            names, sentences = names_of(its), Sentences(chance, motes)
+            names, sentences, claims, judge_of_claims = names_of(its), Sentences(chance, motes), Claims(its), ClaimJudge(its, report)
             for text, meaning in (sentences.sentence() for _ in range(SENTENCES)):
-                with self.subTest(seed=seed, sentence=text):
+                with self.subTest(seed=seed, sentence=text), suppress(NoClaim):
                     sentence, holds = read_sentence(text, names), page.holds(meaning)
-                    broken = judge.broken(sentence)
-                    self.assertEqual(broken is None, holds, report)
-                    self.assertEqual(lazy.broken(sentence), broken, report)
+                    self.assertEqual(all(map(judge_of_claims.holds, claims.of(sentence))), holds, report)
+                    if not holds:
+                        broken = judge.broken(sentence)
+                        self.assertIsNotNone(broken, report)
+                        self.assertEqual(lazy.broken(sentence), broken, report)
                     found[holds] += 1
         self.assertGreater(min(found), sum(found) / 4, 'too few expectations hold, or too few are broken')
 

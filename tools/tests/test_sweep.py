@@ -6,26 +6,29 @@ import re
 import signal
 import subprocess
 import sys
+from collections.abc import Sequence
 from pathlib import Path
 from unittest import mock
 
 import pytest
+from claim_judge import ClaimJudge
 from here import SECONDS, TOOLS, Room, rows_of, scenario_of, text_of
 from motesim.experiments.asked import known_names, measures_of, sweep_of
 from motesim.experiments.doubts import of_full
-from motesim.experiments.measures import Bench, MeasureFault, imports_of, read_measure
+from motesim.experiments.measures import Bench, MeasureFault, imports_of, read_measure, sentence_of
 from motesim.experiments.one_run import Result, digest, run_job
 from motesim.experiments.results import Head, Results, cell, read_results
 from motesim.experiments.sweep import Sweeper
 from motesim.faults import Fault
-from motesim.judge.sentences import names_of
+from motesim.judge.claims import Claims
+from motesim.judge.sentences import Sentence, names_of
 from motesim.plan.plan import Plan
 from motesim.plan.values import values_of
 from motesim.report import Report
 from motesim.report.run import Run
 from motesim.scenario import Scenario
 from sessions import TABLES, Table
-from stub import write_stub
+from stub import programs_of, write_stub
 from unbuilt_tree import until
 
 TABLE = Table(TABLES / 'sweep.toml')
@@ -34,6 +37,11 @@ SCENARIO = Scenario.parse(scenario_of('process a; code a { body { print 1; } }',
 NAMES = names_of(SCENARIO)
 REPORT = Report.parse(text_of('measured.report'))
 BENCH = Bench(Run('a', REPORT, SCENARIO))
+JUDGE = ClaimJudge(SCENARIO, text_of('measured.report'))
+
+
+def decide(its: Sequence[Sentence]) -> list[str | None]:
+    return ['' if all(map(JUDGE.holds, Claims(SCENARIO).of(it))) else 'broken' for it in its]
 
 
 @pytest.mark.parametrize('words, name, value', rows_of('measures.tsv'))
@@ -43,8 +51,9 @@ def test_what_is_measured(words: str, name: str, value: str) -> None:
         with pytest.raises(Fault):
             read_measure(words, NAMES, {'mine.py': MINE})
     else:
-        measure = read_measure(words, NAMES, {'mine.py': MINE})
-        assert (measure.name, measure.of(BENCH)) == (name or words, cell(value))
+        measure, asked = read_measure(words, NAMES, {'mine.py': MINE}), sentence_of(words, NAMES)
+        bench = Bench(BENCH.run, asked=[asked] if asked else [], decide=decide)
+        assert (measure.name, measure.of(bench)) == (name or words, cell(value))
 
 
 @pytest.mark.parametrize('words, code', [
@@ -130,7 +139,7 @@ class Bed(Room):
         TABLE.write(self.room, TABLE.files)
 
     def sweep(self, *words: str, **more: str) -> subprocess.CompletedProcess[str]:
-        return self.tool('sweep', 'net.plan.toml', *words, MOTESIM=str(self.stub), MOTECHECK='', **more)
+        return self.tool('sweep', 'net.plan.toml', *words, **programs_of(self.stub), **more)
 
     def rows(self, name: str = 'net.csv') -> list[dict[str, str]]:
         with open(self.room / name, newline='') as file:
@@ -159,7 +168,7 @@ class SweepTest(Bed):
 
     def result_of_one(self, vary: str, measure: str, number: int = 0, seconds: float | None = None) -> Result:
         """The result of one of a sweep's runs, which this process makes without the files of the plan."""
-        with mock.patch.dict(os.environ, MOTESIM=str(self.stub)), mock.patch('motesim.experiments.one_run.BUSY', 10_000):
+        with mock.patch.dict(os.environ, programs_of(self.stub)), mock.patch('motesim.experiments.one_run.BUSY', 10_000):
             plan = Plan.read(self.room / 'net.plan.toml')
             sweeper = Sweeper(sweep_of(plan, [vary], [measure], seconds), self.room / 'a.csv')
             return run_job(sweeper.work()._replace(folder='/nowhere'), next(sweeper.jobs([number])))

@@ -6,6 +6,7 @@ from functools import cache
 from io import StringIO
 
 import pytest
+from claim_judge import deciding_by
 from here import TOP, rows_of
 from motesim.faults import Fault
 from motesim.replay.mote import Parted
@@ -191,13 +192,13 @@ def test_the_first_mote_that_misses_an_order_has_near_misses(example: str, quest
     assert example == 'flooding' or any(it.kind == 'reached' for it in found)
 
 
-def test_a_lost_copy_has_the_reason_of_its_loss(monkeypatch: pytest.MonkeyPatch) -> None:
+def test_a_lost_copy_has_the_reason_of_its_loss() -> None:
     # (the report is that of no run)
-    monkeypatch.setenv('MOTECHECK', '')
-    lossy = source(SCENARIO + '[[loss]]\nfrom = 0\nto = 1\nevery = 3\n',
-                   REPORT[:REPORT.index('7 recv')] + 'medium\n4 0 0 8 1@lost\nleft 0\n')
+    report = REPORT[:REPORT.index('7 recv')] + 'medium\n4 0 0 8 1@lost\nleft 0\n'
+    lossy = source(SCENARIO + '[[loss]]\nfrom = 0\nto = 1\nevery = 3\n', report)
     for question in 'no copy is lost', 'some copy is lost at mote 1':
-        asked = asked_of(lossy, question)
+        with deciding_by(report):
+            asked = asked_of(lossy, question)
         assert asked.where == At(0, 12) and 'it loses one packet in 3 from 0 to 1' in asked.remark
 
 

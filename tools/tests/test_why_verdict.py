@@ -1,13 +1,13 @@
-"""A question to tools/why has the verdict of tools/expect: random reports, and sentences of all forms.
-
-The judge is the second way: it reads the report by the strict reader, and looks at all motes by itself.
-"""
-import contextlib
+"""A question to tools/why has the verdict on its claims, and the row that the judge shows: random reports, and sentences
+of all forms."""
 import random
 import unittest
+from contextlib import suppress
 from itertools import product
 
 import here  # noqa: F401
+from claim_judge import ClaimJudge, deciding_by
+from motesim.judge.claims import Claims, NoClaim
 from motesim.judge.judge import Judge
 from motesim.judge.sentences import Does, SentenceFault, names_of, read_sentence
 from motesim.report import Report
@@ -103,13 +103,12 @@ def report_of(chance: random.Random) -> str:
 
 
 class Verdicts(unittest.TestCase):
-    """A question has the judge's verdict."""
+    """A question has the verdict on its claims."""
 
-    def check(self, asker: Asker, judge: Judge, text: str) -> str:
+    def check(self, asker: Asker, judge: Judge, text: str, holds: bool) -> str:
         """Compares the verdicts on a sentence, and says which kind of answer there is."""
         sentence = read_sentence(text, names_of(judge.scenario))
-        broken = judge.broken(sentence)
-        holds = broken is None
+        broken = None if holds else judge.broken(sentence)
         try:
             found = asker.about(text)
         except Unasked as fault:
@@ -130,15 +129,16 @@ class Verdicts(unittest.TestCase):
         for turn in range(6):
             data = report_of(chance)
             asker, judge = Asker(Source('test', data.encode(), scenario)), Judge(Report.parse(data.encode()), scenario)
-            for text in chance.sample(forms, 600):
+            claims, judge_of_claims = Claims(scenario), ClaimJudge(scenario, data)
+            for text in chance.sample(forms, 300):
                 tried += 1
-                with contextlib.suppress(SentenceFault):
-                    read_sentence(text, names)
+                with suppress(SentenceFault, NoClaim), deciding_by(data):
+                    its = claims.of(read_sentence(text, names))
                     read += 1
-                    kind = self.check(asker, judge, text)
+                    kind = self.check(asker, judge, text, all(map(judge_of_claims.holds, its)))
                     seen[kind] = seen.get(kind, 0) + 1
         # (some combinations make no sentence)
-        self.assertGreater(read / tried, 0.6)
+        self.assertGreater(read / tried, 0.5)
         self.assertEqual(set(seen), {'holds', 'broken', 'missing', 'holds, no line', 'broken, no line'})
         self.assertGreater(min(seen.values()), 25, seen)
 
@@ -148,7 +148,8 @@ class Verdicts(unittest.TestCase):
                        for mote in range(MOTES)) + 'medium\n3 1 0 1\n9 1 1 1\nleft 0\n'
         asker = Asker(Source('test', data.encode(), Scenario.parse(SCENARIO)))
         for text in 'every mote sends 1 at most once', 'motes 0 to 3 send 1 at most once', 'every mote never sends':
-            found = asker.about(text)
+            with deciding_by(data):
+                found = asker.about(text)
             assert isinstance(found, Asked)
             self.assertFalse(found.holds, text)
             self.assertEqual(asker.traces.row(found.where), 3 if 'never' in text else 4, text)

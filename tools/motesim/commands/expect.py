@@ -13,8 +13,8 @@ The proved program `motecheck` decides the claims that each expectation means fo
 runs nothing, and writes these claims: `motecheck SCENARIO CLAIMS` answers them.
 
 The tool ends with status 0 if all expectations hold, 1 if one is broken, and 2 if there is no result: if an expectation
-or a file can't be read, if the run reaches a limit, or if `motesim` isn't built. To use another `motesim`, name its file in
-the environment variable MOTESIM.
+or a file can't be read, if the run reaches a limit, or if `motesim` or `motecheck` isn't built. To use another one, name
+its file in the environment variable MOTESIM or MOTECHECK.
 """
 from __future__ import annotations
 
@@ -34,7 +34,7 @@ def main() -> int:
     words.add_argument('--claims', action='store_true', help='write the claims that the expectations mean for this scenario, and run nothing')
     add_limits(words)
     asked = words.parse_intermixed_args()
-    from motesim.explain.within import runs_within
+    from motesim.explain.within import limits_of, runs_within
     from motesim.judge.expectations import beside, claims_shown, expect
     scenario = Path(asked.scenario)
     expectations = Path(asked.expectations) if asked.expectations else beside(scenario)
@@ -44,7 +44,7 @@ def main() -> int:
     if asked.claims:
         print('\n'.join(claims_shown(scenario, expectations)))
         return 0
-    passed, failed = expect(scenario, expectations, run=runs_within(asked.scenario, asked))
+    passed, failed = expect(scenario, expectations, run=runs_within(asked.scenario, asked), limits=limits_of(asked))
     print('%d passed, %d failed' % (passed, failed))
     return 1 if failed else 0
 

@@ -14,6 +14,7 @@ import traceback
 from bisect import bisect_right
 from collections import Counter, defaultdict
 from collections.abc import Callable, Mapping, Sequence
+from contextlib import suppress
 from dataclasses import dataclass
 from functools import cached_property
 from pathlib import PurePath
@@ -38,6 +39,7 @@ from motesim.report.run import Run
 from motesim.scenario import Scenario
 from motesim.scenario.scenario import hops_over
 from motesim.judge.sentences import Copies, Does, Motes, Names, Packets, Refused, Sentence, read_sentence
+from motesim.judge.verdicts import is_broken
 
 SUMMARY = ('sent', 'copies', *OUTCOMES, 'ratio', *counts.COUNTED.values(), 'halt')
 REACHABLE, LOSS = 'reachable', 'loss'
@@ -66,16 +68,25 @@ class MeasureFault(Fault):
 
 
 class Bench:
-    """A run on which measures are taken, and the values of the plan's parameters in this run."""
+    """A run on which measures are taken, and the values of the plan's parameters in this run. `decide` has `motecheck`
+    decide the sentences `asked`, all at once."""
 
-    def __init__(self, run: Run, parameters: Mapping[str, Value] = {}) -> None:
-        self.run, self.parameters = run, parameters
+    def __init__(self, run: Run, parameters: Mapping[str, Value] = {}, asked: Sequence[Sentence] = (),
+                 decide: Callable[[Sequence[Sentence]], list[str | None]] = lambda its: []) -> None:
+        self.run, self.parameters, self.asked, self.decide = run, parameters, asked, decide
 
     @cached_property
     def judge(self) -> Judge:
         if self.run.scenario is None:
             raise MeasureFault('the scenario of the report is not known')
         return Judge(self.run.report, self.run.scenario)
+
+    @cached_property
+    def verdicts(self) -> dict[Sentence, str | None]:
+        return dict(zip(self.asked, self.decide(self.asked)))
+
+    def holds(self, it: Sentence) -> bool:
+        return not is_broken(self.verdicts[it], it, self.judge)
 
     @cached_property
     def summary(self) -> tuple[list[dict[str, Any]], dict[str, Any]]:
@@ -269,8 +280,7 @@ def _of_sentence(kind: str, words: str, names: Names) -> Callable[[Bench], Cell]
     if isinstance(first, Refused):
         raise MeasureFault('nothing can be measured in a run that has no report')
     if kind == 'holds':
-        # (a verdict of motecheck would need a second run)
-        return lambda bench: int(bench.judge.broken(first) is None)
+        return lambda bench: int(bench.holds(first))
     if kind == 'count' and isinstance(first, Copies | Packets):
         rows = first
         return _guarded(lambda judge: _count_rows(judge, rows))
@@ -421,6 +431,14 @@ def processes_of_flow(words: str) -> list[str]:
     """The processes that the flow of a measure such as `flow reached: print flood` names."""
     found = OF_FLOW.fullmatch(_parts(words)[1])
     return sorted({it.process for it in read_flow(found[2]) if it.process}) if found else []
+
+
+def sentence_of(words: str, names: Names) -> Sentence | None:
+    """The sentence of a measure such as `holds: no mote halts`, if it can be read."""
+    found = OF_SENTENCE.fullmatch(_parts(words)[1])
+    with suppress(Fault):
+        return read_sentence(found[2].strip(), names) if found and found[1] == 'holds' else None
+    return None
 
 
 def mote_of(words: str) -> int | None:

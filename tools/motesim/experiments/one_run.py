@@ -9,17 +9,19 @@ from pathlib import Path
 from typing import NamedTuple
 
 from motesim.experiments.doubts import of_full
-from motesim.experiments.measures import Bench, name_of, read_measure
+from motesim.experiments.measures import Bench, name_of, read_measure, sentence_of
 from motesim.cells import Cell
 from motesim.faults import Fault
+from motesim.judge.claims import Claims
 from motesim.judge.sentences import names_of
+from motesim.judge.verdicts import decided
 from motesim.plan.files import Files
 from motesim.plan.plan import Plan
 from motesim.plan.tables import Value
 from motesim.processor_time import at_most
 from motesim.report import Report
 from motesim.runner.batch import fault_of
-from motesim.runner.cluster import program_here
+from motesim.runner.cluster import Binary
 from motesim.runner.process import Limits, Runner
 from motesim.report.run import ProgramFault, Run
 from motesim.scenario import Scenario
@@ -35,7 +37,7 @@ class Work(NamedTuple):
 
     folder   the folder of the plan
     sources  the users' files that measures need
-    program  the path of `motesim`, and its digest: another binary there is a fault
+    program, checker  `motesim` and `motecheck`
     seconds  the limit of a run, and of each measure, in processor time
     """
     plan: str
@@ -43,8 +45,8 @@ class Work(NamedTuple):
     folder: str
     measures: tuple[str, ...]
     sources: dict[str, str]
-    program: str
-    program_digest: str
+    program: Binary
+    checker: Binary
     seconds: float
     most_bytes: int
 
@@ -124,12 +126,15 @@ def run_job(work: Work, job: Job) -> Result:
             known, text = builder.with_text()
             made = made._replace(scenario=digest(text.encode()), rejected=builder.rejected)
         limits = Limits(BUSY * work.seconds, report=work.most_bytes, processor=work.seconds)
-        got = Runner(program_here(work.program, work.program_digest), limits).answer(text.encode())
+        got = Runner(work.program.here(), limits).answer(text.encode())
         if got.status:
             raise ProgramFault(got.why)
         read = Report.parse(got.report)
         places = digest(repr([(it.x, it.y) for it in known.places]).encode())
-        found = measured(work, Bench(Run(work.plan, read, known), job.given), known)
+        asked = [it for words in work.measures if (it := sentence_of(words, names_of(known)))]
+        bench = Bench(Run(work.plan, read, known), job.given, asked, lambda its: decided(
+            Claims(known), text, its, limits, program=work.checker.here()))
+        found = measured(work, bench, known)
         return made._replace(measures=found.measures, note=found.note, warnings=found.warnings, places=places,
                              report=digest(got.report))
     except BaseException as failure:

@@ -23,7 +23,8 @@ from motesim.output import beside
 from motesim.plan.plan import UNUSED, Plan
 from motesim.plan.tables import Value, text_of_value, value_of_text
 from motesim.progress import Progress, clock
-from motesim.runner.programs import program_path
+from motesim.runner.cluster import Binary
+from motesim.runner.programs import CHECKER, PROGRAM, program_path
 from motesim.runner.versions import kit_version, program_digest, program_version
 
 
@@ -87,8 +88,7 @@ class Sweeper:
 
     def work(self) -> Work:
         return Work(self.plan.name, self.plan.text, str(self.plan.files.folder.resolve()), tuple(self.sweep.measures),
-                    self.sources, str(self.program), self.head.motesim_sha256, self.sweep.seconds,
-                    self.sweep.most_bytes)
+                    self.sources, Binary.of(PROGRAM), Binary.of(CHECKER), self.sweep.seconds, self.sweep.most_bytes)
 
     def jobs(self, places: Iterable[int]) -> Iterator[Job]:
         """The jobs for these places; each is made when its run begins."""

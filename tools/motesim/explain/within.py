@@ -32,11 +32,16 @@ END = re.compile(rb'^([ \t]*end[ \t]*=[ \t]*)([0-9_]+)', re.M)
 MANY = 20
 
 
-def runs_within(name: str, asked: argparse.Namespace) -> Callable[[bytes], Answer]:
-    """A function that runs a scenario from a file of this name, within the limits that the options of a tool name."""
+def limits_of(asked: argparse.Namespace) -> Limits:
+    """The limits that the options of a tool name."""
     if min(asked.seconds, asked.memory, asked.report) <= 0:
         raise Fault('limits are greater than 0')
-    limits = Limits(asked.seconds * PATIENCE, asked.memory * MEGABYTE, asked.report * MEGABYTE, asked.seconds)
+    return Limits(asked.seconds * PATIENCE, asked.memory * MEGABYTE, asked.report * MEGABYTE, asked.seconds)
+
+
+def runs_within(name: str, asked: argparse.Namespace) -> Callable[[bytes], Answer]:
+    """A function that runs a scenario from a file of this name within these limits."""
+    limits = limits_of(asked)
     return lambda data: answer_within(name, data, limits)
 
 

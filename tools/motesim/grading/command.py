@@ -22,7 +22,7 @@ from motesim.progress import Progress
 from motesim.judge.expectations import parts_of, read_all, text_of
 from motesim.judge.sentences import Names, names_of
 from motesim.runner import Limits, program_path, run_each
-from motesim.runner.programs import checker_path
+from motesim.runner.programs import CHECKER
 from motesim.terminal import one_line
 
 MEGABYTE = 1 << 20
@@ -165,7 +165,7 @@ def remarks(asked: argparse.Namespace, nets: Sequence[Net], skipped: Sequence[st
 def status_of(asked: argparse.Namespace) -> int:
     """The work of tools/grade; returns the status."""
     program_path()
-    checker_path()
+    program_path(CHECKER)
     pages = [path for path in asked.output if path.suffix == '.html']
     pictures = pages_of(pages[0]) if pages else None
     task = task_of(asked, pictures)

@@ -9,6 +9,7 @@ from collections.abc import Mapping, Sequence
 from contextlib import suppress
 from dataclasses import replace
 
+from motesim.faults import Fault
 from motesim.judge.claim_words import (
     ALL, Case, Counted, Deed, Limits, Test, claim_text, every_line, limited, lines_of, period_text, ratio, set_text,
 )
@@ -30,11 +31,15 @@ FIRST_DECLARED, MOST = 0x8b, (1 << 64) - 1
 PARTS = ('process', 'serial', 'event', 'sender', 'packet', 'value')
 PART_OF = {'number': 'packet', 'word': 'value'}
 OF_LINKS = ('distance', 'nearer', 'heard', 'linked')
+# The sentences about texts, which no claim can say, with the reasons.
 OF_TEXT = {Refused: 'it is about a scenario without a report', MediumLine: 'claims have no whole lines of the medium'}
 
 
-class NoClaim(Exception):
+class NoClaim(Fault):
     """A sentence that claims can't say, with the reason."""
+
+    def __init__(self, why: str):
+        super().__init__('no claim: ' + why)
 
 
 def values_of_links(it: object) -> list[Value]:
@@ -214,9 +219,10 @@ class Claims:
         if isinstance(it, Copies) and it.outcome == 'left':
             return (limited(of_count(it.count), Counted('copy left at the end', 'copies left at the end')),)
         if isinstance(it, Copies) and it.outcome != 'lost':
-            return tuple(self.arrived(it, BECAME[it.outcome]))
+            return tuple(self.lines_in(it, BECAME[it.outcome], it.motes))
         if it.window.root is not None:
-            raise NoClaim('a claim counts packets, and copies that are lost, in one interval for all motes')
+            # (a packet is a line of its sender)
+            return tuple(self.lines_in(it, 'send', None))
         to = to_motes(it.motes) if isinstance(it, Copies) else ''
         form = '%s' + to + ' sent%s and lost by the medium' if isinstance(it, Copies) else '%s sent%s'
         one, many = ('copy', 'copies') if isinstance(it, Copies) else ('packet', 'packets')
@@ -224,9 +230,9 @@ class Claims:
                  for when in map(period_text, self.links.spans(it.window, 0))]
         return tuple(test for what in found for test in self.share_or_number(it, what, to))
 
-    def arrived(self, it: Copies, kind: str) -> list[Test]:
-        """Copies that became lines of this kind. The interval may depend on the mote."""
-        motes, apart = Motes('together', it.motes).chosen(self.scenario.motes), list[int]()
+    def lines_in(self, it: Copies | Packets, kind: str, motes_of: frozenset[int] | None) -> list[Test]:
+        """Copies or packets that are lines of this kind. The interval may depend on the mote."""
+        motes, apart = Motes('together', motes_of).chosen(self.scenario.motes), list[int]()
         spans = {}
         for mote in motes:
             try:
@@ -236,7 +242,7 @@ class Claims:
         found = list[Test]()
         for part in range(len(self.links.spans(it.window, it.window.root or 0))):
             deed = self.deed([(kind,)], list(spans), [its[part] for its in spans.values()])
-            found += self.share_or_number(it, lines_of(deed), to_motes(it.motes))
+            found += self.share_or_number(it, lines_of(deed), to_motes(motes_of))
         never = [limited((0, 0), lines_of(self.deed([(kind,)], apart, [ALL] * len(apart))))] if apart else []
         return found + never
 

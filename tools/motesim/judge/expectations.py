@@ -16,7 +16,7 @@ from motesim.text import nearest
 from motesim.judge.claim_words import motes_text
 from motesim.judge.claims import Claims, NoClaim
 from motesim.judge.judge import Broken, Judge
-from motesim.judge.remarks import remark_of
+from motesim.judge.remarks import NOT_PROVED, remark_of
 from motesim.report import Report
 from motesim.runner import LimitMet, Limits, ProgramFault
 from motesim.report.run import Answer, answer, read_file, refuse_others
@@ -32,7 +32,6 @@ LONGEST_SHOWN = 150
 # The most sentences that can't be read which an error shows.
 MOST_UNKNOWN = 10
 REFUSED = 'the scenario is refused'
-NO_CLAIM = '# no claim: %s'
 WHOLE = 'the report is the expected one'
 KEYS = {'expect': list, 'required': list, 'report': str, 'change': list, 'about': str, 'replace': dict,
         'fields': dict}
@@ -189,8 +188,8 @@ def same_report(rows: Sequence[str], wanted: str) -> Verdict:
     """The verdict on a report that must be the same as another report."""
     for number, (row, line) in enumerate(itertools.zip_longest(rows, wanted.splitlines(), fillvalue='the end'), 1):
         if row != line:
-            return Verdict(WHOLE, False, ['line %d: %s' % (number, row), 'expected: %s' % line], row=number)
-    return Verdict(WHOLE, True, [])
+            return Verdict(WHOLE, False, ['line %d: %s' % (number, row), 'expected: %s' % line], False, NOT_PROVED, number)
+    return Verdict(WHOLE, True, [], False, NOT_PROVED)
 
 
 def refused(part: Part, sentences: list[Sentence], got: Answer) -> list[Verdict]:
@@ -199,8 +198,8 @@ def refused(part: Part, sentences: list[Sentence], got: Answer) -> list[Verdict]
     more, found = ['%s: %s' % (REFUSED, line)], []
     for text, sentence in zip(part.sentences, sentences):
         holds = isinstance(sentence, Refused) and got == Answer(1, b'', ('motesim: %s\n' % sentence.fault).encode())
-        found.append(Verdict(text, holds, more, True))
-    return found if part.report is None else found + [Verdict(WHOLE, False, more, True)]
+        found.append(Verdict(text, holds, more, True, NOT_PROVED if isinstance(sentence, Refused) else ''))
+    return found if part.report is None else found + [Verdict(WHOLE, False, more, True, NOT_PROVED)]
 
 
 def of_report(part: Part, sentences: list[Sentence], judge: Judge, limits: Limits = Limits()) -> list[Verdict]:
@@ -223,21 +222,22 @@ def known_of(text: str, fields: tuple[Field, ...] = ()) -> tuple[Scenario | None
         return None, Names(fields=fields)
 
 
-def judged(scenario: str, part: Part, run: Callable[[bytes], Answer] | None = None) -> list[Verdict]:
-    """The verdicts of a part. `run` runs the scenario."""
+def judged(scenario: str, part: Part, run: Callable[[bytes], Answer] | None = None, limits: Limits = Limits()
+           ) -> list[Verdict]:
+    """The verdicts of a part. `run` runs the scenario; `limits` are those of `motecheck`."""
     text = changed(scenario, part.replace)
     known, names = known_of(text, part.fields)
     sentences = read_all(part.sentences, names)
     got = (run or answer)(text.encode())
     if got.status:
         return refused(part, sentences, got)
-    return of_report(part, sentences, Judge(Report.parse(got.report), known or Scenario.parse(text)))
+    return of_report(part, sentences, Judge(Report.parse(got.report), known or Scenario.parse(text)), limits)
 
 
 def expect(scenario: Path, expectations: Path, is_quiet: bool = False,
-           run: Callable[[bytes], Answer] | None = None) -> tuple[int, int]:
+           run: Callable[[bytes], Answer] | None = None, limits: Limits = Limits()) -> tuple[int, int]:
     """Prints which sentences hold, or, if `is_quiet`, those that don't; returns how many hold and how many don't.
-    `run` runs the scenario."""
+    `run` runs the scenario; `limits` are those of `motecheck`."""
     text = text_of(scenario)
     refuse_others(scenario)
     passed = failed = 0
@@ -245,7 +245,7 @@ def expect(scenario: Path, expectations: Path, is_quiet: bool = False,
     name = str(expectations)
     for count, part in enumerate(parts_of(text_of(expectations), name)):
         try:
-            verdicts = judged(text, part, run)
+            verdicts = judged(text, part, run, limits)
         except LimitMet as fault:
             raise Fault('%s: the run was ended: %s' % (scenario, fault)) from None
         except ProgramFault:
@@ -283,10 +283,10 @@ def claims_shown(scenario: Path, expectations: Path) -> Iterator[str]:
         try:
             yield from claims.of(sentence)
         except NoClaim as why:
-            yield NO_CLAIM % why
+            yield '# %s' % why
         if claims.apart:
             yield '# without a distance, so without a case: ' + motes_text(sorted(set(claims.apart)))
     if part.report is not None:
-        yield NO_CLAIM % 'the whole report'
+        yield '# %s' % NoClaim('the whole report')
     for number, it in enumerate(others, 1):
-        yield NO_CLAIM % 'the expectations of %s are about another scenario' % place_of_part(number, it, name)
+        yield '# %s' % NoClaim('the expectations of %s are about another scenario' % place_of_part(number, it, name))

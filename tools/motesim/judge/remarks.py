@@ -1,10 +1,13 @@
 """Remarks on sentences that say nothing about a run: about a time after its end, about the order of an event that
-doesn't occur, about copies that can't collide or don't exist, or about no mote at all."""
+doesn't occur, about copies that can't collide or don't exist, or about no mote at all; and on those that only the tools
+decide."""
 from __future__ import annotations
 
+from motesim.judge.claims import OF_TEXT
 from motesim.judge.judge import Apart, Judge
 from motesim.judge.sentences import Copies, Does, Packets, Sentence
 
+NOT_PROVED = 'not proved: no claim can say it, so the tool compares texts'
 AFTER_THE_END = 'the run ends at %d, before the interval of this expectation, which begins at %d'
 OF_NO_MOTE = 'this expectation is about no mote, because `but` leaves out all of its motes, so it is %s in every run'
 NO_EVENT = '`%s` doesn\'t occur in this run, so this expectation checks no order'
@@ -15,6 +18,8 @@ NO_COPIES = 'no copy was due in this run, so this expectation checks nothing'
 
 def remark_of(sentence: Sentence, judge: Judge, holds: bool) -> str:
     """The remark on a sentence; an empty text if there is none."""
+    if type(sentence) in OF_TEXT:
+        return NOT_PROVED
     if isinstance(sentence, Copies) and (never := outcome_never(sentence, judge)):
         return never
     if isinstance(sentence, Does) and not judge.chosen(sentence.motes) and sentence.motes.count is None:

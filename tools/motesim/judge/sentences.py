@@ -681,9 +681,11 @@ class _Reader:
         motes = None
         if outcome != 'left' and (self.accept('at mote') or self.accept('at motes')):
             motes = self.mote_list()
-        if count.is_part:
-            return Copies(count, outcome, motes, Window())
-        return Copies(count, outcome, motes, (self.window() if outcome != 'left' else None) or Window())
+        begin = self.places[self.at]
+        window = None if count.is_part or outcome == 'left' else self.window()
+        if outcome == 'lost' and window and window.root is not None:
+            raise SentenceFault(self.sentence, begin, ['a time that is the same for all motes'])
+        return Copies(count, outcome, motes, window or Window())
 
     def things(self, count: Count, kinds: tuple[str, ...]) -> Sentence:
         """A sentence about a number of motes, copies or packets, from this noun on."""

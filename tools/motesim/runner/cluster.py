@@ -15,11 +15,11 @@ import tempfile
 import zipfile
 from collections.abc import Callable, Iterable, Iterator
 from pathlib import Path
-from typing import Any, TypeVar
+from typing import Any, NamedTuple, TypeVar
 
 from motesim import packages
 from motesim.faults import Fault
-from motesim.runner.programs import ProgramFault
+from motesim.runner.programs import ProgramFault, program_path
 from motesim.runner.versions import program_digest
 
 PACKAGE = Path(__file__).resolve().parents[1]
@@ -31,16 +31,27 @@ Item = TypeVar('Item')
 Result = TypeVar('Result')
 
 
-def program_here(program: str, digest: str) -> Path:
-    """The path of `motesim` on this machine: the one that MOTESIM names here, or this one. Its bytes have this
-    digest."""
-    path = Path(os.environ.get('MOTESIM') or program)
-    try:
-        if program_digest(path) != digest:
-            raise ProgramFault('%s differs from the motesim of the command' % path)
-    except OSError as fault:
-        raise ProgramFault('%s: %s' % (path, fault.strerror)) from None
-    return path
+class Binary(NamedTuple):
+    """A binary of the command, for its workers: its name, such as `motesim`, its path, and its digest."""
+    name: str
+    path: str
+    digest: str
+
+    @classmethod
+    def of(cls, name: str) -> Binary:
+        path = program_path(name).resolve()
+        return cls(name, str(path), program_digest(path))
+
+    def here(self) -> Path:
+        """The path of the same binary on this machine: the one that the environment variable, such as MOTESIM, names
+        here, or this one."""
+        path = Path(os.environ.get(self.name.upper()) or self.path)
+        try:
+            if program_digest(path) != self.digest:
+                raise ProgramFault('%s differs from the %s of the command' % (path, self.name))
+        except OSError as fault:
+            raise ProgramFault('%s: %s' % (path, fault.strerror)) from None
+        return path
 
 
 class Cluster:

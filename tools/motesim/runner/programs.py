@@ -1,8 +1,8 @@
 """The binaries of motesim and motecheck that all tools run, and the place of kept binaries.
 
 `program_path` returns the binary that MOTESIM names; otherwise the proved binary of these sources, if it has been
-built; otherwise one that was compiled without a proof, and then prints a line about this. `checker_path` does the same
-for motecheck. Binaries are kept in out/programs by a digest of what they were made from:
+built; otherwise one that was compiled without a proof, and then prints a line about this. `program_path(CHECKER)` does
+the same for motecheck and MOTECHECK. Binaries are kept in out/programs by a digest of what they were made from:
 
     proved-DIGEST/NAME      built by `./prove` or `./test`; the digest is of the sources, contracts and proofs
     compiled-DIGEST/NAME    compiled without a proof; the digest is of the sources
@@ -39,12 +39,12 @@ CODE, ALL_PARTS = ('src',), ('src', 'specs', 'proofs')
 COMPILED = 'this program is compiled, not proved'
 NOT_PROVED = COMPILED + '; ./prove proves it here'
 IN_NODE = 'node runs the WebAssembly module of motesim, which isn\'t proved, and takes longer than a compiled motesim'
-NOT_COMPILED = 'motesim isn\'t compiled yet: start ./run FILE.toml once, which compiles it within a minute or so; ' \
-               'or name a compiled motesim in the environment variable MOTESIM'
-NO_NODE = 'without the Rattle kit, which compiles motesim, a WebAssembly module can run: install node (on Debian ' \
-          '`apt-get install nodejs`), or open %s in a browser'
-OTHER_SOURCES = 'there is no Rattle kit here, which compiles motesim, and web/motesim.wasm was made from other ' \
-                'sources than those in crates/; to run it nevertheless, set the environment variable MOTESIM to %s'
+NOT_COMPILED = '{0} isn\'t compiled yet: start ./run FILE.toml once, which compiles it within a minute or so; ' \
+               'or name a compiled {0} in the environment variable {1}'
+NO_NODE = 'without the Rattle kit, which compiles {0}, a WebAssembly module can run: install node (on Debian ' \
+          '`apt-get install nodejs`), or open {3} in a browser'
+OTHER_SOURCES = 'there is no Rattle kit here, which compiles {0}, and web/{0}.wasm was made from other ' \
+                'sources than those in crates/; to run it nevertheless, set the environment variable {1} to {2}'
 
 
 class ProgramFault(Fault):
@@ -186,13 +186,13 @@ def module_program(name: str = PROGRAM) -> Path | None:
     return script_of(name) if is_own else None
 
 
-def nothing_runs() -> str:
-    """Why no motesim can run here, and what to do."""
+def nothing_runs(name: str = PROGRAM) -> str:
+    """Why a program can't run here, and what to do."""
     if shutil.which('rt'):
-        return NOT_COMPILED
-    if shutil.which('node') and read_about():
-        return OTHER_SOURCES % (TOP / 'web/motesim')
-    return NO_NODE % (TOP / 'web/motesim.html')
+        found = NOT_COMPILED
+    else:
+        found = OTHER_SOURCES if shutil.which('node') and read_about(name) else NO_NODE
+    return found.format(name, name.upper(), script_of(name), TOP / 'web/motesim.html')
 
 
 def is_module(program: Path) -> bool:
@@ -240,41 +240,25 @@ def say_not_proved(line: str) -> None:
         print('motesim: ' + line, file=sys.stderr, flush=True)
 
 
-def program_path() -> Path:
-    """The binary to run: the one that the environment variable MOTESIM names, or that of these sources."""
-    named = os.environ.get('MOTESIM')
+def program_path(name: str = PROGRAM) -> Path:
+    """The binary to run: the one that the environment variable of this name, such as MOTESIM, names, or that of these
+    sources."""
+    named = os.environ.get(name.upper())
     if named:
         if not is_program(Path(named)):
-            raise ProgramFault('there is no program %s (the environment variable MOTESIM names it)' % named)
+            raise ProgramFault('there is no program %s (the environment variable %s names it)' % (named, name.upper()))
         return Path(named)
-    return _program_here()
+    return _program_here(name)
 
 
 @functools.cache
-def _program_here() -> Path:
+def _program_here(name: str) -> Path:
     """The binary of these sources. A process uses the same one even if the sources change."""
-    found = program_of_sources() or module_program()
+    found = program_of_sources(name=name) or module_program(name)
     if found is None:
-        raise ProgramFault(nothing_runs())
+        raise ProgramFault(nothing_runs(name))
     if is_module(found):
         say_not_proved(IN_NODE)
     elif is_compiled(found):
         say_not_proved(COMPILED if is_program(packed()) else NOT_PROVED)
     return found
-
-
-def checker_path() -> Path | None:
-    """The motecheck that decides verdicts: the one that the environment variable MOTECHECK names, or that of these
-    sources. None if the variable is empty, if MOTESIM names a program of other sources, or if no motecheck is here."""
-    named = os.environ.get('MOTECHECK')
-    if named and not is_program(Path(named)):
-        raise ProgramFault('there is no program %s (the environment variable MOTECHECK names it)' % named)
-    if named is not None:
-        return Path(named) if named else None
-    other = os.environ.get('MOTESIM')
-    return _checker_here() if not other or is_proved(Path(other)) else None
-
-
-@functools.cache
-def _checker_here() -> Path | None:
-    return program_of_sources(name=CHECKER) or module_program(CHECKER)

@@ -9,7 +9,7 @@
     change.py          the changes that faults make to a scenario, and the changed text
     added.py           the process that makes a mote fail, or start late
     prepare.py         the checks before a search
-    halting.py         the expectations that the line `halt` of a failed mote breaks by itself, and reports without it
+    halting.py         the line `halt` of a failed mote: the expectations that can't leave it out, and reports without it
     work.py            one run of a set of faults
     survey.py          the sets that motecheck decides
     single_packets.py  whether the link of a lost packet loses only this packet in the run

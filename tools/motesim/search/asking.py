@@ -14,7 +14,8 @@ from motesim.search.faults import (
 )
 from motesim.search.kept import Kept
 from motesim.runner import Limits, Runner, program_path
-from motesim.runner.programs import checker_path
+from motesim.runner.cluster import Binary
+from motesim.runner.programs import CHECKER, PROGRAM
 from motesim.search.prepare import plain_run, prepare
 from motesim.search.runner import Here, OnCluster
 from motesim.search.search import Bounds, Search
@@ -73,12 +74,12 @@ class Asking:
         """The identity of a search, by which it differs from others."""
         plan = self.base.plan and (self.base.plan.text, self.base.plan.digest({}))
         parts = (self.base.source, plan, self.texts, self.prepared.faults, self.limits, program_digest(self.path),
-                 *([self.prepared.halting] if self.prepared.halting else []))
+                 *([sorted(self.prepared.halting)] if self.prepared.halting else []))
         return hashlib.sha256(repr(parts).encode()).hexdigest()[:16]
 
     def work(self) -> Work:
-        return Work(self.base, self.prepared.faults, self.sentences, str(self.path), self.limits, self.prepared.halting,
-                    checker_path())
+        return Work(self.base, self.prepared.faults, self.sentences, Binary.of(PROGRAM), Binary.of(CHECKER), self.limits,
+                    self.prepared.halting)
 
     def search(self, processes: int, kept: Kept, shown: Callable[[Search, int, bool], None] | None = None,
                asks_end: Callable[[], bool] = lambda: False, address: str | None = None) -> Search:

@@ -2,8 +2,8 @@
 
 A process that is added to its program makes a mote fail or start late. A run shows whether this process itself changes
 anything: with a moment after the end, or for a late start with the moment 0, the report must be the same as without
-the process, except for the lines that name it. If this process makes a mote fail by halting, expectations that the
-line `halt` breaks are left out too.
+the process, except for the lines that name it. If this process makes a mote fail by halting, expectations that can't
+leave out the line `halt` are left out too.
 """
 from __future__ import annotations
 
@@ -16,13 +16,14 @@ from motesim.runner import ProgramFault, Runner
 from motesim.search.added import DIES, LATE, NoRoom, added_name, halts
 from motesim.search.change import Base, CannotChange, Change
 from motesim.search.faults import FaultyPart
-from motesim.search.halting import hidden_by_halt, is_only_about_halts
+from motesim.search.halting import counts_halt, has_halted
 from motesim.search.sets import Set, union
 from motesim.search.work import mask_of
 from motesim.judge.claims import Claims
+from motesim.judge.judge import Judge
 from motesim.judge.sentences import Sentence
-from motesim.judge.verdicts import broken_of, decided
-from motesim.runner.programs import checker_path
+from motesim.judge.verdicts import decided, is_broken
+from motesim.report.lazy import LazyReport
 from motesim.scenario.scenario import Scenario
 
 ADDED = {'fails': DIES, 'late': LATE}
@@ -59,8 +60,9 @@ def plain_run(base: Base, program: Runner, sentences: list[Sentence]) -> Plain:
 
 def broken_in(scenario: Scenario, report: bytes, sentences: list[Sentence], program: Runner) -> list[int]:
     """The numbers of the sentences that are broken in the run of a scenario, which has this report."""
-    said = decided(checker_path(), Claims(scenario), scenario.text, sentences, program.limits)
-    return broken_of(said, sentences, scenario, lambda place: report)
+    said = decided(Claims(scenario), scenario.text, sentences, program.limits)
+    judge = Judge(LazyReport(report), scenario)
+    return [number for number, its in enumerate(zip(said, sentences)) if is_broken(*its, judge)]
 
 
 def without_process(report: bytes, mote: int, process: str) -> list[bytes]:
@@ -100,14 +102,13 @@ def difference(base: Base, plain: Plain, program: Runner, mote: int, kind: str, 
 class Prepared(NamedTuple):
     """The faults for the search; those that can't be made, with the reasons; and those that hide some expectations.
 
-    blind    for each fault, the expectations that the added process breaks by itself: the search can't judge them
-    halting  for each fault, the expectations about halts that only its line `halt` breaks: the search judges them
-             without this line
+    blind    for each fault, the expectations that the added process may break by itself: the search can't judge them
+    halting  the faults that halt a mote
     """
     faults: list[FaultyPart]
     left_out: list[str]
     blind: dict[int, int]
-    halting: dict[int, int]
+    halting: frozenset[int]
 
     def blind_of(self) -> Callable[[Set], int]:
         """A function that returns the expectations that can't be judged with a set."""
@@ -118,14 +119,13 @@ def prepare(base: Base, plain: Plain, program: Runner, sentences: list[Sentence]
             faults: list[FaultyPart]) -> Prepared:
     """Leaves out the faults that can't be made, and notes the reasons."""
     seen = dict[tuple[int, str], tuple[str, int]]()
-    held = [number for number in range(len(sentences)) if number not in plain.broken]
     kept: list[FaultyPart] = []
-    left_out, blind, halting = dict[tuple[int, str], list[str]](), dict[int, int](), dict[int, int]()
-    of_halts = mask_of([number for number, it in enumerate(sentences) if is_only_about_halts(it)])
+    left_out, blind, halting = dict[tuple[int, str], list[str]](), dict[int, int](), set[int]()
+    claims = Claims(base.scenario_itself)
     for fault in faults:
         kind = ADDED.get(str(fault.effect[0]))
         if kind is not None:
-            mote = int(fault.effect[1])
+            mote, moment = int(fault.effect[1]), int(fault.effect[2])
             if (mote, kind) not in seen:
                 seen[mote, kind] = _tried(base, plain, program, sentences, mote, kind)
             why, mask = seen[mote, kind]
@@ -133,17 +133,15 @@ def prepare(base: Base, plain: Plain, program: Runner, sentences: list[Sentence]
                 kinds = left_out.setdefault((mote, why), [])
                 kinds += [INTO[kind]] if INTO[kind] not in kinds else []
                 continue
-            hidden = 0
-            if kind == DIES and halts(base.tables['programs'][base.scenario_itself.places[mote].program]):
-                hidden = mask_of(hidden_by_halt(base.scenario_itself, plain.report, sentences, held, mote,
-                                                int(fault.effect[2])))
-            mask |= hidden & ~of_halts
+            program_of = base.tables['programs'][base.scenario_itself.places[mote].program]
+            if kind == DIES and halts(program_of) and not has_halted(plain.report, mote, moment):
+                halting.add(len(kept))
+                mask |= mask_of([number for number, it in enumerate(sentences) if number not in plain.broken
+                                 and counts_halt(it, claims, mote, moment)])
             if mask:
                 blind[len(kept)] = mask
-            if hidden & of_halts:
-                halting[len(kept)] = hidden & of_halts
         kept.append(fault)
-    return Prepared(kept, _left_out(left_out), blind, halting)
+    return Prepared(kept, _left_out(left_out), blind, frozenset(halting))
 
 
 def _left_out(reasons: dict[tuple[int, str], list[str]]) -> list[str]:

@@ -10,12 +10,10 @@ import time
 from collections.abc import Iterator
 from concurrent.futures import FIRST_COMPLETED, Future, ProcessPoolExecutor, wait
 from concurrent.futures.process import BrokenProcessPool
-from pathlib import Path
 from typing import NamedTuple, Protocol
 
 from motesim.faults import Fault
-from motesim.runner.cluster import Cluster, program_here
-from motesim.runner.versions import program_digest
+from motesim.runner.cluster import Cluster
 from motesim.search.work import Bench, Outcome, Task, Work
 
 BATCH = 16
@@ -105,17 +103,15 @@ _of_thread = threading.local()
 
 
 class OfCluster(NamedTuple):
-    """The data that a cluster's workers share, with the number of the search and the digest of `motesim`."""
+    """The data that a cluster's workers share, with the number of the search."""
     number: str
     work: Work
-    digest: str
 
 
 def run_there(shared: OfCluster, tasks: list[Task]) -> list[Outcome]:
     """Runs some tasks on a worker."""
     if getattr(_of_thread, 'number', None) != shared.number:
-        path = program_here(shared.work.program, shared.digest)
-        _of_thread.bench = Bench(shared.work._replace(program=str(path)))
+        _of_thread.bench = Bench(shared.work)
         _of_thread.number = shared.number
     return [_of_thread.bench.run(task) for task in tasks]
 
@@ -125,7 +121,7 @@ class OnCluster:
 
     def __init__(self, work: Work, address: str):
         self.cluster = Cluster(address)
-        self.shared = OfCluster(os.urandom(8).hex(), work, program_digest(Path(work.program)))
+        self.shared = OfCluster(os.urandom(8).hex(), work)
 
     def outcomes(self, tasks: Iterator[Task], is_over: IsOver) -> Iterator[Outcome]:
         # (a list goes over the network, so it has more tasks than a batch on this machine)

@@ -17,13 +17,12 @@ from motesim.judge.sentences import Sentence, SentenceFault, names_of, read_sent
 from motesim.judge.verdicts import decided, reason
 from motesim.report.lazy import LazyReport
 from motesim.runner import ProgramFault, Runner
-from motesim.runner.programs import checker_path
 from motesim.scenario.fields import Field
 from motesim.scenario.scenario import Scenario
 from motesim.search.change import Base, Change
 from motesim.search.faults import MOTES_OF, Effect, put_into
 from motesim.search.following import follow, names_motes_in_quotes
-from motesim.search.halting import is_only_about_halts, without_halts
+from motesim.search.halting import without_halts
 from motesim.search.net import PARTS, Net, NetStep, loss_steps, mote_steps, net_of, number_steps, program_steps
 from motesim.why.cause import NO_CAUSE, Cause, cause_of
 from motesim.why.source import Source
@@ -126,17 +125,16 @@ class Shrinking:
 
     def seen(self, text: str, words: Sequence[str], is_first_broken: bool, failed: dict[int, int] = {}) -> Seen | None:
         """The report of a text, with what breaks these sentences: the first one is broken, or holds, and the others hold.
-        None if they are otherwise, or can't be read; if there is no report; or if it is too long. A sentence about halts
-        isn't about the motes that fail."""
+        None if they are otherwise, or can't be read; if there is no report; or if it is too long. Lines `halt` of motes
+        that failed don't count."""
         scenario = self.scenario(text)
         read = [it for it in (read_or_none(it, scenario) for it in words) if it]
         if len(read) < len(words):
             return None
         self.runs += 1
-        failing = {place: failed for place, it in enumerate(read) if is_only_about_halts(it)}
         is_wanted = [is_first_broken, *[False] * (len(words) - 1)]
         try:
-            said = decided(checker_path(), Claims(scenario), text, read, self.program.limits, failing)
+            said = decided(Claims(scenario), text, read, self.program.limits, failed)
             if any(it is not None and bool(it) != wanted for it, wanted in zip(said, is_wanted)):
                 return None
             answer = self.program.answer(text.encode())
@@ -146,8 +144,8 @@ class Shrinking:
         is_long = self.longest is not None and len(answer.report) > self.longest and scenario.end < self.first_end
         if answer.status or is_long:
             return None
-        reports = [without_halts(answer.report, failing.get(place, {}).items()) for place in range(len(read))]
-        broken = [reason(*its, Judge(LazyReport(report), scenario)) for its, report in zip(zip(said, read), reports)]
+        judge = Judge(LazyReport(without_halts(answer.report, failed.items())), scenario)
+        broken = [reason(*its, judge) for its in zip(said, read)]
         return Seen(answer.report, scenario, broken) if [it is not None for it in broken] == is_wanted else None
 
     def scenario(self, text: str) -> Scenario:

@@ -17,7 +17,7 @@ from motesim.judge.links import Apart, Links
 from motesim.judge.sentences import Sentence, Value
 from motesim.judge.verdicts import answers
 from motesim.runner import Limits, ProgramFault
-from motesim.runner.programs import checker_path, is_module
+from motesim.runner.programs import CHECKER, is_module, program_path
 from motesim.scenario import Scenario
 from motesim.search.change import Base
 from motesim.search.faults import Effect, FaultyPart, change_of
@@ -72,14 +72,14 @@ def survey_of(base: Base, faults: Sequence[FaultyPart], sentences: Mapping[int, 
               limits: Limits, asks_end: Callable[[], bool]) -> Survey | None:
     """The survey of a search's faults, if `motecheck` is built and can make it: of links in one direction that lose
     everything, and of silent motes, for sentences that have claims."""
-    program, kinds = checker_path(), {str(it.effect[0]) for it in faults}
+    kinds = {str(it.effect[0]) for it in faults}
     is_lossy = any(it.effect[0] == 'lose' and it.effect[3] != 1 for it in faults)
-    if program is None or is_module(program) or at_most < 1 or not kinds or not kinds <= set(OPTIONS) or is_lossy:
+    if is_module(program_path(CHECKER)) or at_most < 1 or not kinds or not kinds <= set(OPTIONS) or is_lossy:
         return None
     claims = Claims(base.scenario_itself)
     try:
         rows = [(number, row) for number, it in sentences.items() for row in claims.of(it)]
-        lines = answers(program, base.source.encode(), [row for _, row in rows], *(OPTIONS[it] for it in kinds),
+        lines = answers(base.source.encode(), [row for _, row in rows], *(OPTIONS[it] for it in kinds),
                         '--at-most', str(at_most), '--workers', str(min(workers, MOST_WORKERS)), limits=limits,
                         asks_end=asks_end)
     except (NoClaim, ProgramFault):

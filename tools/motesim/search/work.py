@@ -1,23 +1,22 @@
 """One run with a set of faults: makes the text, runs `motesim` on it, and judges the sentences."""
 from __future__ import annotations
 
-from collections.abc import Mapping, Sequence
-from pathlib import Path
+from collections.abc import Sequence
 from typing import NamedTuple
 
 from motesim.runner import Limits, ProgramFault, Runner
+from motesim.runner.cluster import Binary
 from motesim.scenario.scenario import Scenario
 from motesim.search.change import NOT_SO, Base, CannotChange, Change
 from motesim.search.added import NoRoom
 from motesim.search.faults import FaultyPart, change_of
-from motesim.search.halting import without_halts
-from motesim.search.sets import Set, union
+from motesim.search.sets import Set
 from motesim.search.single_packets import loses_more
-from motesim.judge.claims import Claims
+from motesim.judge.claims import Claims, NoClaim
 from motesim.judge.judge import Judge
 from motesim.judge.sentences import Sentence
 from motesim.judge.shortfall import Shortfall, shortfall_of
-from motesim.judge.verdicts import broken_of, decided
+from motesim.judge.verdicts import NoVerdict, decided, is_broken
 from motesim.report.lazy import LazyReport
 
 # The usual limits of a run.
@@ -42,15 +41,15 @@ class Outcome(NamedTuple):
 
 
 class Work(NamedTuple):
-    """The data that all runs of a search share. For each fault that halts a mote, `halting` has the expectations that
-    are judged without this mote's line `halt`. `checker` is the path of `motecheck`."""
+    """The data that all runs of a search share. The faults in `halting` halt a mote: its line `halt` doesn't count.
+    `checker` is `motecheck`."""
     base: Base
     faults: list[FaultyPart]
     sentences: list[Sentence]
-    program: str
+    program: Binary
+    checker: Binary
     limits: Limits
-    halting: Mapping[int, int] = {}
-    checker: Path | None = None
+    halting: frozenset[int] = frozenset()
 
 
 def numbers_of(mask: int) -> list[int]:
@@ -74,7 +73,7 @@ class Bench:
     def __init__(self, work: Work):
         self.base, self.faults, self.halting = work.base, work.faults, work.halting
         self.sentences, self.limits = work.sentences, work.limits
-        self.program, self.checker = Runner(Path(work.program), work.limits), work.checker
+        self.program, self.checker = Runner(work.program.here(), work.limits), work.checker.here()
         self.same = Claims(self.base.scenario_itself).same_with_all_links(work.sentences)
 
     def run(self, task: Task) -> Outcome:
@@ -91,12 +90,12 @@ class Bench:
             numbers, failing = numbers_of(task.wanted), self.failing(task)
             wanted = [self.sentences[number] for number in numbers]
             claims = Claims(scenario, {} if change.added or change.parameters else self.same)
-            said = decided(self.checker, claims, text, wanted, self.limits, failing)
+            said = decided(claims, text, wanted, self.limits, failing, self.checker)
             # (`loses_more` needs the report)
             if not any(it is None or it for it in said) and all(it.kind != 'packets' for it in its):
                 return Outcome(found, RUN)
             answer = self.program.answer(text.encode())
-        except (CannotChange, NoRoom) as fault:
+        except (CannotChange, NoRoom, NoClaim, NoVerdict) as fault:
             return Outcome(found, UNMADE, 0, str(fault))
         except ProgramFault as fault:
             return Outcome(found, STOPPED, 0, str(fault))
@@ -105,18 +104,15 @@ class Bench:
         losses = self.base.with_parameters(change.parameters).scenario_itself.losses
         if loses_more(its, answer.report, losses):
             return Outcome(found, MORE)
-        broken = broken_of(said, wanted, scenario,
-                           lambda place: without_halts(answer.report, failing.get(place, {}).items()))
-        lacks = shortfall_of(Judge(LazyReport(answer.report), scenario), wanted, broken) if broken else Shortfall()
+        judge = Judge(LazyReport(answer.report), scenario)
+        broken = [place for place, its in enumerate(zip(said, wanted)) if is_broken(*its, judge)]
+        lacks = shortfall_of(judge, wanted, broken) if broken else Shortfall()
         return Outcome(found, RUN, mask_of([numbers[place] for place in broken]), lacks=lacks)
 
-    def failing(self, task: Task) -> dict[int, dict[int, int]]:
-        """For the places of the expectations about halts, among those to be tried: the motes that the faults halt, each
-        with its moment. These expectations are judged for the other motes."""
-        halting = [number for number in task.faults if self.halting.get(number)]
-        apart = union(self.halting[number] for number in halting)
-        motes = {int(mote): int(moment) for _, mote, moment in (self.faults[it].effect for it in halting)}
-        return {place: motes for place, number in enumerate(numbers_of(task.wanted)) if apart >> number & 1}
+    def failing(self, task: Task) -> dict[int, int]:
+        """The motes that the faults halt, each with its moment."""
+        halting = (self.faults[number].effect for number in task.faults if number in self.halting)
+        return {int(mote): int(moment) for _, mote, moment in halting}
 
 
 def check_text(text: str, change: Change, base: Base) -> None:
