@@ -1,4 +1,5 @@
 -- The text of claims.
+pub mod Appends
 pub mod Numbers
 pub mod LimitsText
 pub mod KindsText

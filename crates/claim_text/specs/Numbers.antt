@@ -1,5 +1,5 @@
 -- The text of numbers, and of sets of numbers.
-use Rattle.std.specs.Prelude.{ℕ, Bool, false, ◌==◌, nat_lt, if◌then◌else◌, Option, Some, None, List, [], ◌∷◌, ◌++◌}
+use Rattle.std.specs.Prelude.{ℕ, ◌==◌, nat_lt, if◌then◌else◌, Option, Some, None, List, [], ◌∷◌, ◌++◌}
 use Rattle.std.specs.Prelude.{codes, decimal}
 use Rattle.std.specs.List.{flat_map}
 use Rattle.claims.specs.declared.set.Span.{Span}
@@ -21,16 +21,15 @@ abbrev pub set_text : List Span → List ℕ
 set_text [] = codes "none"
 set_text (s ∷ ss) = span_text s ++ flat_map next_span ss
 
-abbrev pub is_one_number : List Span → Bool
-is_one_number [] = false
-is_one_number (s ∷ []) = s.from == s.to
-is_one_number (s ∷ t ∷ ss) = false
+abbrev pub mote_or_motes : List Span → List ℕ
+mote_or_motes [] = codes " motes "
+mote_or_motes (s ∷ []) = if s.from == s.to then codes " mote " else codes " motes "
+mote_or_motes (s ∷ t ∷ ss) = codes " motes "
 
 -- `by mote 3`, or `by motes 1 to 3`, if the word is `by`; nothing, if there is no set
 abbrev pub motes_text : (word : List ℕ) → Option Set → List ℕ
 motes_text word None = []
-motes_text word (Some s) =
-    word ++ ((if is_one_number s.spans.items then codes " mote " else codes " motes ") ++ set_text s.spans.items)
+motes_text word (Some s) = word ++ (mote_or_motes s.spans.items ++ set_text s.spans.items)
 
 -- a label and a set; nothing, if there is no set
 abbrev pub part_text : (label : List ℕ) → Option Set → List ℕ

@@ -89,21 +89,14 @@ abbrev pub framed_values : (names : List (List ℕ)) → (own : Option ℕ) → 
     → List ℕ → List ℕ
 framed_values names own before d behind vs = framed_deed names own before d behind ++ values_text vs
 
-abbrev pub in_order_text : (names : List (List ℕ)) → (own : Option ℕ) → Deed → List Set → List ℕ
-in_order_text names own d ss = framed_sets names own (codes "the lines ") d (codes " have in order of time exactly ") ss
-
-abbrev pub any_order_text : (names : List (List ℕ)) → (own : Option ℕ) → Deed → List ℕ → List ℕ
-any_order_text names own d vs = framed_values names own (codes "the lines ") d (codes " have in any order exactly ") vs
-
-abbrev pub last_text : (names : List (List ℕ)) → (own : Option ℕ) → Deed → Set → List ℕ
-last_text names own d s = framed_set names own (codes "the last line ") d (codes " has the value ") s
-
 abbrev pub test_text : (names : List (List ℕ)) → (own : Option ℕ) → Test → List ℕ
 test_text names own (Count c l) = counted_text names own c l
 test_text names own (Ratio q) = ratio_text names own q
-test_text names own (Values d ss) = in_order_text names own d ss.items
-test_text names own (AnyOrder d vs) = any_order_text names own d vs.items
-test_text names own (Last d s) = last_text names own d s
+test_text names own (Values d ss) =
+    framed_sets names own (codes "the lines ") d (codes " have in order of time exactly ") ss.items
+test_text names own (AnyOrder d vs) =
+    framed_values names own (codes "the lines ") d (codes " have in any order exactly ") vs.items
+test_text names own (Last d s) = framed_set names own (codes "the last line ") d (codes " has the value ") s
 
 abbrev pub next_test : (names : List (List ℕ)) → (own : Option ℕ) → Test → List ℕ
 next_test names own t = codes " and " ++ test_text names own t

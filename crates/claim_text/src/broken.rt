@@ -1,10 +1,11 @@
 //! Writes where a claim is broken.
-ghost use Rattle.std.specs.Prelude.{◌≡◌, ◌++◌, ◌+◌, option_map, slice_get, string_bytes, OnOk, IfOk};
-ghost use Rattle.claim_text.specs.BreakText.{place_text, beyond_text, with_text, subject_of, test_at, missing_text};
-ghost use Rattle.claim_text.specs.BreakText.{missing_test, spare_text};
-ghost use Rattle.claim_text.specs.BreakText.{missing_at, spare_at, break_text};
+ghost use Rattle.std.specs.Prelude.{◌≡◌, option_map, slice_get, string_bytes, IfOk};
+ghost use Rattle.claim_text.specs.Appends.{Appends};
+ghost use Rattle.claim_text.specs.BreakText.{place_text, beyond_text, with_text, subject_of, test_at, missing_test};
+ghost use Rattle.claim_text.specs.BreakText.{missing_text, spare_text, missing_at, spare_at, break_text};
 
-use crate::numbers::put_number;
+use crate::numbers::Written;
+use crate::scope::Scope;
 use crate::subject::mote_of;
 use crate::test::{put_test, put_tests};
 use claim_witness::{Break, BrokenTest};
@@ -13,67 +14,48 @@ use program_tree::Names;
 use std::alloc::{AllocError, Global};
 
 /// Appends the place of a line: its number in the trace of its mote, from 1, and its moment.
-fn put_place(alloc: Global, text: &mut String, line: &Found) -> Result<(), AllocError>
-    ensures appended { OnOk result (string_bytes text.new ≡ string_bytes text.old ++ place_text line.now) }
+fn put_place(text: &mut String, line: &Found) -> Written
+    ensures appends { Appends result text.old text.new (place_text line.now) }
 {
     let place = line.place as u128 + 1;
-    let number = format!(in alloc; "{place}")?;
-    text.push_str("; line ")?;
-    text.push_str(number.as_str())?;
-    text.push_str(" of mote ")?;
-    put_number(alloc, text, u64::from(line.mote))?;
-    text.push_str(", at ")?;
-    put_number(alloc, text, line.line.at)
+    let mote = line.mote;
+    let at = line.line.at;
+    write!(text, "; line {place} of mote {mote}, at {at}")
 }
 
-fn put_beyond(alloc: Global, text: &mut String, line: Option<Found>) -> Result<(), AllocError>
-    ensures appended { OnOk result (string_bytes text.new ≡ string_bytes text.old ++ beyond_text line) }
+fn put_beyond(text: &mut String, line: Option<Found>) -> Written
+    ensures appends { Appends result text.old text.new (beyond_text line) }
 {
-    match line {
-        None => Ok(()),
-        Some(line) => {
-            put_place(alloc, text, &line)?;
-            text.push_str(", is one too many")
-        }
-    }
+    let Some(line) = line else { return Ok(()) };
+    put_place(text, &line)?;
+    text.push_str(", is one too many")
 }
 
-fn put_with(alloc: Global, text: &mut String, line: Option<Found>) -> Result<(), AllocError>
-    ensures appended { OnOk result (string_bytes text.new ≡ string_bytes text.old ++ with_text line) }
-{
-    match line {
-        None => Ok(()),
-        Some(line) => put_place(alloc, text, &line),
-    }
-}
-
-fn put_subject(alloc: Global, text: &mut String, own: Option<u16>) -> Result<(), AllocError>
-    ensures appended { OnOk result (string_bytes text.new ≡ string_bytes text.old ++ subject_of own) }
+fn put_subject(text: &mut String, own: Option<u16>) -> Written
+    ensures appends { Appends result text.old text.new (subject_of own) }
 {
     match own {
         None => text.push_str("the net: "),
-        Some(own) => {
-            text.push_str("mote ")?;
-            put_number(alloc, text, u64::from(own))?;
-            text.push_str(": ")
-        }
+        Some(own) => write!(text, "mote {own}: "),
     }
 }
 
-fn put_test_at(
-    alloc: Global,
+fn put_missing_test(
     text: &mut String,
-    names: &Names,
-    own: Option<u16>,
+    scope: Scope<'_>,
     test: Option<&Test>,
-) -> Result<(), AllocError>
-    ensures appended { OnOk result (string_bytes text.new
-        ≡ string_bytes text.old ++ test_at names.now own (option_map (λ t. t.now) test.entry)) }
+    line: Option<Found>,
+) -> Written
+    ensures appends { Appends result text.old text.new
+        (missing_test scope.entry.names.now scope.entry.own (option_map (λ t. t.now) test.entry) line) }
 {
+    text.push_str("not for ")?;
+    put_subject(text, scope.own)?;
     match test {
-        None => text.push_str("no such test"),
-        Some(test) => put_test(alloc, text, names, own, test),
+        None => text.push_str("no such test")?,
+        Some(test) => put_test(text, scope, test)?,
     }
+    put_beyond(text, line)
 }
 
 fn test_of(case: &Case, place: usize) -> Option<&Test>
@@ -82,83 +64,32 @@ fn test_of(case: &Case, place: usize) -> Option<&Test>
     case.tests.get(place)
 }
 
-fn put_missing_test(
-    alloc: Global,
-    text: &mut String,
-    names: &Names,
-    own: Option<u16>,
-    test: Option<&Test>,
-    line: Option<Found>,
-) -> Result<(), AllocError>
-    ensures appended { OnOk result (string_bytes text.new
-        ≡ string_bytes text.old ++ missing_test names.now own (option_map (λ t. t.now) test.entry) line) }
+fn put_missing(text: &mut String, names: &Names, case: Option<&Case>, broken: BrokenTest) -> Written
+    ensures appends { Appends result text.old text.new
+        (missing_at names.now (option_map (λ k. k.now) case.entry) broken) }
 {
-    text.push_str("not for ")?;
-    put_subject(alloc, text, own)?;
-    put_test_at(alloc, text, names, own, test)?;
-    put_beyond(alloc, text, line)
-}
-
-fn put_missing(
-    alloc: Global,
-    text: &mut String,
-    names: &Names,
-    case: &Case,
-    broken: BrokenTest,
-) -> Result<(), AllocError>
-    ensures appended { OnOk result (string_bytes text.new
-        ≡ string_bytes text.old ++ missing_text names.now case.now broken) }
-{
+    let Some(case) = case else {
+        return text.push_str("no such case");
+    };
+    let own = mote_of(case);
     let test = test_of(case, broken.test);
-    put_missing_test(alloc, text, names, mote_of(case), test, broken.line)
+    put_missing_test(text, Scope { names, own }, test, broken.line)
 }
 
-fn put_spare(
-    alloc: Global,
-    text: &mut String,
-    names: &Names,
-    case: &Case,
-    line: Option<Found>,
-) -> Result<(), AllocError>
-    ensures appended { OnOk result (string_bytes text.new
-        ≡ string_bytes text.old ++ spare_text names.now case.now line) }
+fn put_spare(text: &mut String, names: &Names, case: Option<&Case>, line: Option<Found>) -> Written
+    ensures appends { Appends result text.old text.new
+        (spare_at names.now (option_map (λ k. k.now) case.entry) line) }
 {
+    let Some(case) = case else {
+        return text.push_str("no such case");
+    };
     let own = mote_of(case);
     text.push_str("also for ")?;
-    put_subject(alloc, text, own)?;
-    put_tests(alloc, text, names, own, case.tests.as_slice())?;
-    put_with(alloc, text, line)
-}
-
-fn put_missing_at(
-    alloc: Global,
-    text: &mut String,
-    names: &Names,
-    case: Option<&Case>,
-    broken: BrokenTest,
-) -> Result<(), AllocError>
-    ensures appended { OnOk result (string_bytes text.new
-        ≡ string_bytes text.old ++ missing_at names.now (option_map (λ k. k.now) case.entry) broken) }
-{
-    match case {
-        None => text.push_str("no such case"),
-        Some(case) => put_missing(alloc, text, names, case, broken),
-    }
-}
-
-fn put_spare_at(
-    alloc: Global,
-    text: &mut String,
-    names: &Names,
-    case: Option<&Case>,
-    line: Option<Found>,
-) -> Result<(), AllocError>
-    ensures appended { OnOk result (string_bytes text.new
-        ≡ string_bytes text.old ++ spare_at names.now (option_map (λ k. k.now) case.entry) line) }
-{
-    match case {
-        None => text.push_str("no such case"),
-        Some(case) => put_spare(alloc, text, names, case, line),
+    put_subject(text, own)?;
+    put_tests(text, Scope { names, own }, case.tests.as_slice())?;
+    match line {
+        None => Ok(()),
+        Some(line) => put_place(text, &line),
     }
 }
 
@@ -168,31 +99,14 @@ fn case_of(claim: &Claim, place: usize) -> Option<&Case>
     claim.cases.get(place)
 }
 
-fn put_break(
-    alloc: Global,
-    text: &mut String,
-    names: &Names,
-    claim: &Claim,
-    broken: Break,
-) -> Result<(), AllocError>
-    ensures appended { OnOk result (string_bytes text.new
-        ≡ string_bytes text.old ++ break_text names.now claim.now broken) }
+fn put_break(text: &mut String, names: &Names, claim: &Claim, broken: Break) -> Written
+    ensures appends { Appends result text.old text.new (break_text names.now claim.now broken) }
 {
     match broken {
-        Break::Missing(witness) => put_missing_at(
-            alloc,
-            text,
-            names,
-            case_of(claim, witness.case),
-            witness.broken,
-        ),
-        Break::Spare(spare) => put_spare_at(
-            alloc,
-            text,
-            names,
-            case_of(claim, spare.case),
-            spare.line,
-        ),
+        Break::Missing(missing) => {
+            put_missing(text, names, case_of(claim, missing.case), missing.broken)
+        }
+        Break::Spare(spare) => put_spare(text, names, case_of(claim, spare.case), spare.line),
         Break::Fewer => text.push_str("it wants more cases than it has"),
     }
 }
@@ -211,6 +125,6 @@ pub fn write_break(
     ensures text { IfOk result (λ t. string_bytes t ≡ break_text names.now claim.now broken) }
 {
     let mut text = String::new(alloc);
-    put_break(alloc, &mut text, names, claim, broken)?;
+    put_break(&mut text, names, claim, broken)?;
     Ok(text)
 }

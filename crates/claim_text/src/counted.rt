@@ -1,123 +1,76 @@
 //! The text of what claims count.
-ghost use Rattle.std.specs.Prelude.{◌≡◌, ◌++◌, string_bytes, OnOk};
-ghost use Rattle.claim_text.specs.CountText.{if_order_text, lines_text, packets_text, framed_period, arrival_text};
-ghost use Rattle.claim_text.specs.CountText.{copies_text, count_text};
+ghost use Rattle.claim_text.specs.Appends.{Appends};
+ghost use Rattle.claim_text.specs.CountText.{lines_text, packets_text, framed_period, arrival_text, copies_text};
+ghost use Rattle.claim_text.specs.CountText.{count_text};
+ghost use Rattle.claim_text.specs.LimitsText.{named_number};
 
 use crate::deed::put_deed;
-use crate::limits::put_named;
-use crate::numbers::{noun, put_motes, put_period};
+use crate::numbers::{Written, noun, put_motes, put_period};
 use crate::order::{is_plain, put_order};
-use claims::{Arrival, Copies, Count, Lines, Order, Packets, Span};
-use program_tree::Names;
-use std::alloc::{AllocError, Global};
+use crate::scope::Scope;
+use claims::{Arrival, Copies, Count, Lines, Packets, Span};
 
-fn put_if_order(
-    alloc: Global,
-    text: &mut String,
-    names: &Names,
-    own: Option<u16>,
-    order: &Option<Order>,
-) -> Result<(), AllocError>
-    ensures appended { OnOk result (string_bytes text.new
-        ≡ string_bytes text.old ++ if_order_text names.now own order.now) }
+fn put_lines(text: &mut String, scope: Scope<'_>, lines: &Lines, number: u64) -> Written
+    ensures appends { Appends result text.old text.new
+        (lines_text scope.entry.names.now scope.entry.own lines.now number) }
 {
-    match order {
+    text.push_str(noun(number, "line ", "lines "))?;
+    put_deed(text, scope, &lines.deed)?;
+    match &lines.order {
         None => Ok(()),
-        Some(order) => put_order(alloc, text, names, own, order, is_plain(order)),
+        Some(order) => put_order(text, scope, order, is_plain(order)),
     }
 }
 
-fn put_lines(
-    alloc: Global,
-    text: &mut String,
-    names: &Names,
-    own: Option<u16>,
-    lines: &Lines,
-    number: u64,
-) -> Result<(), AllocError>
-    ensures appended { OnOk result (string_bytes text.new
-        ≡ string_bytes text.old ++ lines_text names.now own lines.now number) }
-{
-    text.push_str(noun(number, "line ", "lines "))?;
-    put_deed(alloc, text, names, own, &lines.deed)?;
-    put_if_order(alloc, text, names, own, &lines.order)
-}
-
-fn put_packets(
-    alloc: Global,
-    text: &mut String,
-    packets: &Packets,
-    number: u64,
-) -> Result<(), AllocError>
-    ensures appended { OnOk result (string_bytes text.new ≡ string_bytes text.old ++ packets_text packets.now number) }
+fn put_packets(text: &mut String, packets: &Packets, number: u64) -> Written
+    ensures appends { Appends result text.old text.new (packets_text packets.now number) }
 {
     text.push_str(noun(number, "packet sent", "packets sent"))?;
-    put_motes(alloc, text, " by", &packets.sender)?;
-    put_period(alloc, text, packets.when)
+    put_motes(text, " by", &packets.sender)?;
+    put_period(text, packets.when)
 }
 
-fn put_framed_period(
-    alloc: Global,
-    text: &mut String,
-    before: &str,
-    when: Span,
-    behind: &str,
-) -> Result<(), AllocError>
-    ensures appended { OnOk result (string_bytes text.new
-        ≡ string_bytes text.old ++ framed_period before.now when behind.now) }
+fn put_framed_period(text: &mut String, before: &str, when: Span, behind: &str) -> Written
+    ensures appends { Appends result text.old text.new (framed_period before.now when behind.now) }
 {
     text.push_str(before)?;
-    put_period(alloc, text, when)?;
+    put_period(text, when)?;
     text.push_str(behind)
 }
 
-fn put_arrival(alloc: Global, text: &mut String, arrival: Arrival) -> Result<(), AllocError>
-    ensures appended { OnOk result (string_bytes text.new ≡ string_bytes text.old ++ arrival_text arrival) }
+fn put_named(text: &mut String, word: &str, number: u64) -> Written
+    ensures appends { Appends result text.old text.new (named_number word.now number) }
+{
+    text.push_str(word)?;
+    write!(text, "{number}")
+}
+
+fn put_arrival(text: &mut String, arrival: Arrival) -> Written
+    ensures appends { Appends result text.old text.new (arrival_text arrival) }
 {
     match arrival {
-        Arrival::Lost(when) => put_framed_period(
-            alloc,
-            text,
-            " sent",
-            when,
-            " and lost by the medium",
-        ),
-        Arrival::Due(end) => put_named(alloc, text, " lost by the medium or due by ", end),
+        Arrival::Lost(when) => put_framed_period(text, " sent", when, " and lost by the medium"),
+        Arrival::Due(end) => put_named(text, " lost by the medium or due by ", end),
     }
 }
 
-fn put_copies(
-    alloc: Global,
-    text: &mut String,
-    copies: &Copies,
-    number: u64,
-) -> Result<(), AllocError>
-    ensures appended { OnOk result (string_bytes text.new ≡ string_bytes text.old ++ copies_text copies.now number) }
+fn put_copies(text: &mut String, copies: &Copies, number: u64) -> Written
+    ensures appends { Appends result text.old text.new (copies_text copies.now number) }
 {
     text.push_str(noun(number, "copy", "copies"))?;
-    put_motes(alloc, text, " to", &copies.to)?;
-    put_arrival(alloc, text, copies.arrival)
+    put_motes(text, " to", &copies.to)?;
+    put_arrival(text, copies.arrival)
 }
 
 /// Appends what is counted. The noun is in the singular if the number in front of it is 1.
-///
-/// # Errors
-/// `AllocError` if an allocation fails.
-pub fn put_count(
-    alloc: Global,
-    text: &mut String,
-    names: &Names,
-    own: Option<u16>,
-    count: &Count,
-    number: u64,
-) -> Result<(), AllocError>
-    ensures appended { OnOk result (string_bytes text.new
-        ≡ string_bytes text.old ++ count_text names.now own count.now number) }
+pub fn put_count(text: &mut String, scope: Scope<'_>, count: &Count, number: u64) -> Written
+    ensures appends { Appends result text.old text.new
+        (count_text scope.entry.names.now scope.entry.own count.now number) }
 {
     match count {
-        Count::Lines(lines) => put_lines(alloc, text, names, own, lines, number),
-        Count::Packets(packets) => put_packets(alloc, text, packets, number),
-        Count::Copies(copies) => put_copies(alloc, text, copies, number),
+        Count::Lines(lines) => put_lines(text, scope, lines, number),
+        Count::Packets(packets) => put_packets(text, packets, number),
+        Count::Copies(copies) => put_copies(text, copies, number),
         Count::Left => text.push_str(noun(
             number,
             "copy left at the end",

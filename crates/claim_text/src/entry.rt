@@ -1,10 +1,13 @@
 //! Cases in groups: neighbours that differ in their mote alone.
-ghost use Rattle.std.specs.Prelude.{◌≡◌, ◌++◌, None, true, map, string_bytes, OnOk, IfOk};
-ghost use Rattle.claim_text.specs.Groups.{entry_of, mote_after, mote_before, separator, subject_text, body_text};
-ghost use Rattle.claim_text.specs.Groups.{entry_text, entries_text, groups_in};
+ghost use Rattle.std.specs.Prelude.{◌≡◌, None, true, map, IfOk};
+ghost use Rattle.claim_text.specs.Appends.{Appends};
+ghost use Rattle.claim_text.specs.Groups.{entry_of, mote_after, mote_before, subject_text, entry_text, entries_text};
+ghost use Rattle.claim_text.specs.Groups.{groups_in};
 ghost use Rattle.claim_text.specs.EntryView.{view_of};
 
 use crate::deed::{mote_word, put_mote};
+use crate::numbers::Written;
+use crate::scope::Scope;
 use crate::subject::mote_of;
 use crate::test::put_tests;
 use claims::Case;
@@ -21,10 +24,10 @@ pub struct Entry {
 fn entry_of(alloc: Global, names: &Names, case: &Case) -> Result<Entry, AllocError>
     ensures value { IfOk result (λ e. view_of e ≡ entry_of names.now case.now) }
 {
-    let mote = mote_of(case);
+    let own = mote_of(case);
     let mut body = String::new(alloc);
-    put_tests(alloc, &mut body, names, mote, case.tests.as_slice())?;
-    Ok(Entry { mote, body })
+    put_tests(&mut body, Scope { names, own }, case.tests.as_slice())?;
+    Ok(Entry { mote: own, body })
 }
 
 /// Returns the entries of cases.
@@ -47,14 +50,10 @@ fn mote_after(entry: &Entry, rest: &[Entry]) -> Option<u16>
     ensures value { result ≡ mote_after (view_of entry.now) (map view_of rest.now) }
 {
     match rest {
-        [] => None,
-        [next, ..] => {
-            if entry.mote.is_some() && entry.body.as_str() == next.body.as_str() {
-                next.mote
-            } else {
-                None
-            }
+        [next, ..] if entry.mote.is_some() && entry.body.as_str() == next.body.as_str() => {
+            next.mote
         }
+        _ => None,
     }
 }
 
@@ -84,87 +83,52 @@ pub fn groups_in(mut entries: &[Entry]) -> u64
     count
 }
 
-fn put_separator(text: &mut String, is_first: bool, before: Option<u16>) -> Result<(), AllocError>
-    ensures appended { OnOk result (string_bytes text.new ≡ string_bytes text.old ++ separator is_first before) }
-{
-    if is_first || before.is_some() {
-        Ok(())
-    } else {
-        text.push_str("; ")
-    }
-}
-
 fn put_subject(
-    alloc: Global,
     text: &mut String,
     is_first: bool,
     before: Option<u16>,
     mote: Option<u16>,
     after: Option<u16>,
-) -> Result<(), AllocError>
-    ensures appended { OnOk result (string_bytes text.new
-        ≡ string_bytes text.old ++ subject_text is_first before mote after) }
+) -> Written
+    ensures appends { Appends result text.old text.new (subject_text is_first before mote after) }
 {
-    put_separator(text, is_first, before)?;
-    match mote {
-        None => text.push_str("the net"),
-        Some(mote) => {
-            if before.is_none() {
-                text.push_str(mote_word(after))?;
-            }
-            put_mote(alloc, text, before, mote, after)
-        }
+    if !is_first && before.is_none() {
+        text.push_str("; ")?;
     }
-}
-
-fn put_body(text: &mut String, body: &str, after: Option<u16>) -> Result<(), AllocError>
-    ensures appended { OnOk result (string_bytes text.new ≡ string_bytes text.old ++ body_text body.now after) }
-{
-    if after.is_some() {
-        return Ok(());
+    let Some(mote) = mote else {
+        return text.push_str("the net");
+    };
+    if before.is_none() {
+        text.push_str(mote_word(after))?;
     }
-    text.push_str(": ")?;
-    text.push_str(body)
+    put_mote(text, before, mote, after)
 }
 
 fn put_entry(
-    alloc: Global,
     text: &mut String,
     is_first: bool,
     before: Option<u16>,
     entry: &Entry,
     after: Option<u16>,
-) -> Result<(), AllocError>
-    ensures appended { OnOk result (string_bytes text.new
-        ≡ string_bytes text.old ++ entry_text is_first before (view_of entry.now) after) }
+) -> Written
+    ensures appends { Appends result text.old text.new (entry_text is_first before (view_of entry.now) after) }
 {
-    put_subject(alloc, text, is_first, before, entry.mote, after)?;
-    put_body(text, entry.body.as_str(), after)
+    put_subject(text, is_first, before, entry.mote, after)?;
+    if after.is_some() {
+        return Ok(());
+    }
+    text.push_str(": ")?;
+    text.push_str(entry.body.as_str())
 }
 
 /// Appends cases, in groups.
-///
-/// # Errors
-/// `AllocError` if an allocation fails.
-pub fn put_entries(
-    alloc: Global,
-    text: &mut String,
-    mut entries: &[Entry],
-) -> Result<(), AllocError>
-    ensures appended { OnOk result (string_bytes text.new
-        ≡ string_bytes text.old ++ entries_text true None (map view_of entries.entry.now)) }
+pub fn put_entries(text: &mut String, mut entries: &[Entry]) -> Written
+    ensures appends { Appends result text.old text.new (entries_text true None (map view_of entries.entry.now)) }
 {
     let mut is_first = true;
     let mut before = None;
     while let [entry, rest @ ..] = entries {
-        put_entry(
-            alloc,
-            text,
-            is_first,
-            before,
-            entry,
-            mote_after(entry, rest),
-        )?;
+        put_entry(text, is_first, before, entry, mote_after(entry, rest))?;
         is_first = false;
         before = mote_before(entry, rest);
         entries = rest;

@@ -1,7 +1,4 @@
 //! The errors of texts of claims.
-ghost use Rattle.std.specs.Prelude.{◌≡◌};
-ghost use Rattle.claim_text.specs.declared.error.Stop.TheVariants as stop;
-ghost use Rattle.claim_text.specs.declared.error.ClaimsError.TheVariants as fault;
 
 use std::alloc::{AllocError, AllocFailed};
 
@@ -15,40 +12,23 @@ pub enum ClaimsError {
     NotAClaim { line: usize, column: usize },
 }
 
-/// The reason why the reader stops within a line.
-#[derive(Clone, Copy)]
-pub enum Stop {
-    Memory,
-    Unexpected,
-}
-
-impl From<AllocError> for Stop {
-    ghost from_gives = { λ _ e. e ≡ stop.Memory };
-
-    fn from(_error: AllocError) -> Self {
-        Stop::Memory
-    }
-}
-
-impl<T: Drop> From<AllocFailed<T>> for Stop {
-    ghost from_gives = { λ _ e. e ≡ stop.Memory };
-
-    fn from(_error: AllocFailed<T>) -> Self {
-        Stop::Memory
+impl ClaimsError {
+    /// The error at a line, behind so many bytes that fit.
+    pub fn not_a_claim(line: usize, before: usize) -> ClaimsError {
+        ClaimsError::NotAClaim {
+            line,
+            column: before.saturating_add(1),
+        }
     }
 }
 
 impl From<AllocError> for ClaimsError {
-    ghost from_gives = { λ _ e. e ≡ fault.Memory };
-
     fn from(_error: AllocError) -> Self {
         ClaimsError::Memory
     }
 }
 
 impl<T: Drop> From<AllocFailed<T>> for ClaimsError {
-    ghost from_gives = { λ _ e. e ≡ fault.Memory };
-
     fn from(_error: AllocFailed<T>) -> Self {
         ClaimsError::Memory
     }

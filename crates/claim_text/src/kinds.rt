@@ -1,12 +1,13 @@
 //! The text of kinds of lines.
-ghost use Rattle.std.specs.Prelude.{◌≡◌, ◌++◌, string_bytes, OnOk};
+ghost use Rattle.std.specs.Prelude.{◌≡◌, string_bytes, OnOk};
+ghost use Rattle.claim_text.specs.Appends.{Appends};
 ghost use Rattle.claim_text.specs.KindsText.{kind_added, kinds_added, kinds_text};
 
+use crate::numbers::Written;
 use claims::Kinds;
-use std::alloc::{AllocError, Global};
 
 /// Appends the word of a kind if the kind is chosen. `words` is the kinds before it.
-fn add_kind(words: &mut String, is_chosen: bool, word: &str) -> Result<(), AllocError>
+fn add_kind(words: &mut String, is_chosen: bool, word: &str) -> Written
     ensures value { OnOk result (string_bytes words.new ≡ kind_added is_chosen word.now (string_bytes words.old)) }
 {
     if !is_chosen {
@@ -20,7 +21,7 @@ fn add_kind(words: &mut String, is_chosen: bool, word: &str) -> Result<(), Alloc
 
 /// Appends the words of the kinds to an empty text.
 #[tactic(auto, unfolding(crate::specs::KindsText::kinds_added))]
-fn add_kinds(words: &mut String, kinds: &Kinds) -> Result<(), AllocError>
+fn add_kinds(words: &mut String, kinds: &Kinds) -> Written
     ensures value { OnOk result (string_bytes words.new ≡ kinds_added kinds.now (string_bytes words.old)) }
 {
     add_kind(words, kinds.start, "start")?;
@@ -40,13 +41,10 @@ fn add_kinds(words: &mut String, kinds: &Kinds) -> Result<(), AllocError>
 }
 
 /// Appends kinds: their words in the order of the documentation, or `nothing` if no kind is chosen.
-///
-/// # Errors
-/// `AllocError` if an allocation fails.
-pub fn put_kinds(alloc: Global, text: &mut String, kinds: &Kinds) -> Result<(), AllocError>
-    ensures appended { OnOk result (string_bytes text.new ≡ string_bytes text.old ++ kinds_text kinds.now) }
+pub fn put_kinds(text: &mut String, kinds: &Kinds) -> Written
+    ensures appends { Appends result text.old text.new (kinds_text kinds.now) }
 {
-    let mut words = String::new(alloc);
+    let mut words = String::new(*text.allocator());
     add_kinds(&mut words, kinds)?;
     if words.is_empty() {
         text.push_str("nothing")

@@ -3,9 +3,10 @@ ghost use Rattle.std.specs.Prelude.{◌≡◌, ◌++◌, [], map, IsTrue, IfOk, 
 ghost use Rattle.claim_text.specs.ClaimText.{text_of};
 ghost use Rattle.claim_text.specs.ClaimLines.{is_claim_line, line_if_claim, claim_lines};
 
-use crate::error::{ClaimsError, Stop};
-use crate::read;
-use crate::scanner::Scanner;
+use crate::error::ClaimsError;
+use crate::read::exactly;
+use crate::reader::Reader;
+use crate::scope::Scope;
 use crate::write::write_claim;
 use claims::Claim;
 use program_tree::Names;
@@ -25,13 +26,6 @@ fn common(a: &[u8], b: &[u8]) -> usize {
     a.iter().zip(b).take_while(|(a, b)| a == b).count()
 }
 
-fn not_a_claim(line: usize, before: usize) -> ClaimsError {
-    ClaimsError::NotAClaim {
-        line,
-        column: before.saturating_add(1),
-    }
-}
-
 /// Returns whether a line is this text.
 fn is_text(text: &str, line: &[u8]) -> bool
     ensures same { IsTrue result → text.now ≡ line.now }
@@ -42,20 +36,23 @@ fn is_text(text: &str, line: &[u8]) -> bool
 fn read_line(alloc: Global, names: &Names, line: &[u8], number: usize) -> Result<Claim, ClaimsError>
     ensures text { IfOk result (λ c. text_of names.now c ≡ line.now) }
 {
-    let mut scanner = Scanner { rest: line };
-    let claim = match read::claim(alloc, &mut scanner, names) {
-        Ok(claim) => claim,
-        Err(Stop::Memory) => return Err(ClaimsError::Memory),
-        Err(Stop::Unexpected) => {
-            let left = scanner.rest.len();
-            return Err(not_a_claim(number, line.len().saturating_sub(left)));
-        }
+    let mut claim = Claim {
+        limits: exactly(0),
+        cases: Vec::new(alloc),
     };
+    let mut reader = Reader {
+        alloc,
+        line: number,
+        length: line.len(),
+        rest: line,
+        scope: Scope { names, own: None },
+    };
+    reader.fill_claim(&mut claim)?;
     let text = write_claim(alloc, names, &claim)?;
     if is_text(text.as_str(), line) {
         Ok(claim)
     } else {
-        Err(not_a_claim(number, common(text.as_bytes(), line)))
+        Err(ClaimsError::not_a_claim(number, common(text.as_bytes(), line)))
     }
 }
 

@@ -4,6 +4,8 @@ mod cases;
 mod counts;
 mod deeds;
 mod kinds;
+mod numbers;
+mod patterns;
 mod tests_of;
 
-pub use cases::claim;
+pub use numbers::exactly;

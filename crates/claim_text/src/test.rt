@@ -1,80 +1,41 @@
 //! The text of tests.
-ghost use Rattle.std.specs.Prelude.{◌≡◌, ◌++◌, string_bytes, OnOk};
-ghost use Rattle.std.specs.List.{flat_map};
-ghost use Rattle.claim_text.specs.TestText.{is_none, is_each, each_text, limited_text, counted_text, times_text};
-ghost use Rattle.claim_text.specs.TestText.{relation_word, ratio_text};
-ghost use Rattle.claim_text.specs.TestText.{next_value, values_text, next_set, sets_text, framed_deed, framed_set};
-ghost use Rattle.claim_text.specs.TestText.{framed_sets, framed_values, in_order_text, any_order_text, last_text};
-ghost use Rattle.claim_text.specs.TestText.{test_text, next_test, tests_text};
+ghost use Rattle.std.specs.Prelude.{◌≡◌};
+ghost use Rattle.claim_text.specs.Appends.{Appends};
+ghost use Rattle.claim_text.specs.TestText.{is_each, each_text, counted_text, times_text, relation_word, ratio_text};
+ghost use Rattle.claim_text.specs.TestText.{framed_deed, sets_text, values_text, framed_set, framed_sets};
+ghost use Rattle.claim_text.specs.TestText.{framed_values, test_text, tests_text};
 
 use crate::counted::put_count;
 use crate::deed::put_deed;
 use crate::limits::{put_limits, shown_number};
-use crate::numbers::{put_number, put_set};
+use crate::numbers::{Written, put_set};
 use crate::order::{is_plain, put_order};
+use crate::scope::Scope;
 use claims::{Count, Deed, Limits, Lines, Order, Ratio, Set, Test};
-use program_tree::Names;
-use std::alloc::{AllocError, Global};
-
-fn is_none(limits: Limits) -> bool
-    ensures value { result ≡ is_none limits }
-{
-    match limits.most {
-        None => false,
-        Some(most) => limits.least == 0 && most == 0,
-    }
-}
 
 /// Returns whether a test says that each line has an order: no line has the order turned round.
 fn is_each(order: &Order, limits: Limits) -> bool
     ensures value { result ≡ is_each order.now limits }
 {
-    is_none(limits) && !is_plain(order)
+    match limits.most {
+        None => false,
+        Some(most) => limits.least == 0 && most == 0 && !is_plain(order),
+    }
 }
 
-fn put_each(
-    alloc: Global,
-    text: &mut String,
-    names: &Names,
-    own: Option<u16>,
-    deed: &Deed,
-    order: &Order,
-) -> Result<(), AllocError>
-    ensures appended { OnOk result (string_bytes text.new
-        ≡ string_bytes text.old ++ each_text names.now own deed.now order.now) }
+fn put_each(text: &mut String, scope: Scope<'_>, deed: &Deed, order: &Order) -> Written
+    ensures appends { Appends result text.old text.new
+        (each_text scope.entry.names.now scope.entry.own deed.now order.now) }
 {
     text.push_str("every line ")?;
-    put_deed(alloc, text, names, own, deed)?;
+    put_deed(text, scope, deed)?;
     text.push_str(" is")?;
-    put_order(alloc, text, names, own, order, true)
+    put_order(text, scope, order, true)
 }
 
-fn put_limited(
-    alloc: Global,
-    text: &mut String,
-    names: &Names,
-    own: Option<u16>,
-    count: &Count,
-    limits: Limits,
-) -> Result<(), AllocError>
-    ensures appended { OnOk result (string_bytes text.new
-        ≡ string_bytes text.old ++ limited_text names.now own count.now limits) }
-{
-    put_limits(alloc, text, limits)?;
-    text.push_str(" ")?;
-    put_count(alloc, text, names, own, count, shown_number(limits))
-}
-
-fn put_counted(
-    alloc: Global,
-    text: &mut String,
-    names: &Names,
-    own: Option<u16>,
-    count: &Count,
-    limits: Limits,
-) -> Result<(), AllocError>
-    ensures appended { OnOk result (string_bytes text.new
-        ≡ string_bytes text.old ++ counted_text names.now own count.now limits) }
+fn put_counted(text: &mut String, scope: Scope<'_>, count: &Count, limits: Limits) -> Written
+    ensures appends { Appends result text.old text.new
+        (counted_text scope.entry.names.now scope.entry.own count.now limits) }
 {
     if let Count::Lines(
         Lines {
@@ -84,26 +45,20 @@ fn put_counted(
     ) = count
     {
         if is_each(order, limits) {
-            return put_each(alloc, text, names, own, deed, order);
+            return put_each(text, scope, deed, order);
         }
     }
-    put_limited(alloc, text, names, own, count, limits)
+    put_limits(text, limits)?;
+    text.push_str(" ")?;
+    put_count(text, scope, count, shown_number(limits))
 }
 
-fn put_times(
-    alloc: Global,
-    text: &mut String,
-    names: &Names,
-    own: Option<u16>,
-    times: u32,
-    count: &Count,
-) -> Result<(), AllocError>
-    ensures appended { OnOk result (string_bytes text.new
-        ≡ string_bytes text.old ++ times_text names.now own times count.now) }
+fn put_times(text: &mut String, scope: Scope<'_>, times: u32, count: &Count) -> Written
+    ensures appends { Appends result text.old text.new
+        (times_text scope.entry.names.now scope.entry.own times count.now) }
 {
-    put_number(alloc, text, u64::from(times))?;
-    text.push_str(" times the number of ")?;
-    put_count(alloc, text, names, own, count, 0)
+    write!(text, "{times} times the number of ")?;
+    put_count(text, scope, count, 0)
 }
 
 fn relation_word(is_strict: bool) -> &'static str
@@ -116,295 +71,150 @@ fn relation_word(is_strict: bool) -> &'static str
     }
 }
 
-fn put_ratio(
-    alloc: Global,
-    text: &mut String,
-    names: &Names,
-    own: Option<u16>,
-    ratio: &Ratio,
-) -> Result<(), AllocError>
-    ensures appended { OnOk result (string_bytes text.new
-        ≡ string_bytes text.old ++ ratio_text names.now own ratio.now) }
+fn put_ratio(text: &mut String, scope: Scope<'_>, ratio: &Ratio) -> Written
+    ensures appends { Appends result text.old text.new
+        (ratio_text scope.entry.names.now scope.entry.own ratio.now) }
 {
-    put_times(alloc, text, names, own, ratio.low_times, &ratio.low)?;
+    put_times(text, scope, ratio.low_times, &ratio.low)?;
     text.push_str(relation_word(ratio.is_strict))?;
-    put_times(alloc, text, names, own, ratio.high_times, &ratio.high)
+    put_times(text, scope, ratio.high_times, &ratio.high)
 }
 
-fn put_next_set(alloc: Global, text: &mut String, set: &Set) -> Result<(), AllocError>
-    ensures appended { OnOk result (string_bytes text.new ≡ string_bytes text.old ++ next_set set.now) }
+fn put_sets(text: &mut String, sets: &[Set]) -> Written
+    ensures appends { Appends result text.old text.new (sets_text sets.now) }
 {
-    text.push_str(", ")?;
-    put_set(alloc, text, set)
-}
-
-fn put_more_sets(alloc: Global, text: &mut String, sets: &[Set]) -> Result<(), AllocError>
-    ensures appended { OnOk result (string_bytes text.new ≡ string_bytes text.old ++ flat_map next_set sets.now) }
-{
-    for set in sets {
-        put_next_set(alloc, text, set)?;
+    let [first, more @ ..] = sets else {
+        return text.push_str("no values");
+    };
+    text.push_str("the values ")?;
+    put_set(text, first)?;
+    for set in more {
+        text.push_str(", ")?;
+        put_set(text, set)?;
     }
     Ok(())
 }
 
-fn put_sets(alloc: Global, text: &mut String, sets: &[Set]) -> Result<(), AllocError>
-    ensures appended { OnOk result (string_bytes text.new ≡ string_bytes text.old ++ sets_text sets.now) }
+fn put_values(text: &mut String, values: &[u64]) -> Written
+    ensures appends { Appends result text.old text.new (values_text values.now) }
 {
-    match sets {
-        [] => text.push_str("no values"),
-        [set, more @ ..] => {
-            text.push_str("the values ")?;
-            put_set(alloc, text, set)?;
-            put_more_sets(alloc, text, more)
-        }
-    }
-}
-
-fn put_next_value(alloc: Global, text: &mut String, value: u64) -> Result<(), AllocError>
-    ensures appended { OnOk result (string_bytes text.new ≡ string_bytes text.old ++ next_value value) }
-{
-    text.push_str(", ")?;
-    put_number(alloc, text, value)
-}
-
-fn put_more_values(alloc: Global, text: &mut String, values: &[u64]) -> Result<(), AllocError>
-    ensures appended { OnOk result (string_bytes text.new ≡ string_bytes text.old ++ flat_map next_value values.now) }
-{
-    for value in values {
-        put_next_value(alloc, text, *value)?;
+    let [first, more @ ..] = values else {
+        return text.push_str("no values");
+    };
+    write!(text, "the values {first}")?;
+    for value in more {
+        write!(text, ", {value}")?;
     }
     Ok(())
-}
-
-fn put_values(alloc: Global, text: &mut String, values: &[u64]) -> Result<(), AllocError>
-    ensures appended { OnOk result (string_bytes text.new ≡ string_bytes text.old ++ values_text values.now) }
-{
-    match values {
-        [] => text.push_str("no values"),
-        [value, more @ ..] => {
-            text.push_str("the values ")?;
-            put_number(alloc, text, *value)?;
-            put_more_values(alloc, text, more)
-        }
-    }
 }
 
 fn put_framed_deed(
-    alloc: Global,
     text: &mut String,
-    names: &Names,
-    own: Option<u16>,
+    scope: Scope<'_>,
     before: &str,
     deed: &Deed,
     behind: &str,
-) -> Result<(), AllocError>
-    ensures appended { OnOk result (string_bytes text.new
-        ≡ string_bytes text.old ++ framed_deed names.now own before.now deed.now behind.now) }
+) -> Written
+    ensures appends { Appends result text.old text.new
+        (framed_deed scope.entry.names.now scope.entry.own before.now deed.now behind.now) }
 {
     text.push_str(before)?;
-    put_deed(alloc, text, names, own, deed)?;
+    put_deed(text, scope, deed)?;
     text.push_str(behind)
 }
 
 fn put_framed_sets(
-    alloc: Global,
     text: &mut String,
-    names: &Names,
-    own: Option<u16>,
+    scope: Scope<'_>,
     before: &str,
     deed: &Deed,
     behind: &str,
     sets: &[Set],
-) -> Result<(), AllocError>
-    ensures appended { OnOk result (string_bytes text.new
-        ≡ string_bytes text.old ++ framed_sets names.now own before.now deed.now behind.now sets.now) }
+) -> Written
+    ensures appends { Appends result text.old text.new
+        (framed_sets scope.entry.names.now scope.entry.own before.now deed.now behind.now sets.now) }
 {
-    put_framed_deed(alloc, text, names, own, before, deed, behind)?;
-    put_sets(alloc, text, sets)
-}
-
-fn put_in_order(
-    alloc: Global,
-    text: &mut String,
-    names: &Names,
-    own: Option<u16>,
-    deed: &Deed,
-    sets: &[Set],
-) -> Result<(), AllocError>
-    ensures appended { OnOk result (string_bytes text.new
-        ≡ string_bytes text.old ++ in_order_text names.now own deed.now sets.now) }
-{
-    put_framed_sets(
-        alloc,
-        text,
-        names,
-        own,
-        "the lines ",
-        deed,
-        " have in order of time exactly ",
-        sets,
-    )
+    put_framed_deed(text, scope, before, deed, behind)?;
+    put_sets(text, sets)
 }
 
 fn put_framed_values(
-    alloc: Global,
     text: &mut String,
-    names: &Names,
-    own: Option<u16>,
+    scope: Scope<'_>,
     before: &str,
     deed: &Deed,
     behind: &str,
     values: &[u64],
-) -> Result<(), AllocError>
-    ensures appended { OnOk result (string_bytes text.new
-        ≡ string_bytes text.old ++ framed_values names.now own before.now deed.now behind.now values.now) }
+) -> Written
+    ensures appends { Appends result text.old text.new
+        (framed_values scope.entry.names.now scope.entry.own before.now deed.now behind.now values.now) }
 {
-    put_framed_deed(alloc, text, names, own, before, deed, behind)?;
-    put_values(alloc, text, values)
-}
-
-fn put_any_order(
-    alloc: Global,
-    text: &mut String,
-    names: &Names,
-    own: Option<u16>,
-    deed: &Deed,
-    values: &[u64],
-) -> Result<(), AllocError>
-    ensures appended { OnOk result (string_bytes text.new
-        ≡ string_bytes text.old ++ any_order_text names.now own deed.now values.now) }
-{
-    put_framed_values(
-        alloc,
-        text,
-        names,
-        own,
-        "the lines ",
-        deed,
-        " have in any order exactly ",
-        values,
-    )
+    put_framed_deed(text, scope, before, deed, behind)?;
+    put_values(text, values)
 }
 
 fn put_framed_set(
-    alloc: Global,
     text: &mut String,
-    names: &Names,
-    own: Option<u16>,
+    scope: Scope<'_>,
     before: &str,
     deed: &Deed,
     behind: &str,
     set: &Set,
-) -> Result<(), AllocError>
-    ensures appended { OnOk result (string_bytes text.new
-        ≡ string_bytes text.old ++ framed_set names.now own before.now deed.now behind.now set.now) }
+) -> Written
+    ensures appends { Appends result text.old text.new
+        (framed_set scope.entry.names.now scope.entry.own before.now deed.now behind.now set.now) }
 {
-    put_framed_deed(alloc, text, names, own, before, deed, behind)?;
-    put_set(alloc, text, set)
+    put_framed_deed(text, scope, before, deed, behind)?;
+    put_set(text, set)
 }
 
-fn put_last(
-    alloc: Global,
-    text: &mut String,
-    names: &Names,
-    own: Option<u16>,
-    deed: &Deed,
-    set: &Set,
-) -> Result<(), AllocError>
-    ensures appended { OnOk result (string_bytes text.new
-        ≡ string_bytes text.old ++ last_text names.now own deed.now set.now) }
-{
-    put_framed_set(
-        alloc,
-        text,
-        names,
-        own,
-        "the last line ",
-        deed,
-        " has the value ",
-        set,
-    )
-}
-
-/// Appends a test of a case whose mote is `own`.
-///
-/// # Errors
-/// `AllocError` if an allocation fails.
-pub fn put_test(
-    alloc: Global,
-    text: &mut String,
-    names: &Names,
-    own: Option<u16>,
-    test: &Test,
-) -> Result<(), AllocError>
-    ensures appended { OnOk result (string_bytes text.new
-        ≡ string_bytes text.old ++ test_text names.now own test.now) }
+/// Appends a test of a case.
+pub fn put_test(text: &mut String, scope: Scope<'_>, test: &Test) -> Written
+    ensures appends { Appends result text.old text.new
+        (test_text scope.entry.names.now scope.entry.own test.now) }
 {
     match test {
-        Test::Count(count, limits) => put_counted(alloc, text, names, own, count, *limits),
-        Test::Ratio(ratio) => put_ratio(alloc, text, names, own, ratio),
-        Test::Values(deed, sets) => put_in_order(alloc, text, names, own, deed, sets.as_slice()),
-        Test::AnyOrder(deed, values) => put_any_order(
-            alloc,
+        Test::Count(count, limits) => put_counted(text, scope, count, *limits),
+        Test::Ratio(ratio) => put_ratio(text, scope, ratio),
+        Test::Values(deed, sets) => put_framed_sets(
             text,
-            names,
-            own,
+            scope,
+            "the lines ",
             deed,
+            " have in order of time exactly ",
+            sets.as_slice(),
+        ),
+        Test::AnyOrder(deed, values) => put_framed_values(
+            text,
+            scope,
+            "the lines ",
+            deed,
+            " have in any order exactly ",
             values.as_slice(),
         ),
-        Test::Last(deed, set) => put_last(alloc, text, names, own, deed, set),
+        Test::Last(deed, set) => put_framed_set(
+            text,
+            scope,
+            "the last line ",
+            deed,
+            " has the value ",
+            set,
+        ),
     }
 }
 
-fn put_next_test(
-    alloc: Global,
-    text: &mut String,
-    names: &Names,
-    own: Option<u16>,
-    test: &Test,
-) -> Result<(), AllocError>
-    ensures appended { OnOk result (string_bytes text.new
-        ≡ string_bytes text.old ++ next_test names.now own test.now) }
+/// Appends the tests of a case.
+pub fn put_tests(text: &mut String, scope: Scope<'_>, tests: &[Test]) -> Written
+    ensures appends { Appends result text.old text.new
+        (tests_text scope.entry.names.now scope.entry.own tests.now) }
 {
-    text.push_str(" and ")?;
-    put_test(alloc, text, names, own, test)
-}
-
-fn put_more_tests(
-    alloc: Global,
-    text: &mut String,
-    names: &Names,
-    own: Option<u16>,
-    tests: &[Test],
-) -> Result<(), AllocError>
-    ensures appended { OnOk result (string_bytes text.new
-        ≡ string_bytes text.old ++ flat_map (next_test names.now own) tests.now) }
-{
-    for test in tests {
-        put_next_test(alloc, text, names, own, test)?;
+    let [first, more @ ..] = tests else {
+        return text.push_str("always");
+    };
+    put_test(text, scope, first)?;
+    for test in more {
+        text.push_str(" and ")?;
+        put_test(text, scope, test)?;
     }
     Ok(())
-}
-
-/// Appends the tests of a case whose mote is `own`.
-///
-/// # Errors
-/// `AllocError` if an allocation fails.
-pub fn put_tests(
-    alloc: Global,
-    text: &mut String,
-    names: &Names,
-    own: Option<u16>,
-    tests: &[Test],
-) -> Result<(), AllocError>
-    ensures appended { OnOk result (string_bytes text.new
-        ≡ string_bytes text.old ++ tests_text names.now own tests.now) }
-{
-    match tests {
-        [] => text.push_str("always"),
-        [test, more @ ..] => {
-            put_test(alloc, text, names, own, test)?;
-            put_more_tests(alloc, text, names, own, more)
-        }
-    }
 }

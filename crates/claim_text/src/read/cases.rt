@@ -1,136 +1,58 @@
 //! Reads cases and claims.
 
-use crate::error::Stop;
-use crate::read::counts::limits;
-use crate::read::deeds::fill_motes;
-use crate::read::tests_of::fill_tests;
-use crate::scanner::Scanner;
+use crate::read::exactly;
+use crate::reader::{Item, Read, Reader};
 use claims::{Case, Claim, Limits};
-use program_tree::Names;
-use std::alloc::Global;
 
-fn add_case(
-    alloc: Global,
-    scanner: &mut Scanner<'_>,
-    names: &Names,
-    own: Option<u16>,
-    cases: &mut Vec<Case>,
-) -> Result<(), Stop> {
-    let mut case = Case {
-        tests: Vec::new(alloc),
-    };
-    fill_tests(alloc, scanner, names, own, &mut case.tests)?;
-    cases.push(case)?;
-    Ok(())
-}
-
-/// Reads the tests of a group again for each of its motes.
-fn add_cases(
-    alloc: Global,
-    scanner: &mut Scanner<'_>,
-    names: &Names,
-    motes: &[u16],
-    cases: &mut Vec<Case>,
-) -> Result<(), Stop> {
-    let start = *scanner;
-    for mote in motes {
-        *scanner = start;
-        add_case(alloc, scanner, names, Some(*mote), cases)?;
-    }
-    Ok(())
-}
-
-fn add_group(
-    alloc: Global,
-    scanner: &mut Scanner<'_>,
-    names: &Names,
-    cases: &mut Vec<Case>,
-) -> Result<(), Stop> {
-    if scanner.take("the net: ") {
-        return add_case(alloc, scanner, names, None, cases);
-    }
-    if !scanner.take("motes ") {
-        scanner.expect("mote ")?;
-    }
-    let mut motes = Vec::new(alloc);
-    fill_motes(scanner, &mut motes)?;
-    scanner.expect(": ")?;
-    add_cases(alloc, scanner, names, motes.as_slice(), cases)
-}
-
-fn fill_cases(
-    alloc: Global,
-    scanner: &mut Scanner<'_>,
-    names: &Names,
-    cases: &mut Vec<Case>,
-) -> Result<(), Stop> {
-    let _ = scanner.take("these: ");
-    if scanner.take("no cases") {
-        return Ok(());
-    }
-    add_group(alloc, scanner, names, cases)?;
-    for _ in 0..scanner.rest.len() {
-        if !scanner.take("; ") {
-            break;
+impl Item for Case {
+    /// Reads a group of cases: the tests are read again for each of its motes.
+    fn read(reader: &mut Reader<'_>, items: &mut Vec<Case>) -> Read<()> {
+        if reader.take("the net: ") {
+            return reader.case(None, items);
         }
-        add_group(alloc, scanner, names, cases)?;
-    }
-    Ok(())
-}
-
-/// How many cases have to hold.
-#[derive(Clone, Copy)]
-enum Quantity {
-    All,
-    Of(Limits),
-}
-
-fn wanted(scanner: &mut Scanner<'_>) -> Result<Quantity, Stop> {
-    if scanner.take("each of ") {
-        return Ok(Quantity::All);
-    }
-    if !scanner.starts("exactly ") && !scanner.starts("at ") {
-        return Ok(Quantity::All);
-    }
-    let limits = limits(scanner)?;
-    scanner.expect(" of ")?;
-    Ok(Quantity::Of(limits))
-}
-
-fn limits_for(quantity: Quantity, number: u64) -> Limits {
-    match quantity {
-        Quantity::All => Limits {
-            least: number,
-            most: Some(number),
-        },
-        Quantity::Of(limits) => limits,
+        reader.take_either("motes ", "mote ")?;
+        let mut motes = Vec::new(reader.alloc);
+        reader.list::<u16>(", ", &mut motes)?;
+        reader.expect(": ")?;
+        let start = reader.rest;
+        for mote in &motes {
+            reader.rest = start;
+            reader.case(Some(*mote), items)?;
+        }
+        Ok(())
     }
 }
 
-fn fill_claim(
-    alloc: Global,
-    scanner: &mut Scanner<'_>,
-    names: &Names,
-    claim: &mut Claim,
-) -> Result<(), Stop> {
-    let quantity = wanted(scanner)?;
-    fill_cases(alloc, scanner, names, &mut claim.cases)?;
-    claim.limits = limits_for(quantity, claim.cases.len() as u64);
-    Ok(())
-}
+impl Reader<'_> {
+    fn case(&mut self, own: Option<u16>, cases: &mut Vec<Case>) -> Read<()> {
+        self.scope.own = own;
+        let mut case = Case {
+            tests: Vec::new(self.alloc),
+        };
+        self.list_or("always", "", " and ", &mut case.tests)?;
+        cases.push(case)?;
+        Ok(())
+    }
 
-/// Reads a claim, which may have another text.
-///
-/// # Errors
-/// `Unexpected` if the line doesn't go on like this, and `Memory` if an allocation fails.
-pub fn claim(alloc: Global, scanner: &mut Scanner<'_>, names: &Names) -> Result<Claim, Stop> {
-    let mut claim = Claim {
-        limits: Limits {
-            least: 0,
-            most: None,
-        },
-        cases: Vec::new(alloc),
-    };
-    fill_claim(alloc, scanner, names, &mut claim)?;
-    Ok(claim)
+    /// Reads how many of the cases have to hold; `None` stands for all of them.
+    fn quantity(&mut self) -> Read<Option<Limits>> {
+        if self.take("each of ") || !self.starts("exactly ") && !self.starts("at ") {
+            return Ok(None);
+        }
+        let limits = self.limits()?;
+        self.expect(" of ")?;
+        Ok(Some(limits))
+    }
+
+    /// Reads a claim, which may have another text.
+    pub fn fill_claim(&mut self, claim: &mut Claim) -> Read<()> {
+        let quantity = self.quantity()?;
+        let _ = self.take("these: ");
+        self.list_or("no cases", "", "; ", &mut claim.cases)?;
+        claim.limits = match quantity {
+            None => exactly(claim.cases.len() as u64),
+            Some(limits) => limits,
+        };
+        Ok(())
+    }
 }

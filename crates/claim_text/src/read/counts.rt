@@ -1,97 +1,58 @@
-//! Reads limits and what is counted.
+//! Reads what is counted.
 
-use crate::error::Stop;
-use crate::read::deeds::{deed, order};
-use crate::scanner::Scanner;
-use claims::{Arrival, Copies, Count, Limits, Lines, Packets};
-use program_tree::Names;
-use std::alloc::Global;
+use crate::reader::{Read, Reader};
+use claims::{Arrival, Copies, Count, Lines, Packets, Set};
 
-/// Reads limits.
-///
-/// # Errors
-/// `Unexpected` if the line doesn't go on like this, and `Memory` if an allocation fails.
-pub fn limits(scanner: &mut Scanner<'_>) -> Result<Limits, Stop> {
-    if scanner.take("exactly ") {
-        let number = scanner.number()?;
-        return Ok(Limits {
-            least: number,
-            most: Some(number),
-        });
+impl Reader<'_> {
+    fn lines(&mut self) -> Read<Count> {
+        let deed = self.deed()?;
+        let order = self.order(false)?;
+        Ok(Count::Lines(Lines { deed, order }))
     }
-    if scanner.take("at most ") {
-        let most = scanner.number()?;
-        return Ok(Limits {
-            least: 0,
-            most: Some(most),
-        });
+
+    fn motes(&mut self, one: &str, many: &str) -> Read<Option<Set>> {
+        if self.take(one) || self.take(many) {
+            Ok(Some(self.set()?))
+        } else {
+            Ok(None)
+        }
     }
-    scanner.expect("at least ")?;
-    let least = scanner.number()?;
-    if !scanner.take(" and at most ") {
-        return Ok(Limits { least, most: None });
+
+    fn packets(&mut self) -> Read<Count> {
+        let sender = self.motes(" by mote ", " by motes ")?;
+        let when = self.period()?;
+        Ok(Count::Packets(Packets { sender, when }))
     }
-    let most = scanner.number()?;
-    Ok(Limits {
-        least,
-        most: Some(most),
-    })
-}
 
-fn lines(
-    alloc: Global,
-    scanner: &mut Scanner<'_>,
-    names: &Names,
-    own: Option<u16>,
-) -> Result<Count, Stop> {
-    let deed = deed(alloc, scanner, names, own)?;
-    let order = order(alloc, scanner, names, own)?;
-    Ok(Count::Lines(Lines { deed, order }))
-}
-
-fn packets(alloc: Global, scanner: &mut Scanner<'_>) -> Result<Count, Stop> {
-    let sender = scanner.motes(alloc, " by mote ", " by motes ")?;
-    let when = scanner.period()?;
-    Ok(Count::Packets(Packets { sender, when }))
-}
-
-fn arrival(scanner: &mut Scanner<'_>) -> Result<Arrival, Stop> {
-    if scanner.take(" lost by the medium or due by ") {
-        return Ok(Arrival::Due(scanner.number()?));
+    fn arrival(&mut self) -> Read<Arrival> {
+        if self.take_either(" lost by the medium or due by ", " sent")? {
+            return Ok(Arrival::Due(self.number()?));
+        }
+        let when = self.period()?;
+        self.expect(" and lost by the medium")?;
+        Ok(Arrival::Lost(when))
     }
-    scanner.expect(" sent")?;
-    let when = scanner.period()?;
-    scanner.expect(" and lost by the medium")?;
-    Ok(Arrival::Lost(when))
-}
 
-fn copies(alloc: Global, scanner: &mut Scanner<'_>) -> Result<Count, Stop> {
-    let to = scanner.motes(alloc, " to mote ", " to motes ")?;
-    let arrival = arrival(scanner)?;
-    Ok(Count::Copies(Copies { to, arrival }))
-}
+    fn copies(&mut self) -> Read<Count> {
+        let to = self.motes(" to mote ", " to motes ")?;
+        let arrival = self.arrival()?;
+        Ok(Count::Copies(Copies { to, arrival }))
+    }
 
-/// Reads what is counted.
-///
-/// # Errors
-/// `Unexpected` if the line doesn't go on like this, and `Memory` if an allocation fails.
-pub fn count(
-    alloc: Global,
-    scanner: &mut Scanner<'_>,
-    names: &Names,
-    own: Option<u16>,
-) -> Result<Count, Stop> {
-    if scanner.take("line in the report") || scanner.take("lines in the report") {
-        Ok(Count::Rows)
-    } else if scanner.take("copy left at the end") || scanner.take("copies left at the end") {
-        Ok(Count::Left)
-    } else if scanner.take("line ") || scanner.take("lines ") {
-        lines(alloc, scanner, names, own)
-    } else if scanner.take("packet sent") || scanner.take("packets sent") {
-        packets(alloc, scanner)
-    } else if scanner.take("copy") || scanner.take("copies") {
-        copies(alloc, scanner)
-    } else {
-        Err(Stop::Unexpected)
+    /// Reads what is counted.
+    pub fn count(&mut self) -> Read<Count> {
+        if self.take("line in the report") || self.take("lines in the report") {
+            Ok(Count::Rows)
+        } else if self.take("copy left at the end") || self.take("copies left at the end") {
+            Ok(Count::Left)
+        } else if self.take("line ") || self.take("lines ") {
+            self.lines()
+        } else if self.take("packet sent") || self.take("packets sent") {
+            self.packets()
+        } else if self.take("copy") || self.take("copies") {
+            self.copies()
+        } else {
+            Err(self.unexpected())
+        }
     }
 }

@@ -1,221 +1,125 @@
 //! Reads deeds and orders.
 
-use crate::error::Stop;
-use crate::read::kinds::fill_patterns;
-use crate::scanner::Scanner;
-use claims::{Deed, Order, Relation, Span, Watch};
-use program_tree::Names;
-use std::alloc::Global;
+use crate::reader::{Item, Read, Reader};
+use claims::{Deed, Order, Relation, Watch};
 
-fn add_motes(motes: &mut Vec<u16>, from: u16, to: u16) -> Result<(), Stop> {
-    for mote in from..to {
-        motes.push(mote)?;
-    }
-    motes.push(to)?;
-    Ok(())
-}
-
-fn add_span(scanner: &mut Scanner<'_>, motes: &mut Vec<u16>) -> Result<(), Stop> {
-    let from = scanner.mote()?;
-    if scanner.take(" to ") {
-        let to = scanner.mote()?;
-        add_motes(motes, from, to)
-    } else {
-        motes.push(from)?;
+impl Item for u16 {
+    /// Reads a mote, or a span of motes.
+    fn read(reader: &mut Reader<'_>, items: &mut Vec<u16>) -> Read<()> {
+        let from = reader.mote()?;
+        let to = if reader.take(" to ") {
+            reader.mote()?
+        } else {
+            from
+        };
+        for mote in from..to {
+            items.push(mote)?;
+        }
+        items.push(to)?;
         Ok(())
     }
 }
 
-/// Reads a list of motes.
-///
-/// # Errors
-/// `Unexpected` if the line doesn't go on like this, and `Memory` if an allocation fails.
-pub fn fill_motes(scanner: &mut Scanner<'_>, motes: &mut Vec<u16>) -> Result<(), Stop> {
-    add_span(scanner, motes)?;
-    for _ in 0..scanner.rest.len() {
-        if !scanner.take(", ") {
-            break;
+impl Item for Watch {
+    /// Reads motes with one period.
+    fn read(reader: &mut Reader<'_>, items: &mut Vec<Watch>) -> Read<()> {
+        let is_one = reader.take_either("mote ", "motes ")?;
+        let mut motes = Vec::new(reader.alloc);
+        reader.list::<u16>(", ", &mut motes)?;
+        if !is_one {
+            reader.expect(" together")?;
         }
-        add_span(scanner, motes)?;
-    }
-    Ok(())
-}
-
-fn add_watches(watches: &mut Vec<Watch>, motes: &[u16], when: Span) -> Result<(), Stop> {
-    for mote in motes {
-        watches.push(Watch { mote: *mote, when })?;
-    }
-    Ok(())
-}
-
-fn add_group(
-    alloc: Global,
-    scanner: &mut Scanner<'_>,
-    watches: &mut Vec<Watch>,
-) -> Result<(), Stop> {
-    let is_one = scanner.take("mote ");
-    if !is_one {
-        scanner.expect("motes ")?;
-    }
-    let mut motes = Vec::new(alloc);
-    fill_motes(scanner, &mut motes)?;
-    if !is_one {
-        scanner.expect(" together")?;
-    }
-    let when = scanner.period()?;
-    add_watches(watches, motes.as_slice(), when)
-}
-
-fn fill_groups(
-    alloc: Global,
-    scanner: &mut Scanner<'_>,
-    watches: &mut Vec<Watch>,
-) -> Result<(), Stop> {
-    add_group(alloc, scanner, watches)?;
-    for _ in 0..scanner.rest.len() {
-        if !scanner.take(" and of ") {
-            break;
+        let when = reader.period()?;
+        for mote in &motes {
+            items.push(Watch { mote: *mote, when })?;
         }
-        add_group(alloc, scanner, watches)?;
+        Ok(())
     }
-    Ok(())
-}
-
-fn fill_watches(
-    alloc: Global,
-    scanner: &mut Scanner<'_>,
-    own: Option<u16>,
-    watches: &mut Vec<Watch>,
-) -> Result<(), Stop> {
-    if scanner.take(" of no mote") {
-        return Ok(());
-    }
-    if scanner.take(" of ") {
-        return fill_groups(alloc, scanner, watches);
-    }
-    match own {
-        None => Err(Stop::Unexpected),
-        Some(mote) => {
-            let when = scanner.period()?;
-            watches.push(Watch { mote, when })?;
-            Ok(())
-        }
-    }
-}
-
-/// Reads a deed of a case whose mote is `own`.
-///
-/// # Errors
-/// `Unexpected` if the line doesn't go on like this, and `Memory` if an allocation fails.
-pub fn deed(
-    alloc: Global,
-    scanner: &mut Scanner<'_>,
-    names: &Names,
-    own: Option<u16>,
-) -> Result<Deed, Stop> {
-    let mut deed = Deed {
-        watches: Vec::new(alloc),
-        patterns: Vec::new(alloc),
-    };
-    fill_deed(alloc, scanner, names, own, &mut deed)?;
-    Ok(deed)
-}
-
-fn fill_deed(
-    alloc: Global,
-    scanner: &mut Scanner<'_>,
-    names: &Names,
-    own: Option<u16>,
-    deed: &mut Deed,
-) -> Result<(), Stop> {
-    fill_patterns(alloc, scanner, names, &mut deed.patterns)?;
-    fill_watches(alloc, scanner, own, &mut deed.watches)
 }
 
 /// A relation, and whether it is meant or denied.
 #[derive(Clone, Copy)]
-pub struct Ordering {
-    pub relation: Relation,
-    pub is_so: bool,
+struct Ordering {
+    relation: Relation,
+    is_so: bool,
 }
 
-fn some_or_no(scanner: &mut Scanner<'_>, relation: Relation) -> Result<Ordering, Stop> {
-    let is_so = scanner.take("some line ");
-    if !is_so {
-        scanner.expect("no line ")?;
+impl Reader<'_> {
+    fn mote(&mut self) -> Read<u16> {
+        Ok(self.number_up_to(65535)? as u16)
     }
-    Ok(Ordering { relation, is_so })
-}
 
-fn moments(scanner: &mut Scanner<'_>) -> Result<Ordering, Stop> {
-    let moments = scanner.number()?;
-    if !scanner.take(" moments") {
-        scanner.expect(" moment")?;
+    fn watches(&mut self, watches: &mut Vec<Watch>) -> Read<()> {
+        if self.take(" of no mote") {
+            return Ok(());
+        }
+        if self.take(" of ") {
+            return self.list(" and of ", watches);
+        }
+        let Some(mote) = self.scope.own else {
+            return Err(self.unexpected());
+        };
+        let when = self.period()?;
+        watches.push(Watch { mote, when })?;
+        Ok(())
     }
-    if scanner.take(" after ") {
-        return some_or_no(scanner, Relation::Within(moments));
-    }
-    scanner.expect(" before ")?;
-    some_or_no(scanner, Relation::Followed(moments))
-}
 
-/// Reads the words of a relation, if there is one.
-///
-/// # Errors
-/// `Unexpected` if the line doesn't go on like this, and `Memory` if an allocation fails.
-pub fn relation(scanner: &mut Scanner<'_>) -> Result<Option<Ordering>, Stop> {
-    if scanner.take(" after ") {
-        return Ok(Some(some_or_no(scanner, Relation::After)?));
+    fn fill_deed(&mut self, deed: &mut Deed) -> Read<()> {
+        self.list_or("of no kind", "", " or ", &mut deed.patterns)?;
+        self.watches(&mut deed.watches)
     }
-    if scanner.take(" within ") {
-        return Ok(Some(moments(scanner)?));
-    }
-    let is_plain = scanner.take(" before every line ");
-    if is_plain || scanner.take(" not before every line ") {
-        return Ok(Some(Ordering {
-            relation: Relation::NotBefore,
-            is_so: !is_plain,
-        }));
-    }
-    Ok(None)
-}
 
-/// Reads an order, if there is one.
-///
-/// # Errors
-/// `Unexpected` if the line doesn't go on like this, and `Memory` if an allocation fails.
-pub fn order(
-    alloc: Global,
-    scanner: &mut Scanner<'_>,
-    names: &Names,
-    own: Option<u16>,
-) -> Result<Option<Order>, Stop> {
-    match relation(scanner)? {
-        None => Ok(None),
-        Some(ordering) => Ok(Some(Order {
-            event: deed(alloc, scanner, names, own)?,
-            relation: ordering.relation,
-            is_so: ordering.is_so,
-        })),
+    /// Reads a deed.
+    pub fn deed(&mut self) -> Read<Deed> {
+        let mut deed = Deed {
+            watches: Vec::new(self.alloc),
+            patterns: Vec::new(self.alloc),
+        };
+        self.fill_deed(&mut deed)?;
+        Ok(deed)
     }
-}
 
-/// Reads an order that is turned round.
-///
-/// # Errors
-/// `Unexpected` if the line doesn't go on like this, and `Memory` if an allocation fails.
-pub fn turned_order(
-    alloc: Global,
-    scanner: &mut Scanner<'_>,
-    names: &Names,
-    own: Option<u16>,
-) -> Result<Order, Stop> {
-    match relation(scanner)? {
-        None => Err(Stop::Unexpected),
-        Some(ordering) => Ok(Order {
-            event: deed(alloc, scanner, names, own)?,
-            relation: ordering.relation,
-            is_so: !ordering.is_so,
-        }),
+    fn some_or_no(&mut self, relation: Relation) -> Read<Option<Ordering>> {
+        let is_so = self.take_either("some line ", "no line ")?;
+        Ok(Some(Ordering { relation, is_so }))
+    }
+
+    fn moments(&mut self) -> Read<Option<Ordering>> {
+        let moments = self.number()?;
+        self.take_either(" moments", " moment")?;
+        if self.take_either(" after ", " before ")? {
+            self.some_or_no(Relation::Within(moments))
+        } else {
+            self.some_or_no(Relation::Followed(moments))
+        }
+    }
+
+    /// Reads the words of a relation, if there is one.
+    fn relation(&mut self) -> Read<Option<Ordering>> {
+        if self.take(" after ") {
+            return self.some_or_no(Relation::After);
+        }
+        if self.take(" within ") {
+            return self.moments();
+        }
+        let is_so = self.take(" not before every line ");
+        if is_so || self.take(" before every line ") {
+            let relation = Relation::NotBefore;
+            return Ok(Some(Ordering { relation, is_so }));
+        }
+        Ok(None)
+    }
+
+    /// Reads an order, if there is one. It is denied if it is turned round.
+    pub fn order(&mut self, is_turned: bool) -> Read<Option<Order>> {
+        let Some(Ordering { relation, is_so }) = self.relation()? else {
+            return Ok(None);
+        };
+        let event = self.deed()?;
+        Ok(Some(Order {
+            event,
+            relation,
+            is_so: is_so != is_turned,
+        }))
     }
 }

@@ -1,9 +1,0 @@
-use Rattle.std.proofs.Common.{◌≡◌, ◌++◌, string_bytes, drop}
-use Rattle.std.specs.List.{flat_map}
-use Rattle.claim_text.specs.TestText.{next_test}
-use Rattle.claim_text.proofs.test.put_more_tests.Given as goal
-
--- the text, followed by the text of what is left, is the final text
-abbrev pub invariant-loop-test : goal.invariant-loop-test
-invariant-loop-test l =
-    string_bytes l.text ++ flat_map (next_test l.names l.own) (drop l.test-index l.tests) ≡ string_bytes l.fn.text ++ flat_map (next_test l.names l.own) l.tests

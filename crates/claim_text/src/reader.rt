@@ -1,0 +1,97 @@
+//! The rest of a line that is yet to be read.
+
+use crate::error::ClaimsError;
+use crate::scope::Scope;
+use std::alloc::Global;
+
+/// A line, and the place in it up to which it has been read.
+#[derive(Clone, Copy)]
+pub struct Reader<'a> {
+    pub alloc: Global,
+    /// The number of the line in its text, from 1.
+    pub line: usize,
+    /// The number of the line's bytes.
+    pub length: usize,
+    pub rest: &'a [u8],
+    pub scope: Scope<'a>,
+}
+
+/// What a method of the reader returns that reads something: `NotAClaim` if the line doesn't go on with it, and
+/// `Memory` if an allocation fails.
+pub type Read<T> = Result<T, ClaimsError>;
+
+/// What a list has.
+pub trait Item: Sized {
+    /// Reads one item of a list, or several that are written as one.
+    fn read(reader: &mut Reader<'_>, items: &mut Vec<Self>) -> Read<()>;
+}
+
+impl Reader<'_> {
+    /// The error that the line isn't a claim, at this place.
+    pub fn unexpected(&self) -> ClaimsError {
+        let before = self.length.saturating_sub(self.rest.len());
+        ClaimsError::not_a_claim(self.line, before)
+    }
+
+    /// Takes a word, if the rest begins with it.
+    pub fn take(&mut self, word: &str) -> bool {
+        match self.rest.strip_prefix(word.as_bytes()) {
+            Some(rest) => {
+                self.rest = rest;
+                true
+            }
+            None => false,
+        }
+    }
+
+    /// Returns whether the rest begins with a word.
+    pub fn starts(&self, word: &str) -> bool {
+        self.rest.starts_with(word.as_bytes())
+    }
+
+    /// Takes a word that has to be there.
+    pub fn expect(&mut self, word: &str) -> Read<()> {
+        if self.take(word) {
+            Ok(())
+        } else {
+            Err(self.unexpected())
+        }
+    }
+
+    /// Takes one of two words, and returns whether it is the first one.
+    pub fn take_either(&mut self, first: &str, second: &str) -> Read<bool> {
+        if self.take(first) {
+            Ok(true)
+        } else if self.take(second) {
+            Ok(false)
+        } else {
+            Err(self.unexpected())
+        }
+    }
+
+    /// Reads a list of one item or more.
+    pub fn list<T: Item + Drop>(&mut self, between: &str, items: &mut Vec<T>) -> Read<()> {
+        for _ in 0..self.rest.len() {
+            T::read(self, items)?;
+            if !self.take(between) {
+                return Ok(());
+            }
+        }
+        Err(self.unexpected())
+    }
+
+    /// Reads a list behind a word, or the word for no items.
+    pub fn list_or<T: Item + Drop>(
+        &mut self,
+        none: &str,
+        before: &str,
+        between: &str,
+        items: &mut Vec<T>,
+    ) -> Read<()> {
+        if self.take(none) {
+            return Ok(());
+        }
+        self.expect(before)?;
+        self.list(between, items)
+    }
+}
