@@ -27,6 +27,7 @@ class Answers(unittest.TestCase):
 
     def test_states(self) -> None:
         self.assertIn('  event 1 waits: msg 5 for b, posted at 4', self.ask('state', row=9)['rows'])
-        for asked in {'row': 1}, {'row': 99}, {}:
+        asked: dict[str, int]
+        for asked in ({'row': 1}, {'row': 99}, {}):
             self.assertIn('said', self.ask('state', **asked))
 
