@@ -10,8 +10,10 @@ from typing import Any
 
 import here  # noqa: F401
 import motesim
-from motesim.experiments.measures import Bench, read_measure
+from motesim.experiments.measures import Bench, read_measure, sentence_of
+from motesim.judge.claims import Claims
 from motesim.judge.sentences import names_of
+from motesim.judge.verdicts import decided
 from motesim.scenario import Scenario
 from motesim.summary.counts import summary
 from motesim.summary.flows import flow_rows, flow_rows_by
@@ -145,8 +147,8 @@ class Numbers(unittest.TestCase):
             chance = random.Random(seed)
             text, motes, end = net_of(chance)
             run = motesim.run(text.encode())
-            page, bench = PageMeasures(text, run.report.text()), Bench(run)
-            names = names_of(Scenario.parse(text))
+            page, known = PageMeasures(text, run.report.text()), Scenario.parse(text)
+            names = names_of(known)
             wanted: list[tuple[str, Any]] = [('loss', page.loss()), ('reachable', page.reachable())]
             wanted += [('%s of mote 1' % name, value) for name, value in page.summary()[0][1].items()]
             for _ in range(SENTENCES):
@@ -158,6 +160,8 @@ class Numbers(unittest.TestCase):
                 wanted.append(('delay: %s -> %s' % (one, other), page.delay_between(begin, then)))
                 (one, begin), (other, then) = (lines_of(chance, motes, end, process=its) for its in ('say', 'hear'))
                 wanted.append(('delivery: %s -> %s' % (one, other), page.delivery(begin, then)))
+            asked = [it for words, _ in wanted if (it := sentence_of(words, names))]
+            bench = Bench(run, {}, asked, lambda its: decided(Claims(known), text, its))
             for words, value in wanted:
                 with self.subTest(seed=seed, measure=words):
                     self.assert_same(read_measure(words, names).of(bench), value, words)
