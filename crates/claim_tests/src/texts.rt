@@ -15,40 +15,33 @@ exactly 0 of motes 0 to 24: at least 1 line \"halt\"\n\
 mote 6: at least 1 line \"send\" and every line \"send\" is within 0 moments after some line \"recv\"\n\
 mote 6: every line \"print process flood value 1\" is within 5 moments after some line \"send value 1\" of mote 0\n\
 the net: exactly 75 packets sent from 0 to 160\n\
-the net: 90 times the number of copies lost by the medium or due by 160 is at most 100 times the number of lines
-    \"recv\" of motes 0 to 24 together\n\
+the net: 90 times the number of copies lost by the medium or due by 160 is at most 100 times the number of lines \"recv\" of motes 0 to 24 together\n\
 each of motes 1 to 24: the lines \"print process flood\" have in order of time exactly the values 1, 2, 3\n\
-each of these: mote 1: at least 1 line
-    \"print process flood value 1\" at 43; motes 2, 6 to 8: at least 1 line \"print process flood value 1\" at 46\n\
+each of these: mote 1: at least 1 line \"print process flood value 1\" at 43; motes 2, 6 to 8: at least 1 line \"print process flood value 1\" at 46\n\
 the net: at most 5 lines \"send\" of motes 3 to 7 together from 40 to 160\n\
 \n\
-at least 20 and at most 24 of motes 1 to 24: exactly 0 lines
-    \"lost or collide\" or \"deaf sender 3 or 5 to 7\" from 61 on\n\
+at least 20 and at most 24 of motes 1 to 24: exactly 0 lines \"lost or collide\" or \"deaf sender 3 or 5 to 7\" from 61 on\n\
 mote 6: the last line \"print process leader\" has the value 24\n\
 the net: exactly 0 copies to motes 1 to 3 sent from 0 to 60 and lost by the medium\n\
 # each kind, part and relation\n\
 the net: at least 0 lines \"start or leave or post or full or take or drop or print or busy or halt or send or recv or lost or deaf or collide\" of no mote\n\
 mote 3: exactly 1 line \"nothing process all serial 1 event 129 sender 2 packet 3 value none\"\n\
-mote 3: exactly 2 lines
-    \"post process etimer\" or \"take process ctimer\" or \"start process radio\" or \"busy process 7\"\n\
+mote 3: exactly 2 lines \"post process etimer\" or \"take process ctimer\" or \"start process radio\" or \"busy process 7\"\n\
 mote 3: exactly 2 lines of no kind\n\
 mote 3: exactly 2 lines \"send\" after no line \"recv\" and exactly 2 lines \"send\" after some line \"recv\" of motes 3, 1, 5 together at 7 and of mote 9\n\
-mote 3: exactly 2 lines
-    \"send\" before every line \"recv\" and at most 1 line \"send\" not before every line \"recv\"\n\
+mote 3: exactly 2 lines \"send\" before every line \"recv\" and at most 1 line \"send\" not before every line \"recv\"\n\
 mote 3: every line \"send\" from 7 on is before every line \"recv\" at 7\n\
 mote 3: exactly 2 lines \"send\" within 1 moment before some line \"recv\" and exactly 2 lines \"send\" within 2 moments before no line \"recv\"\n\
 mote 3: every line \"send\" is after some line \"recv\" and exactly 0 lines \"send\" after some line \"recv\"\n\
 # several motes and periods\n\
-the net: exactly 2 lines
-    \"send\" of motes 3 to 4, 9, 11 to 13 together from 0 to 9 and of mote 1 at 7 and of motes 2, 1 together\n\
+the net: exactly 2 lines \"send\" of motes 3 to 4, 9, 11 to 13 together from 0 to 9 and of mote 1 at 7 and of motes 2, 1 together\n\
 each of these: the net: always; the net: always\n\
 # other counts\n\
 the net: exactly 1 packet sent by mote 3\n\
 the net: at most 1 packet sent by motes 3 or 5 to 7 at 9\n\
 the net: exactly 1 copy lost by the medium or due by 0 and at least 1 copy to mote 1 sent and lost by the medium\n\
 the net: exactly 1 copy left at the end and exactly 1 line in the report and at most 2000 lines in the report\n\
-the net: 1 times the number of copies left at the end is less than 4294967295 times the number of lines in the
-    report\n\
+the net: 1 times the number of copies left at the end is less than 4294967295 times the number of lines in the report\n\
 # values\n\
 mote 3: the lines \"send\" have in any order exactly the values 1, 18446744073709551615\n\
 mote 3: the lines \"send\" have in any order exactly no values and the lines \"send\" have in order of time exactly no values\n\
@@ -59,8 +52,7 @@ each of these: no cases\n\
 exactly 1 of motes 3 to 4: exactly 0 lines \"halt\"\n\
 at most 1 of motes 3 to 9: exactly 0 lines \"halt\"\n\
 at least 0 of mote 3: exactly 0 lines \"halt\"\n\
-exactly 1 of these: the net: always; the net: always; mote 3: exactly 0 lines
-    \"halt\"; motes 3 to 4: exactly 1 line \"halt\"";
+exactly 1 of these: the net: always; the net: always; mote 3: exactly 0 lines \"halt\"; motes 3 to 4: exactly 1 line \"halt\"";
 
 /// Lines that aren't claims, each with the column at which it is refused.
 static REFUSED: [&str; 3] = [
