@@ -15,7 +15,7 @@ use worker_window::Share;
 pub struct Worker {
     pub share: Share,
     pub endpoint: Endpoint,
-    /// The earliest moment of arrival among the copies that the worker delivered and that are still in an inbox.
+    /// A moment at or before the arrivals of the copies that the worker delivered and that are still in an inbox.
     pub first_out: Option<u64>,
 }
 

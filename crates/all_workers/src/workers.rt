@@ -14,8 +14,8 @@ use mote_net::Net;
 use std::alloc::Global;
 use worker_window::Share;
 
-/// The workers of a net: their shares, their inboxes with the takers, and `first_out`, the earliest moment of arrival
-/// among the copies in the inboxes.
+/// The workers of a net: their shares, their inboxes with the takers, and `first_out`, a moment at or before the
+/// arrivals of the copies in the inboxes.
 #[derive(Drop)]
 pub struct WorkerGroup {
     pub shares: Vec<Share>,

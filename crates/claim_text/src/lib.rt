@@ -35,8 +35,9 @@
 //!
 //! Of the texts that the grammar allows for a claim, one is its text: neighbouring cases that differ in their mote
 //! alone are one group, neighbouring motes with one period too, and motes with consecutive numbers are a span. A claim
-//! on all of its cases has `each`, or nothing if it has one case; several groups have `these`. A period of all moments
-//! is left out. So is the mote of a case: the only mote whose lines its first test is about.
+//! on all of its cases has `each`, or nothing if it has one case; several groups, or none, have `these`. A period
+//! of all moments is left out. So is the mote of a case: the only mote whose lines its first test is about; of a
+//! ratio, that of the greater side.
 //!
 //! Each text that `read_claims` accepts is that of the claims that it returns. It isn't proved that it accepts the
 //! text of each claim; the tests write random claims, and read them again.

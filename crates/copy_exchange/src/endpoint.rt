@@ -70,7 +70,7 @@ impl Endpoint {
     /// Delivers each copy, in order, to the worker of its receiver. `owners` is the worker of each mote.
     ///
     /// # Errors
-    /// [`InboxError::Memory`] if a push fails. The copies before it have been delivered.
+    /// [`InboxError::Memory`] if a push fails. Some copies may have been delivered.
     pub fn deliver<R: Wait>(
         &mut self,
         rt: &R,
@@ -93,7 +93,7 @@ impl Endpoint {
     /// other worker. `owners` is the worker of each mote. The inboxes must have marks.
     ///
     /// # Errors
-    /// [`InboxError::Memory`] if a push fails. The items before it have been pushed.
+    /// [`InboxError::Memory`] if a push fails. Some items may have been pushed.
     pub fn deliver_window<R: Wait>(
         &mut self,
         rt: &R,
@@ -116,7 +116,7 @@ impl Endpoint {
     /// Pushes the mark of a window to each other worker. The inboxes must have marks.
     ///
     /// # Errors
-    /// [`InboxError::Memory`] if a push fails. The marks before it have been pushed.
+    /// [`InboxError::Memory`] if a push fails. Some marks may have been pushed.
     fn push_marks<R: Wait>(
         &mut self,
         rt: &R,

@@ -141,7 +141,7 @@ impl MarkTaker {
     /// takes items of a later window that arrive earlier. `watch` reads the flag that a failing worker sets.
     ///
     /// # Errors
-    /// `Memory` if an allocation fails; `Stopped` if the flag was set while a mark was missing; `Unexpected` if a copy
+    /// `Memory` if an allocation fails; `Stopped` if the flag is set when the call looks at it; `Unexpected` if a copy
     /// arrived that isn't from a mote of another worker to a mote of this worker, or that arrives before this worker's
     /// next window.
     pub fn take_window<R: Wait, L: Ledger>(

@@ -1,5 +1,5 @@
-//! A program that answers claims about a scenario on one thread. Its standard input has the claims, a zero byte, and the
-//! scenario. `web/motecheck.wasm` is made from it.
+//! A program that answers claims about a scenario on one thread. Its standard input has the claims, a zero byte, and
+//! the scenario. `web/motecheck.wasm` is made from it.
 #![tactic(auto)]
 
 ghost use Rattle.std.specs.Prelude.{IfOk, IfSome, List, ℕ};

@@ -48,8 +48,8 @@ fn call(called: &mut Vec<u16>, number: u16, first: bool) -> Result<(), AllocErro
     Ok(())
 }
 
-/// Takes all pending events before a moment out of the agenda, and gives the motes their copies. The numbers of the motes
-/// that have an event replace the contents of `called`. `arrivals` is a scratch buffer.
+/// Takes all pending events before a moment out of the agenda, and gives the motes their copies. The numbers of the
+/// motes that have an event replace the contents of `called`. `arrivals` is a scratch buffer.
 ///
 /// # Errors
 /// `AllocError` if an allocation fails. Then some of the events may already be out of the agenda.

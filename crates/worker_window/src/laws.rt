@@ -20,8 +20,7 @@ pub fn ends_with_its_wake()
     ensures ends_with_its_wake { EndsWithItsWake }
 {}
 
-/// After a turn of a window, the next event is later. So only the first turn of a window can return `Past`. It returns
-/// `Past` if its moment isn't after the mote's last turn before the window.
+/// After a turn of a window, the next event is later. So only the first turn of a window can return `Past`.
 pub fn no_turn_is_past()
     ensures no_turn_is_past { NoTurnIsPast }
 {}

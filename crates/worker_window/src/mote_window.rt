@@ -22,7 +22,8 @@ use radio_packet::RadioCopy;
 use std::alloc::Global;
 
 /// A mote in its window, until the future is ready. If a turn is left below the bound, a poll takes exactly one turn,
-/// at the lesser of the mote's wake and the next copy's moment, and yields. Otherwise, the future is ready.
+/// at the lesser of the mote's wake and the next copy's moment, and yields, or is ready with the turn's error.
+/// Otherwise, the future is ready.
 pub struct MoteWindow<'a, G> {
     own: Option<OwnWindow>,
     program: &'a Program,
@@ -47,8 +48,8 @@ impl<G> Drop for MoteWindow<'_, G> {
 }
 
 impl<'a, G: Gate> MoteWindow<'a, G> {
-    /// Makes the window of a mote with this program, up to `until`, which is at most 2^40. The copies are the mote's,
-    /// are below `until`, and are in the order of moment, sender and number. This allocates nothing.
+    /// Makes the window of a mote with this program, up to `until`, which is at most 2^40. The copies are in
+    /// the order of moment, sender and number; no clause wants them to be the mote's. This allocates nothing.
     pub fn new(
         alloc: Global,
         mote: Mote,

@@ -24,10 +24,10 @@ use program_tree::Program;
 use radio_packet::{Arrival, RadioCopy, Sent};
 use std::alloc::{AllocError, Global};
 
-/// A mote in its window: the mote's wake, the copies that arrive at it in the window and that it has taken up to `next`,
-/// its lines, and the packets that it sent in the window. `pending` is the wake that its worker's agenda has for it, and
-/// `called` says whether the mote has an event in the window. A worker keeps the window of each of its motes for the whole
-/// run.
+/// A mote in its window: the mote's wake, the copies that arrive at it in the window and that it has taken up to
+/// `next`, its lines, and the packets that it sent in the window. `pending` is the wake that its worker's agenda has
+/// for it, and `called` says whether the mote has an event in the window. A worker keeps the window of each of its
+/// motes for the whole run.
 pub struct OwnWindow {
     alloc: Global,
     pub(crate) mote: Mote,
@@ -64,8 +64,8 @@ impl OwnWindow {
     ghost use Rattle.worker_window.specs.Own.{KeepsMote, Rests};
     ghost use Rattle.worker_window.specs.Turns.{TurnsTo, IsErrorAt, IsFirstError, IsFirstTurn, IsRefusal};
 
-    /// Makes the window of a mote before its first turn. The copies are the mote's, and are in the order of moment,
-    /// sender and number. This allocates nothing.
+    /// Makes the window of a mote before its first turn, with copies in the order of moment, sender and number. No
+    /// clause wants them to be the mote's. This allocates nothing.
     #[tactic(auto, unfolding(crate::specs::Own::window_in, crate::specs::Own::course_in))]
     pub fn new(alloc: Global, mote: Mote, copies: Vec<RadioCopy>) -> OwnWindow
         requires rising { is_rising copies.items ≡ true }
@@ -216,7 +216,7 @@ impl OwnWindow {
         self.called = false;
     }
 
-    /// Returns the result of the window when no turn is left.
+    /// Takes the window apart, and returns its result.
     pub fn finish(self) -> WindowOut
         ensures value { result ≡ out_of self }
     {

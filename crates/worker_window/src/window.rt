@@ -187,8 +187,8 @@ impl Share {
         Ok(())
     }
 
-    /// Takes in copies that arrived from other workers. It must be called before the window in which the first of them
-    /// can have a turn.
+    /// Takes in copies that arrived from other workers. The clause is about copies that arrive after the last window,
+    /// so callers take each in before the window in which it can have a turn.
     ///
     /// # Errors
     /// `AllocError` if an allocation fails.
@@ -199,13 +199,13 @@ impl Share {
         Ok(())
     }
 
-    /// Runs the worker's motes through the window up to `until`, which is at most 2^40. It takes in the copies that
-    /// arrived from other workers, and uses the worker's future to run each mote that has an event before `until`. It
+    /// Runs the worker's motes through the window up to `until`, which is at most 2^40. The clauses are about windows
+    /// no longer than the lookahead. The call takes in the copies that arrived from other workers, and uses the worker's future to run each mote that has an event before `until`. It
     /// keeps the pending events of the worker's motes. It returns the copies for other workers' motes; those of each
     /// mote are in the order of sending. `owners` is the worker of each mote.
     ///
     /// The time grows with the window's turns and with the copies that it takes and makes. Each poll of the worker's
-    /// future visits all motes with a turn.
+    /// future visits all called motes.
     ///
     /// # Errors
     /// `Memory` if an allocation fails; `Thread` if the executor returned an error.

@@ -25,7 +25,7 @@ use std::random::RandomSource;
 use std::sync::Wait;
 
 /// Polls the window of each called mote once, one after another, and then yields. It is ready, with all motes, when no
-/// turn is left; or when a turn has returned an error.
+/// turn is left; or when a turn has returned an error. Its contract states only what it is ready with.
 pub struct ShareWindow<'a, 'b, G> {
     alloc: Global,
     net: &'a Net,
@@ -148,9 +148,9 @@ fn poll_each<G: Gate>(
     Ok(left)
 }
 
-/// Runs the windows of a worker's called motes up to `until`, which is at most 2^40, with the worker's future, until no turn is
-/// left. No mote may have failed, and the next event of each mote must be after its last turn. The scratch buffers of
-/// the turns are passed from window to window.
+/// Runs the windows of a worker's called motes up to `until`, which is at most 2^40, with the worker's future, until
+/// no turn is left. No mote may have failed, and the next event of each mote must be after its last turn. The scratch
+/// buffers of the turns are passed from window to window.
 ///
 /// # Errors
 /// `Memory` if an allocation fails; `Thread` if the executor returned an error.
