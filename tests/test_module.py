@@ -169,7 +169,7 @@ def claims_of(scenario: Path) -> str:
     known.fields = part.fields
     for sentence in part.sentences:
         with contextlib.suppress(NoClaim):
-            found += ''.join(row + '\n' for row in claims.of(read_sentence(sentence, names_of(known))))
+            found += ''.join(row.text + '\n' for row in claims.of(read_sentence(sentence, names_of(known))))
     return found
 
 

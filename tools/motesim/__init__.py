@@ -14,9 +14,8 @@
     compare   shows how two runs diverge: a `Comparison`                   Plan      makes scenarios by rule
     Scenario  motes, places, who hears whom, losses                        Report    traces and the log of the medium
 
-The packages in this folder are for the commands in tools/. docs/use/COMMANDS.md shows scripts.
+The packages in this folder are for the commands in tools/. docs/use/REPORT.md, 'A script in Python', shows a script.
 """
-import importlib
 import sys
 from typing import TYPE_CHECKING
 
@@ -24,8 +23,13 @@ if sys.version_info < (3, 11):
     sys.stderr.write('motesim: the tools need Python 3.11 or newer, and this is %d.%d\n' % sys.version_info[:2])
     sys.exit(2)
 
+from motesim.on_demand import on_demand
+
 if TYPE_CHECKING:
-    from motesim.api import Comparison, Kept, compare, expect, run
+    from motesim.api.answers import Comparison, Kept
+    from motesim.api.compare import compare
+    from motesim.api.expect import expect
+    from motesim.api.run import run
     from motesim.faults import Fault
     from motesim.plan.plan import Plan
     from motesim.report import Report
@@ -34,18 +38,10 @@ if TYPE_CHECKING:
     from motesim.scenario import Scenario
 
 __all__ = ['Comparison', 'Fault', 'Kept', 'Limits', 'Plan', 'Report', 'Run', 'Scenario', 'compare', 'expect', 'run']
-
-
-# The modules of the names that aren't in `motesim.api`.
-HOMES = {'Fault': 'faults', 'Limits': 'runner', 'Plan': 'plan.plan', 'Report': 'report', 'Run': 'report.run',
-         'Scenario': 'scenario'}
-
-
-def __getattr__(name: str) -> object:
-    # (most commands need only some of these names, and must start quickly)
-    if name not in __all__:
-        raise AttributeError('module %r has no attribute %r' % (__name__, name))
-    return getattr(importlib.import_module('motesim.' + HOMES.get(name, 'api')), name)
+__getattr__ = on_demand(__name__, {
+    'api.answers': ['Comparison', 'Kept'], 'api.compare': ['compare'], 'api.expect': ['expect'], 'api.run': ['run'],
+    'faults': ['Fault'], 'plan.plan': ['Plan'], 'report': ['Report'], 'report.run': ['Run'], 'runner': ['Limits'],
+    'scenario': ['Scenario']})
 
 
 def __dir__() -> list[str]:

@@ -19,10 +19,10 @@ def line_of(values: Iterable[Cell]) -> str:
     return out.getvalue()
 
 
-def aligned(rows: Iterable[Sequence[str]], lefts: Collection[int] = ()) -> Iterator[str]:
-    """Rows of texts in columns: those of these numbers are aligned left, the others right."""
+def aligned(rows: Iterable[Sequence[str]], lefts: Collection[int] = (), gap: str = ' ') -> Iterator[str]:
+    """Rows of texts in columns, with a gap between two: those of these numbers are aligned left, the others right."""
     texts = list(rows)
     widths = [max(map(len, column)) for column in zip(*texts)]
     for row in texts:
-        yield ' '.join(text.ljust(width) if column in lefts else text.rjust(width)
+        yield gap.join(text.ljust(width) if column in lefts else text.rjust(width)
                        for column, (text, width) in enumerate(zip(row, widths))).rstrip()

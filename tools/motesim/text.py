@@ -25,23 +25,32 @@ class Place(Protocol):
     def length(self) -> int: ...
 
 
+class Shown(str):
+    """A line that is shown as it is, such as one of a file."""
+
+
 def wrapped(text: str) -> list[str]:
     return textwrap.wrap(text, WIDTH, subsequent_indent='  ', break_long_words=False, break_on_hyphens=False)
 
 
-def marked(line: str, column: int, length: int) -> list[str]:
+def folded(texts: Iterable[str]) -> list[str]:
+    """Lines of texts, of which each is folded unless it is `Shown`."""
+    return [row for it in texts for row in (wrapped(it) if type(it) is str else [it])]
+
+
+def marked(line: str, column: int, length: int) -> list[Shown]:
     """A line with a mark under a part of it; for a long line, only the surroundings of that part."""
     begin = max(0, column - WIDTH // 2) if len(line) > WIDTH else 0
     shown, before = CONTROL.sub('\ufffd', line[begin:begin + WIDTH]), column - begin
     blank = re.sub(r'[^\t]', ' ', shown[:before])
-    return ['  ' + shown, '  ' + blank + '^' * max(1, min(length, len(shown) - before))]
+    return [Shown('  ' + shown), Shown('  ' + blank + '^' * max(1, min(length, len(shown) - before)))]
 
 
-def shown_place(name: str, text: str, place: Place) -> list[str]:
+def shown_place(name: str, text: str, place: Place) -> list[Shown]:
     """The lines that show a place of a file."""
     lines = text.split('\n')
     line = lines[place.line - 1].rstrip('\r') if place.line <= len(lines) else ''
-    return ['%s, line %d:' % (one_line(name), place.line), *marked(line, place.column, place.length)]
+    return [Shown('%s, line %d:' % (one_line(name), place.line)), *marked(line, place.column, place.length)]
 
 
 def nearest(word: str, known: Iterable[str], least: float = 0.6) -> str | None:

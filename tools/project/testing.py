@@ -29,11 +29,13 @@ FLAGS = ['-qq', '--no-header', '--tb=short', '-rN', '-p', 'no:cacheprovider', '-
 
 
 def pytest(together: str) -> list[str]:
-    """The arguments that call pytest. The tests of a class, or of another `scope` or `group`, run in one process."""
+    """The arguments that call pytest. The tests of a class, or of another `scope` or `group`, run in one process; with
+    TEST_JOBS=0 all do."""
     python = next((it for it in (sys.executable, SYSTEM) if has('pytest', it)), None)
     if python is None:
         raise Fault(NO_PYTEST)
-    parallel = ['-n', str(os.cpu_count()), '--dist', 'load' + together] if has('xdist', python) else []
+    jobs = os.environ.get('TEST_JOBS') or str(os.cpu_count())
+    parallel = ['-n', jobs, '--dist', 'load' + together] if has('xdist', python) else []
     return [python, '-m', 'pytest', *FLAGS, *parallel]
 
 

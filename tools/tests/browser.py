@@ -22,12 +22,15 @@ import urllib.request
 from pathlib import Path
 from typing import Any
 
+from unbuilt_tree import until
+
 try:
     import websocket
 except ImportError:
     websocket = None
 
-NAMES = ['chromium', 'chromium-browser', 'google-chrome', 'google-chrome-stable', 'chrome']
+# (the first is Chromium without its windows, and needs half of the time)
+NAMES = ['chromium-headless-shell', 'chromium', 'chromium-browser', 'google-chrome', 'google-chrome-stable', 'chrome']
 START_SECONDS = 60
 CALL_SECONDS = 120
 STILL = [{'name': 'prefers-reduced-motion', 'value': 'reduce'}]
@@ -76,7 +79,7 @@ class Browser:
         named = os.environ.get('MOTESIM_BROWSER')
         found = [named] if named else [path for path in (shutil.which(it) for it in NAMES) if path]
         if not found:
-            return None, 'no Chromium is installed: on Debian `apt-get install chromium` installs it'
+            return None, 'there is no Chromium: on Debian `apt-get install chromium-headless-shell` installs it'
         try:
             return cls(found[0]), ''
         except FAULTS as fault:
@@ -276,6 +279,14 @@ class InBrowser(unittest.TestCase):
         return self.value('''[...document.querySelectorAll("button, input, select, canvas, textarea")].filter(it =>
           it.getClientRects().length && !(it.textContent.trim() && it.matches("button")) && !it.labels?.length &&
           !it.getAttribute("aria-label") && !it.getAttribute("aria-hidden")).map(it => it.outerHTML)''')
+
+    def downloaded(self, path: Path, press: str) -> Path:
+        """The file that a button hands out, once it is complete."""
+        self.browser.call('Browser.setDownloadBehavior', behavior='allow', downloadPath=str(path.parent))
+        self.press(press)
+        # (another name is that of a part of a file, and an empty one only keeps the place)
+        until(lambda: path.exists() and path.stat().st_size > 0 and not [*path.parent.glob('*.crdownload')])
+        return path
 
     def press(self, name: str) -> None:
         self.value('by(%s).click()' % json.dumps(name))

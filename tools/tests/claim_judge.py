@@ -7,7 +7,7 @@ import re
 import subprocess
 import sys
 from collections import Counter
-from collections.abc import Callable, Iterator
+from collections.abc import Iterator
 from functools import lru_cache
 from pathlib import Path
 from typing import Any, NamedTuple
@@ -47,7 +47,6 @@ class Line(NamedTuple):
 
 
 Lines = list[Line]
-Test = Callable[[], bool]
 
 
 class Within(NamedTuple):
@@ -92,8 +91,12 @@ class ClaimJudge:
             found['event'] = str(self.events[mote].get(found['event'], found['event']))
         return found
 
-    def holds(self, claim: str) -> bool:
+    def broken(self, claim: str) -> str:
+        """What breaks a claim, in the words of motecheck; empty if it holds."""
         return Reader(self, claim).claim()
+
+    def holds(self, claim: str) -> bool:
+        return not self.broken(claim)
 
     def packets(self) -> Iterator[tuple[int, int, list[tuple[int, int | None]]]]:
         """The moment and the sender of each packet, and the receivers of its copies with the moments of arrival."""
@@ -103,11 +106,21 @@ class ClaimJudge:
             yield int(at), int(sender), [(int(to), None if when == 'lost' else int(when)) for to, when in its]
 
 
+class Tried(NamedTuple):
+    """A test, or a case, by its text: whether it holds; the line too many, if it doesn't; and the line by which it does."""
+    text: str
+    holds: bool
+    spare: Line | None = None
+    shown: Line | None = None
+
+
 class Reader:
     """Reads a claim from its first word to its last, and decides it."""
 
     def __init__(self, judge: ClaimJudge, text: str) -> None:
         self.judge, self.text, self.at, self.own = judge, text, 0, list[int]()
+        # The lines that a test counts, if it counts lines, and its limits.
+        self.lines, self.least, self.most = Lines(), 0, LAST
 
     def take(self, form: str) -> re.Match[str] | None:
         found = re.compile(form).match(self.text, self.at)
@@ -119,14 +132,13 @@ class Reader:
         assert found, '%s: %s' % (form, self.text[self.at:])
         return found
 
-    def limits(self) -> Callable[[int], bool]:
+    def limits(self) -> tuple[int, int]:
         low, high, most, exact = (None if it is None else int(it) for it in self.need(LIMITS).groups())
         if exact is not None:
-            return exact.__eq__
-        least, most = low or 0, high if most is None else most
-        return lambda number: least <= number and (most is None or number <= most)
+            return exact, exact
+        return low or 0, next((it for it in (high, most) if it is not None), LAST)
 
-    def claim(self) -> bool:
+    def claim(self) -> str:
         is_each = self.take('each of ')
         quantity = None if is_each or not re.match(LIMITS, self.text) else self.limits()
         self.take(' of ')
@@ -135,25 +147,41 @@ class Reader:
         while self.take('; '):
             cases += self.group()
         assert self.at == len(self.text), self.text[self.at:]
-        return quantity(sum(cases)) if quantity else all(cases)
+        least, most = quantity or (len(cases),) * 2
+        holding = [subject + case.text + place_of(case.shown) for subject, case, _ in cases if case.holds]
+        missing = [subject + test.text + place_of(test.spare, ', is one too many') for subject, _, test in cases if test]
+        if len(holding) < least:
+            return 'not for ' + missing[0] if missing else 'it wants more cases than it has'
+        return 'also for ' + holding[most] if len(holding) > most else ''
 
-    def group(self) -> list[bool]:
-        """Whether each of some motes passes its tests, or the net its own."""
+    def group(self) -> list[tuple[str, Tried, Tried | None]]:
+        """The cases of some motes, or the one of the net: whose each is, the case, and the first test that doesn't hold."""
         motes = self.need('the net: |motes? %s: ' % NUMBERS)[1]
-        begin, found = self.at, list[bool]()
+        begin, found = self.at, list[tuple[str, Tried, Tried | None]]()
         for mote in numbers_in(motes) if motes else [-1]:
             self.at, self.own = begin, [mote]
-            tests = [] if self.take('always') else [self.test()]
+            tests = [] if self.take('always') else [self.tried()]
             while self.take(' and '):
-                tests.append(self.test())
-            found.append(all(tests))
+                tests.append(self.tried())
+            missing = next((it for it in tests if not it.holds), None)
+            case = Tried(self.text[begin:self.at], not missing, None, tests[0].shown if tests else None)
+            found.append(('mote %d: ' % mote if motes else 'the net: ', case, missing))
         return found
+
+    def tried(self) -> Tried:
+        """A test. Lines are counted mote by mote."""
+        begin, self.lines, self.most, self.least = self.at, Lines(), LAST, 0
+        holds = self.test()
+        return Tried(self.text[begin:self.at], holds, *(next(iter(its), None) for its in (
+            self.lines[self.most:], self.lines[self.least - 1:] if self.least else [])))
 
     def test(self) -> bool:
         if self.take('every line '):
             lines = self.deed()
             self.need(' is')
-            return len(self.in_order(lines)) == len(lines)
+            fit = self.in_order(lines)
+            self.lines, self.most = [it for it in lines if it not in fit], 0
+            return not self.lines
         if self.take('the last line '):
             lines = sorted(self.deed(), key=lambda it: (it.at, it.mote, it.place))
             wanted = numbers_in(self.need(' has the value ' + NUMBERS)[1])
@@ -164,10 +192,11 @@ class Reader:
             low = int(ratio[1]) * self.number()
             is_less, times = self.need(r' is (at most|less than) (\d+) times the number of ').groups()
             high = int(times) * self.number()
+            self.lines = []
             return low < high if is_less == 'less than' else low <= high
-        admits = self.limits()
+        self.least, self.most = self.limits()
         self.need(' ')
-        return admits(self.number())
+        return self.least <= self.number() <= self.most
 
     def values(self, lines: Lines) -> bool:
         order, listed = self.need(' have in (any order|order of time) exactly the values ' + NUMBERS).groups()
@@ -189,7 +218,8 @@ class Reader:
             return self.copies(copies[1])
         self.need('lines? ')
         lines = self.deed()
-        return len(self.in_order(lines) if self.take('(?= after| before| within)') else lines)
+        self.lines = self.in_order(lines) if self.take('(?= after| before| within)') else lines
+        return len(self.lines)
 
     def copies(self, motes: str | None) -> int:
         to = range(len(self.judge.traces)) if motes is None else numbers_in(motes)
@@ -247,6 +277,11 @@ class Reader:
         return [line for line in lines if any(order.admits(line, event) for event in events)]
 
 
+def place_of(line: Line | None, more: str = '') -> str:
+    """The place of a line in the words of motecheck."""
+    return '; line %d of mote %d, at %d%s' % (line.place + 1, line.mote, line.at, more) if line else ''
+
+
 @lru_cache(maxsize=1)
 def judge_of(scenario: bytes, report: str) -> ClaimJudge:
     return ClaimJudge(Scenario.parse(scenario), report)
@@ -255,7 +290,7 @@ def judge_of(scenario: bytes, report: str) -> ClaimJudge:
 def answers_to(claims: list[str], scenario: bytes, report: str) -> list[str]:
     """The answers to claims about a report, whatever the run of the scenario is."""
     judge = judge_of(scenario, report)
-    return ['holds: ' + it if judge.holds(it) else 'broken: %s -- it does not hold' % it for it in claims]
+    return ['broken: %s -- %s' % (it, why) if (why := judge.broken(it)) else 'holds: ' + it for it in claims]
 
 
 def deciding_by(report: str) -> Any:

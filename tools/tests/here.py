@@ -27,10 +27,14 @@ SECONDS = 600
 
 @cache
 def load_tools() -> None:
-    """Loads the modules of the tools, which forked processes need not load again."""
+    """Loads the modules of the tools and finds the built programs, which forked processes need not do again."""
     import motesim
     for module in pkgutil.walk_packages(motesim.__path__, 'motesim.'):
         import_module(module.name)
+    from motesim.runner.programs import CHECKER, PROGRAM, ProgramFault, program_path
+    for name in PROGRAM, CHECKER:
+        with contextlib.suppress(ProgramFault):
+            program_path(name)
 
 
 def become_tool(path: Path, words: tuple[str, ...], cwd: Path | str | None, env: Mapping[str, str] | None,

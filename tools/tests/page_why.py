@@ -5,7 +5,7 @@ from collections import Counter
 from collections.abc import Iterator
 from typing import NamedTuple
 
-from page_kernel import Line, Mote, PageRun, Statement
+from page_kernel import Expression, Line, Mote, PageRun, Statement
 
 # The words of a line that are the number of an event or of a packet: a comparison of two runs ignores them.
 NUMBERS = {'post': 1, 'take': 1, 'drop': 1, 'send': 1, 'recv': 2, 'lost': 2, 'collide': 2}
@@ -32,6 +32,11 @@ class Copy(NamedTuple):
     number: int
     value: int
     fate: str
+
+
+def is_number(it: Expression) -> bool:
+    """True for an expression that has only numbers."""
+    return it[0] == 'number' or all(isinstance(part, tuple) and is_number(part) for part in it[1:])
 
 
 def words_of(line: Line) -> list[str]:
@@ -89,9 +94,12 @@ class PageWhy:
 
     # A line that isn't there
 
-    def statements(self, mote: Mote, kind: str, process: str) -> list[Statement]:
-        """The statements that write such lines: those of a process, or of all processes."""
-        return [it for it in mote.program.statements if it.kind == kind and process in ('', it.process)]
+    def statements(self, mote: Mote, kind: str, process: str, value: int) -> list[Statement]:
+        """The statements that could write such lines: those of a process, or of all processes, whose value isn't always
+        another one."""
+        owner = next(iter(mote.processes.values()))
+        return [it for it in mote.program.statements if it.kind == kind and process in ('', it.process)
+                and (not is_number(it.value) or mote.value(owner, it.value) == value)]
 
     def reached(self, mote: Mote, it: Statement, first: int, last: int) -> tuple[int, int, int]:
         """How often a statement was reached before a period, in it, and after it."""

@@ -33,7 +33,7 @@ from unittest import mock
 
 from here import TOOLS, TOP, call, load_tools
 from skips import need_built
-from stub import programs_of, write_stub
+from stub import judged, programs_of, write_stub
 
 TABLES = TOOLS / 'tests/sessions'
 OF_A_STEP = {'run', 'status', 'out', 'err', 'lacks', 'whole', 'like', 'made', 'lacks_in', 'like_in',
@@ -104,6 +104,8 @@ def play(table: Table, session: dict[str, Any], room: Path) -> None:
         environment |= programs_of(room / 'motesim')
     load_tools()
     with contextlib.ExitStack() as patches:
+        if program == 'stub':
+            patches.enter_context(judged())
         for name, value in session.get('patch', {}).items():
             patches.enter_context(mock.patch(name, value))
         for step in steps(session):

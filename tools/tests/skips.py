@@ -36,10 +36,6 @@ def need(name: str, package: str) -> None:
         raise unittest.SkipTest('%s is not installed: on Debian `apt-get install %s` installs it' % (name, package))
 
 
-def need_command(_: unittest.TestCase, name: str, package: str) -> None:
-    need(name, package)
-
-
 def need_built() -> None:
     """The built motesim."""
     try:

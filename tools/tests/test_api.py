@@ -47,7 +47,7 @@ class Calls(Room):
         run = motesim.run(SCENARIO.encode())
         kept = motesim.expect(run, ['mote 1 prints a 7 by 14', 'mote 2 prints a 7 by 20'])
         self.assertEqual([(it.holds, bool(it), it.row) for it in kept], [(True, True, None), (False, False, 18)])
-        self.assertIn('wanted: ', kept[1].why)
+        self.assertIn('at least 1 line "print process a value 7"', kept[1].why)
         self.assertTrue(motesim.expect(run, 'no mote halts')[0])
         with self.assertRaisesRegex(motesim.Fault, 'expectation 1 is not known'):
             motesim.expect(run, 'mote 1 sings')

@@ -7,19 +7,27 @@ import sys
 import unittest
 from collections import Counter
 from itertools import product
-from typing import Any
+from typing import Any, NoReturn
 from unittest import mock
 
-from here import TOOLS, TOP, Room, text_of
+import pytest
+from here import TOP, Room, call, text_of
 from motesim.faults import Fault
 from motesim.report import Report
 from motesim.runner import Answer
 from motesim.report.run import Run
 from motesim.scenario import Scenario
+from project import testing
 from skips import long
 
 # (no test here is worth several processes)
-IN_ONE_PROCESS = '-n0'
+ALONE = {'TEST_JOBS': '0'}
+
+
+def go_on_as(called: list[str], **environment: str) -> NoReturn:
+    """Runs pytest in this process, which a command of tools/dev would replace by one that loads pytest again."""
+    os.environ.update(environment)
+    sys.exit(pytest.main(called[called.index('pytest') + 1:]))
 
 
 def module(name: str) -> dict[str, Any]:
@@ -38,10 +46,9 @@ class Check(Room):
 
     def check(self, command: str, *words: object) -> tuple[str, str, int]:
         """The output of a command, its last line, and its status."""
-        called = [TOOLS / 'dev' / command, IN_ONE_PROCESS, *words]
-        done = subprocess.run([str(it) for it in called], env={**os.environ, 'MOTESIM': str(self.program)},
-                              stdout=subprocess.PIPE, stderr=subprocess.STDOUT, text=True)
-        return done.stdout, done.stdout.splitlines()[-1], done.returncode
+        with mock.patch.object(testing, 'become', go_on_as):
+            done = call('dev/' + command, *map(str, words), env={**os.environ, **ALONE, 'MOTESIM': str(self.program)})
+        return done.stderr + done.stdout, (done.stdout or done.stderr).splitlines()[-1], done.returncode
 
 
 class Cases(Check):

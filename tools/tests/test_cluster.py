@@ -4,25 +4,14 @@ import subprocess
 import tempfile
 from pathlib import Path
 
-import here  # noqa: F401
+from here import text_of
 import test_search
 import test_sweep
 from motesim.runner import program_path
 from skips import interpreter_with, long, need_program
 
 # A scheduler with two workers. It prints its address, and then runs each line that it gets.
-CLUSTER = '''import os, sys
-from distributed import Client, LocalCluster
-def name(program):
-    os.environ['MOTESIM'] = program
-if __name__ == '__main__':
-    with LocalCluster(n_workers=2, threads_per_worker=1, dashboard_address=None, local_directory='.') as cluster:
-        with Client(cluster) as client:
-            print(cluster.scheduler_address, flush=True)
-            for line in sys.stdin:
-                exec(line)
-                print('done', flush=True)
-'''
+CLUSTER = text_of('cluster.py.txt')
 
 
 # Dask's own measurements wake each process fifty times a second.

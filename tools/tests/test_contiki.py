@@ -146,14 +146,10 @@ class ExpressionTest(unittest.TestCase):
             expression = some_expression(chance, chance.randrange(1, 5))
             variables = {it: chance.choice([0, 1, 2, 255, 32768, 65535, chance.randrange(65536)]) for it in 'abc'}
             wanted = value_of(expression, variables)
+            texts = [it(expression).text for it in (writer.value, writer.loose, writer.condition)]
             for bits in 16, 32:
-                with self.subTest(expression=expression, variables=variables, bits=bits):
-                    value = writer.value(expression).text
-                    self.assertEqual(CValue(value, variables, bits).value(), wanted, value)
-                    loose = writer.loose(expression).text
-                    self.assertEqual(CValue(loose, variables, bits).value() % 65536, wanted, loose)
-                    test = writer.condition(expression).text
-                    self.assertEqual(CValue(test, variables, bits).value() != 0, wanted != 0, test)
+                value, loose, test = (CValue(it, variables, bits).value() for it in texts)
+                self.assertEqual((value, loose % 65536, test != 0), (wanted, wanted, wanted != 0), (bits, texts, variables))
 
     def test_no_cast_without_need(self) -> None:
         names = Names(read_program('process p; code p { var a = 0; body { } }'))

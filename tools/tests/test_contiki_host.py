@@ -4,7 +4,7 @@ import tomllib
 from pathlib import Path
 
 from here import SECONDS, TOOLS, TOP, Room, call
-from skips import long, need_command, need_program
+from skips import long, need, need_program
 
 from motesim.report.run import program_path
 
@@ -18,7 +18,7 @@ CHECKED = '-g -pedantic -fsanitize=address,undefined -fno-sanitize-recover=all'
 class Host(Room):
     def setUp(self) -> None:
         for name in 'make', 'gcc', 'tcc':
-            need_command(self, name, name)
+            need(name, name)
         super().setUp()
         for path in SCENARIOS:
             call('export', str(path), '--form', 'contiki', '--host', '-o', str(self.room / path.stem), check=True)

@@ -54,9 +54,9 @@ class Grammars(unittest.TestCase):
         self.assertFalse([word for word in ('counter', 'data2', 'my_print') for name, it in self.rules()
                           if not name.startswith('invalid') and it.fullmatch(word)])
 
-    def test_each_word_has_one_colour_on_the_page(self) -> None:
+    def test_each_word_and_each_sign_has_one_colour_on_the_page(self) -> None:
         coloured = [word for words in COLOURS.values() for word in words]
-        self.assertEqual((sorted(coloured), len(set(coloured))), (sorted(RESERVED), len(coloured)))
+        self.assertEqual(sorted(coloured), sorted({*RESERVED, *''.join(SIGNS)}))
 
     def test_the_syntax_is_made_of_the_grammar(self) -> None:
         syntax = pages.SYNTAX.read_text('utf-8')

@@ -5,20 +5,23 @@ import inspect
 import os
 import re
 import subprocess
-import time
 import unittest
 from pathlib import Path
 from unittest import mock
 
 import pytest
-from claim_judge import ClaimJudge, deciding_by
+from claim_judge import deciding_by
 from here import TOP, call, rows_of
 from motesim.faults import Fault
 from motesim.judge import remarks, sentences
-from motesim.judge.claims import OF_TEXT, Claims
-from motesim.judge.expectations import UnknownSentence, expect, judged, parts_of, read_all
-from motesim.judge.judge import Judge
+from motesim.judge.breaks import UnknownBreak, read_break
+from motesim.judge.claims import Claims
+from motesim.judge.expectations import expect, judged, parts_of
+from motesim.judge.finder import Finder
+from motesim.judge.reasons import Broken
 from motesim.judge.sentences import EXAMPLES, Does, Names, SentenceFault, Value, names_of, read_sentence
+from motesim.judge.several import read_all, UnknownSentence
+from motesim.judge.verdicts import breaks
 from motesim.report import Report
 from motesim.runner import Answer, programs
 from motesim.scenario import Scenario
@@ -28,8 +31,13 @@ from stub import programs_of
 
 TABLE = Table(TABLES / 'expect.toml')
 SCENARIO, REPORT, RELAY = (TABLE.texts[it] for it in ('flood', 'flood_report', 'relay'))
-JUDGES = {it: Judge(Report.parse(TABLE.texts[it + '_report']), Scenario.parse(TABLE.texts[it])) for it in ('flood', 'relay')}
-NAMES = {it: names_of(judge.scenario) for it, judge in JUDGES.items()}
+FINDERS = {it: Finder(Report.parse(TABLE.texts[it + '_report']), Scenario.parse(TABLE.texts[it])) for it in ('flood', 'relay')}
+NAMES = {it: names_of(finder.scenario) for it, finder in FINDERS.items()}
+
+
+def broken_by(net: str, sentence: str) -> Broken | None:
+    with deciding_by(TABLE.texts[net + '_report']):
+        return breaks([read_sentence(sentence, NAMES[net])], FINDERS[net])[0]
 
 
 def test_a_program_has_these_names() -> None:
@@ -38,13 +46,8 @@ def test_a_program_has_these_names() -> None:
 
 @pytest.mark.parametrize('net, sentence, kind, row', rows_of('sentences.tsv'))
 def test_what_holds_and_what_is_broken_by_which_line(net: str, sentence: str, kind: str, row: str) -> None:
-    it, judge, judge_of_claims = read_sentence(sentence, NAMES[net]), JUDGES[net], ClaimJudge(
-        JUDGES[net].scenario, TABLE.texts[net + '_report'])
-    broken = judge.broken(it)
-    if type(it) not in OF_TEXT:
-        assert all(map(judge_of_claims.holds, Claims(judge.scenario).of(it))) == (kind == 'holds')
-    if kind != 'holds':
-        assert broken and (broken.kind if kind != 'broken' else kind, broken.row) == (kind, int(row) if row else None)
+    broken = broken_by(net, sentence)
+    assert (broken.kind if broken else 'holds', broken and broken.row) == (kind, int(row) if row else None)
 
 
 @pytest.mark.parametrize('net, sentence, word, wanted', rows_of('sentence_errors.tsv'))
@@ -57,15 +60,31 @@ def test_what_may_stand_is_told(net: str, sentence: str, word: str, wanted: str)
 
 
 @pytest.mark.parametrize('sentence, why', [
-    ('exactly 2 copies are left', 'there is 1 such copy; wanted: exactly 2'),
-    ('at least 2 packets are sent by 10', 'there is 1 packet; wanted: at least 2'),
-    ('mote 1 prints a 2', 'mote 1 has 0 such lines; wanted: at least 1; it prints a 1 at moment 13'),
-    ('mote 0 sends 7', 'mote 0 has 0 such lines; wanted: at least 1; it sends 1 at moment 10, and 2 others'),
-    ('motes 1 to 3 together print a 5',
-     'the motes together have 0 such lines; wanted: at least 1; mote 2 prints a 1 at moment 0, and 2 others')])
-def test_reasons_in_the_singular_or_the_plural_name_another_value(sentence: str, why: str) -> None:
-    broken = JUDGES['relay'].broken(read_sentence(sentence, NAMES['relay']))
+    ('exactly 2 copies are left', 'not for the net: exactly 2 copies left at the end, but there is 1'),
+    ('mote 1 prints a 1 by 12', 'not for mote 1: at least 1 line "print process a value 1" from 0 to 12, but there are 0; '
+     'the next is'),
+    ('mote 1 prints a 1 before mote 0 sends 1', 'not for mote 1: every line "print process a value 1" is before every line '
+     '"send value 1" of mote 0; the first that isn\'t is'),
+    ('mote 0 prints a its distance from mote 3', 'mote 0 is not reached from mote 3'),
+    ('at least 3 motes print a', 'fewer than 3 of 4 hold: not for mote 0: at least 1 line "print process a", but there are 0'),
+    ('at most 1 mote prints a', 'more than 1 of 4 hold: also for mote 2: at least 1 line "print process a"; the line that '
+     'meets it is')])
+def test_reasons_are_the_words_of_claims_with_what_there_is(sentence: str, why: str) -> None:
+    text = RELAY + '[[loss]]\nfrom = 3\nto = 2\nevery = 1\n'
+    with deciding_by(TABLE.texts['relay_report']):
+        broken, = breaks([read_sentence(sentence, NAMES['relay'])], Finder(FINDERS['relay'].report, Scenario.parse(text)))
     assert broken and broken.words == why
+
+
+@pytest.mark.parametrize('text', [
+    '', 'no such case', 'not for mote 1: no such test', 'also for mote 4: at least 1 line "halt"',
+    'also for mote 1: at least 1 line "halt"; line 3 of mote 1, at 9, is one too many',
+    'not for mote 1: at least 1 line "halt"; line 3 of mote 1, at 9'])
+def test_what_is_no_break_of_the_claim_is_refused(text: str) -> None:
+    claim, = Claims(FINDERS['relay'].scenario).of(read_sentence('no mote halts', NAMES['relay']))
+    assert read_break('also for mote 1: at least 1 line "halt"; line 3 of mote 1, at 9', claim).line == (1, 3)
+    with pytest.raises(UnknownBreak):
+        read_break(text, claim)
 
 
 def test_a_count_behind_prints_is_no_process() -> None:
@@ -74,19 +93,6 @@ def test_a_count_behind_prints_is_no_process() -> None:
         assert read_sentence(sentence, Names()) == read_sentence(sentence, Names(('p',), 3))
     named, plain = (read_sentence('mote 0 prints %sonce' % it, Names()) for it in ('p ', ''))
     assert named != plain
-
-
-def test_many_lines_of_one_moment() -> None:
-    """Eight thousand packets come and go in one moment: square work would need 15 s."""
-    count = 8000
-    report = Report.parse('\n'.join([
-        'mote 0 p', *('3 recv 1 %d 1\n3 send %d 1' % (it, it) for it in range(count)),
-        'mote 1 p', '0 start a', 'mote 2 p', '0 start a', 'mote 3 p', '0 start a', 'medium', 'left 0\n']))
-    judge, begun = Judge(report, JUDGES['relay'].scenario), time.process_time()
-    for sentence in ('receives exactly %d within 0 of sending' % (count - 1), 'sends within 0 of each time it receives',
-                     'sends exactly %d after receiving' % count, 'receives exactly 1 before sending'):
-        assert judge.broken(read_sentence('mote 0 ' + sentence, NAMES['relay'])) is None
-    assert time.process_time() - begun < 3
 
 
 NETS: dict[str, dict[str, str]] = {
@@ -114,8 +120,9 @@ def test_remarks_on_sentences_that_say_nothing(sentence: str, net: str, remark: 
     for old, new in NETS[net].items():
         assert old in text
         text = text.replace(old, new)
-    judge, meant = Judge(Report.parse(REPORT), Scenario.parse(text)), read_sentence(sentence, NAMES['flood'])
-    assert remarks.remark_of(meant, judge, judge.broken(meant) is None) == remark
+    finder, meant = Finder(Report.parse(REPORT), Scenario.parse(text)), read_sentence(sentence, NAMES['flood'])
+    with deciding_by(REPORT):
+        assert remarks.remark_of(meant, finder, breaks([meant], finder) == [None]) == remark
 
 
 @pytest.mark.parametrize('sentence, like, shown', [
@@ -147,11 +154,11 @@ def test_sentences_that_cannot_be_read_are_counted() -> None:
         assert raised.value.which == 'expectations 1, 2, 3, 4, 5, 6, 7, 8, 9, 10, .. are not known'
 
 
-# The programs that decide. It holds for this motecheck that mote 0 sends; all other claims are broken.
+# The programs that decide. For this motecheck mote 2 halts, and all else holds.
 
 CHECKER = """#!/bin/bash
 cat "$1" "$2" >"${0%/*}/asked"
-sed '/^mote 0: .* "send"/{s/^/holds: /; b}; s/.*/broken: & -- here is why/' "$2"
+sed 's/.*"halt"$/broken: & -- also for mote 2: at least 1 line "halt"; line 3 of mote 2, at 46/; t; s/^/holds: /' "$2"
 exit 3
 """
 
@@ -174,8 +181,9 @@ def test_the_verdict_is_that_of_motecheck(room: Path) -> None:
     done = said(room, text, str(room / 'motecheck'))
     assert (done.stderr, done.returncode) == ('', 1)
     assert done.stdout.splitlines() == [
-        'holds   mote 0 sends exactly 3 times', 'broken  mote 1 can hear mote 0', '          here is why',
-        'broken  no mote halts', '          mote 3 does', '          line 22: 90 halt', '1 passed, 2 failed']
+        'holds   mote 0 sends exactly 3 times', 'holds   mote 1 can hear mote 0', 'broken  no mote halts',
+        '          also for mote 2: at least 1 line "halt"; the line that meets it is', '          line 17: 46 send 0 1',
+        '2 passed, 1 failed']
     assert (room / 'asked').read_text() == SCENARIO + (
         'mote 0: exactly 3 lines "send"\nthe net: always\nexactly 0 of motes 0 to 3: at least 1 line "halt"')
     assert 'there is no program none (the environment variable MOTECHECK names it)' in said(room, text, 'none').stderr

@@ -16,6 +16,7 @@ from motesim.notation import faults as program_faults
 from motesim.notation import reader
 from motesim.report.run import Answer
 from motesim.scenario import faults as scenario_faults
+from motesim.text import folded
 from sessions import TABLES, Table
 
 SCENARIO = Table(TABLES / 'explain.toml').texts['scenario']
@@ -35,7 +36,7 @@ def explained(text: str, message: str = '') -> list[str]:
     """What is said of a scenario, whose first error has this message."""
     fault = scenario_faults.find_fault(text.encode())
     assert fault and (not message or fault.message == message)
-    return list(explain.explanation('s.toml', text.encode(), 'motesim: ' + fault.message))
+    return folded(explain.explanation('s.toml', text.encode(), 'motesim: ' + fault.message))
 
 
 def mark_of(lines: Sequence[str]) -> tuple[int, str]:

@@ -8,7 +8,7 @@ from collections import Counter
 from here import SECONDS, TOOLS, TOP, Room, call, rows_of, text_of
 from motesim.export import pcapng, perfetto, times, vcd
 from motesim.report import Report
-from skips import interpreter_with, need_command
+from skips import interpreter_with, need
 from test_report import EXAMPLE_REPORT
 
 LUA = TOOLS / 'motesim/export/motesim.lua'
@@ -22,14 +22,7 @@ FIELDS = ['frame.time_epoch', 'frame.interface_name', 'motesim.kind', 'motesim.s
           'motesim.number', 'motesim.value', 'motesim.sent', 'motesim.arrival']
 WAVES = {tuple(name.split('.')): [(int(at), None if value == '-' else int(value)) for at, value in (
     it.split('=') for it in its.split(' '))] for name, its in rows_of('waves.tsv')}
-PANDAS = '''import pandas
-lines, packets, copies = (pandas.read_csv('a.%s.csv' % name) for name in ('lines', 'packets', 'copies'))
-print(len(lines), list(lines.groupby('kind').size().loc[['post', 'send', 'start']]))
-print(int(packets.value.sum()), copies.groupby('outcome').size().to_dict())
-received = lines[lines.kind == 'recv']
-merged = copies.merge(received, left_on=['sender', 'number', 'to'], right_on=['sender', 'number', 'mote'])
-print(merged[['to', 'arrival', 'row']].astype(int).values.tolist())
-'''
+PANDAS = text_of('tables.py.txt')
 
 
 def read_vcd(text: str) -> dict[tuple[str, ...], list[tuple[int, int | None]]]:
@@ -88,7 +81,7 @@ class ExportTest(Room):
         self.assertEqual((len(names), max(map(len, names))), (20_000, 3))
 
     def test_gtkwave_reads_the_waveform(self) -> None:
-        need_command(self, 'vcd2fst', 'gtkwave')
+        need('vcd2fst', 'gtkwave')
         self.export('a.report', '--to', 'vcd')
         done = self.run_it('vcd2fst', 'a.vcd', 'a.fst')
         self.assertEqual(done.returncode, 0, done)
@@ -97,7 +90,7 @@ class ExportTest(Room):
             self.assertEqual(back[name], values, name)
 
     def test_wireshark_reads_the_packets(self) -> None:
-        need_command(self, 'tshark', 'tshark')
+        need('tshark', 'tshark')
         self.export('a.report', '--to', 'pcapng', '-o', 'b.pcapng')
         fields = [word for name in FIELDS for word in ('-e', name)]
         read = ['tshark', '-X', 'lua_script:%s' % LUA, '-r', 'b.pcapng']
@@ -108,7 +101,7 @@ class ExportTest(Room):
         self.assertEqual(len(some.stdout.splitlines()), 1)
 
     def test_the_page_says_how_to_select_records_without_a_receiver_or_an_arrival(self) -> None:
-        need_command(self, 'tshark', 'tshark')
+        need('tshark', 'tshark')
         page = (TOP / 'docs/use/REPORT.md').read_text('utf-8')
         self.export('a.report', '--to', 'pcapng', '-o', 'b.pcapng')
         read = ['tshark', '-X', 'lua_script:%s' % LUA, '-r', 'b.pcapng', '-Y']

@@ -7,7 +7,7 @@ from pathlib import Path
 import pytest
 from here import TOP
 from motesim.search.study import check_studies
-from skips import need_built
+from skips import long, need_built
 
 FILES = sorted((TOP / 'examples/faults').glob('*.toml'))
 
@@ -16,6 +16,7 @@ def test_there_are_studies() -> None:
     assert {it.stem for it in FILES} >= {'flooding', 'collection_tree', 'leader_ring', 'tdma', 'tdma_without_slots'}
 
 
+@long
 @pytest.mark.parametrize('path', FILES, ids=lambda it: str(it.stem))
 def test_a_study_comes_out_as_it_says(path: Path) -> None:
     need_built()

@@ -6,9 +6,10 @@ import subprocess
 import unittest
 from unittest import mock
 
-from here import TOOLS, TOP, Room, text_of
+from here import TOOLS, TOP, Room, call, text_of
 from motesim.faults import Fault
 from project import testing
+from test_checks import go_on_as
 
 STEPS = ['run_cases', 'check_examples', 'check_tutorial', 'spoil_bytes', 'compare_workers', 'refuse_memory',
          'test_tools', 'wrong_bodies', 'check_module']
@@ -116,18 +117,16 @@ SOURCE = text_of('counted.py.txt')
 class UnitTests(Room):
     """The counts of the tests of the tools."""
 
-    def run_file(self, text: str, *may_skip: str, workers: int = 0) -> tuple[list[str], int]:
+    def run_file(self, text: str, *may_skip: str, jobs: str = '0') -> tuple[list[str], int]:
         shutil.copy(TOP / 'tools/tests/conftest.py', self.room)
         self.put('test_page.py', text)
-        words = [*testing.pytest('scope'), *('--may-skip=' + it for it in may_skip), 'test_page.py']
-        if '-n' in words:
-            words[words.index('-n') + 1] = str(workers)
-        done = subprocess.run(words, cwd=self.room, env={**os.environ, 'PYTHONPATH': str(TOOLS / 'tests')},
-                              capture_output=True, text=True, timeout=60)
+        here = {**os.environ, 'PYTHONPATH': str(TOOLS / 'tests'), 'TEST_JOBS': jobs}
+        with mock.patch.object(testing, 'TESTS', self.room), mock.patch.object(testing, 'become', go_on_as):
+            done = call('dev/test_tools', *('--may-skip=' + it for it in may_skip), env=here)
         return done.stdout.splitlines(), done.returncode
 
     def test_a_class_that_is_skipped_counts_as_all_its_tests(self) -> None:
-        lines, status = self.run_file(SOURCE % 'no reason', workers=1)
+        lines, status = self.run_file(SOURCE % 'no reason', jobs='1')
         self.assertEqual((lines[-1], status), ('1 passed, 1 failed, 3 skipped', 1))
         self.assertIn('skipped: test_page.py::Page::test_b: no reason', lines)
         self.assertIn('skipped: test_page.py::Other::test_e: no tshark', lines)

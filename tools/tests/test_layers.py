@@ -9,8 +9,8 @@ from here import TOOLS, TOP
 
 HOME = TOOLS / 'motesim'
 ROW = re.compile(r'\| `(\w+)` \| [^|]+ \| ([\w, ]*)\|')
-# The edges of commands and of the API, which import modules when they need them.
-EDGES = ('commands', 'command.py', 'api.py', '__init__.py')
+# The edges of commands, which import modules when they need them, and the package, whose names are those of modules.
+EDGES = ('commands', 'command.py', '__init__.py')
 
 
 def imports(path: Path) -> Iterator[tuple[str, bool]]:

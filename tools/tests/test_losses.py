@@ -24,6 +24,7 @@ WORD = 65_536
 ASSIGNED = re.compile(r'(\w+) = (\(.*\));')
 # Programs whose motes draw by chance, each with the variable that has its generator's state.
 DRAWING = {'docs/use/STATISTICS.md': 'dice', 'examples/studies/density.mote': 'dice',
+           'examples/studies/losses.mote': 'dice',
            'examples/studies/flooding.mote': 'seed', 'examples/studies/trickle.mote': 'seed'}
 STEP = '((dice * 25173) + 13849)'
 # The pattern's second variable, and the sum that it compares with the limit.

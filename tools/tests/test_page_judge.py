@@ -1,21 +1,26 @@
-"""Sentences and reports by chance: their claims have the verdicts of a judge that was written from the page alone, and
-the tools find a reason for what is broken, the same in a report that is read as far as it is needed."""
+"""Sentences and reports by chance: their claims have the verdicts of a judge that was written from the page alone, what is
+broken has a reason, the same in a report that is read as far as it is needed, and so has a question to tools/why."""
 import os
 import random
 import unittest
+from collections import Counter
 from contextlib import suppress
 from itertools import product
 
 import here  # noqa: F401
-from claim_judge import ClaimJudge
-from motesim.judge.claims import Claims, NoClaim
-from motesim.judge.judge import Judge
-from motesim.judge.sentences import names_of, read_sentence
+from claim_judge import deciding_by
+from motesim.judge.claims import NoClaim
+from motesim.judge.finder import Finder
+from motesim.judge.reasons import Broken
+from motesim.judge.sentences import Sentence, names_of, read_sentence
+from motesim.judge.verdicts import breaks
 from motesim.report import Report
 from motesim.report.columns import KINDS
 from motesim.report.lazy import LazyReport
 from motesim.report.run import answer
 from motesim.scenario import Scenario
+from motesim.why.question import Asker, Missing, Unasked
+from motesim.why.source import Source
 from page_judge import PageJudge
 from page_sentences import Sentences, net_of, running_net_of
 from skips import need_program
@@ -26,23 +31,37 @@ NETS, SENTENCES = range(int(os.environ.get('PAGE_JUDGE_NETS', '60'))), 25
 
 class Verdicts(unittest.TestCase):
     def test_the_verdicts_are_those_of_the_page(self) -> None:
-        found = [0, 0]
+        found, answers = [0, 0], Counter[str]()
         for seed in NETS:
             chance = random.Random(seed)
             scenario, report, motes = net_of(chance)
             page, its = PageJudge(scenario, report), Scenario.parse(scenario)
-            judge, lazy = Judge(Report.parse(report), its), Judge(LazyReport(report.encode()), its)
-            names, sentences, claims, judge_of_claims = names_of(its), Sentences(chance, motes), Claims(its), ClaimJudge(its, report)
+            whole, lazy = Finder(Report.parse(report), its), Finder(LazyReport(report.encode()), its)
+            names, sentences, asker = names_of(its), Sentences(chance, motes), Asker(Source('test', report.encode(), its))
             for text, meaning in (sentences.sentence() for _ in range(SENTENCES)):
-                with self.subTest(seed=seed, sentence=text), suppress(NoClaim):
+                with self.subTest(seed=seed, sentence=text), suppress(NoClaim), deciding_by(report):
                     sentence, holds = read_sentence(text, names), page.holds(meaning)
-                    self.assertEqual(all(map(judge_of_claims.holds, claims.of(sentence))), holds, report)
-                    if not holds:
-                        broken = judge.broken(sentence)
-                        self.assertIsNotNone(broken, report)
-                        self.assertEqual(lazy.broken(sentence), broken, report)
+                    broken, = breaks([sentence], whole)
+                    self.assertEqual(broken is None, holds, report)
+                    self.assertEqual(breaks([sentence], lazy), [broken], report)
                     found[holds] += 1
+                    answers[self.answer(asker, sentence, broken)] += 1
+        self.assertEqual(set(answers), {'line', 'line that breaks it', 'missing', 'no line', 'no line breaks it'}, answers)
         self.assertGreater(min(found), sum(found) / 4, 'too few expectations hold, or too few are broken')
+
+    def answer(self, asker: Asker, sentence: Sentence, broken: Broken | None) -> str:
+        """The kind of the answer to the question about a sentence; it has the same verdict, and the line of the reason."""
+        try:
+            found = asker.answer(sentence)
+        except Unasked as unasked:
+            self.assertEqual(unasked.holds, broken is None)
+            return 'no line breaks it' if broken else 'no line'
+        if isinstance(found, Missing):
+            self.assertTrue(broken and broken.lacks and found.motes)
+            return 'missing'
+        self.assertEqual(found.holds, broken is None)
+        self.assertTrue(broken is None or asker.line(broken.row) == found.where)
+        return 'line that breaks it' if broken else 'line'
 
 
 class Reading(unittest.TestCase):

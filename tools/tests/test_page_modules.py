@@ -29,6 +29,7 @@ from motesim.timeline.columns import data_of
 from motesim.toml import read_toml
 from motesim.why.chain import chain
 from motesim.why.pages import causes_of, source_of
+from motesim.why.say import because
 from motesim.why.source import At
 from project.differential.random_scenario import random_scenario
 
@@ -181,7 +182,7 @@ def chains_of(run: Run, places: list[tuple[int, int]]) -> list[dict[str, Any]]:
     """The reasons that tools/why reports for the lines at these places."""
     source = source_of(run)
     return [{'name': run.name, 'row': source.traces.row(At(*where)),
-             'because': ['mote %d: %s' % (hop.where.mote, hop.because) for hop in chain(source, At(*where))]}
+             'because': ['mote %d: %s' % (hop.where.mote, because(source, hop)) for hop in chain(source, At(*where))]}
             for where in places]
 
 

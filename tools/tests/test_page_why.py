@@ -11,15 +11,16 @@ import unittest
 from pathlib import Path
 from unittest import mock
 
-import here  # noqa: F401
+from here import text_of
 from motesim.commands import log as command
 from project.differential.random_scenario import random_scenario
 from motesim.scenario import Scenario
 from motesim.why.chain import chain, path_of
 from motesim.why.command import short
 from motesim.why.diverge import diverged
-from motesim.why.miss import Miss, misses
+from motesim.why.miss import Miss, Passed, Untaken, misses
 from motesim.why.question import Asker, Missing
+from motesim.why.say import of_instead, words_of
 from motesim.why.source import At, Source
 from page_kernel import Line, PageRun
 from page_why import PageLog, PageWhy
@@ -27,35 +28,11 @@ from test_page_measures import net_of
 
 SEEDS, QUESTIONS = range(int(os.environ.get('PAGE_WHY_FIRST', '1')), int(os.environ.get('PAGE_WHY_LAST', '13'))), 3
 TOO_LONG = 30_000
-COUNTS = {'never': 0, 'once': 1, 'twice': 2}
-REACHED = re.compile(r'line (\d+)(?: \(.*?\))?: `[^`]*` was (?:reached )?(never|once|twice|\d+ times)')
-PACKET = re.compile(r'packet (\d+) of mote (\d+), with the value (\d+), was sent at (\d+): ')
 KINDS = 'start', 'post', 'take', 'print', 'send', 'recv', 'full', 'drop', 'leave', 'collide'
 # Process a posts an event for all; b, which isn't the first process on the list, prints its word.
-BROADCAST = """version = 1
-end = 5
-medium = { range = 1, base = 1, per = 1 }
-mote = [{ x = 0, y = 0, program = "p" }]
-[programs]
-p = '''
-process a, b;
-autostart b, a;
-code a { body { broadcast msg 1; while 1 { yield; } } }
-code b { body { yield; print data; } }
-'''
-"""
+BROADCAST = text_of('broadcast.toml')
 # Process a prints 5 at moment 2.
-TIMERS = """version = 1
-end = 5
-medium = { range = 1, base = 1, per = 1 }
-mote = [{ x = 0, y = 0, program = "p" }]
-[programs]
-p = '''
-process a;
-autostart a;
-code a { etimer t; body { set t 2; yield_until fired(t); print 5; yield; } }
-'''
-"""
+TIMERS = text_of('timers.toml')
 
 
 def source_of(scenario: str, run: PageRun) -> Source:
@@ -98,7 +75,7 @@ class Runs(unittest.TestCase):
                         own, hops = page.chain(line), chain(source, place_of(line))
                         self.assertEqual([hop.row for hop in hops], [run.number(it) for it in own])
                         self.assertEqual([hop.row for hop in short(hops)], [run.number(it) for it in page.short(own)])
-                        self.assertEqual([hop.program_row for hop in hops if hop.words[:5] != 'leave'],
+                        self.assertEqual([hop.program_row for hop in hops if not (hop.line and hop.line.kind == 'leave')],
                                          [it.statement.line if it.statement else 0 for it in own
                                           if it.words[:5] != 'leave'])
                         path, waits = path_of(hops), path_of(hops).waits
@@ -124,7 +101,7 @@ class Runs(unittest.TestCase):
                         page = PageWhy(run).diverged(there, PageWhy(run).chain(line))
                         found = diverged(one, two, place_of(line))
                         self.assertEqual(found.hop.row if found else 0, run.number(page) if page else 0,
-                                         found and found.words)
+                                         found)
                         parted, whole = parted + (page is not None), whole + (page is None)
         self.assertGreater(min(parted, whole), 2)
 
@@ -135,20 +112,22 @@ class Runs(unittest.TestCase):
         for body, words in (('print 2;', 'its event did not reach b at 0, because b was not on the process list'),
                             ('yield_until is(msg);', '')):
             scenario = BROADCAST.replace('yield; print data;', body)
-            found = diverged(source_of(BROADCAST, run), source_of(scenario, PageRun(scenario)), place_of(said))
+            one, other = source_of(BROADCAST, run), source_of(scenario, PageRun(scenario))
+            found = diverged(one, other, place_of(said))
             assert found is not None
-            self.assertEqual(found.hop.words, 'print b 1' if not words else 'take 0 b')
-            self.assertIn(words, found.words)
+            self.assertEqual(words_of(one, found.hop.where), 'print b 1' if not words else 'take 0 b')
+            self.assertIn(words, of_instead(other, found.hop, found.instead))
 
     def test_a_line_with_another_cause_is_no_counterpart(self) -> None:
         once = 'set t 1; yield_until fired(t); '
         scenario = TIMERS.replace('set t 2; yield_until fired(t); ', once + once)
         run, there = PageRun(TIMERS), PageRun(scenario)
         said = next(line for line in run.lines if line.words == 'print a 5')
-        found = diverged(source_of(TIMERS, run), source_of(scenario, there), place_of(said))
+        one, other = source_of(TIMERS, run), source_of(scenario, there)
+        found = diverged(one, other, place_of(said))
         assert found is not None
-        self.assertEqual((found.hop.row, found.hop.words), (6, 'post 0 a timer 0'))
-        self.assertEqual(found.words, 'line 8 is the same, but it has another cause: line 7, `1 take 0 a`')
+        self.assertEqual((found.hop.row, words_of(one, found.hop.where)), (6, 'post 0 a timer 0'))
+        self.assertEqual(of_instead(other, found.hop, found.instead), 'line 8 is the same, but it has another cause: line 7, `1 take 0 a`')
 
     def test_near_misses_have_the_facts_of_the_run(self) -> None:
         asked = 0
@@ -177,33 +156,31 @@ class Runs(unittest.TestCase):
                             continue
                         (number, found), = misses(Asker(source), missing)
                         self.assertEqual(number, mote.number)
-                        self.check(page, run, found, (deed, process if deed == 'print' else '', value, first, last,
+                        self.check(page, source, run, found, (deed, process if deed == 'print' else '', value, first, last,
                                                       mote.number), own)
                         asked += 1
         self.assertGreater(asked, 10)
 
-    def check(self, page: PageWhy, run: PageRun, found: list[Miss], asked: tuple[str, str, int, int, int, int],
-              own: list[Line]) -> None:
+    def check(self, page: PageWhy, source: Source, run: PageRun, found: list[Miss],
+              asked: tuple[str, str, int, int, int, int], own: list[Line]) -> None:
         """Compares the near misses that have numbers with those of the page."""
         deed, process, value, first, last, number = asked
         mote = run.motes[number]
-        for words, its in ((' too late', [it for it in own if it.at > last][:1]),
-                           (' too early', [it for it in own if it.at < first][-1:])):
-            self.assertEqual([it.row for it in found if words in it.words], [run.number(it) for it in its])
+        for kind, its in (('late', [it for it in own if it.at > last][:1]),
+                          ('early', [it for it in own if it.at < first][-1:])):
+            self.assertEqual([it.row for it in found if it.kind == kind], [run.number(it) for it in its])
         if deed != 'recv':
-            reached = {(int(it[1]), COUNTS.get(it[2], int(it[2].split(' ')[0]) if it[2][0].isdigit() else 0))
-                       for it in (REACHED.match(miss.words) for miss in found
-                                  if miss.kind in ('reached', 'condition')) if it}
+            reached = {(source.program(number).statement(it.statement).line, it.reached.number)
+                       for it in (miss.facts for miss in found) if isinstance(it, Passed)}
             self.assertEqual(reached, {(it.line, page.reached(mote, it, first, last)[1])
-                                       for it in page.statements(mote, deed, process)})
-        is_absent = deed != 'recv' and not page.statements(mote, deed, process)
+                                       for it in page.statements(mote, deed, process, value)})
+        is_absent = deed != 'recv' and not page.statements(mote, deed, process, value)
         received = ('dropped', 'deaf', 'full') if deed == 'recv' else ()
         lost = [] if is_absent else [it for it in page.copies(mote, last)
                                      if it.fate not in ('taken', 'waiting', *received)]
         wanted = [it for it in lost if it.value == value][-8:] or lost[-3:]
-        named = [(it.kind, tuple(map(int, match.groups()))) for it in found
-                 for match in [PACKET.match(it.words)] if match]
-        self.assertEqual(named, [(it.fate, (it.number, it.sender, it.value, it.sent)) for it in wanted])
+        named = [(it.kind, it.facts.packet[:4]) for it in found if isinstance(it.facts, Untaken)]
+        self.assertEqual(named, [(it.fate, (it.sent, it.sender, it.number, it.value)) for it in wanted])
 
     def test_the_log_selects_the_lines_of_the_page(self) -> None:
         shown = 0

@@ -27,14 +27,7 @@ FILES = {'flood.mote': MOTE, 'sink.mote': SINK, 'Bad Name.mote': SINK,
          'far.csv': 'y,x\n0,40000\n', 'losses.csv': 'from,to,every\n0,1,3\n1,0,4\n', 'self.csv': 'from,to,every\n1,1,3\n'}
 
 # Rules of places, each with the SHA-256 of the scenario that they make: it is the same on any machine.
-RULES = {
-    'rule = "grid"\ncolumns = 3\nrows = 2\nstep = 7\nx = -5\ny = 4': '7d6e06b43aac4606',
-    'rule = "line"\ncount = 5\nstep = 9': '86091a5d8970cf9e',
-    'rule = "ring"\ncount = 7\nradius = 100': 'a7733d9db59b322f',
-    'rule = "random"\ncount = 30\nwidth = 50\nheight = 40\nseed = 5\nleast = 3\nconnected = true': '98127555d28fd687',
-    'rule = "clusters"\ncount = 3\nmotes = 4\nspread = 6\nwidth = 90\nheight = 90\nseed = 2': 'd11822d50ff7720b',
-    'rule = "list"\nat = [[0, 0], [5, -5]]': '796cd021ae867087',
-}
+RULES = {rule: digest for rule, digest in rows_of('place_rules.tsv')}
 LINE = 'rule = "line"\ncount = 4\nstep = 5'
 
 
@@ -216,12 +209,7 @@ def test_each_error_has_its_place(old: str, new: str, line: str, marked: str, wo
     assert words in ' '.join(it.strip() for it in rest)
 
 
-@pytest.mark.parametrize('old, new, seen', [
-    ('flood.mote', 'wrong.mote', 'wrong.mote, line 2:\n  code a { body { x = 1; } }\n                  ^\nUnknownName'),
-    ('period = 40\n', '', 'flood.mote, line 3:\n  code a { body { print ${period}; } }\n                        ^^^^^^^^^\n'),
-    ('rule = "link"\nfrom = 0\nto = 1\nevery = 2', 'rule = "csv"\nfile = "self.csv"', 'self.csv, line 2:\n  1,1,3\n  ^^^^^\n'),
-    ('rule = "grid"', 'rule = "csv"\nfile = "few.csv"', 'few.csv, line 3:'),
-    ('rule = "grid"', 'rule = "csv"\nfile = "far.csv"', 'far.csv, line 2:')], ids=range(5))
+@pytest.mark.parametrize('old, new, seen', rows_of('files_beside.tsv'), ids=range(5))
 def test_errors_of_files_beside(old: str, new: str, seen: str) -> None:
     text = PLAN.replace('columns = 5\nrows = 5\nstep = "${step}"\n', '') if 'grid' in old else PLAN
     assert refusal(text.replace(old, new, 1)).startswith(seen)

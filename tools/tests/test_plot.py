@@ -2,7 +2,7 @@
 import subprocess
 from xml.etree import ElementTree
 
-from here import Room, call
+from here import Room, call, rows_of
 from motesim import packages
 from sessions import TABLES, Table
 from skips import interpreter_with
@@ -53,12 +53,7 @@ class Pictures(Room):
     def test_the_pictures_of_a_plan(self) -> None:
         plan = 'end = 1\nmedium = { range = 1, base = 1, per = 1 }\n[places]\nrule = "line"\ncount = 1\nstep = 1\n' \
                'program = "a.mote"\n[[plot]]\nfile = "a.svg"\nmeasure = "sent"\nagainst = "period"\n%s\n'
-        for more, said in (('by = "density"\nwhere = { period = "1..2", density = ["thin", "dense"] }\nlog = true', ''),
-                           ('show = "mean"\nwhere = { density = "thin" }\nconfidence = 99.5', ''),
-                           ('pair = "density=thin,dense"\nshow = "mean"', ''),
-                           ('by = "sent"', '`by` names sent'), ('colour = 1', 'A plot has no key of this name'),
-                           ('show = "heat"', 'This plot can\'t be drawn: `show` is'),
-                           ('log = 1', 'This is not `true` or `false`'), ('confidence = "high"', 'can\'t be drawn')):
+        for more, said in rows_of('plots_of_plans.tsv'):
             (self.room / 'a.plan.toml').write_text(plan % more)
             (self.room / 'a.svg').unlink(missing_ok=True)
             done = self.plot('--plan a.plan.toml')

@@ -157,26 +157,18 @@ class Scenarios(unittest.TestCase):
                     self.assertEqual(copy.at, None if is_lost else packet.at + scenario.delay(packet.sender, copy.to))
 
     def test_a_text_that_is_no_scenario_has_its_fault(self) -> None:
-        for change, said in [(('end = 20', 'end ='), 'not TOML'), (('end = 20', ''), 'the scenario has no key end'),
-                             (('end = 20', 'end = 2.0'), 'end of the scenario is not a whole number'),
-                             (('range = 5', 'range = true'), 'range of medium is not a whole number'),
-                             (('x = 5\n', ''), 'mote 1 has no key x'), (('per = 100', 'per = 0'), 'at least 1')]:
+        for old, new, said in rows_of('broken_scenarios.tsv'):
             with self.assertRaisesRegex(ScenarioFault, said):
-                Scenario.parse(EXAMPLE.replace(*change))
+                Scenario.parse(EXAMPLE.replace(old, new))
         with self.assertRaisesRegex(ScenarioFault, 'UTF-8'):
             Scenario.parse(b'\xff')
 
     def test_a_report_of_other_motes_or_of_another_medium_has_a_fault(self) -> None:
         with self.assertRaisesRegex(ScenarioFault, 'the scenario has 3 motes, the report 2'):
             check_scenario(Report.parse(SMALL), Scenario.parse(EXAMPLE))
-        for change, said in [(('range = 5', 'range = 10'), 'in the scenario mote 2 hears mote 0'),
-                             (('range = 5', 'range = 4'), 'in the scenario mote 1 does not hear mote 0'),
-                             (('base = 2', 'base = 3'), 'the scenario has 1@'), (('every = 2', 'every = 1'),
-                                                                                 'has 1@lost instead of'),
-                             (('end = 20', 'end = 10'), 'the scenario ends at 10'),
-                             (('program = "listener"', 'program = "sender"'), 'mote 1 runs sender in the scenario')]:
+        for old, new, said in rows_of('other_scenarios.tsv'):
             with self.assertRaisesRegex(ScenarioFault, said):
-                check_scenario(Report.parse(EXAMPLE_REPORT), Scenario.parse(EXAMPLE.replace(*change)))
+                check_scenario(Report.parse(EXAMPLE_REPORT), Scenario.parse(EXAMPLE.replace(old, new)))
 
 
 class Runs(Room):

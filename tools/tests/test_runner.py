@@ -14,7 +14,7 @@ from pathlib import Path
 from here import SECONDS, TOOLS, Room, scenario_of
 from motesim.faults import Fault
 from motesim.runner import LimitMet, Limits, NoReport, ProgramFault, Runner, Stopped, ending, run_each
-from motesim.runner.batch import each_part
+from motesim.runner.batch import Workers, each_part
 from unbuilt_tree import is_alive, until
 
 class Programs(Room):
@@ -135,6 +135,19 @@ class Runs(Programs):
             Runner(self.program('true')).answer(b'', 'a\0b')
 
 
+@contextlib.contextmanager
+def beside() -> Iterator[None]:
+    """A block beside which another thread goes on."""
+    end = threading.Event()
+    thread = threading.Thread(target=end.wait)
+    thread.start()
+    try:
+        yield
+    finally:
+        end.set()
+        thread.join()
+
+
 def squared(item: int) -> int:
     return item * item
 
@@ -195,6 +208,16 @@ class Batches(Programs):
         self.assertEqual(sorted(found), list(range(40)))
         self.assertEqual([n for n, fault in found.items() if fault], sorted([0, 21, 39], key=list(found).index))
         self.assertIn('ended by the system', found[21])
+
+    def test_workers_do_one_series_after_another(self) -> None:
+        def work(item: int) -> tuple[int, int]:
+            return item, os.getpid()
+        workers = Workers(work, 2, SECONDS)
+        self.addCleanup(workers.end)
+        first, second = (
+            [done.result for _, done in workers.results(range(count)) if done.result] for count in (9, 5))
+        self.assertEqual([sorted(it for it, _ in its) for its in (first, second)], [[*range(9)], [*range(5)]])
+        self.assertLessEqual({pid for _, pid in second}, {pid for _, pid in first})
 
     def test_large_items_and_results_pass(self) -> None:
         found = list(run_each(lambda it: it + it, [b'x' * 3_000_000] * 8, workers=2))
@@ -263,40 +286,26 @@ class Batches(Programs):
         self.assertEqual((said.splitlines()[-1], fault, ran.returncode), ('stopped', '', 0))
 
     def test_with_threads_about_workers_are_not_forked(self) -> None:
-        done = threading.Event()
-        other = threading.Thread(target=done.wait)
-        other.start()
-        try:
+        with beside():
             self.assertEqual(sorted(it.result or 0 for it in run_each(math.isqrt, [1, 4], workers=1)), [1, 2])
-        finally:
-            done.set()
-            other.join()
 
 
 class Parts(unittest.TestCase):
     """A piece of work in parts."""
 
-    def test_parts_come_in_order_from_other_processes_only_if_they_are_much(self) -> None:
-        for is_much in False, True:
-            found = list(each_part(lambda it: (it, os.getpid()), range(40), is_much))
-            self.assertEqual([it for it, _ in found], list(range(40)))
-            self.assertEqual(os.getpid() in {process for _, process in found}, not is_much or (os.cpu_count() or 1) < 2)
+    def test_parts_come_in_order_from_other_processes(self) -> None:
+        found = list(each_part(lambda it: (it, os.getpid()), range(40)))
+        self.assertEqual([it for it, _ in found], list(range(40)))
+        self.assertEqual(os.getpid() in {process for _, process in found}, (os.cpu_count() or 1) < 2)
 
     def test_with_threads_this_process_works(self) -> None:
-        end = threading.Event()
-        thread = threading.Thread(target=end.wait)
-        thread.start()
-        try:
-            self.assertEqual({process for process in each_part(lambda it: os.getpid(), range(9), True)}, {os.getpid()})
-        finally:
-            end.set()
-            thread.join()
+        with beside():
+            self.assertEqual({process for process in each_part(lambda it: os.getpid(), range(9))}, {os.getpid()})
 
     def test_a_part_that_fails_is_a_fault(self) -> None:
         def work(it: int) -> int:
             if it == 7:
                 raise Fault('it is seven')
             return it
-        for is_much in False, True:
-            with self.assertRaisesRegex(Fault, 'it is seven'):
-                list(each_part(work, range(9), is_much))
+        with self.assertRaisesRegex(Fault, 'it is seven'):
+            list(each_part(work, range(9)))

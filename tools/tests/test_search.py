@@ -15,10 +15,11 @@ from typing import Any
 from unittest import mock
 
 import pytest
+from claim_judge import judge_of
 from here import SECONDS, TOOLS, TOP, call
 from motesim.faults import Fault
+from motesim.judge.claims import Claims
 from motesim.judge.expectations import beside
-from motesim.judge.judge import Judge
 from motesim.judge.sentences import names_of, read_sentence
 from motesim.plan.plan import Plan
 from motesim.report.report import Report
@@ -29,8 +30,8 @@ from motesim.search.added import DIES, LATE, NoRoom, changed_program
 from motesim.search.change import Base, CannotChange
 from motesim.search.cuts import cut_of
 from motesim.search.faults import Asked, FaultyPart, change_of, faults_of
-from motesim.search.halting import without_halts
 from motesim.search.kept import Kept
+from motesim.search.say import cut_in_words
 from motesim.search.search import Bounds, Search
 from motesim.search.sets import Known, count_of
 from motesim.search.shrink_found import Allowance
@@ -200,12 +201,15 @@ def test_a_cut_has_each_pair_of_motes_without_a_path() -> None:
 @pytest.mark.parametrize('text, words, wanted', [
     (DIAMOND, 'range is 5', 'cuts motes 0, 1, 2, 3 off: no protocol can deliver from them or to them'),
     (STAR, 'mote 1 is silent', 'cuts mote 1 off: no protocol can deliver from it; no other mote is cut off'),
+    (STAR, 'mote 1 is silent; mote 2 is silent',
+     'cuts motes 1, 2 off: no protocol can deliver from them; no other mote is cut off'),
     (LINE, 'mote 1 is silent', 'cuts mote 1 off: no protocol can deliver from it; cuts mote 0 off: no protocol can deliver '
      'to it; cuts the net: no path is left from mote 0 to motes 2, 3')])
 def test_a_cut_is_named(text: str, words: str, wanted: str) -> None:
     base = Base(text, 'd')
-    cut = cut_of([faults_by_words(base, kinds=('motes', 'values'), values={'range': (5,)})[words]], base)
-    assert cut and cut.words == wanted
+    found = faults_by_words(base, kinds=('motes', 'values'), values={'range': (5,)})
+    cut = cut_of([found[it] for it in words.split('; ')], base)
+    assert cut and cut_in_words(cut) == wanted
 
 
 # Programs of motes that fail, or start late.
@@ -337,9 +341,9 @@ def test_as_a_naive_search_finds() -> None:
         for found in itertools.combinations(faults_of(base, Asked(kinds, values={'range': (8,)})), size):
             text = base.text(change_of(found, base))
             scenario = Scenario.parse(text)
-            judge, names = Judge(Report.parse(answer(text.encode()).report), scenario), names_of(scenario)
-            breaks[frozenset(it.words for it in found)] = {
-                it for it in sentences if judge.broken(read_sentence(it, names))}
+            judge, claims, names = judge_of(text.encode(), answer(text.encode()).report.decode()), Claims(scenario), names_of(scenario)
+            breaks[frozenset(it.words for it in found)] = {it for it in sentences if not all(
+                judge.holds(claim.text) for claim in claims.of(read_sentence(it, names)))}
     wanted = defaultdict[str, Any](set)
     for words, broken in breaks.items():
         for sentence in broken:
@@ -372,7 +376,7 @@ def test_motes_that_fail_break_nothing_by_their_own_halts(changes: dict[str, str
     with folder_with(text, sentences) as folder:
         sets, found, _ = minimal_sets(folder, *words.split())
     assert sets == wanted and set(found['holds']) == {*sentences} - {*wanted}
-    assert not [it for it in found['notes'] if 'after the last packet' not in it]
+    assert not [it for it in found['notes'] if it['code'] != 'late']
 
 
 def test_two_failures_that_halt_another_mote() -> None:
@@ -391,14 +395,7 @@ def test_expectations_on_shares_of_copies_are_checked_for_motes_that_halt() -> N
     assert found['covered']['1']['run'] == 16 and fails <= sets[SHARES[0]] and fails <= sets[SHARES[2]]
     assert not any('fails' in ''.join(it) for it in sets[SHARES[1]])
     # (that sentence has other lines of such a mote after its failure)
-    assert halts in ' '.join(found['notes'])
-
-
-@pytest.mark.parametrize('halts, gone', [([(0, 3)], ['3 halt']), ([(1, 13), (10, 5)], ['13 halt', '5 halt']), ([(1, 3)], [])])
-def test_lines_of_halts_of_failed_motes_are_left_out(halts: list[tuple[int, int]], gone: list[str]) -> None:
-    rows = ['mote 0 p', '3 halt', 'mote 1 p', '0 start a', '13 halt', 'mote 10 p', '5 halt', 'medium', 'left 0', '']
-    found = without_halts('\n'.join(rows).encode(), halts).decode().split('\n')
-    assert found == [it for it in rows if it not in gone]
+    assert {'code': 'blind', 'facts': {'expectation': halts}} in found['notes']
 
 
 def test_the_bug_of_the_tutorial() -> None:

@@ -9,10 +9,12 @@ from typing import Any
 from unittest import mock
 
 import pytest
+from claim_judge import deciding_by
 from here import SECONDS, TOOLS, TOP, call, text_of
 from motesim.faults import Fault
-from motesim.judge.judge import Judge
+from motesim.judge.finder import Finder
 from motesim.judge.sentences import Names, motes_named, names_of, read_sentence
+from motesim.judge.verdicts import breaks
 from motesim.notation.printer import program_text
 from motesim.notation.reader import read_program
 from motesim.report.report import Report
@@ -115,13 +117,14 @@ def program() -> Runner:
 
 
 def way(text: str, sentence: str) -> Any:
-    """Whether a scenario breaks a sentence, and by how many lines, by the judge only."""
+    """Whether a scenario breaks a sentence, by the judge of the tests: whether no line shows it, and the report's length."""
     found = answer(text.encode())
     if found.status:
         return None
     scenario = Scenario.parse(text)
     try:
-        broken = Judge(Report.parse(found.report), scenario).broken(read_sentence(sentence, names_of(scenario)))
+        with deciding_by(found.report.decode()):
+            broken, = breaks([read_sentence(sentence, names_of(scenario))], Finder(Report.parse(found.report), scenario))
     except Fault:
         return None
     return broken and (broken.row is None, len(found.report))

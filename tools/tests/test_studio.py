@@ -16,6 +16,7 @@ from here import SECONDS, TOOLS, TOP, Room
 import skips
 import stand_in
 from motesim.faults import Fault
+from motesim.scenario.fields import Field
 from motesim.studio import answers
 from motesim.studio.command import pinned
 from motesim.studio.desk import Changed, Desk
@@ -293,6 +294,14 @@ class Answering(Room):
         self.assertIn('timer-never-set', [it['name'] for it in said['warnings']])
         self.assertTrue(self.judge(99)['gone'])
 
+    def test_a_run_has_the_fields_of_its_declared_format(self) -> None:
+        self.put('net.expect.toml', 'expect = ["mote 1 receives with seq 2"]\nfields = { seq = "value / 3" }')
+        found = self.run_text(NET, where='folder')
+        self.assertEqual(found['run']['fields'], {'1': ' (seq 0)', '5': ' (seq 1)', '6': ' (seq 2)'})
+        self.assertTrue(self.judge(found['number'])['checks']['marks'][0]['holds'])
+        self.put('net.expect.toml', 'no TOML')
+        self.assertNotIn('fields', self.run_text(NET, where='folder')['run'])
+
     def test_advice_on_a_stopped_run_ends_with_a_newer_text_or_at_the_limit(self) -> None:
         runs = self.server.session.runs
         with mock.patch('motesim.studio.session.busiest', return_value=' It loops.') as busiest:
@@ -335,12 +344,17 @@ class Answering(Room):
 class Searching(unittest.TestCase):
     def test_faults_are_found_and_shrunk(self) -> None:
         skips.need_program(self)
-        searches, sentence = Searches(LIMITS), 'mote 1 receives exactly 2'
+        searches, sentence = Searches(LIMITS), 'mote 1 receives with seq 2'
         self.addCleanup(searches.stop)
-        going = searches.of(searches.begin(Wanted(NET, [sentence], ['links'], 1)))
+        going = searches.of(searches.begin(Wanted(NET, [sentence], ['links'], 1, (Field('seq', 'value / 3'),))))
         going.reader.join()
         self.assertEqual([it['faults'] for it in going.state()['found']['found']], [['link 0 to 1 loses everything']])
         self.assertEqual(going.shrunk(0, sentence)['text'].count('[[mote]]'), 2)
+        with self.assertRaisesRegex(Fault, "^expectation 1 is not known"):
+            going.shrunk(0, 'mote 1 prints none')
+        going = searches.of(searches.begin(Wanted(NET, ['mote 1 prints none'], ['links'], 1)))
+        going.reader.join()
+        self.assertIn('expectation 1 is not known', going.state()['fault'])
 
 
 class Command(Room):

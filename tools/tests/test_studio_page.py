@@ -6,7 +6,7 @@ import threading
 from typing import Any
 from unittest import mock
 
-from here import SECONDS, TOP, room_of
+from here import SECONDS, TOP, room_of, text_of
 import skips
 import stand_in
 from browser import InBrowser
@@ -17,67 +17,9 @@ from motesim.studio.runs import Runs
 from motesim.studio.server import Server
 from motesim.studio.session import Session
 
-NET = """# Two motes hear each other, and one stands apart.
-version = 2
-end = 60
-[medium]
-range = 10
-base = 3
-per = 100
-collide = false
-[programs]
-talk = '''
-process talker;
-autostart talker;
-receiver talker;
-code talker {
-  var n = 0;
-  etimer beat;      // a comment
-  body {
-    print 1;
-    send 5;
-    send 6;
-  }
-}
-'''
-[[mote]]
-x = 0               # the first
-y = 0
-program = "talk"
-[[mote]]
-x = 8
-y = 0
-program = "talk"
-
-[[mote]]
-x = 100
-y = 50
-program = "talk"
-"""
-EXPECTED = """expect = ["mote 1 prints talker 1", "mote 1 receives exactly 2", "mote 0 prints talker exactly 1 times"]
-[[change]]
-about = "another value"
-replace = { "print 1" = "print 9" }
-expect = ["mote 1 prints talker 9"]
-"""
-POLLED = """version = 2
-end = 20
-medium = { range = 10, base = 2, per = 100, collide = false }
-mote = [{ x = 0, y = 0, program = "p" }, { x = 5, y = 0, program = "p" }]
-[programs]
-p = '''
-process a, b;
-autostart a, b;
-receiver b;
-code a {
-  etimer t;
-  body { set t 5; yield_until fired(t); poll b; print 1; yield; }
-}
-code b {
-  body { while 1 { yield_until is(poll); send 7; print 2; } }
-}
-'''
-"""
+NET = text_of('two_hear.toml')
+EXPECTED = text_of('two_hear.expect.toml')
+POLLED = text_of('polled.toml')
 # (no run is stopped because the machine is busy)
 LIMITS = USUAL._replace(seconds=SECONDS)
 READY = 'window.motesim && motesim.ready && (motesim.web.judged || document.body.classList.contains("stale"))'
@@ -331,13 +273,7 @@ class Page(InStudio):
 
     def test_the_page_of_the_run_is_handed_out_as_one_file(self) -> None:
         self.open()
-        self.browser.call('Browser.setDownloadBehavior', behavior='allow', downloadPath=str(self.room))
-        self.press('export')
-        page = self.room / 'net.html'
-        for _ in range(600):
-            if page.exists() and page.stat().st_size:
-                break
-            self.browser.settle()
+        page = self.downloaded(self.room / 'net.html', 'export')
         self.browser.visit(page.as_uri(), 'window.motesim && motesim.ready')
         self.assertEqual(self.browser.run('motesim.panes[0].run.begins.length'), 3)
 

@@ -3,6 +3,7 @@ from typing import Any
 from unittest import mock
 
 import pytest
+from here import text_of
 from motesim.explain.of_nets import of_moments
 from motesim.faults import Fault
 from motesim.report import Report
@@ -12,15 +13,7 @@ from sessions import TABLES, Table
 
 TEXTS = Table(TABLES / 'summary.toml').texts
 REPORT = TEXTS['report']
-SCENARIO = '''version = 2
-end = 10
-medium = { range = 10, base = 2, per = 100, collide = true }
-mote = [{ x = 0, y = 0, program = "talker" }, { x = 10, y = 0, program = "hearer" },
-        { x = 20, y = 0, program = "talker" }]
-[programs]
-talker = ""
-hearer = ""
-'''
+SCENARIO = text_of('talkers.toml')
 WITH_PROCESSES = SCENARIO.replace('talker = ""', 'talker = "process a, b; code a"').replace(
     'hearer = ""', 'hearer = "process hearer; // process no;"')
 

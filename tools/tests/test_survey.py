@@ -10,7 +10,7 @@ from motesim.report import Report
 from motesim.runner import program_path
 from motesim.scenario import Scenario
 from skips import need_program
-from test_claims import answers, need_motecheck
+from test_claims import CHECK, answers, need_motecheck
 
 # Each mote that hears a message for the first time prints it, and passes it on.
 FLOOD = text_of('flood.mote')
@@ -24,6 +24,10 @@ NETS = {
     'a question and its answer': (LINE, ASK),
 }
 Link = tuple[int, int]
+REFUSED = """error: '--at-most <K>' and '--runs <N>' need '--links' or '--silent'
+
+For more information, try '--help'.
+"""
 
 
 class FourNets(unittest.TestCase):
@@ -37,6 +41,16 @@ class FourNets(unittest.TestCase):
                 with self.subTest(net=name, workers=workers):
                     found = answers(self, text, claims, '--links', '--silent', '--at-most', '2', *workers)
                     self.assertEqual(found, lines_of_survey(text, claims))
+
+
+class Options(unittest.TestCase):
+    def test_options_of_a_survey_without_one_are_refused(self) -> None:
+        need_motecheck(self)
+        for options in ('--at-most', '2'), ('--runs', '5'), ('--workers', '2', '--at-most', '1', '--runs', '5'):
+            with self.subTest(options=options):
+                done = subprocess.run([CHECK, *options, 'net.toml', 'net.claims'], capture_output=True, text=True)
+                self.assertEqual((done.returncode, done.stdout), (2, ''))
+                self.assertEqual(done.stderr, REFUSED)
 
 
 def scenario_of(places: Sequence[tuple[int, int]], program: str) -> str:

@@ -11,7 +11,7 @@ from pathlib import Path
 from unittest import mock
 
 import pytest
-from claim_judge import ClaimJudge
+from claim_judge import deciding_by
 from here import SECONDS, TOOLS, Room, rows_of, scenario_of, text_of
 from motesim.experiments.asked import known_names, measures_of, sweep_of
 from motesim.experiments.doubts import of_full
@@ -20,15 +20,17 @@ from motesim.experiments.one_run import Result, digest, run_job
 from motesim.experiments.results import Head, Results, cell, read_results
 from motesim.experiments.sweep import Sweeper
 from motesim.faults import Fault
+from motesim.judge.breaks import Break
 from motesim.judge.claims import Claims
 from motesim.judge.sentences import Sentence, names_of
+from motesim.judge.verdicts import decided
 from motesim.plan.plan import Plan
 from motesim.plan.values import values_of
 from motesim.report import Report
 from motesim.report.run import Run
 from motesim.scenario import Scenario
 from sessions import TABLES, Table
-from stub import programs_of, write_stub
+from stub import judged, programs_of, write_stub
 from unbuilt_tree import until
 
 TABLE = Table(TABLES / 'sweep.toml')
@@ -37,11 +39,11 @@ SCENARIO = Scenario.parse(scenario_of('process a; code a { body { print 1; } }',
 NAMES = names_of(SCENARIO)
 REPORT = Report.parse(text_of('measured.report'))
 BENCH = Bench(Run('a', REPORT, SCENARIO))
-JUDGE = ClaimJudge(SCENARIO, text_of('measured.report'))
 
 
-def decide(its: Sequence[Sentence]) -> list[str | None]:
-    return ['' if all(map(JUDGE.holds, Claims(SCENARIO).of(it))) else 'broken' for it in its]
+def decide(its: Sequence[Sentence]) -> list[Break | None]:
+    with deciding_by(text_of('measured.report')):
+        return decided(Claims(SCENARIO), SCENARIO.text, its)
 
 
 @pytest.mark.parametrize('words, name, value', rows_of('measures.tsv'))
@@ -139,7 +141,8 @@ class Bed(Room):
         TABLE.write(self.room, TABLE.files)
 
     def sweep(self, *words: str, **more: str) -> subprocess.CompletedProcess[str]:
-        return self.tool('sweep', 'net.plan.toml', *words, **programs_of(self.stub), **more)
+        with judged():
+            return self.tool('sweep', 'net.plan.toml', *words, **programs_of(self.stub), **more)
 
     def rows(self, name: str = 'net.csv') -> list[dict[str, str]]:
         with open(self.room / name, newline='') as file:
@@ -187,12 +190,7 @@ class SweepTest(Bed):
         TABLE.write(self.room, {'bee.mote': '{{bee}}', 'net.plan.toml': ['plan', '[places]', 'seed = 1\n[places]']})
         plan = Plan.read(self.room / 'net.plan.toml')
         # (the last sweep has more runs than are tried)
-        for parameter, values, measure, more in [
-            ('motes', '3,5', 'x = count: mote 4 prints a', 'seed=1'), ('motes', '3,5', 'x = prints of mote 4', 'seed=1'),
-            ('name', 'a,bee', 'x = count: every mote prints bee', 'seed=1'),
-            ('name', 'a,bee', 'x = flow ratio: print bee', 'seed=1'),
-            ('motes', '3,4,5,6', 'x = count: mote 4 prints bee', 'name=a,bee'),
-            ('motes', '3,5,4', 'x = count: mote 4 prints a', 'period=1..14')]:
+        for parameter, values, measure, more in rows_of('orders_of_values.tsv'):
             for listed in values, ','.join(reversed(values.split(','))):
                 sweep = sweep_of(plan, ['%s=%s' % (parameter, listed), more], [measure], None)
                 self.assertEqual(list(measures_of(sweep, known_names(sweep), {})), ['x'])
@@ -201,7 +199,7 @@ class SweepTest(Bed):
         self.put('wait.mote', TABLE.texts['mote'] + '// wait\n')
         words = '--vary', 'name=a,wait', '--vary', 'motes=1..4', '--measure', 'prints', '--jobs', '2', '--seconds', '3'
         with subprocess.Popen([sys.executable, '-B', TOOLS / 'sweep', 'net.plan.toml', *words], cwd=self.room,
-                              env={**os.environ, 'MOTESIM': str(self.stub)}, stdout=subprocess.PIPE,
+                              env={**os.environ, **programs_of(self.stub)}, stdout=subprocess.PIPE,
                               stderr=subprocess.PIPE, text=True, start_new_session=True) as run:
             self.assertTrue(until(lambda: (self.room / 'net.csv').exists() and len(self.rows()) >= 4))
             os.killpg(run.pid, signal.SIGINT)

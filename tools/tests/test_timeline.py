@@ -6,7 +6,7 @@ import unittest
 from collections.abc import Callable
 from typing import Any
 
-from here import TOP, call, room_of
+from here import TOP, call, room_of, text_of
 from browser import InBrowser
 from motesim.faults import Fault
 from motesim.report import Report
@@ -20,24 +20,7 @@ from motesim.timeline.note import Line, Note
 CONTROL = 2
 SHIFT = 8
 # Mote 0 sends at 2 by its timer, and not at 4; its third event is never taken.
-SILENT = '''mote 0 p
-0 start a
-2 post 0 a timer 0
-2 take 0 a
-2 send 0 7
-4 post 1 a timer 0
-4 take 1 a
-4 print a 9
-5 post 2 a msg 1
-mote 1 p
-0 start a
-3 recv 0 0 7
-3 post 0 a packet 7
-3 take 0 a
-medium
-2 0 0 7 1@3
-left 0
-'''
+SILENT = text_of('silent.report')
 
 
 def small_network() -> Run:
@@ -126,13 +109,7 @@ class Pages(InBrowser):
 
     def click(self, row: int) -> None:
         """Clicks on the mark of a line of the report."""
-        self.browser.click(*self.value('''(() => {
-          const {x: left, y: top} = pane.canvas.getBoundingClientRect();
-          for (let i = 0; i < pane.hits.length; i += 3) {
-            const line = pane.hits[i + 2];
-            if (run.numberOf(line, run.moteOf(line)) === %d) return [left + pane.hits[i], top + pane.hits[i + 1]];
-          }
-        })()''' % row))
+        self.browser.click(*self.value(text_of('place_of_line.js.txt') % row))
 
     def shows(self, box: str, *words: str) -> None:
         said = self.value('by("%s").innerText' % box)
@@ -148,22 +125,7 @@ class Pages(InBrowser):
 
     def drawn(self, before: str = '0') -> list[dict[str, Any]]:
         """What is drawn on the lanes, in its order, after a script: texts, pictures and boxes."""
-        found: list[dict[str, Any]] = self.value('''(() => {
-          const c = pane.context, {fillText, fillRect} = c, drawn = [];
-          %s;
-          c.fillText = (text, x, y, most) => {
-            drawn.push({is: 'text', text, x, y, wide: c.measureText(text).width});
-            fillText.call(c, text, x, y, most);
-          };
-          c.fillRect = (x, y, wide, tall) => {
-            drawn.push({is: 'box', x, y, wide, tall});
-            fillRect.call(c, x, y, wide, tall);
-          };
-          c.drawImage = (image, x, y, wide, tall) => drawn.push({is: 'mark', x, y: y + tall / 2, wide});
-          m.drawAll();
-          for (const name of ['fillText', 'fillRect', 'drawImage']) delete c[name];
-          return drawn;
-        })()''' % before)
+        found: list[dict[str, Any]] = self.value(text_of('drawn.js.txt') % before)
         return found
 
     def test_a_run_whose_lines_are_all_at_its_beginning_opens_there(self) -> None:
@@ -214,12 +176,7 @@ class Pages(InBrowser):
             self.assertEqual(self.selected(), line)
         self.key('Escape', number=27)
         self.assertIsNone(self.selected())
-        self.browser.click(*self.value('''(() => {
-          const {x: left, y: top} = pane.canvas.getBoundingClientRect();
-          const {ends: [x0, y0, x1, y1]} = pane.arrows.find(
-            ({k}) => run.packetNumber[k] === 1 && run.packetSender[k] === 0);
-          return [left + (x0 + x1) / 2, top + (y0 + y1) / 2];
-        })()'''))
+        self.browser.click(*self.value(text_of('place_of_arrow.js.txt')))
         self.shows('details', 'Packet 1 of mote 0, value 20', 'mote 1: lost on the way')
         # (events of the kernel, and of a program)
         for event in 'msg', 'full':

@@ -58,7 +58,7 @@ class States(unittest.TestCase):
 
     def test_after_a_moment(self) -> None:
         """At 4 c has set its timer, and has left; the timer runs on, and its callback will come at 6."""
-        self.assertEqual(rows(as_json(after_moment(self.source, 0, 4), 4)), [
+        self.assertEqual([it.text for it in rows(as_json(after_moment(self.source, 0, 4), 4))], [
             '  process a waits at line 14: `yield`', '  process b waits at line 23: `yield_until is(msg)`',
             '  process c has left', '  timer late of c is due at 6, in 2 moments; set at 4 in line 36: `set late 2`',
             '  the event queue is empty'])

@@ -5,28 +5,12 @@ import types
 import unittest
 from unittest import mock
 
-from here import Room  # (it puts tools/ on the path)
+from here import Room, rows_of, text_of  # (it puts tools/ on the path)
 from motesim.runner.module import About
 from project import kit
 from project.web import Unknown, difference, retargeted, with_narrow_table
 
-GOOD = '''source_filename = "rattle"
-target datalayout = "e-m:e-i64:64"
-target triple = "x86_64-unknown-linux-gnu"
-@text = private unnamed_addr constant [9 x i8] c"asm call %"
-define i32 @main() #0 {
-  call void @llvm.x86.sse2.pause()
-  call void asm sideeffect "", "~{memory}"()
-  %1 = call i64 @llvm.ctlz.i64(i64 %0, i1 true)
-  %2 = call { i64, i64 } @rattle_alloc(i64 8, i64 8)
-  ret i32 0
-}
-declare void @llvm.x86.sse2.pause()
-declare i64 @llvm.ctlz.i64(i64, i1 immarg) #1
-declare { i64, i64 } @rattle_alloc(i64, i64)
-attributes #0 = { nounwind sanitize_address "target-cpu"="x86-64" "frame-pointer"="all" }
-attributes #1 = { sanitize_address "probe-stack"="inline-asm" }
-'''
+GOOD = text_of('main.ll.txt')
 
 
 class Edits(unittest.TestCase):
@@ -39,18 +23,7 @@ class Edits(unittest.TestCase):
             self.assertNotIn(it, text)
 
     def test_what_is_not_known_is_refused(self) -> None:
-        for line, why in (
-                ('declare i64 @lseek(i32, i64, i32)', 'the external function lseek'),
-                ('declare <4 x i32> @llvm.x86.sse2.psra.d(<4 x i32>, <4 x i32>)', 'llvm.x86.sse2.psra.d'),
-                ('declare void @llvm.va_start.p0(ptr)', 'llvm.va_start.p0'),
-                ('  call void asm sideeffect "cpuid", "~{eax}"()', 'inline assembly'),
-                ('  %3 = call i64 asm "rdtsc", "=r"()', 'inline assembly'),
-                ('module asm "nop"', 'inline assembly'),
-                ('@own = internal thread_local global i64 0', 'a variable of a thread'),
-                ('  %3 = call i64 %2(i64 1)', 'a call through a pointer'),
-                ('  tail call void %2(ptr %1)', 'a call through a pointer'),
-                ('attributes #9 = { "patchable-function"="prologue" }', 'attributes'),
-                ('attributes #9 = { sanitize_thread }', 'attributes')):
+        for line, why in rows_of('unknown_code.tsv'):
             with self.assertRaisesRegex(Unknown, why, msg=line):
                 retargeted(GOOD + line + '\n')
 

@@ -11,13 +11,12 @@ import math
 import re
 import runpy
 import threading
-import time
 import unittest
 import zlib
 from pathlib import Path
 from typing import Any
 
-from here import TOOLS, TOP, room_of
+from here import TOOLS, TOP, room_of, text_of
 from browser import InBrowser
 from project.page import HTML, LONGEST, MODULE, make_page
 
@@ -330,15 +329,7 @@ class Page(InBrowser):
         return self.in_worker(made)
 
     def in_worker(self, text: str) -> Any:
-        return self.browser.run("""(async () => {
-          const worker = new Worker(motesim.backend.script), module = await motesim.backend.module;
-          const answer = await new Promise(done => {
-            worker.onmessage = ({data}) => done(data);
-            worker.postMessage({module, number: 1, text: %s});
-          });
-          worker.terminate();
-          return {...answer, columns: Boolean(answer.columns)};
-        })()""" % json.dumps(text))
+        return self.browser.run(text_of('in_worker.js.txt') % json.dumps(text))
 
     def test_limits_of_the_stack_and_of_a_report_are_said(self) -> None:
         self.open()
@@ -441,15 +432,9 @@ class Page(InBrowser):
 
     def handed_out(self, name: str, file: str) -> Path:
         """The file that a button of the dialog of sharing hands out."""
-        self.browser.call('Browser.setDownloadBehavior', behavior='allow', downloadPath=str(self.room))
         self.press('share')
         self.wait('by("sharing").open')
-        self.press(name)
-        # (the browser names a file so when it is complete)
-        until = time.monotonic() + 60
-        while not (self.room / file).exists() and time.monotonic() < until:
-            time.sleep(0.05)
-        return self.room / file
+        return self.downloaded(self.room / file, name)
 
     def drop(self, name: str, text: str) -> None:
         """Drags a file over the page, and drops it."""

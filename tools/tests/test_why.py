@@ -14,11 +14,12 @@ from motesim.replay.translate import translated
 from motesim.report.run import answer
 from motesim.scenario import Scenario
 from motesim.scenario.in_programs import ScenarioFile
-from motesim.why.chain import MOST_CALLS, Explainer, as_json, cause_of, chain, on_values, places
+from motesim.why.chain import cause_of, chain, places
 from motesim.why.command import show_chain
 from motesim.why.fate import after_post
 from motesim.why.miss import Miss, _Misses, misses
 from motesim.why.question import Asked, Asker, Missing, Unasked
+from motesim.why.say import MOST_CALLS, Reasons, about, because, chain_as_json, of_fate, of_miss, on_values
 from motesim.why.source import At, Source
 from project.differential.random_scenario import random_scenario
 from sessions import TABLES, Table
@@ -44,8 +45,8 @@ def run_of(scenario: str) -> Source:
     return Source('test', answer(text.encode()).report, Scenario.parse(text))
 
 
-def because(source: Source, where: At) -> str:
-    return chain(source, where)[0].because
+def because_of(source: Source, where: At) -> str:
+    return because(source, chain(source, where)[0])
 
 
 def asked_of(source: Source, question: str) -> Asked:
@@ -63,15 +64,9 @@ def missing_of(source: Source, question: str) -> tuple[Missing, list[Miss]]:
 
 # The cause of each line, by what the kernel does.
 
-@pytest.mark.parametrize('mote, place, why', [
-    (0, 12, 'b, line 19: `send 8`; b was polled by a in line 10: `poll b`'),
-    (0, 9, 'c, line 39: `print data`; c was called by a with msg 7 in line 12: `synch c msg 7`'),
-    (0, 10, 'c, line 33: `print 3`; c was killed by a in line 13: `kill c`'),
-    (0, 17, 'c, line 30: `print 2`; the callback of timer late'),
-    (0, 15, 'timer late was due 2 moments after c set it in line 36: `set late 2`'),
-    (1, 8, 'h ended'), (0, 11, 'a, line 13: `kill c`')])
-def test_calls_without_a_line_and_ends_are_named(mote: int, place: int, why: str) -> None:
-    assert because(source(), At(mote, place)) == why
+@pytest.mark.parametrize('mote, place, why', rows_of('why_causes.tsv'))
+def test_calls_without_a_line_and_ends_are_named(mote: str, place: str, why: str) -> None:
+    assert because_of(source(), At(int(mote), int(place))) == why
 
 
 @pytest.mark.parametrize('example, question, led', [
@@ -79,13 +74,13 @@ def test_calls_without_a_line_and_ends_are_named(mote: int, place: int, why: str
     ('flooding', 'mote 0 sends 1', ', in line 13: `if fired(next)`')])
 def test_the_if_that_led_to_a_statement(example: str, question: str, led: str) -> None:
     run = run_of(example)
-    assert because(run, asked_of(run, question).where).endswith(led)
+    assert because_of(run, asked_of(run, question).where).endswith(led)
 
 
 def test_an_event_for_a_process_that_is_not_on_the_process_list() -> None:
     left = source(report=REPORT.replace('7 take 0 h', '7 drop 0 h'))
-    assert after_post(left, At(1, 5)).words == 'its event was dropped at 7, because h was not on the process list'
-    assert because(run_of('broadcast'), At(0, 10)) == 'event 0 was dropped: b was not on the process list'
+    assert of_fate(left, after_post(left, At(1, 5))) == 'its event was dropped at 7, because h was not on the process list'
+    assert because_of(run_of('broadcast'), At(0, 10)) == 'event 0 was dropped: b was not on the process list'
 
 
 def test_loops_that_are_too_deep() -> None:
@@ -124,7 +119,7 @@ def test_a_packet_that_no_process_took_or_with_another_value_is_not_named(change
     for old, new in changes.items():
         text = text.replace(old, new)
     run = run_of(text)
-    assert on_values(run, chain(run, At(1, run.traces.lines(1).index('20 send 0 7')))) == ''
+    assert on_values(run, chain(run, At(1, run.traces.texts(1).index('20 send 0 7')))) == ''
 
 
 # Next to the line of a program is the line of the scenario's file.
@@ -145,12 +140,11 @@ def test_reasons_and_json_have_both_lines() -> None:
     """The program begins on line 9 of the file, so its line 8 is line 16 of the file; or it is in no such file."""
     found = Source('test', REPORT.encode(), Scenario.parse(SCENARIO), ScenarioFile('a.toml', SCENARIO))
     hops = chain(found, At(0, 7))
-    first = as_json(found, hops)['chain'][0]
-    assert hops[0].because == 'a, line 8 (a.toml:16): `post b msg 5`'
+    first = chain_as_json(found, hops)['chain'][0]
+    assert because(found, hops[0]) == 'a, line 8 (a.toml:16): `post b msg 5`'
     assert (first['program_line'], first['file'], first['file_line']) == (8, 'a.toml', 16)
     other = ScenarioFile('b.mote', 'process x;\ncode x { body { print 1; } }\n')
-    hops = chain(Source('test', REPORT.encode(), Scenario.parse(SCENARIO), other), At(0, 7))
-    assert hops[0].because == 'a, line 8 of program talker: `post b msg 5`'
+    assert because_of(Source('test', REPORT.encode(), Scenario.parse(SCENARIO), other), At(0, 7)) == 'a, line 8 of program talker: `post b msg 5`'
 
 
 # Which line a question is about.
@@ -171,9 +165,9 @@ def test_the_line_of_a_question(question: str, kind: str, found: str) -> None:
     ('mote 3 sends after mote 0 sends', '3: 49 send 0 1', True, ''),
     ('every mote but 0 prints flood within 0 of receiving', '24: 64 print flood 1', True, 'mote 24 is the last'),
     ('some mote prints flood 2', '5: 83 print flood 2', True, ''),
-    ('mote 0 sends after mote 3 sends', '0: 40 send 0 1', False, 'is not after the first `mote 3 sends`'),
+    ('mote 0 sends after mote 3 sends', '0: 40 send 0 1', False, 'every line "send" is after some line "send" of mote 3'),
     ('mote 3 sends at least 80 % as often as mote 2', '3: 49 send 0 1', True, ''),
-    ('mote 3 sends more than 2 times as often as mote 2', '3: 129 send 2 3', False, '3 lines, compared with 3')])
+    ('mote 3 sends more than 2 times as often as mote 2', '3: 129 send 2 3', False, 'but there are 3 and 3')])
 def test_sentences_on_two_events(question: str, line: str, holds: bool, remark: str) -> None:
     run = run_of('flooding')
     asked = asked_of(run, question)
@@ -199,7 +193,7 @@ def test_a_lost_copy_has_the_reason_of_its_loss() -> None:
     for question in 'no copy is lost', 'some copy is lost at mote 1':
         with deciding_by(report):
             asked = asked_of(lossy, question)
-        assert asked.where == At(0, 12) and 'it loses one packet in 3 from 0 to 1' in asked.remark
+        assert asked.where == At(0, 12) and 'it loses one packet in 3 from 0 to 1' in about(lossy, asked)
 
 
 # Near misses of a line that isn't there.
@@ -220,7 +214,7 @@ def test_the_words_of_near_misses() -> None:
              'was never true, the last time, at 7'),
             (run_of('called'), 'mote 0 prints worker 1', 'worker has waited at line 28: `yield_until is(go)` from 0; its '
              'condition was tested once in this time, and was never true')):
-        assert words in [it.words for it in missing_of(run, question)[1]]
+        assert words in [of_miss(run, it) for it in missing_of(run, question)[1]]
 
 
 def test_many_collisions() -> None:
@@ -231,10 +225,10 @@ def test_many_collisions() -> None:
                       *('4 collide 0 %d' % it for it in packets), 'medium',
                       *('0 0 %d 7 1@4' % it for it in packets), 'left 0\n'])
     found, begun = source(report=text), time.process_time()
-    words = [it.words for it in missing_of(found, 'mote 1 prints h 7')[1]]
+    words = [of_miss(found, it) for it in missing_of(found, 'mote 1 prints h 7')[1]]
     assert time.process_time() - begun < 4
     assert any('packet 5999 of mote 0' in it and 'with 5999 other packets' in it for it in words)
-    assert '5999 other packets' in Explainer(found, 1).of_copy(4, '4 collide 0 0'.split(' '))
+    assert '5999 other packets' in Reasons(found, 1).of_copy(4)
 
 
 def test_many_polls() -> None:
@@ -245,8 +239,8 @@ def test_many_polls() -> None:
     text = '\n'.join(['mote 0 talker', *starts, *('%d send %d 1' % (it // 64, it) for it in range(64 * 20)),
                       'medium', *('%d 0 %d 1' % (it // 64, it) for it in range(64 * 20)), 'left 0\n'])
     found = source(head.replace('end = 20', 'end = 19'), text)
-    assert len(because(found, At(0, 1000)).split('; ')) == 1 + MOST_CALLS + 1
-    assert because(found, At(0, 4)) == 'p, line 1: `send 1`; p was polled by p in line 1: `poll p`'
+    assert len(because_of(found, At(0, 1000)).split('; ')) == 1 + MOST_CALLS + 1
+    assert because_of(found, At(0, 4)) == 'p, line 1: `send 1`; p was polled by p in line 1: `poll p`'
 
 
 def test_lines_at_another_time_are_looked_up_in_linear_work() -> None:
@@ -257,7 +251,7 @@ def test_lines_at_another_time_are_looked_up_in_linear_work() -> None:
     assert isinstance(missing, Missing)
     begun = time.process_time()
     first = next(_Misses(asker, missing, 0).found())
-    assert time.process_time() - begun < 2 and first.words.startswith('`send 0 7`, at 4: 1 moment too late')
+    assert time.process_time() - begun < 2 and of_miss(asker.source, first).startswith('`send 0 7`, at 4: 1 moment too late')
 
 
 def test_each_line_has_one_cause_that_is_earlier() -> None:

@@ -5,8 +5,9 @@ from here import TOP, room_of
 import skips
 import test_why
 from browser import InBrowser
-from motesim.judge.judge import Judge
+from motesim.judge.finder import Finder
 from motesim.judge.sentences import names_of, read_sentence
+from motesim.judge.verdicts import breaks
 from motesim.report import Report
 from motesim.report.run import Run, answer, read_run
 from motesim.scenario import Scenario
@@ -42,7 +43,7 @@ class Notes(unittest.TestCase):
         """The note on a sentence about the small run, or about that of an example."""
         run = read_run(str(TOP / 'examples' / example)) if example else small_run()
         assert run.scenario
-        broken = Judge(run.report, run.scenario).broken(read_sentence(sentence, names_of(run.scenario)))
+        broken, = breaks([read_sentence(sentence, names_of(run.scenario))], Finder(run.report, run.scenario))
         return note_of(run, sentence, broken if has_row else broken and broken._replace(row=None))
 
     def test_the_line_that_breaks_a_sentence(self) -> None:
@@ -51,16 +52,17 @@ class Notes(unittest.TestCase):
 
     def test_what_came_near_a_line_that_is_missing(self) -> None:
         note = self.note('mote 1 prints h 9')
-        self.assertEqual(note.why, 'mote 1 has 0 such lines; wanted: at least 1; it prints h 8 at moment 7. The nearest:')
+        self.assertEqual(note.why, 'not for mote 1: at least 1 line "print process h value 9", but there are 0. The nearest:')
         self.assertEqual(note.lines[0].text, 'mote 1: h had left at 7')
         self.assertEqual(note.mote, 1)
 
     def test_a_page_on_missing_values_of_several_motes_opens_on_the_whole_run(self) -> None:
-        note = self.note('motes 0 and 1 together print just h 9, 8, 5 in any order')
-        self.assertEqual(note, Note('motes 0 and 1 together print just h 9, 8, 5 in any order',
-                                    'the motes together never print 9, 5'))
+        sentence = 'motes 1 and 2 together print just hops 1, 1, 1 in any order'
+        self.assertEqual(self.note(sentence, 'lesson/start.toml'), Note(
+            sentence, 'not for the net: the lines "print process hops" of motes 1 to 2 together have in any order exactly the '
+            'values 1, 1, 1, but there are 2'))
         note = self.note('mote 1 prints just h 8, 9 in any order')
-        self.assertEqual((note.why, note.mote), ('mote 1 never prints 9. The nearest:', 1))
+        self.assertEqual((note.lines[0].text, note.mote), ('mote 1: h had left at 7', 1))
 
     def test_a_page_on_values_opens_at_no_lost_copy_with_another_value(self) -> None:
         for sentence, is_shown in (('mote 1 prints echo 99', False), ('mote 1 prints just echo 30, 99', False),

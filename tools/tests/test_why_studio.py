@@ -26,7 +26,8 @@ class Answers(unittest.TestCase):
         self.assertIn('a process', self.ask('why', question='mote 1 prints x 9')['said'])
 
     def test_states(self) -> None:
-        self.assertIn('  event 1 waits: msg 5 for b, posted at 4', self.ask('state', row=9)['rows'])
+        self.assertIn({'text': '  event 1 waits: msg 5 for b, posted at 4', 'is_changed': False},
+                      self.ask('state', row=9)['rows'])
         asked: dict[str, int]
         for asked in ({'row': 1}, {'row': 99}, {}):
             self.assertIn('said', self.ask('state', **asked))

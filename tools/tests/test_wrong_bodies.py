@@ -304,7 +304,7 @@ def test_a_goal_of_a_contract_that_is_proved_by_hand(tmp_path: Path) -> None:
     assert [public.is_by_hand('one::two::' + it, tmp_path) for it in ('Kept::long', 'free', 'other')] == [True, False, False]
 
 
-MOST_OPEN = 3
+MOST_OPEN = 0
 
 
 CODE_OF_A_CRATE = text_of('crate.txt')

@@ -1,6 +1,7 @@
 -- The effect of the command with its arguments, and the exit status that it returns. The contents of files aren't
 -- known, so an answer is one to some claims about some scenario.
-use Rattle.std.specs.Prelude.{◌≡◌, ◌≢◌, ◌⊎◌, ◌||◌, ℕ, List, Bool, true, false, Option, Result, Ok, Err, string_bytes, unwrap_or}
+use Rattle.std.specs.Prelude.{◌≡◌, ◌≢◌, ◌⊎◌, ◌&&◌, ◌||◌, ℕ, List, Bool, true, false, not, Option, Result, Ok, Err, is_some}
+use Rattle.std.specs.Prelude.{string_bytes, unwrap_or}
 use Rattle.std.specs.Bool.{MatchBool}
 use Rattle.std.specs.Io.KnownBytes.{Appends, Keeps}
 use Rattle.clap.specs.declared.error.kind.ErrorKind.{ErrorKind}
@@ -22,8 +23,12 @@ use Rattle.claim_check.specs.declared.error.CheckError.TheVariants as check
 abbrev pub is_survey : Asked → Bool
 is_survey asked = asked.links || asked.silent
 
+-- options of a survey are given, but no survey is asked for
+abbrev pub lacks_survey : Asked → Bool
+lacks_survey asked = not (is_survey asked) && (is_some asked.at_most || is_some asked.runs)
+
 abbrev pub kinds_of : Asked → Kinds
-kinds_of asked = record { links = asked.links; both_ways = false; silent = asked.silent }
+kinds_of asked = record { links = asked.links; silent = asked.silent }
 
 -- the sets of faults that are asked for: of at most one fault, if nothing else is said, and without a limit of runs
 abbrev pub faults_of : Asked → Faults
@@ -66,6 +71,11 @@ pub record ChecksAsked (asked : Asked) (old new : Option (List ℕ)) (status : �
   pub of_some : ChecksSome asked old new answer
   pub status_is : status ≡ status_of answer
 
+-- the arguments are refused if they have options of a survey without one; otherwise they ask for a check
+abbrev pub Serves : Asked → (old new : Option (List ℕ)) → (status : ℕ) → Type 0
+Serves asked old new status =
+    MatchBool (lacks_survey asked) ((status ≡ 2) × Keeps old new) (ChecksAsked asked old new status)
+
 -- the arguments are refused, or ask for help: no error is written to the output
 pub record RefusesWords (k : ErrorKind) (old new : Option (List ℕ)) (status : ℕ) : Type 0 where
   pub status_is : status ≡ status_of_words k
@@ -74,7 +84,7 @@ pub record RefusesWords (k : ErrorKind) (old new : Option (List ℕ)) (status : 
 -- the contents of the output before and after the command ran with these arguments, and the exit status that it
 -- returned; the first argument is the program's name
 abbrev pub Commands : (words : List (List ℕ)) → (old new : Option (List ℕ)) → (status : ℕ) → Type 0
-Commands words old new status = ((asked : Asked) × AsksFor words asked × ChecksAsked asked old new status)
+Commands words old new status = ((asked : Asked) × AsksFor words asked × Serves asked old new status)
     ⊎ ((k : ErrorKind) × FaultOf words k × RefusesWords k old new status)
 
 -- the command was run with some arguments

@@ -8,7 +8,8 @@ ghost use Rattle.simulation.specs.Command.{status_of_words, streams};
 ghost use Rattle.simulation.specs.Words.{texts_of};
 ghost use Rattle.simulation.specs.Input.{IsText};
 ghost use Rattle.claim_check.specs.FaultLines.{written_line};
-ghost use Rattle.claim_check.specs.Command.{AnswersAsked, ChecksSome, Commands, faults_of, is_survey, status_of};
+ghost use Rattle.claim_check.specs.Command.{AnswersAsked, ChecksSome, Commands, faults_of, is_survey, lacks_survey};
+ghost use Rattle.claim_check.specs.Command.{status_of};
 
 use crate::answers::Answers;
 use crate::checking::check;
@@ -97,6 +98,24 @@ fn is_survey(asked: &Asked<'_>) -> bool
     asked.links || asked.silent
 }
 
+/// Returns `true` if options of a survey are given, but no survey is asked for.
+fn lacks_survey(asked: &Asked<'_>) -> bool
+    ensures value { result ≡ lacks_survey asked.now }
+{
+    !is_survey(asked) && (asked.at_most.is_some() || asked.runs.is_some())
+}
+
+/// Writes that options of a survey need one, and returns the exit status of an error of the arguments.
+fn refuse_options<E: Write>(errors: &mut E) -> u8
+    ensures status { result ≡ 2 }
+{
+    let _ = writeln!(
+        errors,
+        "error: '--at-most <K>' and '--runs <N>' need '--links' or '--silent'\n\nFor more information, try '--help'."
+    );
+    2
+}
+
 /// Returns the sets of faults that a survey is to try.
 fn faults_of(asked: &Asked<'_>) -> Faults
     ensures value { result ≡ faults_of asked.now }
@@ -104,7 +123,6 @@ fn faults_of(asked: &Asked<'_>) -> Faults
     Faults {
         kinds: Kinds {
             links: asked.links,
-            both_ways: false,
             silent: asked.silent,
         },
         at_most: asked.at_most.unwrap_or(1),
@@ -187,6 +205,9 @@ where
 {
     match asked_by(rt.alloc(), words) {
         Ok(asked) => {
+            if lacks_survey(&asked) {
+                return refuse_options(errors);
+            }
             let answer = check_asked(rt, &asked, output, &NoGate);
             status_of(answer, errors)
         }

@@ -52,7 +52,6 @@ fn write_all(text: &mut String, medium: &Medium)
     write_fates(text, medium, &[]);
     write_fates(text, medium, &[Fault::Link(1, 2)]);
     write_fates(text, medium, &[Fault::Link(2, 1), Fault::Silent(0)]);
-    write_fates(text, medium, &[Fault::BothWays(0, 1)]);
     write_fates(text, medium, &[Fault::Silent(1)]);
 }
 
@@ -64,6 +63,6 @@ fn broken_links_lose_the_packet(rt: HostRuntime) -> Result<(), Fail> {
     }
     same_text(
         text.as_str(),
-        "0 Some(115) 2 Some(115) |0 Some(115) 2 None |0 Some(115) 2 Some(115) |0 None 2 Some(115) |0 None 2 None |",
+        "0 Some(115) 2 Some(115) |0 Some(115) 2 None |0 Some(115) 2 Some(115) |0 None 2 None |",
     )
 }

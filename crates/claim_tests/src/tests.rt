@@ -216,6 +216,31 @@ fn compares_moments(rt: HostRuntime) -> Result<(), Fail> {
     same_text(text.as_str(), "1 0 1 0 0 1 0 1 1 ")
 }
 
+/// The moments in which the print of mote 2, at 46, is looked for: it is the first, the last, after them, and before
+/// them; and an empty period.
+static SPANS: [Span; 5] = [
+    Span { from: 46, to: 60 },
+    Span { from: 40, to: 46 },
+    Span { from: 0, to: 45 },
+    Span { from: 47, to: 60 },
+    Span { from: 47, to: 46 },
+];
+
+#[test]
+fn looks_at_the_moments_of_a_period(rt: HostRuntime) -> Result<(), Fail> {
+    let report = flooding(rt.alloc())?;
+    let mut text = String::new(rt.alloc());
+    for span in SPANS.as_slice() {
+        let lines = Lines {
+            deed: deed(rt.alloc(), [2].as_slice(), *span, prints())?,
+            order: None,
+        };
+        let count = lines.count(&report);
+        let _ = write!(text, "{count} ");
+    }
+    same_text(text.as_str(), "1 1 0 0 0 ")
+}
+
 /// Adds the set of a number.
 fn add_set(alloc: Global, sets: &mut Vec<Set>, number: u64) -> Result<(), AllocError> {
     let mut set = Set {

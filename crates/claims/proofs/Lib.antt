@@ -5,3 +5,8 @@ pub mod PickLaws
 pub mod OrderLaws
 pub mod RatioLaws
 pub mod PermutationLaws
+pub mod AnyLaws
+pub mod SeenLaws
+pub mod ScanLaws
+pub mod StandLaws
+pub mod TraceLaws

@@ -5,6 +5,7 @@ pub mod Whats
 pub mod Patterns
 pub mod Traces
 pub mod Orders
+pub mod Seen
 pub mod Values
 pub mod Marks
 pub mod Lines

@@ -11,6 +11,7 @@ mod order;
 mod pattern;
 mod process;
 mod ratio;
+mod seen;
 mod set;
 mod trace;
 mod values;

@@ -3,8 +3,10 @@ ghost use Rattle.std.specs.Prelude.{◌≡◌, slice_get};
 ghost use Rattle.mote_net.specs.Report.{report_of};
 ghost use Rattle.claims.specs.Traces.{count_in};
 ghost use Rattle.claims.specs.Lines.{is_wanted, count_of, is_counted, counted_in, wanted_lines};
+ghost use Rattle.claims.specs.Seen.{IsSeenBy};
 
 use crate::order::Order;
+use crate::seen::Seen;
 use crate::trace::{Deed, Found, Watch, trace_of};
 use mote_net::Report;
 
@@ -16,34 +18,55 @@ pub struct Lines {
 }
 
 impl Lines {
-    fn are_in_order(&self, report: &Report, line: &Found) -> bool
+    fn begin(&self, report: &Report) -> Seen
+        ensures seen { IsSeenBy self.now.order (report_of report.now) result }
+    {
+        match &self.order {
+            None => Seen {
+                is_sorted: false,
+                line: None,
+                event: None,
+            },
+            Some(order) => order.begin(report),
+        }
+    }
+
+    fn are_in_order(&self, report: &Report, seen: &mut Seen, line: &Found) -> bool
+        requires { IsSeenBy self.now.order (report_of report.now) seen.old }
+        ensures seen { IsSeenBy self.now.order (report_of report.now) seen.new }
         ensures value { result ≡ is_wanted self.now.order (report_of report.now) line.now }
     {
         match &self.order {
             None => true,
-            Some(order) => order.admits(report, line),
+            Some(order) => order.admits(report, seen, line),
         }
+    }
+
+    fn counts(&self, report: &Report, watch: Watch, seen: &mut Seen, line: &Found) -> bool
+        requires { IsSeenBy self.now.order (report_of report.now) seen.old }
+        ensures seen { IsSeenBy self.now.order (report_of report.now) seen.new }
+        ensures value { result ≡ is_counted self.now (report_of report.now) watch line.now }
+    {
+        self.deed.shows(watch, &line.line) && self.are_in_order(report, seen, line)
     }
 
     fn count_in(&self, report: &Report, watch: Watch) -> usize
         ensures value { result ≡ count_in (is_wanted self.now.order (report_of report.now)) (report_of report.now)
             self.now.deed watch }
     {
-        trace_of(report, watch.mote)
-            .iter()
-            .enumerate()
-            .filter(|(place, line)| {
-                self.deed.shows(watch, line)
-                    && self.are_in_order(
-                        report,
-                        &Found {
-                            mote: watch.mote,
-                            place: *place,
-                            line: **line,
-                        },
-                    )
-            })
-            .count()
+        let mut seen = self.begin(report);
+        let mut count = 0;
+        for (place, line) in trace_of(report, watch.mote).iter().enumerate() {
+            let found = Found {
+                mote: watch.mote,
+                place,
+                line: *line,
+            };
+            if self.counts(report, watch, &mut seen, &found) {
+                count += 1;
+            }
+        }
+        count
     }
 
     /// The number of lines in a report.
@@ -57,15 +80,10 @@ impl Lines {
         count
     }
 
-    fn counts(&self, report: &Report, watch: Watch, line: &Found) -> bool
-        ensures value { result ≡ is_counted self.now (report_of report.now) watch line.now }
-    {
-        self.deed.shows(watch, &line.line) && self.are_in_order(report, line)
-    }
-
     fn line_in(&self, report: &Report, watch: Watch, index: u64) -> Option<Found>
         ensures value { result ≡ slice_get (counted_in self.now (report_of report.now) watch) index }
     {
+        let mut seen = self.begin(report);
         let mut left = index;
         for (place, line) in trace_of(report, watch.mote).iter().enumerate() {
             let found = Found {
@@ -73,7 +91,7 @@ impl Lines {
                 place,
                 line: *line,
             };
-            if self.counts(report, watch, &found) {
+            if self.counts(report, watch, &mut seen, &found) {
                 if left == 0 {
                     return Some(found);
                 }

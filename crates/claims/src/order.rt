@@ -1,12 +1,8 @@
 //! Lines before and after other lines.
 ghost use Rattle.std.specs.Prelude.{◌≡◌};
-ghost use Rattle.std.specs.List.{list_any};
-ghost use Rattle.mote_net.specs.Report.{report_of};
-ghost use Rattle.claims.specs.Traces.{any_in};
-ghost use Rattle.claims.specs.Orders.{is_before, is_beside_or_before, is_related, is_ordered};
+ghost use Rattle.claims.specs.Orders.{is_before, is_beside_or_before, is_related};
 
-use crate::trace::{Deed, Found, Watch, trace_of};
-use mote_net::Report;
+use crate::trace::{Deed, Found};
 
 /// A relation of a line to a line of an event.
 #[derive(Clone, Copy)]
@@ -61,42 +57,5 @@ impl Relation {
                 line.is_beside_or_before(event) && event.line.at - line.line.at <= moments
             }
         }
-    }
-}
-
-impl Order {
-    fn is_related_in(&self, report: &Report, line: &Found, watch: Watch) -> bool
-        ensures value { result ≡ any_in (is_related self.now.relation line.now) (report_of report.now) self.now.event
-            watch }
-    {
-        trace_of(report, watch.mote).iter().enumerate().any(|(place, event)| {
-            self.event.shows(watch, event)
-                && self.relation.relates(
-                    line,
-                    &Found {
-                        mote: watch.mote,
-                        place,
-                        line: *event,
-                    },
-                )
-        })
-    }
-
-    fn is_related_somewhere(&self, report: &Report, line: &Found) -> bool
-        ensures value { result ≡ list_any (any_in (is_related self.now.relation line.now) (report_of report.now)
-            self.now.event) self.now.event.watches.items }
-    {
-        self.event
-            .watches
-            .iter()
-            .any(|watch| self.is_related_in(report, line, *watch))
-    }
-
-    /// Returns whether a line has, or doesn't have, the relation to some line of the event.
-    pub fn admits(&self, report: &Report, line: &Found) -> bool
-        ensures value { result ≡ is_ordered self.now (report_of report.now) line.now }
-    {
-        let some = self.is_related_somewhere(report, line);
-        if self.is_so { some } else { !some }
     }
 }

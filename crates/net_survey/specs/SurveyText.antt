@@ -5,7 +5,7 @@ use Rattle.std.specs.List.{flat_map, list_any}
 use Rattle.claims.specs.declared.claim.Claim.{Claim}
 use Rattle.claim_text.specs.ClaimText.{text_of}
 use Rattle.radio_faults.specs.declared.fault.Fault.{Fault}
-use Rattle.radio_faults.specs.declared.fault.Fault.TheVariants.{Link, BothWays, Silent}
+use Rattle.radio_faults.specs.declared.fault.Fault.TheVariants.{Link, Silent}
 use Rattle.net_survey.specs.Chosen.{faults_at}
 use Rattle.survey.specs.declared.broken.Broken.{Broken}
 use Rattle.survey.specs.declared.broken.Survey.{Survey}
@@ -13,7 +13,6 @@ use Rattle.survey.specs.declared.search.Limits.{Limits}
 
 abbrev pub fault_text : Fault → List ℕ
 fault_text (Link s r) = codes "link " ++ decimal s ++ codes " to " ++ decimal r ++ codes " is broken"
-fault_text (BothWays s r) = codes "link " ++ decimal s ++ codes " with " ++ decimal r ++ codes " is broken"
 fault_text (Silent m) = codes "mote " ++ decimal m ++ codes " is silent"
 
 abbrev pub next_fault : Fault → List ℕ

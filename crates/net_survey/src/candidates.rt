@@ -2,8 +2,7 @@
 
 ghost use Rattle.std.specs.Prelude.{◌≡◌, ◌<◌, ◌++◌, ◌∷◌, [], if◌then◌else◌, length, IfOk, OnOk};
 ghost use Rattle.mote_net.specs.Meaning.{net_of};
-ghost use Rattle.net_survey.specs.Candidates.{candidates_of, is_pair, link_faults, links_from, pair_faults};
-ghost use Rattle.net_survey.specs.Candidates.{pairs_from, silent_motes};
+ghost use Rattle.net_survey.specs.Candidates.{candidates_of, link_faults, links_from, silent_motes};
 
 use mote_net::Net;
 use radio_faults::Fault;
@@ -15,14 +14,11 @@ use std::alloc::{AllocError, Global};
 pub struct Kinds {
     /// Broken links, each in one direction.
     pub links: bool,
-    /// The broken links between two motes, in both directions.
-    pub both_ways: bool,
     /// Silent motes.
     pub silent: bool,
 }
 
-/// The faults of these kinds in a net: first the links, by sender, then receiver; then the pairs of links, by the
-/// smaller number, then the other one; then the motes.
+/// The faults of these kinds in a net: first the links, by sender, then receiver; then the motes.
 ///
 /// # Errors
 /// `AllocError` if an allocation fails.
@@ -32,9 +28,6 @@ pub fn candidates_of(alloc: Global, net: &Net, kinds: Kinds) -> Result<Vec<Fault
     let mut all = Vec::new(alloc);
     if kinds.links {
         add_links(net.medium(), net.motes(), &mut all)?;
-    }
-    if kinds.both_ways {
-        add_pairs(net.medium(), net.motes(), &mut all)?;
     }
     if kinds.silent {
         add_silent(net.medium(), net.motes(), &mut all)?;
@@ -77,44 +70,6 @@ fn add_links(medium: &Medium, motes: u16, all: &mut Vec<Fault>) -> Result<(), Al
 {
     for sender in 0..motes {
         add_links_from(medium, motes, sender, all)?;
-    }
-    Ok(())
-}
-
-/// Returns `true` if a mote is greater than another, and hears it.
-fn is_pair(medium: &Medium, one: u16, other: u16) -> bool
-    requires one { one < length medium.now.places }
-    requires other { other < length medium.now.places }
-    ensures value { result ≡ is_pair medium.now one other }
-{
-    one < other && medium.hears(other, one)
-}
-
-/// Appends the broken links, in both directions, between a mote and each greater mote that hears it.
-fn add_pairs_from(
-    medium: &Medium,
-    motes: u16,
-    one: u16,
-    all: &mut Vec<Fault>,
-) -> Result<(), AllocError>
-    requires motes { motes ≡ length medium.now.places }
-    requires mote_exists { one < motes }
-    ensures appended { OnOk result (all.new.items ≡ all.old.items ++ pairs_from medium.now one) }
-{
-    for other in 0..motes {
-        let is_there = is_pair(medium, one, other);
-        add_if(all, is_there, Fault::BothWays(one, other))?;
-    }
-    Ok(())
-}
-
-/// Appends the broken links, in both directions, between each two motes that hear each other.
-fn add_pairs(medium: &Medium, motes: u16, all: &mut Vec<Fault>) -> Result<(), AllocError>
-    requires motes { motes ≡ length medium.now.places }
-    ensures appended { OnOk result (all.new.items ≡ all.old.items ++ pair_faults medium.now) }
-{
-    for one in 0..motes {
-        add_pairs_from(medium, motes, one, all)?;
     }
     Ok(())
 }

@@ -19,7 +19,6 @@ impl fmt::Display for FaultText {
     fn fmt<W: fmt::Write>(&self, f: &mut fmt::Formatter<W>) -> fmt::Result {
         match self.0 {
             Fault::Link(from, to) => write!(f, "link {from} to {to} is broken"),
-            Fault::BothWays(one, other) => write!(f, "link {one} with {other} is broken"),
             Fault::Silent(mote) => write!(f, "mote {mote} is silent"),
         }
     }

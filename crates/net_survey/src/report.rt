@@ -15,14 +15,13 @@
 //! survey = {CLAIM} COVERED
 //! CLAIM  = "holds: " TEXT LF | "broken: " TEXT LF {"  if " SET LF}               TEXT is the text of the claim
 //! SET    = "nothing is broken" | FAULT {" and " FAULT}
-//! FAULT  = "link " N " to " N " is broken" | "link " N " with " N " is broken" | "mote " N " is silent"
+//! FAULT  = "link " N " to " N " is broken" | "mote " N " is silent"
 //! COVERED = "covered: all sets of at most " N " of " N " faults" [" before '" SET "'"] "; runs: " N LF
 //! ```
 //!
-//! `link 1 to 3` is the direction in which mote 3 hears mote 1, and `link 1 with 3` is both directions. The sets are
-//! in the order in which the survey tries them, as a test shows: those of fewer faults first, and those of one size by
-//! their first fault, then by their second. After a limit of runs, the last line names the first set that wasn't
-//! tried; the sets before it are covered.
+//! `link 1 to 3` is the direction in which mote 3 hears mote 1. The sets are in the order in which the survey tries
+//! them, as a test shows: those of fewer faults first, and those of one size by their first fault, then by their second.
+//! After a limit of runs, the last line names the first set that wasn't tried; the sets before it are covered.
 
 ghost use Rattle.std.specs.Prelude.{◌≡◌, ◌++◌, option_map, string_bytes, IfOk, OnOk};
 ghost use Rattle.net_survey.specs.SurveyText.{runs_text, survey_text};

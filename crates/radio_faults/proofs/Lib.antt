@@ -1,4 +1,5 @@
 pub mod AnyOf
 pub mod Broken
 pub mod NoFaults
+pub mod SameFates
 pub mod Valid

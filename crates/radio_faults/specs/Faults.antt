@@ -1,15 +1,14 @@
 -- A medium with faults: the same medium with more losses.
-use Rattle.std.specs.Prelude.{ℕ, ◌==◌, ◌&&◌, ◌||◌, Bool, not, List, [], ◌∷◌, map}
+use Rattle.std.specs.Prelude.{ℕ, ◌==◌, ◌&&◌, Bool, not, List, [], ◌∷◌, map}
 use Rattle.std.specs.List.{filter, flat_map, list_any}
 use Rattle.radio_medium.specs.declared.losses.Loss.{Loss}
 use Rattle.radio_medium.specs.Medium.{Radio, is_for_pair, motes, receivers}
 use Rattle.radio_faults.specs.declared.fault.Fault.{Fault}
-use Rattle.radio_faults.specs.declared.fault.Fault.TheVariants.{Link, BothWays, Silent}
+use Rattle.radio_faults.specs.declared.fault.Fault.TheVariants.{Link, Silent}
 
 -- the fault breaks the link from mote s to mote r
 abbrev pub breaks : Fault → (s r : ℕ) → Bool
 breaks (Link from to) s r = (from == s) && (to == r)
-breaks (BothWays one other) s r = ((one == s) && (other == r)) || ((other == s) && (one == r))
 breaks (Silent mote) s r = mote == s
 
 -- one of the faults breaks this link

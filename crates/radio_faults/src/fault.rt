@@ -8,8 +8,6 @@ ghost use Rattle.radio_faults.specs.Faults.{breaks, is_broken};
 pub enum Fault {
     /// The link from one mote to another, in this direction, is broken.
     Link(u16, u16),
-    /// The links between two motes, in both directions, are broken.
-    BothWays(u16, u16),
     /// The mote is silent: it hears other motes, and the medium loses every packet of its own.
     Silent(u16),
 }
@@ -21,7 +19,6 @@ impl Fault {
     {
         match self {
             Fault::Link(from, to) => from == s && to == r,
-            Fault::BothWays(one, other) => { (one == s && other == r) || (other == s && one == r) }
             Fault::Silent(mote) => mote == s,
         }
     }

@@ -10,7 +10,9 @@ pub mod OneWake
 pub mod OnTime
 pub mod Reached
 pub mod Reports
+mod SameCopies
 pub mod Stamped
 pub mod Stamps
 pub mod Steps
 pub mod Unique
+mod UnusedLinks

@@ -6,4 +6,5 @@ pub mod NetRun
 pub mod OnTime
 pub mod RunErrors
 pub mod Stamps
+pub mod UnusedLinks
 pub mod IsInState

@@ -6,6 +6,7 @@ ghost use Rattle.serial_run.specs.Counted.{LateCopiesStay, LeftIsCounted, TurnsA
 ghost use Rattle.serial_run.specs.Laws.{AlwaysOneWake, BucketsHoldItems, NetsRunForward, ReportIsOne};
 ghost use Rattle.serial_run.specs.Laws.{ReportIsThere, TracesHandOn, WakesAlwaysDiffer, WindowsCommuteInNets};
 ghost use Rattle.serial_run.specs.Stamps.{LogCountsUp, SendsAreStamped, TracesNeverGoBack};
+ghost use Rattle.serial_run.specs.UnusedLinks.{SomeLinksAreUnused, UnusedLinksMayBreak};
 
 use net_agenda::Agenda;
 
@@ -98,4 +99,16 @@ pub fn moments_and_numbers_rise()
 /// stamping them changes nothing.
 pub fn sends_are_stamped()
     ensures sends_are_stamped { SendsAreStamped }
+{}
+
+/// If all copies on some links are lost in the run of a net with faults, those links may break too: the report stays the
+/// same. A link is also unused if its sender sends nothing.
+pub fn unused_links_may_break()
+    ensures unused_links_may_break { UnusedLinksMayBreak }
+{}
+
+/// In a small report, the links of copies that are lost are unused, as are the links from motes that send nothing. The
+/// link of a copy that arrives isn't.
+pub fn some_links_are_unused()
+    ensures some_links_are_unused { SomeLinksAreUnused }
 {}

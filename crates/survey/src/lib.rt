@@ -7,7 +7,6 @@
 
 mod batch;
 mod broken;
-pub mod laws;
 mod progress;
 mod record;
 mod search;

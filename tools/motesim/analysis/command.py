@@ -2,8 +2,6 @@
 from __future__ import annotations
 
 import argparse
-import hashlib
-import json
 import shlex
 import sys
 from dataclasses import replace
@@ -22,21 +20,11 @@ from motesim.experiments.results import Head, Row, read_results
 from motesim.faults import Fault
 from motesim.files import refuse_inputs, write_whole
 from motesim.plan.plan import Plan
-from motesim.version import VERSION
 
 
 def table_path(picture: Path) -> Path:
     """The file for the table of a picture."""
     return picture.with_suffix('.table.csv')
-
-
-def origin_of(results: Path, head: Head) -> str:
-    """The first line of a picture's table, which says where the numbers are from. It has no date, so that the same
-    command on the same results writes the same bytes."""
-    return '#' + json.dumps({
-        'command': shlex.join(['tools/plot', *sys.argv[1:]]), 'tools': VERSION, 'results': results.name,
-        'results_sha256': hashlib.sha256(results.read_bytes()).hexdigest(), 'motesim': head.motesim,
-        'motesim_sha256': head.motesim_sha256, 'measures': head.measures}, ensure_ascii=False)
 
 
 def show(results: Path, head: Head, rows: list[Row], plot: Plot, folder: Path) -> None:
@@ -56,7 +44,8 @@ def show(results: Path, head: Head, rows: list[Row], plot: Plot, folder: Path) -
         if picture:
             drawing.draw(shown, plot, picture)
     if picture:
-        text = ''.join([origin_of(results, head) + '\n', line_of(list(table[0])),
+        origin = head.origin(results, shlex.join(['tools/plot', *sys.argv[1:]]))
+        text = ''.join([origin + '\n', line_of(list(table[0])),
                         *(line_of(row.values()) for row in table)])
         write_whole(table_path(picture), [text.encode()])
         print(picture)

@@ -32,5 +32,5 @@ def main() -> int:
     words.add_argument('--html', metavar='FILE',
                        help='write both timelines to this page, which opens at the first difference')
     asked = words.parse_args()
-    from motesim.comparison.reports import status_of
+    from motesim.comparison.command import status_of
     return status_of(asked, write_page)

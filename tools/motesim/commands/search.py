@@ -56,9 +56,10 @@ def arguments() -> argparse.ArgumentParser:
     words.add_argument('--queues', default='8,4,2,1', metavar='NUMBERS', help='for `queues`: the lengths')
     words.add_argument('--set', action='append', default=[], metavar='NAME=VALUES',
                        help='for `values` and `parameters`: the other values')
-    words.add_argument('--repeat', metavar='NAME=VALUES',
+    words.add_argument('--repeat', action='append', metavar='NAME=VALUES',
                        help='of a plan: search once for each of these values of a parameter, such as seed=1..5, and show '
-                            'with how many of them each set breaks an expectation')
+                            'in how many searches each set breaks an expectation; with several parameters, for each '
+                            'choice of a value for each')
     words.add_argument('--step', type=int, default=0, metavar='N',
                        help='for `places`: the distance by which a mote is moved (a quarter of the range)')
     words.add_argument('--random', type=int, default=0, metavar='N',
@@ -87,7 +88,8 @@ def arguments() -> argparse.ArgumentParser:
                             'tools/shrink does. --most-runs and --most-seconds limit this too')
     words.add_argument('--keep', action='append', default=[], metavar='KEPT',
                        help='with --shrink: what the small scenarios keep, as tools/shrink --help describes')
-    words.add_argument('--progress', action='store_true', help='report progress in lines of JSON, on standard error')
+    words.add_argument('--progress', action='store_true',
+                       help='report progress and errors in lines of JSON, on standard error')
     words.add_argument('--studies', nargs='+', metavar='FILE',
                        help='make the searches in these files, and check that their results are those in the files')
     words.add_argument('--resume', action='store_true', help='continue a search that ended with Ctrl-C or at a limit')

@@ -59,6 +59,8 @@ def main() -> int:
     words.add_argument('--steps', action='store_true', help='show each step')
     words.add_argument('--most-runs', type=int, metavar='N', help='make at most N runs')
     words.add_argument('--most-seconds', type=float, metavar='N', help='begin no more runs after N seconds')
+    words.add_argument('--progress', action='store_true',
+                       help='report progress and errors in lines of JSON, on standard error')
     words.add_argument('--seconds', type=float, default=SECONDS, metavar='N',
                        help='the limit of a run, in seconds of real time (10)')
     asked = words.parse_intermixed_args()

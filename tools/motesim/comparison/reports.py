@@ -1,18 +1,17 @@
-"""The first place at which two reports diverge, and how many of their lines differ. tools/compare is the command."""
+"""The first place at which two reports diverge, and how many of their lines differ."""
 from __future__ import annotations
 
-import argparse
 from collections import Counter
-from collections.abc import Callable, Iterator, Sequence
-from typing import Any, NamedTuple
+from collections.abc import Iterator, Sequence
+from typing import TYPE_CHECKING, Any, NamedTuple
 
 from motesim.cells import aligned
 from motesim.comparison import scenarios as scenario_differences
 from motesim.comparison.columns import MEDIUM, Both
-from motesim.faults import Fault
-from motesim.files import refuse_inputs
 from motesim.report import FIELDS, KINDS, Line, Packet, Report
-from motesim.report.run import Run, read_run
+
+if TYPE_CHECKING:
+    from motesim.report.run import Run
 
 LETTERS = 'AB'
 PACKETS_BEFORE, EVENTS_BEFORE = 3, 4
@@ -70,9 +69,9 @@ def heads(a: Report, b: Report) -> list[str]:
     every = [tuple(it.motes[number].program if number < len(it.motes) else None for it in (a, b))
              for number in range(max(len(a.motes), len(b.motes)))]
     for motes, names in scenario_differences.alike(every):
-        runs, exists = ('run', 'are') if motes.startswith('motes') else ('runs', 'is')
+        runs, exists = ('run', 'are') if len(motes) > 1 else ('runs', 'is')
         if names[0] != names[1]:
-            found.append('%s %s' % (motes, ' and '.join(
+            found.append('%s %s' % (scenario_differences.motes_in_words(motes), ' and '.join(
                 '%s %s in %s' % (runs, name, letter) if name else '%s not in %s' % (exists, letter)
                 for name, letter in zip(names, LETTERS))))
     return found
@@ -279,25 +278,3 @@ def compared(a: Run, b: Run, most: int) -> tuple[list[str], Difference | None, b
     if a.report.left != b.report.left:
         lines += ['', 'Copies that would arrive after the end: %d in A, %d in B' % (a.report.left, b.report.left)]
     return lines, found[0] if found else None, False
-
-
-def write_html(write_page: Callable[..., None], path: str, a: Run, b: Run, first: Difference | None) -> None:
-    """Writes both timelines, one above the other, from the first difference on."""
-    mote = first.mote if first else None
-    if first and first.mote == MEDIUM:
-        mote = packet_of((a.report, b.report), first).sender
-    write_page(path, '%s and %s' % (a.name, b.name), [a, b], first.at if first else None, mote)
-
-
-def status_of(asked: argparse.Namespace, write_page: Callable[..., None]) -> int:
-    """Prints the comparison; returns the status. `write_page` writes a page of timelines."""
-    if asked.a == asked.b == '-':
-        raise Fault('A and B can\'t both be standard input: one of them is a file')
-    if asked.html:
-        refuse_inputs(asked.html, [asked.a, asked.b], '--html')
-    a, b = read_run(asked.a), read_run(asked.b)
-    lines, first, is_same = compared(a, b, max(1, asked.rows))
-    if asked.html:
-        write_html(write_page, asked.html, a, b, first)
-    print('\n'.join(lines))
-    return 0 if is_same else 1

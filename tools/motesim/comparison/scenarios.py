@@ -19,13 +19,18 @@ def both(what: str, one: object, other: object) -> str:
     return '%s is %s in A and %s in B' % (what, shown(one), shown(other))
 
 
-def alike(values: Sequence[tuple[str | None, ...]]) -> Iterator[tuple[str, tuple[str | None, ...]]]:
-    """The values of motes, each with the neighbouring motes that have it, as in `mote 3` or `motes 3 to 9`."""
+def alike(values: Sequence[tuple[str | None, ...]]) -> Iterator[tuple[range, tuple[str | None, ...]]]:
+    """The values of motes, each with the neighbouring motes that have it."""
     begin = 0
     for value, its in groupby(values):
-        end = begin + len(list(its)) - 1
-        yield 'mote %d' % begin if begin == end else 'motes %d to %d' % (begin, end), value
-        begin = end + 1
+        motes = range(begin, begin + len(list(its)))
+        yield motes, value
+        begin = motes.stop
+
+
+def motes_in_words(motes: range) -> str:
+    """Neighbouring motes, as in `mote 3` or `motes 3 to 9`."""
+    return 'mote %d' % motes[0] if len(motes) == 1 else 'motes %d to %d' % (motes[0], motes[-1])
 
 
 def of_keys(a: Scenario, b: Scenario) -> Iterator[str]:
@@ -74,7 +79,7 @@ def of_motes(a: Scenario, b: Scenario) -> Iterator[str]:
             yield both('the place of mote %d' % number, '(%d, %d)' % one[:2], '(%d, %d)' % other[:2])
     for motes, names in alike([(one.program, other.program) for one, other in zip(a.places, b.places)]):
         if names[0] != names[1]:
-            yield both('the program of %s' % motes, *names)
+            yield both('the program of %s' % motes_in_words(motes), *names)
 
 
 def of_losses(a: Scenario, b: Scenario) -> Iterator[str]:

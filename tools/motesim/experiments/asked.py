@@ -14,7 +14,7 @@ from motesim.judge.sentences import Names, SentenceFault, names_of
 from motesim.plan.plan import Plan
 from motesim.plan.tables import Value, optional, text_of_value
 from motesim.plan.values import MOST_RUNS, values_of
-from motesim.report.run import read_file
+from motesim.scenario.encodings import read_file
 from motesim.scenario import Scenario
 
 # The greatest number of runs whose scenarios are made before the first run, to find mistakes early.

@@ -25,13 +25,14 @@ from motesim.experiments.doubts import OWN_LINE, OWN_MESSAGE, SAME_VALUE
 from motesim.cells import Cell
 from motesim.text import known
 from motesim.text import nearest
-from motesim.judge import judge as judges
 from motesim.summary import counts
 from motesim.faults import Fault
 from motesim.summary.flows import NAMES as FLOW_NAMES
 from motesim.summary.flows import FlowFault, flow_rows, read_flow, same_sources, same_value
 from motesim.summary.shares import share
-from motesim.judge.judge import Event, Judge
+from motesim.judge.breaks import Break
+from motesim.judge.finder import Finder
+from motesim.judge.links import Apart
 from motesim.notation.grammar import PARAMETER
 from motesim.plan.tables import Value
 from motesim.report import OUTCOMES, Line
@@ -72,21 +73,21 @@ class Bench:
     decide the sentences `asked`, all at once."""
 
     def __init__(self, run: Run, parameters: Mapping[str, Value] = {}, asked: Sequence[Sentence] = (),
-                 decide: Callable[[Sequence[Sentence]], list[str | None]] = lambda its: []) -> None:
+                 decide: Callable[[Sequence[Sentence]], list[Break | None]] = lambda its: []) -> None:
         self.run, self.parameters, self.asked, self.decide = run, parameters, asked, decide
 
     @cached_property
-    def judge(self) -> Judge:
+    def finder(self) -> Finder:
         if self.run.scenario is None:
             raise MeasureFault('the scenario of the report is not known')
-        return Judge(self.run.report, self.run.scenario)
+        return Finder(self.run.report, self.run.scenario)
 
     @cached_property
-    def verdicts(self) -> dict[Sentence, str | None]:
+    def verdicts(self) -> dict[Sentence, Break | None]:
         return dict(zip(self.asked, self.decide(self.asked)))
 
     def holds(self, it: Sentence) -> bool:
-        return not is_broken(self.verdicts[it], it, self.judge)
+        return not is_broken(self.verdicts[it], it, self.finder)
 
     @cached_property
     def summary(self) -> tuple[list[dict[str, Any]], dict[str, Any]]:
@@ -141,62 +142,56 @@ def _of_flow(name: str, words: str) -> Callable[[Bench], Cell]:
     return lambda bench: flow_rows(bench.run.report, bench.run.scenario, words)[-1][name]
 
 
-def _events(judge: Judge, it: Does, motes: tuple[int, ...]) -> list[Event]:
-    """The lines that a sentence is about, in the order of their moments."""
-    found = judge.within(judge.done(it.deed, motes), it.window, motes)
-    return sorted(found, key=lambda event: event.line.at)
-
-
-def _groups(judge: Judge, motes: Motes) -> list[tuple[int, ...]]:
+def _groups(finder: Finder, motes: Motes) -> list[tuple[int, ...]]:
     """The motes of a sentence in groups that each have to do what it says: motes together are one group, otherwise each
     mote is a group."""
-    chosen = judge.chosen(motes)
+    chosen = finder.chosen(motes)
     return [chosen] if motes.kind == 'together' else [(mote,) for mote in chosen]
 
 
-def _moment(judge: Judge, it: Does, since: int = 0) -> int | None:
+def _moment(finder: Finder, it: Does, since: int = 0) -> int | None:
     """The first moment at which a sentence is fulfilled by lines from a moment on, or None if it never is."""
-    wanted, groups = max(1, it.count.least), _groups(judge, it.motes)
-    moments = ([event.line.at for event in _events(judge, it, group) if event.line.at >= since] for group in groups)
+    wanted, groups = max(1, it.count.least), _groups(finder, it.motes)
+    moments = ([event.at for event in finder.lines_of(it, group) if event.at >= since] for group in groups)
     found = [its[wanted - 1] for its in moments if len(its) >= wanted]
     if it.motes.kind == 'some':
         return min(found, default=None)
     return max(found) if found and len(found) == len(groups) else None
 
 
-def _delay(judge: Judge, begin: Does, end: Does) -> int | None:
+def _delay(finder: Finder, begin: Does, end: Does) -> int | None:
     """The time from the moment at which one sentence is fulfilled to the moment at which another one is. Earlier lines
     of the other sentence don't count."""
-    since = _moment(judge, begin)
-    until = None if since is None else _moment(judge, end, since)
+    since = _moment(finder, begin)
+    until = None if since is None else _moment(finder, end, since)
     return None if since is None or until is None else until - since
 
 
-def _last(judge: Judge, it: Does) -> int | None:
-    return max((event.line.at for mote in judge.chosen(it.motes) for event in _events(judge, it, (mote,))),
+def _last(finder: Finder, it: Does) -> int | None:
+    return max((event.at for mote in finder.chosen(it.motes) for event in finder.lines_of(it, (mote,))),
                default=None)
 
 
-def _count(judge: Judge, it: Does) -> int:
-    return sum(len(_events(judge, it, (mote,))) for mote in judge.chosen(it.motes))
+def _count(finder: Finder, it: Does) -> int:
+    return sum(len(finder.lines_of(it, (mote,))) for mote in finder.chosen(it.motes))
 
 
-def _motes(judge: Judge, it: Does) -> int:
+def _motes(finder: Finder, it: Does) -> int:
     wanted = max(1, it.count.least)
-    return sum(len(_events(judge, it, (mote,))) >= wanted for mote in judge.chosen(it.motes))
+    return sum(len(finder.lines_of(it, (mote,))) >= wanted for mote in finder.chosen(it.motes))
 
 
-def _lines(judge: Judge, it: Does, motes: tuple[int, ...]) -> list[Line]:
+def _lines(finder: Finder, it: Does, motes: tuple[int, ...]) -> list[Line]:
     """The lines of these motes that a sentence is about, each in the window of its mote, in the order of their
     moments."""
-    found = [event.line for mote in motes for event in _events(judge, it, (mote,))]
+    found = [event.line for mote in motes for event in finder.lines_of(it, (mote,))]
     return sorted(found, key=lambda line: line.at)
 
 
-def _receivers(judge: Judge, motes: Motes) -> list[tuple[int, ...]]:
+def _receivers(finder: Finder, motes: Motes) -> list[tuple[int, ...]]:
     """The groups of motes that each message of a `delivery` has to reach, as in `_groups`. It reaches `some mote` if it
     reaches any of them, so these are one group."""
-    return [judge.chosen(motes)] if motes.kind == 'some' else _groups(judge, motes)
+    return [finder.chosen(motes)] if motes.kind == 'some' else _groups(finder, motes)
 
 
 def _reached(sent: Mapping[int | None, Sequence[int]], lines: Sequence[Line]) -> int:
@@ -208,24 +203,22 @@ def _reached(sent: Mapping[int | None, Sequence[int]], lines: Sequence[Line]) ->
     return found.total()
 
 
-def _delivery(judge: Judge, begin: Does, end: Does) -> float | None:
+def _delivery(finder: Finder, begin: Does, end: Does) -> float | None:
     """The share of the pairs of a message (a line of one sentence) and a receiver (a mote of the other sentence) in
     which the receiver has a line with the value of the message."""
     sent: defaultdict[int | None, list[int]] = defaultdict(list)
-    messages = _lines(judge, begin, judge.chosen(begin.motes))
+    messages = _lines(finder, begin, finder.chosen(begin.motes))
     for line in messages:
         sent[line.value].append(line.at)
-    receivers = _receivers(judge, end.motes)
-    return share(sum(_reached(sent, _lines(judge, end, group)) for group in receivers), len(messages) * len(receivers))
+    receivers = _receivers(finder, end.motes)
+    return share(sum(_reached(sent, _lines(finder, end, group)) for group in receivers), len(messages) * len(receivers))
 
 
-def _count_rows(judge: Judge, it: Copies | Packets) -> int:
+def _count_rows(finder: Finder, it: Copies | Packets) -> int:
     """The number of copies or packets of a sentence."""
     if isinstance(it, Copies) and it.outcome == 'left':
-        return judge.report.left
-    rows = judge.of_copies(it) if isinstance(it, Copies) else judge.of_packets()
-    spans = ((row.at, judge.spans(it.window, (row.mote,))) for row in rows)
-    return sum(any(begin <= at and (end is None or at <= end) for begin, end in its) for at, its in spans)
+        return finder.report.left
+    return len(finder.rows_of(it))
 
 
 def _no_moment(kind: str, sentence: Sentence, words: str) -> MeasureFault:
@@ -259,12 +252,12 @@ def _check_use(kind: str, it: Does) -> None:
         raise MeasureFault('`motes:` counts the motes one by one: leave out `together`')
 
 
-def _guarded(work: Callable[[Judge], Cell]) -> Callable[[Bench], Cell]:
+def _guarded(work: Callable[[Finder], Cell]) -> Callable[[Bench], Cell]:
     """The measure, made to return None if its sentence needs the hops to a mote that can't be reached."""
     def of(bench: Bench) -> Cell:
         try:
-            return work(bench.judge)
-        except judges.Apart:
+            return work(bench.finder)
+        except Apart:
             return None
 
     return of
@@ -283,18 +276,18 @@ def _of_sentence(kind: str, words: str, names: Names) -> Callable[[Bench], Cell]
         return lambda bench: int(bench.holds(first))
     if kind == 'count' and isinstance(first, Copies | Packets):
         rows = first
-        return _guarded(lambda judge: _count_rows(judge, rows))
+        return _guarded(lambda finder: _count_rows(finder, rows))
     its = [_plain(kind, sentence, part) for sentence, part in zip(sentences, parts)]
     for it in its:
         _check_use(kind, it)
     if kind == 'delay' and its[0] == its[1]:
         raise MeasureFault(NO_DELAY % ('`delay: %s`' % words.strip()))
     if kind in OF_TWO:
-        of_two: dict[str, Callable[[Judge, Does, Does], Cell]] = {'delay': _delay, 'delivery': _delivery}
-        return _guarded(lambda judge: of_two[kind](judge, *its))
-    work: dict[str, Callable[[Judge, Does], Cell]] = {
+        of_two: dict[str, Callable[[Finder, Does, Does], Cell]] = {'delay': _delay, 'delivery': _delivery}
+        return _guarded(lambda finder: of_two[kind](finder, *its))
+    work: dict[str, Callable[[Finder, Does], Cell]] = {
         'moment': _moment, 'last': _last, 'count': _count, 'motes': _motes}
-    return _guarded(lambda judge: work[kind](judge, its[0]))
+    return _guarded(lambda finder: work[kind](finder, its[0]))
 
 
 def _warning_of_delivery(words: str, names: Names) -> Callable[[Bench], str]:
@@ -302,13 +295,13 @@ def _warning_of_delivery(words: str, names: Names) -> Callable[[Bench], str]:
     the delivery of its own message."""
     begin, end = (_plain('delivery', read_sentence(it.strip(), names), it.strip()) for it in words.split('->'))
 
-    def found(judge: Judge) -> str:
-        messages, receivers = _lines(judge, begin, judge.chosen(begin.motes)), _receivers(judge, end.motes)
+    def found(finder: Finder) -> str:
+        messages, receivers = _lines(finder, begin, finder.chosen(begin.motes)), _receivers(finder, end.motes)
         if same_value(messages):
             return SAME_VALUE
         if len(receivers) > 1 and any((it.mote,) in receivers for it in messages):
             return OWN_MESSAGE
-        ends = {line for group in receivers for line in _lines(judge, end, group)}
+        ends = {line for group in receivers for line in _lines(finder, end, group)}
         return OWN_LINE if ends.intersection(messages) else ''
 
     of = _guarded(found)

@@ -11,6 +11,7 @@ from __future__ import annotations
 import csv
 import dataclasses
 import fcntl
+import hashlib
 import json
 import os
 import re
@@ -22,6 +23,7 @@ from typing import IO
 from motesim.cells import Cell, line_of
 from motesim.faults import Fault
 from motesim.files import write_whole
+from motesim.version import VERSION
 
 Row = dict[str, Cell]
 NUMBER = re.compile(r'0|-?[1-9][0-9]*')
@@ -51,6 +53,14 @@ class Head:
     def text(self) -> str:
         """The first two lines of the file."""
         return '#%s\n%s' % (json.dumps(dataclasses.asdict(self), ensure_ascii=False), line_of(self.columns))
+
+    def origin(self, results: Path, command: str) -> str:
+        """The first line of a table that a command makes of these results: it says where the numbers are from. It has no
+        date, so that the same command on the same results writes the same bytes."""
+        return '#' + json.dumps({
+            'command': command, 'tools': VERSION, 'results': results.name,
+            'results_sha256': hashlib.sha256(results.read_bytes()).hexdigest(), 'motesim': self.motesim,
+            'motesim_sha256': self.motesim_sha256, 'measures': self.measures}, ensure_ascii=False)
 
 
 def cell(text: str) -> Cell:

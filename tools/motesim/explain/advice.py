@@ -1,17 +1,18 @@
 """Advice on a fault of a program: what other languages have, the nearest name, a missing sign, or a declaration.
 
-A correction has edits only if the program has no fault with them, or its first fault is further on.
+A correction has edits only if the program has no fault with them, or its first fault is further on. It corrects all
+faults of a statement that are alike.
 """
 from __future__ import annotations
 
-from collections.abc import Iterator
+from collections.abc import Iterator, Sequence
 
-from motesim.explain.edits import Correction, Edit, hint, replaced
+from motesim.explain.edits import Correction, Edit, edit_between, hint, replaced
 from motesim.explain.habits import of_line
 from motesim.notation.faults import ProgramError
 from motesim.notation.grammar import OPERATORS, STATEMENTS
 from motesim.notation.reader import find_fault, read_program
-from motesim.notation.tokens import Token, tokens_of
+from motesim.notation.tokens import Token
 from motesim.notation.parentheses import rewritten
 from motesim.text import nearest
 
@@ -25,8 +26,8 @@ DECLARED = {'event': 'event e;', 'semaphore': 'semaphore s = 0;', 'process': 'pr
             'var': 'var n = 0;', 'etimer': 'etimer t;', 'ctimer': 'ctimer t { .. }', 'thread': 'thread th { .. }',
             'onpoll': 'onpoll { .. }', 'onexit': 'onexit { .. }', 'body': 'body { .. }'}
 # For each kind of name that a head of a code declares, its declaration.
-AT_HEAD = {'a variable': 'var %s = 0;', 'a timer': 'etimer %s;'}
-ABOVE = {'an event': 'event %s;', 'a semaphore': 'semaphore %s = 0;'}
+AT_HEAD = {'variable': 'var %s = 0;', 'timer': 'etimer %s;'}
+ABOVE = {'event': 'event %s;', 'semaphore': 'semaphore %s = 0;'}
 # Values under the names that they have elsewhere.
 MEANT = {'sender': 'from', 'source': 'from', 'payload': 'data', 'time': 'now', 'id': 'self'}
 SIGNS = (';', '(', ')', '{', '}', '=')
@@ -36,8 +37,30 @@ OF_ONE_NAME = ('event', 'semaphore', 'var', 'etimer')
 
 def advice(source: str, fault: ProgramError) -> Correction | None:
     """The most likely correction of a fault; without one, advice or an example."""
-    found = (it for it in _attempts(source, fault) if not it.edits or is_better(source, fault, it))
-    return next(found, None) or (_example(source, fault) if fault.kind == UNEXPECTED else None)
+    if found := _first(source, fault):
+        return _with_others(source, fault, found) if found.edits else found
+    return _example(source, fault) if fault.kind == UNEXPECTED else None
+
+
+def _first(source: str, fault: ProgramError) -> Correction | None:
+    return next((it for it in _attempts(source, fault) if not it.edits or is_better(source, fault, it)), None)
+
+
+def _with_others(source: str, fault: ProgramError, it: Correction) -> Correction:
+    """A correction together with those of the next faults in the statement that have the same hint."""
+    text = it.applied(source)
+    while (other := find_fault(text)) and _is_in_statement(source, fault, text, other) and (
+            more := _first(text, other)) and more.edits and (more.code, more.facts) == (it.code, it.facts):
+        text = more.applied(text)
+        it = it._replace(edits=(edit_between(source, text),))
+    return it
+
+
+def _is_in_statement(source: str, fault: ProgramError, text: str, other: ProgramError) -> bool:
+    """Returns whether the next fault, that of a corrected text, is in the statement that has the source's fault."""
+    tokens, after = read_program(source).tokens, read_program(text).tokens
+    between = tokens[_index(tokens, fault.token):len(tokens) - len(after) + _index(after, other.token)]
+    return not any(it.text in (';', '{', '}') for it in between)
 
 
 def is_better(source: str, fault: ProgramError, it: Correction) -> bool:
@@ -54,7 +77,7 @@ def _left(source: str, fault: ProgramError) -> tuple[int, int]:
 
 
 def _attempts(source: str, fault: ProgramError) -> Iterator[Correction]:
-    tokens = tokens_of(source)
+    tokens = read_program(source).tokens
     at = _index(tokens, fault.token)
     yield from of_line(source, fault)
     if fault.kind == BAD_TOKEN:
@@ -67,7 +90,7 @@ def _attempts(source: str, fault: ProgramError) -> Iterator[Correction]:
         yield from _declarations(source, fault)
 
 
-def _index(tokens: list[Token], token: Token) -> int:
+def _index(tokens: Sequence[Token], token: Token) -> int:
     """The index of a token. (A parameter of a plan stands for a number in the text, and has other tokens.)"""
     return next((at for at, it in enumerate(tokens) if (it.line, it.column) >= (token.line, token.column)), -1) % len(
         tokens)
@@ -86,7 +109,7 @@ def _small_letters(source: str, token: Token) -> Iterator[Correction]:
         yield hint('small-letters', replaced(source, token.line, begin, end, small), name=small)
 
 
-def _signs(source: str, tokens: list[Token], at: int, fault: ProgramError) -> Iterator[Correction]:
+def _signs(source: str, tokens: Sequence[Token], at: int, fault: ProgramError) -> Iterator[Correction]:
     """Another sign instead of the wrong one, a sign before it, or the text without it; parentheses; and declarations
     of several names."""
     here, last = tokens[at], tokens[max(at - 1, 0)]
@@ -128,21 +151,21 @@ def _declarations(source: str, fault: ProgramError) -> Iterator[Correction]:
     first = read.tokens[read.processes[0].number - 1].line
     for kind, form in ABOVE.items():
         if kind in kinds:
-            yield hint('declare-above', Edit(first, first - 1, (form % name,)), kind=kind.split()[1])
+            yield hint('declare-above', Edit(first, first - 1, (form % name,)), kind=kind)
     # (a word at the beginning of a statement is a variable if an assignment follows)
     is_used = not fault.allows('print') or read.tokens[fault.token.number + 1].text == '='
     for kind, form in AT_HEAD.items() if read.codes and is_used else ():
         if kind in kinds:
             code = read.codes[-1]
-            above = [it.last for it in code.declared if it.kind == 'var' and kind == 'a timer']
+            above = [it.last for it in code.declared if it.kind == 'var' and kind == 'timer']
             line = (above[-1] if above else read.tokens[code.process.number + 1]).line + 1
-            yield hint('declare-in-code', Edit(line, line - 1, ('  ' + form % name,)), kind=kind.split()[1],
+            yield hint('declare-in-code', Edit(line, line - 1, ('  ' + form % name,)), kind=kind,
                        process=code.process.text)
 
 
 def _example(source: str, fault: ProgramError) -> Correction | None:
     """An example of the statement or the declaration that has a fault."""
-    tokens = tokens_of(source)
+    tokens = read_program(source).tokens
     at = _index(tokens, fault.token)
     while at and tokens[at].text not in STATEMENTS and tokens[at].text not in DECLARED:
         if tokens[at - 1].text in ('{', '}', ';'):

@@ -11,8 +11,8 @@ from motesim.explain.say import hint_in_words
 from motesim.explain.explanation import OF_C, correction_of, shown_explanation
 from motesim.faults import Fault
 from motesim.files import refuse_inputs, write_whole
-from motesim.report.run import Answer, read_file
-from motesim.scenario.encodings import decoded
+from motesim.report.run import Answer
+from motesim.scenario.encodings import decoded, read_file
 from motesim.scenario.faults import find_fault
 from motesim.scenario.kinds import is_c_file, is_program_file
 from motesim.terminal import one_line

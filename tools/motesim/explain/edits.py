@@ -3,6 +3,7 @@ texts."""
 from __future__ import annotations
 
 from collections.abc import Mapping, Sequence
+from os.path import commonprefix
 from typing import NamedTuple
 
 
@@ -42,6 +43,14 @@ def applied(text: str, edits: Sequence[Edit]) -> str:
     for it in sorted(edits, reverse=True):
         rows[it.first - 1:it.last] = it.lines
     return '\n'.join(rows)
+
+
+def edit_between(old: str, new: str) -> Edit:
+    """The edit that makes one text of another: the lines from the first to the last that differ."""
+    rows, others = old.split('\n'), new.split('\n')
+    first = len(commonprefix([rows, others]))
+    same = len(commonprefix([rows[first:][::-1], others[first:][::-1]]))
+    return Edit(first + 1, len(rows) - same, tuple(others[first:len(others) - same]))
 
 
 def replaced(text: str, line: int, begin: int, end: int, new: str) -> Edit:

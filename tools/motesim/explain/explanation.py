@@ -18,7 +18,8 @@ from motesim.notation import reader
 from motesim.notation.grammar import PARAMETER
 from motesim.notation.tokens import Token
 from motesim.report import Report
-from motesim.report.run import Answer, answer, is_report, read_file
+from motesim.report.run import Answer, answer, is_report
+from motesim.scenario.encodings import read_file
 from motesim.scenario import Scenario, encodings
 from motesim.scenario import faults as scenario_faults
 from motesim.scenario.faults import ScenarioError
@@ -26,7 +27,7 @@ from motesim.scenario.places import Place, place_of
 from motesim.scenario.in_programs import offset_of, place_of_token, source_of
 from motesim.scenario.kinds import has_plan, is_c_file, is_program_file, is_program_in_c
 from motesim.terminal import one_line
-from motesim.text import marked, shown_place, wrapped
+from motesim.text import Shown, folded, marked, shown_place
 from motesim.toml import MARK, NoToml, read_toml
 
 # The name of a text that is in no file, but in the studio.
@@ -86,18 +87,18 @@ def correction_of(text: str) -> Correction | None:
 
 def failed(words: str) -> list[str]:
     """The line instead of a hint that can't be given."""
-    return wrapped('This error has no hint here, because of %s.' % words)
+    return ['This error has no hint here, because of %s.' % words]
 
 
 def hinted(found: Correction | None) -> list[str]:
     """A hint, and the corrected lines if they are known."""
-    return wrapped('Hint: %s' % hint_in_words(found)) + edits_in_words(found.edits) if found else []
+    return ['Hint: %s' % hint_in_words(found), *edits_in_words(found.edits)] if found else []
 
 
-def allowed(may: str) -> list[str]:
+def allowed(may: str) -> str:
     """All words that are allowed at the place of an error. A hint is above this list, because it is more likely to
     show the author's intention."""
-    return wrapped('Allowed here: %s' % may)
+    return 'Allowed here: %s' % may
 
 
 def rule_of(line: str) -> str:
@@ -108,40 +109,41 @@ def rule_of(line: str) -> str:
     return scenario_faults.RULES.get('program' if program else line, 'docs/use/SCENARIO.md has the errors.')
 
 
-def rule_of_program(its: program_faults.ProgramError) -> list[str]:
+def rule_of_program(its: program_faults.ProgramError) -> str:
     title, rule = program_faults.RULES[its.kind]
     if its.token.kind == 'end' and its.kind == 2:
         rule = 'The text ends here, but other words must follow those before it.'
-    return wrapped('%s: %s' % (title, rule))
+    return '%s: %s' % (title, rule)
 
 
-def shown_program(name: str, text: str, program: str, token: Token) -> list[str]:
+def shown_program(name: str, text: str, program: str, token: Token) -> list[Shown]:
     """The place of a token in a program's text, with its line in the scenario if that is found."""
     found, line = place_of_token(text, program, token), source_of(text, program).split('\n')[token.line - 1]
     row = 'line %d, which is ' % found.line if found else ''
     where = '%s, %sline %d of program %s:' % (one_line(name), row, token.line, one_line(program))
-    return [where, *marked(line.rstrip('\r'), token.column, len(token.text))]
+    return [Shown(where), *marked(line.rstrip('\r'), token.column, len(token.text))]
 
 
 def of_program(name: str, text: str, program: str, its: program_faults.ProgramError) -> list[str]:
     """The lines about a fault in a program of a scenario, with its place."""
     if is_program_in_c(source_of(text, program)):
-        return wrapped(OF_C % ('program %s' % one_line(program)))
-    return [*shown_program(name, text, program, its.token), *rule_of_program(its),
-            *tried(lambda: hinted(correction_of(text)), failed), *allowed(', '.join(its.may))]
+        return [OF_C % ('program %s' % one_line(program))]
+    return [*shown_program(name, text, program, its.token), rule_of_program(its),
+            *tried(lambda: hinted(correction_of(text)), failed), allowed(', '.join(its.may))]
 
 
 def of_program_file(name: str, source: str, its: program_faults.ProgramError) -> list[str]:
     """The lines about a fault in a file that has only a program."""
     line = source.split('\n')[its.token.line - 1].rstrip('\r')
-    return ['%s, line %d:' % (one_line(name), its.token.line), *marked(line, its.token.column, len(its.token.text)),
-            *rule_of_program(its), *tried(lambda: hinted(advice(source, its)), failed), *allowed(', '.join(its.may))]
+    return [Shown('%s, line %d:' % (one_line(name), its.token.line)),
+            *marked(line, its.token.column, len(its.token.text)), rule_of_program(its),
+            *tried(lambda: hinted(advice(source, its)), failed), allowed(', '.join(its.may))]
 
 
 def explanation(name: str, data: bytes, line: str) -> list[str]:
     """The lines to show below the line of an error."""
     return tried(lambda: whole_explanation(name, data, line),
-                 lambda words: [*wrapped(rule_of(line.removeprefix('motesim: '))), *failed(words)])
+                 lambda words: [rule_of(line.removeprefix('motesim: ')), *failed(words)])
 
 
 def whole_explanation(name: str, data: bytes, line: str) -> list[str]:
@@ -149,19 +151,18 @@ def whole_explanation(name: str, data: bytes, line: str) -> list[str]:
     what, fault = line.removeprefix('motesim: '), scenario_faults.find_fault(data)
     if fault is None or fault.message != what:
         # (for instance of an error of memory, or of a text that only Python reads as TOML)
-        return wrapped(rule_of(what)) + ['This tool can\'t show the place of the error.']
+        return [rule_of(what), 'This tool can\'t show the place of the error.']
     if is_program_file(name, data):
         return program_instead(name, data)
     text = data.decode('utf-8', 'replace')
     if is_c_file(name):
-        return wrapped(OF_C % one_line(name))
+        return [OF_C % one_line(name)]
     if fault.program:
         return of_program(name, text, str(fault.path[1]), fault.program)
     if has_plan(data):
-        return wrapped(OF_PLAN % (one_line(name), one_line(name)))
-    return [*where_told(name, text, fault), *wrapped(rule_of(what)),
-            *tried(lambda: hinted(hint_of_scenario(data, text)), failed),
-            *allowed(fault.may)]
+        return [OF_PLAN % (one_line(name), one_line(name))]
+    return [*where_told(name, text, fault), rule_of(what),
+            *tried(lambda: hinted(hint_of_scenario(data, text)), failed), allowed(fault.may)]
 
 
 def hint_of_scenario(data: bytes, text: str) -> Correction | None:
@@ -172,12 +173,12 @@ def hint_of_scenario(data: bytes, text: str) -> Correction | None:
     return hint('byte', why=of_byte) if of_byte else correction_of(text)
 
 
-def where_told(name: str, text: str, fault: ScenarioError) -> list[str]:
+def where_told(name: str, text: str, fault: ScenarioError) -> list[Shown]:
     """The place of a fault outside the programs, or the key or table that the scenario lacks."""
     place = place_of_scenario(text, fault)
     if place or not fault.lacks:
         return shown_place(name, text, place or Place(1, 0, 1))
-    return ['%s has no `%s`.' % (one_line(name), fault.lacks)]
+    return [Shown('%s has no `%s`.' % (one_line(name), fault.lacks))]
 
 
 def program_instead(name: str, data: bytes) -> list[str]:
@@ -188,22 +189,22 @@ def program_instead(name: str, data: bytes) -> list[str]:
     lines = ['%s is the text of a program, not a scenario.' % one_line(name), *hinted(hint('program'))]
     if its is None:
         return ['%s has no error.' % one_line(name), *lines]
-    return [*lines, *wrapped('The program has an error, too:'), *of_program_file(name, source, its)]
+    return [*lines, 'The program has an error, too:', *of_program_file(name, source, its)]
 
 
 def warned(name: str, text: str, warning: Warned) -> list[str]:
     """A warning with its name and its place."""
-    lines = wrapped(with_name(warning) + '.')
+    lines = [with_name(warning) + '.']
     if warning.program is not None and warning.token is not None:
-        return lines + shown_program(name, text, warning.program, warning.token)
-    return lines + (shown_place(name, text, place_of(text, warning.path)) if warning.path else [])
+        return [*lines, *shown_program(name, text, warning.program, warning.token)]
+    return [*lines, *(shown_place(name, text, place_of(text, warning.path)) if warning.path else [])]
 
 
 def all_warnings(name: str, data: bytes, report: bytes, silent: Collection[str]) -> list[str]:
     """The warnings of a scenario that has a report."""
     text = data.decode('utf-8')
     found = warnings(Scenario.parse(data), Report.parse(report), text, silent)
-    return [line for it in found for line in ['', *warned(name, text, it)]]
+    return [line for it in found for line in [Shown(), *warned(name, text, it)]]
 
 
 def explain(name: str, run: Callable[[bytes], Answer] | None = None, silent: Collection[str] = ()) -> int:
@@ -211,10 +212,10 @@ def explain(name: str, run: Callable[[bytes], Answer] | None = None, silent: Col
     `run` runs the scenario."""
     data = read_file(name)
     if is_c_file(name):
-        print('\n'.join(wrapped(OF_C % one_line(name))))
+        print('\n'.join(folded([OF_C % one_line(name)])))
         return 1
     if is_program_file(name, data):
-        print('\n'.join(program_instead(name, data)))
+        print('\n'.join(folded(program_instead(name, data))))
         return 1
     return shown_explanation(name, data, run or answer, silent)
 
@@ -225,8 +226,8 @@ def shown_explanation(name: str, data: bytes, run: Callable[[bytes], Answer], si
     line = error_line(got)
     if line is None:
         lines = tried(lambda: all_warnings(name, data, got.report, silent),
-                      lambda words: wrapped('Its warnings aren\'t shown, because of %s.' % words))
-        print('\n'.join(['%s has a report, and no error' % one_line(name), *lines]))
+                      lambda words: ['Its warnings aren\'t shown, because of %s.' % words])
+        print('\n'.join(['%s has a report, and no error' % one_line(name), *folded(lines)]))
         return 0
-    print('\n'.join([line, *explanation(name, data, line)]))
+    print('\n'.join([line, *folded(explanation(name, data, line))]))
     return 1

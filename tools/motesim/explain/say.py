@@ -6,6 +6,7 @@ from collections.abc import Sequence
 from motesim.explain.edits import Correction, Edit
 from motesim.explain.warned import Doing, Warned
 from motesim.terminal import one_line
+from motesim.text import Shown
 
 HALTS = 'repeats until the mote\'s work is used up, and then the mote halts'
 TEXTS = {
@@ -137,14 +138,14 @@ def hint_in_words(it: Correction) -> str:
     return HINTS[it.code].format_map(it.facts)
 
 
-def edits_in_words(edits: Sequence[Edit]) -> list[str]:
+def edits_in_words(edits: Sequence[Edit]) -> list[Shown]:
     """The lines of some edits. The last ones come first, because their numbers are still those of the text."""
     found = []
     for first, last, lines in reversed(edits):
         which = 'line %d' % first if first == last else 'lines %d to %d' % (first, last)
         head = ('Write, as %s:' if lines else 'Leave out %s.') % which
         head = 'Insert above line %d:' % first if last < first else head
-        found += [head, *('  ' + line for line in lines)]
+        found += [Shown(head), *(Shown('  ' + line) for line in lines)]
     return found
 
 

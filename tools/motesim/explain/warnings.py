@@ -5,7 +5,6 @@ has a report.
 """
 from __future__ import annotations
 
-import re
 from collections.abc import Collection, Iterator
 
 from motesim.explain.of_nets import of_halts, of_moments, of_net
@@ -17,14 +16,12 @@ from motesim.explain.warned import Warned, together
 from motesim.notation.reader import read_program
 from motesim.report import Report
 from motesim.scenario import Scenario
-
-# The line of a scenario from a plan with a parameter that is 0: a 0 of a program may be its value.
-ZERO_GIVEN = re.compile(r'^# Parameters: (?:.*, )?\w+ = 0(?:,|$)', re.M)
+from motesim.scenario.made import ZERO_GIVEN
 
 
 def silenced(found: Iterator[Warned], text: str, names: Collection[str] = ()) -> Iterator[Warned]:
-    """The warnings without those of some names, and without those about a 0 if a parameter of the plan that made this
-    text is 0."""
+    """The warnings without those of some names. If a parameter of the plan that made this text is 0, a 0 of a program may
+    be its value, so there are no warnings about a 0."""
     is_given = ZERO_GIVEN.search(text) is not None
     return (it for it in found if it.name not in names and not (is_given and it.name in ABOUT_ZERO))
 

@@ -9,7 +9,8 @@ from motesim.contiki.folder import write_folder
 from motesim.export import pcapng, perfetto, tables, vcd
 from motesim.files import refuse_inputs, write_whole
 from motesim.report import Report
-from motesim.report.run import read_file, read_run
+from motesim.report.run import read_run
+from motesim.scenario.encodings import read_file
 
 ENDS = {'vcd': '.vcd', 'pcapng': '.pcapng', 'perfetto': '.perfetto.json', 'csv': ''}
 

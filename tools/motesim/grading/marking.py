@@ -11,18 +11,20 @@ from motesim.explain.within import busiest
 from motesim.faults import Fault, tried
 from motesim.files import replace_whole
 from motesim.grading.entries import Entry, data_of, decoded, without_program
-from motesim.grading.marks import LONGEST_WHY, InNet, Mark, Marks, over_nets, spread, unmarked
+from motesim.grading.marks import LONGEST_WHY, Mark, Marks, MarksInNet, over_nets, spread, unmarked
 from motesim.grading.nets import Net, program_of, unused_of
 from motesim.grading.warned import net_warned, seen_of, warned_of
-from motesim.judge.expectations import REFUSED, Part, UnknownSentence, known_of, of_report, read_all, refused
-from motesim.judge.judge import Judge
+from motesim.judge.expectations import REFUSED, Part, known_of, of_report, refused
+from motesim.judge.finder import Finder
 from motesim.judge.sentences import lacking
+from motesim.judge.several import read_all, UnknownSentence
 from motesim.notation.reader import find_fault as find_program_fault
 from motesim.report import Report
 from motesim.runner import LimitMet, Limits, Runner
 from motesim.report.run import Answer, Run
 from motesim.scenario import Scenario
 from motesim.scenario.faults import find_fault
+from motesim.text import folded
 from motesim.timeline.html import write_page
 from motesim.timeline.note import Note, note_of
 from motesim.toml import MARK
@@ -95,7 +97,7 @@ class Task:
             return replace(marks, fix=self.fix(entry, data))
         return self.with_run(number, marks, found)
 
-    def in_nets(self, entry: Entry, text: str) -> list[InNet]:
+    def in_nets(self, entry: Entry, text: str) -> list[MarksInNet]:
         """The marks of a solution in each net; without nets, in its own."""
         # (messages name lines by the solution's file; the name of an anonymous solution has the same ending)
         file = entry.name.removesuffix(entry.path.suffix).rpartition('/')[2] + entry.path.suffix, text
@@ -104,7 +106,7 @@ class Task:
         return [self.in_net(net.with_program(program_of(text, entry.path.name, net.program)), file, net.program)
                 ._replace(net=net.name, is_hidden=net.is_hidden) for net in self.nets]
 
-    def in_net(self, text: str, file: tuple[str, str], program: str = '') -> InNet:
+    def in_net(self, text: str, file: tuple[str, str], program: str = '') -> MarksInNet:
         """The marks of a scenario. `file` is the name and the text of the solution's file. `program` is the program
         that the solution has; if it is empty, all programs of the scenario are the solution's."""
         known, names = known_of(text)
@@ -117,14 +119,14 @@ class Task:
             is_held = verdicts and all(it.holds for it in verdicts)
             why = '' if is_held else verdicts[0].more[0] if verdicts else REFUSED
             held = [Mark(it.sentence, it.holds) for it in verdicts]
-            return InNet(spread(held, self.part.sentences, lacks), lacks, why, is_refused=True)
+            return MarksInNet(spread(held, self.part.sentences, lacks), lacks, why, is_refused=True)
         scenario = known or Scenario.parse(text)
         report = Report.parse(got.report)
-        verdicts = of_report(part, sentences, Judge(report, scenario), self.limits)
+        verdicts = of_report(part, sentences, Finder(report, scenario), self.limits)
         held = [Mark(it.sentence, it.holds, (), tuple(it.more), remark=it.remark, broken=it.broken) for it in verdicts]
         marks = [*spread(held, self.part.sentences, lacks), *held[len(sentences):]]
         programs = {program: scenario.programs[program]} if program else scenario.programs
-        return InNet(marks, lacks, run=Run('', report, scenario, file) if len(got.report) <= MOST_SHOWN else None,
+        return MarksInNet(marks, lacks, run=Run('', report, scenario, file) if len(got.report) <= MOST_SHOWN else None,
                      bytes=len(got.report), halts=halt_of(report), moments=seen_of(scenario, report, program),
                      warned=warned_of(programs, text))
 
@@ -138,7 +140,7 @@ class Task:
             does = busiest(scenario, False)
             raise Ended('the run was ended: %s%s%s' % (fault, '.' * bool(does), does.rstrip('.'))) from None
 
-    def together(self, name: str, found: Sequence[InNet]) -> Marks:
+    def together(self, name: str, found: Sequence[MarksInNet]) -> Marks:
         """The marks over all nets: a sentence holds if it holds in each."""
         why = ' '.join(next((its.why for its in found if its.why), '').split())[:LONGEST_WHY]
         lacks = [next((it for it in each if it), '') for each in zip(*(its.lacks for its in found))]
@@ -148,16 +150,16 @@ class Task:
         return Marks(name, over_nets(found, self.part.required), why, tuple(lacks), halts=halts, shown_halts=shown,
                      warned=(*found[0].warned, *moments))
 
-    def with_run(self, number: int, marks: Marks, found: Sequence[InNet]) -> Marks:
+    def with_run(self, number: int, marks: Marks, found: Sequence[MarksInNet]) -> Marks:
         """The marks of a solution that runs, with what its run shows about the first sentence that fails."""
-        place, net = first_shown(marks, found)
+        index, net = first_shown(marks, found)
         if net is None:
             return marks
         if net.run and net.run.scenario:
             marks = replace(marks, warned=(*marks.warned, *net_warned(net.run.scenario, net.run.report, not self.nets)))
-        picture, no_page = self.picture(number, marks, place, net)
-        marks = with_nearest(marks, place, net) if self.has_nearest else marks
-        return replace(marks, picture=picture, pictured=place if picture else None, no_page=no_page)
+        picture, no_page = self.picture(number, marks, index, net)
+        marks = with_nearest(marks, index, net) if self.has_nearest else marks
+        return replace(marks, picture=picture, pictured=index if picture else None, no_page=no_page)
 
     def fix(self, entry: Entry, data: bytes) -> tuple[str, ...]:
         """The place of the error in a solution, and its correction, as tools/explain shows them."""
@@ -176,14 +178,14 @@ class Task:
                 lines = fix_of_program(entry.name, text, self.nets[0].program)
             else:
                 lines = explanation(entry.name, data, 'motesim: ' + fault.message) if fault else []
-        return tuple(line[:LONGEST_WHY] for line in lines[:MOST_LINES])
+        return tuple(line[:LONGEST_WHY] for line in folded(lines)[:MOST_LINES])
 
     def possible_pictures(self, entries: Sequence[Entry]) -> list[str]:
         """The names of all pages that the marking of these entries may write."""
         nets = [net.name for net in self.nets if not net.is_hidden] if self.nets else ['']
         return [page_name(number, entry.name, net) for number, entry in enumerate(entries, 1) for net in nets]
 
-    def picture(self, number: int, marks: Marks, place: int, its: InNet) -> tuple[str, str]:
+    def picture(self, number: int, marks: Marks, index: int, its: MarksInNet) -> tuple[str, str]:
         """Writes a page with the timeline of a sentence that fails in a net. Returns the name of the page, or the
         reason why there is none."""
         if self.pictures is None:
@@ -192,36 +194,36 @@ class Task:
             return '', TOO_LONG.format(its.bytes, MOST_SHOWN)
         name = page_name(number, marks.name, its.net)
         run = its.run._replace(name=marks.name + (' in %s' % its.net if its.net else ''))
-        others = [at for at, it in enumerate(its.marks) if not it.holds and at != place][:MOST_OTHERS]
-        note = note_in(its.run, its, place)._replace(others=tuple(note_in(its.run, its, at) for at in others))
-        write_page(self.pictures / name, '%s: %s' % (marks.name, its.marks[place].sentence), [run], note=note,
+        others = [at for at, it in enumerate(its.marks) if not it.holds and at != index][:MOST_OTHERS]
+        note = note_in(its.run, its, index)._replace(others=tuple(note_in(its.run, its, at) for at in others))
+        write_page(self.pictures / name, '%s: %s' % (marks.name, its.marks[index].sentence), [run], note=note,
                    write=replace_whole)
         return name, ''
 
 
-def note_in(run: Run, its: InNet, place: int) -> Note:
+def note_in(run: Run, its: MarksInNet, index: int) -> Note:
     """The note about a sentence that fails in the run of a net."""
-    mark = its.marks[place]
+    mark = its.marks[index]
     return note_of(run, mark.sentence, mark.broken, mark.more)
 
 
-def with_nearest(marks: Marks, place: int, its: InNet) -> Marks:
-    """The marks, with the lines nearest to the one that a broken sentence wants, if no line breaks it."""
-    mark, broken = marks.marks[place], its.marks[place].broken
+def with_nearest(marks: Marks, index: int, its: MarksInNet) -> Marks:
+    """The marks, with the lines nearest to the one that the sentence of this index wants, if no line breaks it."""
+    mark, broken = marks.marks[index], its.marks[index].broken
     if its.run is None or broken is None or broken.row or mark.nets[:1] not in ((), (its.net,)):
         return marks
     run = its.run
-    lines = tried(lambda: tuple(it.text for it in note_in(run, its, place).lines), lambda words: ())
+    lines = tried(lambda: tuple(it.text for it in note_in(run, its, index).lines), lambda words: ())
     longer = mark._replace(more=(*mark.more, *(it for it in lines if it not in mark.more)))
-    return replace(marks, marks=(*marks.marks[:place], longer, *marks.marks[place + 1:]))
+    return replace(marks, marks=(*marks.marks[:index], longer, *marks.marks[index + 1:]))
 
 
-def first_shown(marks: Marks, found: Sequence[InNet]) -> tuple[int, InNet | None]:
-    """The place of the first sentence that fails in a net that isn't hidden, and the first such net."""
-    for place, mark in enumerate(marks.marks):
+def first_shown(marks: Marks, found: Sequence[MarksInNet]) -> tuple[int, MarksInNet | None]:
+    """The index of the first sentence that fails in a net that isn't hidden, and the first such net."""
+    for index, mark in enumerate(marks.marks):
         for its in found:
-            if not mark.holds and not its.marks[place].holds and not its.is_hidden:
-                return place, its
+            if not mark.holds and not its.marks[index].holds and not its.is_hidden:
+                return index, its
     return 0, None
 
 

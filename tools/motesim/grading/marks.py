@@ -6,7 +6,7 @@ from dataclasses import dataclass, replace
 from typing import NamedTuple
 
 from motesim.judge.expectations import REQUIRED
-from motesim.judge.judge import Broken
+from motesim.judge.reasons import Broken
 from motesim.report.run import Run
 from motesim.terminal import cut, one_line
 
@@ -109,7 +109,7 @@ class Marks:
         return next((place for place, it in enumerate(self.marks) if not it.holds), None)
 
 
-class InNet(NamedTuple):
+class MarksInNet(NamedTuple):
     """The marks of a solution in one net, and for each sentence the name that the scenario lacks."""
     marks: Sequence[Mark]
     lacks: list[str]
@@ -131,7 +131,7 @@ def spread(held: Iterable[Mark], sentences: Sequence[str], lacks: Sequence[str])
             for it, lack in zip(sentences, lacks)]
 
 
-def over_nets(found: Sequence[InNet], required: int) -> tuple[Mark, ...]:
+def over_nets(found: Sequence[MarksInNet], required: int) -> tuple[Mark, ...]:
     """The marks over all nets: a sentence holds if it holds in each. The first sentences are required."""
     marks = []
     for place, each in enumerate(zip(*(its.marks for its in found))):
@@ -147,7 +147,7 @@ def unmarked(name: str, why: str) -> Marks:
     return Marks(name, why='not graded, run it again: %s' % why, is_open=True)
 
 
-def shown_of(failed: Sequence[tuple[InNet, Mark]]) -> tuple[str, ...]:
+def shown_of(failed: Sequence[tuple[MarksInNet, Mark]]) -> tuple[str, ...]:
     """The net and the reason that a page may show for a sentence that doesn't hold."""
     shown = next(((its, mark) for its, mark in failed if not its.is_hidden), None)
     if shown is None:

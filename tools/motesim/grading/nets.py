@@ -14,7 +14,7 @@ from motesim.plan.tables import Value, text_of_value
 from motesim.plan.text import Mote
 from motesim.plan.text import Net as NetOfPlan
 from motesim.plan.text import scenario_text
-from motesim.report.run import read_file
+from motesim.scenario.encodings import read_file
 from motesim.scenario import Scenario
 from motesim.scenario.faults import find_fault
 from motesim.scenario.scenario import hops_over

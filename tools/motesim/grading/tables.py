@@ -7,6 +7,7 @@ import shlex
 import unicodedata
 from collections.abc import Sequence
 
+from motesim.cells import aligned
 from motesim.grading.marks import Mark, Marks
 from motesim.grading.own import COLUMNS, OF_TOML
 from motesim.judge.expectations import REQUIRED
@@ -41,16 +42,14 @@ def count_of(marks: Marks, count: int) -> str:
 
 def table(marked: Sequence[Marks], sentences: Sequence[str]) -> list[str]:
     """A row for each solution."""
-    width = max(len(it.short_name) for it in marked)
     rows = []
     for it in marked:
         broken = ', '.join('%d%s' % (number, REQUIRED * one.is_required) for number, one in enumerate(it.marks, 1)
                            if not one.holds)
-        count = count_of(it, len(sentences))
         parts = broken and 'broken: %s' % broken, it.fault, it.halts, broken and it.unused
         words = it.fault if it.why else '; '.join(filter(None, parts))
-        rows.append(('%s  %s  %s' % (it.short_name.ljust(width), count, words)).rstrip())
-    return rows
+        rows.append((it.short_name, count_of(it, len(sentences)), words))
+    return list(aligned(rows, range(3), '  '))
 
 
 def below(marked: Sequence[Marks], sentences: Sequence[str]) -> list[str]:

@@ -11,13 +11,14 @@ from dataclasses import replace
 
 from motesim.faults import Fault
 from motesim.judge.claim_words import (
-    ALL, Case, Counted, Deed, Limits, Test, claim_text, every_line, limited, lines_of, period_text, ratio, set_text,
+    ALL, Case, Claim, Counted, Deed, Limits, OfNet, Test, every_line, limited, lines_of, period_text, ratio, set_text,
+    with_values,
 )
-from motesim.judge.judge import BECAME, periods
+from motesim.judge.hearing import hearing
 from motesim.judge.links import Apart, Links, Span
 from motesim.judge.sentences import (
-    Copies, Count, Deed as Action, Does, Hears, Lines, MediumLine, Motes, Packets, Pattern, Refused, Relation, Sentence,
-    Value, Window, parts_of, processes_of,
+    BECAME, Copies, Count, Deed as Action, Does, Hears, Lines, MediumLine, Motes, Packets, Pattern, Refused, Relation,
+    Sentence, Value, Window, parts_of, processes_of,
 )
 from motesim.notation.grammar import SYSTEM
 from motesim.notation.reader import read_program
@@ -61,7 +62,7 @@ class Claims:
     """A scenario whose sentences are translated. `same` has the claims of sentences that mean the same in a scenario from
     which this one differs only in its links."""
 
-    def __init__(self, scenario: Scenario, same: Mapping[Sentence, list[str]] = {}):
+    def __init__(self, scenario: Scenario, same: Mapping[Sentence, list[Claim]] = {}):
         self.scenario, self.links, self.same = scenario, Links(scenario), same
         programs = {name: _Program(text) for name, text in scenario.programs.items()}
         self.programs = [programs[it.program] for it in scenario.places]
@@ -72,7 +73,7 @@ class Claims:
         # The motes of this sentence that fail, with the moments.
         self.failing: Mapping[int, int] = {}
 
-    def of(self, it: Sentence, failing: Mapping[int, int] = {}) -> list[str]:
+    def of(self, it: Sentence, failing: Mapping[int, int] = {}) -> list[Claim]:
         """The claims that a sentence means. Raises `NoClaim` if claims can't say it. The lines `halt` of motes that
         fail don't count from the moment on at which they fail."""
         self.apart, self.failing = [], failing
@@ -82,8 +83,9 @@ class Claims:
             raise NoClaim(OF_TEXT[type(it)])
         if isinstance(it, Hears):
             # (the scenario decides it: true or false of each run)
-            holds = all(self.links.hears(mote, it.other) == it.can for mote in it.motes)
-            return [claim_text((1, 1), [()]) if holds else claim_text((1, None), [])]
+            wrong = [mote for mote in sorted(it.motes) if self.links.hears(mote, it.other) != it.can]
+            return [Claim((1, None), (), hearing(self.scenario, wrong[0], it.other)) if wrong else
+                    Claim((1, 1), (Case(),))]
         if isinstance(it, Does):
             try:
                 return [self.does(one) for one in periods(it) or [it]]
@@ -91,32 +93,33 @@ class Claims:
                 if not (kind := one_by_one(it)):
                     raise
                 return [self.does(replace(it, motes=replace(it.motes, kind=kind)))]
-        return [claim_text((1, 1), [self.of_net(it)])]
+        return [Claim((1, 1), (Case(tuple(self.of_net(it))),))]
 
     # Lines
 
-    def same_with_all_links(self, sentences: Sequence[Sentence]) -> dict[Sentence, list[str]]:
+    def same_with_all_links(self, sentences: Sequence[Sentence]) -> dict[Sentence, list[Claim]]:
         """The claims of those sentences that mean the same whatever the links are."""
-        found = dict[Sentence, list[str]]()
+        found = dict[Sentence, list[Claim]]()
         for it in sentences:
             with suppress(NoClaim):
                 if not isinstance(it, Hears) and not values_of_links(it):
                     found[it] = self.of(it)
         return found
 
-    def field(self, mote: int, field: str, wanted: str | Value) -> str | None:
-        """The part of a pattern that wants this word or value in a field; None if no line has it."""
+    def field(self, mote: int, field: str, wanted: str | Value, is_named: bool) -> str | None:
+        """The part of a pattern that wants this word or value in a field; None if no line has it. A process has its name
+        if `is_named`, and otherwise its number."""
         if isinstance(wanted, Value):
             return set_text(self.links.values(wanted, mote))
         its = self.programs[mote]
         if field == 'process':
-            is_known = wanted in SYSTEM or wanted == 'all' or self.is_named and wanted in its.processes
+            is_known = wanted in SYSTEM or wanted == 'all' or is_named and wanted in its.processes
             return wanted if is_known else str(its.processes.index(wanted)) if wanted in its.processes else None
         if field == 'event':
             return str(its.events[wanted]) if wanted in its.events else None
         return wanted if wanted.isdecimal() and str(int(wanted)) == wanted and int(wanted) <= MOST else None
 
-    def pattern(self, mote: int, words: Pattern) -> str | None:
+    def pattern(self, mote: int, words: Pattern, is_named: bool) -> str | None:
         """The pattern of a mote's lines; None if no line of the mote can fit."""
         kind, fields = str(words[0]), FIELDS[str(words[0])].split()
         for value in words:
@@ -128,24 +131,28 @@ class Claims:
         parts: dict[str, str] = {}
         for field, wanted in zip(fields, words[1:]):
             if wanted is not None:
-                part = self.field(mote, field, wanted)
+                part = self.field(mote, field, wanted, is_named)
                 if part is None:
                     return None
                 parts[PART_OF.get(field, field)] = part
         return ' '.join([kind, *('%s %s' % (name, parts[name]) for name in PARTS if name in parts)])
 
+    def patterns(self, mote: int, patterns: Sequence[Pattern], is_named: bool) -> tuple[str, ...]:
+        return tuple(it for it in [self.pattern(mote, words, is_named) for words in patterns] if it)
+
     def deed(self, patterns: Sequence[Pattern], motes: Sequence[int], spans: Sequence[Span]) -> Deed:
         """The lines of motes, each in its span."""
         early = [self.before_failure(patterns, mote, span) for mote, span in zip(motes, spans)]
-        its = [tuple(it for it in (self.pattern(mote, words) for words in patterns) if it and not is_empty(span))
+        its = [self.patterns(mote, patterns, self.is_named)[:0 if is_empty(span) else None]
                for mote, span in zip(motes, early)]
+        named = next((self.patterns(mote, patterns, True) for mote, own in zip(motes, its) if own), ())
         # (without a pattern, the moments don't matter)
         spans = [part if own else span for part, span, own in zip(early, spans, its)]
         found = {it for it in its if it} or {()}
         if len(found) > 1:
             raise NoClaim('a claim counts lines of several motes by one pattern, which differs here')
         return Deed(found.pop(), tuple((mote, span) for mote, span, own in zip(motes, spans, its)
-                                       if own or len(motes) == 1))
+                                       if own or len(motes) == 1), tuple(patterns), named)
 
     def before_failure(self, patterns: Sequence[Pattern], mote: int, span: Span) -> Span:
         """The part of a span in which lines `halt` of a mote count."""
@@ -159,14 +166,15 @@ class Claims:
 
     # Sentences about motes
 
-    def does(self, it: Does) -> str:
-        chosen, cases = it.motes.chosen(self.scenario.motes), list[Case]()
+    def does(self, it: Does) -> Claim:
+        chosen, cases, fewer = it.motes.chosen(self.scenario.motes), list[Case](), ''
         for unit in [chosen] if it.motes.kind == 'together' else [(mote,) for mote in chosen]:
             try:
-                cases.append(tuple(self.tests(it, unit)))
-            except Apart:
+                cases.append(Case(tuple(self.tests(it, unit))))
+            except Apart as apart:
                 self.apart += unit
-        return claim_text(of_motes(it.motes, len(chosen)), cases)
+                fewer = fewer or str(apart)
+        return Claim(of_motes(it.motes, len(chosen)), tuple(cases), fewer)
 
     def tests(self, it: Does, motes: tuple[int, ...]) -> list[Test]:
         """The tests of one mote, or of several together."""
@@ -195,11 +203,7 @@ class Claims:
         if own.way == 'any':
             return limited(of_count(it.count), lines_of(deed))
         values = [self.links.values(own.value, motes[0])] if own.value else [{value} for value in own.values]
-        listed = ', '.join(map(set_text, values))
-        if own.way == 'finally':
-            return Test('the last line %s has the value ' + listed, (deed,), deed.mote)
-        order = 'any order' if own.way == 'set' else 'order of time'
-        return Test('the lines %%s have in %s exactly the values %s' % (order, listed), (deed,), deed.mote)
+        return with_values({'finally': 'last', 'set': 'set'}.get(own.way, 'values'), deed, values)
 
     def answered(self, it: Relation, lines: Deed, event: Action, motes: Sequence[int], span: Span) -> list[Test]:
         """Each of the events has a line soon after it, except those near the end; and one of the events has."""
@@ -212,23 +216,25 @@ class Claims:
 
     # Sentences about the net
 
-    def of_net(self, it: Sentence) -> Case:
+    def of_net(self, it: Sentence) -> list[Test]:
         if isinstance(it, Lines):
-            return (limited(of_count(it.count), Counted('line in the report', 'lines in the report')),)
+            what = Counted('line in the report', 'lines in the report', of_net=OfNet('lines'))
+            return [limited(of_count(it.count), what)]
         assert isinstance(it, (Copies, Packets))
         if isinstance(it, Copies) and it.outcome == 'left':
-            return (limited(of_count(it.count), Counted('copy left at the end', 'copies left at the end')),)
+            what = Counted('copy left at the end', 'copies left at the end', of_net=OfNet('left'))
+            return [limited(of_count(it.count), what)]
         if isinstance(it, Copies) and it.outcome != 'lost':
-            return tuple(self.lines_in(it, BECAME[it.outcome], it.motes))
+            return self.lines_in(it, BECAME[it.outcome], it.motes)
         if it.window.root is not None:
             # (a packet is a line of its sender)
-            return tuple(self.lines_in(it, 'send', None))
-        to = to_motes(it.motes) if isinstance(it, Copies) else ''
-        form = '%s' + to + ' sent%s and lost by the medium' if isinstance(it, Copies) else '%s sent%s'
-        one, many = ('copy', 'copies') if isinstance(it, Copies) else ('packet', 'packets')
-        found = [Counted(form % (one, when), form % (many, when))
-                 for when in map(period_text, self.links.spans(it.window, 0))]
-        return tuple(test for what in found for test in self.share_or_number(it, what, to))
+            return self.lines_in(it, 'send', None)
+        motes = it.motes if isinstance(it, Copies) else None
+        form = '%s' + to_motes(motes) + ' sent%s and lost by the medium' if isinstance(it, Copies) else '%s sent%s'
+        one, many, kind = ('copy', 'copies', 'lost') if isinstance(it, Copies) else ('packet', 'packets', 'packets')
+        found = [(span, period_text(span)) for span in self.links.spans(it.window, 0)]
+        return [test for span, when in found for test in self.share_or_number(
+            it, Counted(form % (one, when), form % (many, when), of_net=OfNet(kind, span, motes)), motes)]
 
     def lines_in(self, it: Copies | Packets, kind: str, motes_of: frozenset[int] | None) -> list[Test]:
         """Copies or packets that are lines of this kind. The interval may depend on the mote."""
@@ -242,15 +248,24 @@ class Claims:
         found = list[Test]()
         for part in range(len(self.links.spans(it.window, it.window.root or 0))):
             deed = self.deed([(kind,)], list(spans), [its[part] for its in spans.values()])
-            found += self.share_or_number(it, lines_of(deed), to_motes(motes_of))
+            found += self.share_or_number(it, lines_of(deed), motes_of)
         never = [limited((0, 0), lines_of(self.deed([(kind,)], apart, [ALL] * len(apart))))] if apart else []
         return found + never
 
-    def share_or_number(self, it: Copies | Packets, what: Counted, to: str) -> list[Test]:
+    def share_or_number(self, it: Copies | Packets, what: Counted, motes: frozenset[int] | None) -> list[Test]:
         if not it.count.is_part:
             return [limited(of_count(it.count), what)]
-        due = '%s' + '%s lost by the medium or due by %d' % (to, self.scenario.end)
-        return compared(it.count, what, Counted(due % 'copy', due % 'copies'))
+        due = '%s' + '%s lost by the medium or due by %d' % (to_motes(motes), self.scenario.end)
+        return compared(it.count, what, Counted(due % 'copy', due % 'copies', of_net=OfNet('due', to=motes)))
+
+
+def periods(it: Does) -> list[Does]:
+    """The sentences about one period each that a sentence with `in each` means, if it is about a number of motes, such
+    as `no mote` or `exactly 1 mote`. For other sentences, the list is empty: a mote by itself can check all periods."""
+    begin, end, every = it.window.begin, it.window.end, it.window.every
+    if not every or end is None or it.motes.kind in ('each', 'together'):
+        return []
+    return [replace(it, window=Window(at, min(at + every - 1, end))) for at in range(begin, end + 1, every)]
 
 
 def one_by_one(it: Does) -> str:
@@ -299,8 +314,8 @@ def of_motes(motes: Motes, number: int) -> Limits:
 def compared(count: Count, one: Counted, two: Counted) -> list[Test]:
     """So many times as many things as others, or so large a share of them."""
     unit, times = 100 if count.is_part else 1, count.number
-    at_least = ratio(two, times, one, unit, count.compare == 'more than')
-    at_most = ratio(one, unit, two, times, count.compare == 'fewer than')
+    at_least = ratio(two, times, one, unit, count.compare == 'more than', True)
+    at_most = ratio(one, unit, two, times, count.compare == 'fewer than', False)
     return [at_least] * (count.compare in ('at least', 'more than', 'exactly')) + [at_most] * (
         count.compare in ('at most', 'fewer than', 'exactly'))
 

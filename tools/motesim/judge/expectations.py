@@ -15,22 +15,23 @@ from motesim.faults import Fault, tried
 from motesim.text import nearest
 from motesim.judge.claim_words import motes_text
 from motesim.judge.claims import Claims, NoClaim
-from motesim.judge.judge import Broken, Judge
+from motesim.judge.finder import Finder
+from motesim.judge.reasons import Broken
 from motesim.judge.remarks import NOT_PROVED, remark_of
+from motesim.notation.reader import find_fault
 from motesim.report import Report
-from motesim.runner import LimitMet, Limits, ProgramFault
-from motesim.report.run import Answer, answer, read_file, refuse_others
+from motesim.runner import LimitMet, Limits, NoReport, ProgramFault
+from motesim.report.run import Answer, answer, refuse_others
 from motesim.scenario import Scenario, ScenarioFault
-from motesim.scenario.encodings import decoded
+from motesim.scenario.encodings import decoded, read_file
 from motesim.scenario.faults import TOP
 from motesim.scenario.fields import Field, of_line, read_fields
-from motesim.judge.sentences import Names, Refused, Sentence, SentenceFault, names_of, read_sentence
+from motesim.judge.sentences import Names, Refused, Sentence, names_of
+from motesim.judge.several import read_all
 from motesim.judge.verdicts import breaks
 from motesim.toml import NoToml, read_toml
 
 LONGEST_SHOWN = 150
-# The most sentences that can't be read which an error shows.
-MOST_UNKNOWN = 10
 REFUSED = 'the scenario is refused'
 WHOLE = 'the report is the expected one'
 KEYS = {'expect': list, 'required': list, 'report': str, 'change': list, 'about': str, 'replace': dict,
@@ -52,7 +53,6 @@ def beside(scenario: Path) -> Path:
     return scenario.with_suffix('.expect.toml')
 # The remark after a required sentence.
 REQUIRED = ' (required)'
-SHOWS = 'tools/explain %s shows the place of the error, and what you may write there'
 
 
 def text_of(path: Path) -> str:
@@ -66,6 +66,7 @@ class Part:
 
     required  how many of the sentences, from the first one on, a solution must meet to earn anything
     fields    the declared format of packets
+    about     the description of a change, if it has one; it is also the name then
     """
     name: str
     sentences: list[str]
@@ -73,6 +74,7 @@ class Part:
     replace: dict[str, str]
     required: int = 0
     fields: tuple[Field, ...] = ()
+    about: str = ''
 
 
 class Verdict(NamedTuple):
@@ -104,7 +106,7 @@ def part_of(table: dict[str, Any], name: str, keys: set[str]) -> Part:
     if not sentences and 'report' not in table:
         raise Fault('%s expects nothing: write expectations, such as %s' % (name, EXAMPLE))
     return Part(table.get('about', name), sentences, table.get('report'), replace, len(required),
-                read_fields(table.get('fields', {})))
+                read_fields(table.get('fields', {})), table.get('about', ''))
 
 
 def parts_of(text: str, name: str) -> list[Part]:
@@ -134,7 +136,7 @@ def place_of_part(number: int, part: Part, name: str) -> str:
     if not number:
         return name
     place = 'change %d of %s' % (number, name)
-    return place if part.name == place else '%s (%s)' % (place, part.name)
+    return '%s (%s)' % (place, part.about) if part.about else place
 
 
 def changed(scenario: str, replace: dict[str, str]) -> str:
@@ -145,43 +147,13 @@ def changed(scenario: str, replace: dict[str, str]) -> str:
     return scenario
 
 
-class UnknownSentence(Fault):
-    """Sentences that can't be read. `which` names them in one line; the text of the error also shows the place in each
-    of them."""
-
-    def __init__(self, unknown: Sequence[tuple[int, str]]):
-        numbers = [str(number) for number, _ in unknown[:MOST_UNKNOWN]]
-        left = len(unknown) - MOST_UNKNOWN
-        rows = ['expectation %s is not known\n%s' % (number, explained)
-                for number, (_, explained) in zip(numbers, unknown)]
-        rows += ['{:,} more {} not known'.format(left, 'expectation is' if left == 1 else 'expectations are')] * (
-            left > 0)
-        self.which = ('expectation %s is not known' if len(unknown) == 1 else 'expectations %s are not known') % (
-            ', '.join(numbers) + ', ..' * (left > 0))
-        super().__init__('\n'.join(rows))
-
-
-def read_all(sentences: list[str], names: Names) -> list[Sentence]:
-    """The sentences of a part. Raises an `UnknownSentence` if some of them can't be read."""
-    found, unknown = list[Sentence](), list[tuple[int, str]]()
-    for number, sentence in enumerate(sentences, 1):
-        try:
-            found.append(read_sentence(sentence, names))
-        except SentenceFault as fault:
-            unknown.append((number, fault.explained))
-    if unknown:
-        raise UnknownSentence(unknown)
-    return found
-
-
 def more_of(broken: Broken, rows: Sequence[str], fields: Sequence[Field] = ()) -> list[str]:
     """The lines that are shown for a broken sentence, with the fields of their values."""
-    why = broken.words.split('\n')
     if broken.row is None:
-        return why
+        return [broken.words]
     row = rows[broken.row - 1]
     shown = row if len(row) <= LONGEST_SHOWN else row[:LONGEST_SHOWN] + '..'
-    return [*why, 'line %d: %s%s' % (broken.row, shown, of_line(fields, row.partition(' ')[2]))]
+    return [broken.words, 'line %d: %s%s' % (broken.row, shown, of_line(fields, row.partition(' ')[2]))]
 
 
 def same_report(rows: Sequence[str], wanted: str) -> Verdict:
@@ -202,36 +174,41 @@ def refused(part: Part, sentences: list[Sentence], got: Answer) -> list[Verdict]
     return found if part.report is None else found + [Verdict(WHOLE, False, more, True, NOT_PROVED)]
 
 
-def of_report(part: Part, sentences: list[Sentence], judge: Judge, limits: Limits = Limits()) -> list[Verdict]:
+def of_report(part: Part, sentences: list[Sentence], finder: Finder, limits: Limits = Limits()) -> list[Verdict]:
     """The verdicts on the report of a scenario. They don't depend on remarks: an error in a remark leaves it out."""
     found = []
-    for text, it, its in zip(part.sentences, sentences, breaks(sentences, judge, limits)):
-        remark = tried(lambda: remark_of(it, judge, its is None), lambda words: '')
-        found.append(Verdict(text, its is None, more_of(its, judge.rows, part.fields) if its else [], False, remark,
+    for text, it, its in zip(part.sentences, sentences, breaks(sentences, finder, limits)):
+        remark = tried(lambda: remark_of(it, finder, its is None), lambda words: '')
+        found.append(Verdict(text, its is None, more_of(its, finder.rows, part.fields) if its else [], False, remark,
                              its.row if its else None, its))
-    return found + ([same_report(judge.rows, part.report)] if part.report is not None else [])
+    return found + ([same_report(finder.rows, part.report)] if part.report is not None else [])
 
 
 def known_of(text: str, fields: tuple[Field, ...] = ()) -> tuple[Scenario | None, Names]:
-    """A scenario, if the text is one, and the names that sentences may use."""
+    """A scenario, if the text is one, and the names that sentences may use: any processes, if a program has a
+    fault."""
     try:
         known = Scenario.parse(text)
         known.fields = fields
-        return known, names_of(known)
+        is_right = not any(find_fault(it) for it in known.programs.values())
+        return known, names_of(known) if is_right else Names(None, known.motes, (), fields)
     except ScenarioFault:
         return None, Names(fields=fields)
 
 
 def judged(scenario: str, part: Part, run: Callable[[bytes], Answer] | None = None, limits: Limits = Limits()
            ) -> list[Verdict]:
-    """The verdicts of a part. `run` runs the scenario; `limits` are those of `motecheck`."""
+    """The verdicts of a part. `run` runs the scenario; `limits` are those of `motecheck`. Raises a `NoReport` if the
+    scenario is refused, and no sentence is about this."""
     text = changed(scenario, part.replace)
     known, names = known_of(text, part.fields)
     sentences = read_all(part.sentences, names)
     got = (run or answer)(text.encode())
+    if got.status and not any(isinstance(it, Refused) for it in sentences):
+        raise NoReport('%s: %s' % (REFUSED, got.why))
     if got.status:
         return refused(part, sentences, got)
-    return of_report(part, sentences, Judge(Report.parse(got.report), known or Scenario.parse(text)), limits)
+    return of_report(part, sentences, Finder(Report.parse(got.report), known or Scenario.parse(text)), limits)
 
 
 def expect(scenario: Path, expectations: Path, is_quiet: bool = False,
@@ -241,13 +218,15 @@ def expect(scenario: Path, expectations: Path, is_quiet: bool = False,
     text = text_of(scenario)
     refuse_others(scenario)
     passed = failed = 0
-    has_fault = False
     name = str(expectations)
     for count, part in enumerate(parts_of(text_of(expectations), name)):
         try:
             verdicts = judged(text, part, run, limits)
         except LimitMet as fault:
             raise Fault('%s: the run was ended: %s' % (scenario, fault)) from None
+        except NoReport as fault:
+            raise Fault('%s: %s' % (place_of_part(count, part, name), fault) if part.replace else
+                        '%s: %s (tools/explain %s says more)' % (scenario, fault, scenario)) from None
         except ProgramFault:
             # (this error isn't in the expectations, so the message doesn't name their file)
             raise
@@ -262,9 +241,6 @@ def expect(scenario: Path, expectations: Path, is_quiet: bool = False,
                 print('\n          '.join(['holds   %s' % words, *filter(None, [it.remark])]))
             elif not it.holds:
                 print('\n          '.join(['broken  %s' % words, *it.more, *filter(None, [it.remark])]))
-        has_fault |= not part.replace and any(it.is_refused and not it.holds for it in verdicts)
-    if has_fault:
-        print(SHOWS % scenario)
     return passed, failed
 
 
@@ -281,7 +257,7 @@ def claims_shown(scenario: Path, expectations: Path) -> Iterator[str]:
     for text, sentence in zip(part.sentences, sentences):
         yield '# ' + ' '.join(text.split())
         try:
-            yield from claims.of(sentence)
+            yield from (it.text for it in claims.of(sentence))
         except NoClaim as why:
             yield '# %s' % why
         if claims.apart:

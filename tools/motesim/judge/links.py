@@ -11,6 +11,10 @@ from motesim.scenario import Scenario
 Span = tuple[int, int | None]
 
 
+def within(at: int, span: Span) -> bool:
+    return span[0] <= at and (span[1] is None or at <= span[1])
+
+
 class Apart(Exception):
     """Packets of one mote can't reach another, so there are no hops between them."""
 

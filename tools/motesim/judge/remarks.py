@@ -4,7 +4,8 @@ decide."""
 from __future__ import annotations
 
 from motesim.judge.claims import OF_TEXT
-from motesim.judge.judge import Apart, Judge
+from motesim.judge.finder import Finder
+from motesim.judge.links import Apart
 from motesim.judge.sentences import Copies, Does, Packets, Sentence
 
 NOT_PROVED = 'not proved: no claim can say it, so the tool compares texts'
@@ -16,47 +17,49 @@ NO_LOSSES = 'no link of the scenario loses a packet, so no copy is lost in any r
 NO_COPIES = 'no copy was due in this run, so this expectation checks nothing'
 
 
-def remark_of(sentence: Sentence, judge: Judge, holds: bool) -> str:
+def remark_of(sentence: Sentence, finder: Finder, holds: bool) -> str:
     """The remark on a sentence; an empty text if there is none."""
     if type(sentence) in OF_TEXT:
         return NOT_PROVED
-    if isinstance(sentence, Copies) and (never := outcome_never(sentence, judge)):
+    if isinstance(sentence, Copies) and (never := outcome_never(sentence, finder)):
         return never
-    if isinstance(sentence, Does) and not judge.chosen(sentence.motes) and sentence.motes.count is None:
+    if isinstance(sentence, Does) and not finder.chosen(sentence.motes) and sentence.motes.count is None:
         return OF_NO_MOTE % ('false' if sentence.motes.kind == 'some' else 'true')
     if not holds:
-        return of_events(sentence, judge) if isinstance(sentence, Does) else ''
-    return remark_on(sentence, judge)
+        return of_events(sentence, finder) if isinstance(sentence, Does) else ''
+    return remark_on(sentence, finder)
 
 
-def remark_on(sentence: Sentence, judge: Judge) -> str:
+def remark_on(sentence: Sentence, finder: Finder) -> str:
     """The remark on a sentence that holds; an empty text if there is none."""
-    if isinstance(sentence, (Does, Copies, Packets)) and sentence.window.begin > judge.scenario.end:
-        return AFTER_THE_END % (judge.scenario.end, sentence.window.begin)
-    if isinstance(sentence, Copies) and sentence.count.is_part and not judge.due(sentence):
+    if isinstance(sentence, (Does, Copies, Packets)) and sentence.window.begin > finder.scenario.end:
+        return AFTER_THE_END % (finder.scenario.end, sentence.window.begin)
+    if isinstance(sentence, Copies) and sentence.count.is_part and not finder.due(sentence.motes):
         return NO_COPIES
-    return of_events(sentence, judge) if isinstance(sentence, Does) else ''
+    return of_events(sentence, finder) if isinstance(sentence, Does) else ''
 
 
-def outcome_never(it: Copies, judge: Judge) -> str:
+def outcome_never(it: Copies, finder: Finder) -> str:
     """The remark that no copy can have the outcome of a sentence in any run of the scenario."""
-    if it.outcome == 'collided' and not judge.scenario.collide:
+    if it.outcome == 'collided' and not finder.scenario.collide:
         return NO_COLLISIONS
-    return NO_LOSSES if it.outcome == 'lost' and not judge.scenario.losses else ''
+    return NO_LOSSES if it.outcome == 'lost' and not finder.scenario.losses else ''
 
 
-def of_events(it: Does, judge: Judge) -> str:
+def of_events(it: Does, finder: Finder) -> str:
     """The remark that the run has no event with which a sentence compares the order of its lines."""
-    motes = judge.chosen(it.motes)
+    motes = finder.chosen(it.motes)
     units = [motes] if it.motes.kind == 'together' else [(mote,) for mote in motes]
-    if not it.relation or any(events_of(it, judge, unit) for unit in units):
+    if not it.relation or any(events_of(it, finder, unit) for unit in units):
         return ''
     return NO_EVENT % it.relation.words
 
 
-def events_of(it: Does, judge: Judge, motes: tuple[int, ...]) -> bool:
+def events_of(it: Does, finder: Finder, motes: tuple[int, ...]) -> bool:
     """True if the event of a sentence occurs for these motes."""
+    assert it.relation
+    others = finder.chosen(it.relation.motes) if it.relation.motes else motes
     try:
-        return bool(judge.compared(it, motes))
+        return bool(finder.done(it.relation.deed.patterns, others))
     except Apart:
         return False

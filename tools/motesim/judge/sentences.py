@@ -29,6 +29,8 @@ COMPARES = {
     'at least': operator.ge, 'at most': operator.le, 'exactly': operator.eq, 'more than': operator.gt,
     'fewer than': operator.lt,
 }
+# The kinds of lines of copies that became so.
+BECAME = {'collided': 'collide', 'received': 'recv', 'overflowed': 'lost'}
 VERBS = ('print', 'send', 'receive', 'start', 'leave', 'halt', 'write')
 
 
@@ -445,8 +447,11 @@ class _Reader:
 
     def calculated(self) -> Value | None:
         """A value that differs by mote or by net, or any of several, if one is next."""
-        if self.names.fields and self.accept('with'):
+        if self.names.fields and self.word().lower() == 'with':
+            self.at += 1
             return self.of_fields()
+        if self.names.fields:
+            self.want(self.at, self.with_fields)
         if self.accept('any of'):
             return Value('any', values=frozenset(self.ranges(self.one_value, 'or')))
         if self.accept('its number'):
@@ -462,6 +467,10 @@ class _Reader:
         if self.accept('a mote that it hears , one hop nearer to mote'):
             return Value('nearer', self.mote())
         return None
+
+    @property
+    def with_fields(self) -> str:
+        return 'with a field (%s)' % ', '.join(it.name for it in self.names.fields)
 
     def of_fields(self) -> Value:
         """The values of which fields are numbers, such as `origin 5, seq 324`."""
@@ -551,6 +560,8 @@ class _Reader:
             return Deed((('print', process),), 'set' if self.accept('in any order') else 'just', values=tuple(values))
         printer = self.process()
         if printer is None:
+            if self.names.fields:
+                self.want(self.at, 'a process ' + self.with_fields)
             return Deed((('print',),))
         value = self.value()
         pattern: Pattern = ('print', printer)

@@ -1,16 +1,15 @@
-"""Verdicts: the proved program `motecheck` runs a scenario, and decides the claims that sentences mean.
-
-The judge of the tools says why a sentence is broken. Sentences about texts, which no claim can say, are the only ones
-that it decides.
-"""
+"""Verdicts: the proved program `motecheck` runs a scenario, and decides the claims that sentences mean."""
 from __future__ import annotations
 
 import os
 from collections.abc import Callable, Iterator, Mapping, Sequence
 from pathlib import Path
 
+from motesim.judge.breaks import Break, read_break
+from motesim.judge.claim_words import Claim
 from motesim.judge.claims import OF_TEXT, Claims
-from motesim.judge.judge import Broken, Judge
+from motesim.judge.finder import Finder
+from motesim.judge.reasons import Broken, of_text, reason_of
 from motesim.judge.sentences import Sentence
 from motesim.runner import Limits, ProgramFault, Runner
 from motesim.runner.programs import CHECKER, program_path
@@ -39,50 +38,50 @@ def answers(scenario: bytes, claims: Sequence[str], *options: str, program: Path
 
 
 def decided(claims: Claims, text: str, sentences: Sequence[Sentence], limits: Limits = Limits(),
-            failing: Mapping[int, int] = {}, program: Path | None = None) -> list[str | None]:
-    """For each sentence about the run of a scenario: an empty text if it holds; why it doesn't, in the words of
-    `motecheck`; or None if it is about a text. `failing` has motes that fail, as in `Claims.of`. Raises a `NoClaim` if
-    claims can't say a sentence, and a `ProgramFault` if there is no verdict."""
-    found: list[str | None] = [None if type(it) in OF_TEXT else '' for it in sentences]
-    for places, rows in _pieces(claims, sentences, failing, MOST_BYTES - len(text.encode())):
-        for place, line in zip(places, answers(text.encode(), rows, program=program, limits=limits), strict=True):
-            found[place] = found[place] or _reason_in(line)
+            failing: Mapping[int, int] = {}, program: Path | None = None) -> list[Break | None]:
+    """For each sentence about the run of a scenario: what breaks it, or None if it holds or is about a text. `failing`
+    has motes that fail, as in `Claims.of`. Raises a `NoClaim` if claims can't say a sentence, and a `ProgramFault` if
+    there is no verdict."""
+    found: list[Break | None] = [None] * len(sentences)
+    for places, its in _pieces(claims, sentences, failing, MOST_BYTES - len(text.encode())):
+        lines = answers(text.encode(), [it.text for it in its], program=program, limits=limits)
+        for place, claim, line in zip(places, its, lines, strict=True):
+            found[place] = found[place] or _break_in(line, claim)
     return found
 
 
-def _reason_in(line: str) -> str:
-    """Why a claim is broken, by the answer to it; an empty text if it holds."""
-    return line.partition(' -- ')[2] if line.startswith('broken: ') else ''
+def _break_in(line: str, claim: Claim) -> Break | None:
+    """What breaks a claim, by the answer to it."""
+    return read_break(line.partition(' -- ')[2], claim) if line.startswith('broken: ') else None
 
 
 def _pieces(claims: Claims, sentences: Sequence[Sentence], failing: Mapping[int, int], most: int
-            ) -> Iterator[tuple[list[int], list[str]]]:
+            ) -> Iterator[tuple[list[int], list[Claim]]]:
     """The claims that the sentences mean, in pieces that aren't too long, each with the places of its sentences."""
-    places, rows, length = list[int](), list[str](), 0
+    places, found, length = list[int](), list[Claim](), 0
     for place, it in enumerate(sentences):
         if type(it) not in OF_TEXT:
             its = claims.of(it, failing)
-            more = sum(len(row) + 1 for row in its)
-            if rows and length + more > most:
-                yield places, rows
-                places, rows, length = [], [], 0
-            places, rows, length = places + [place] * len(its), rows + its, length + more
-    if rows:
-        yield places, rows
+            more = sum(len(claim.text) + 1 for claim in its)
+            if found and length + more > most:
+                yield places, found
+                places, found, length = [], [], 0
+            places, found, length = places + [place] * len(its), found + its, length + more
+    if found:
+        yield places, found
 
 
-def breaks(sentences: Sequence[Sentence], judge: Judge, limits: Limits = Limits()) -> list[Broken | None]:
-    """What breaks each sentence in the run of the judge's scenario; None for a sentence that holds."""
-    said = decided(Claims(judge.scenario), judge.scenario.text, sentences, limits)
-    return [reason(it, sentence, judge) for it, sentence in zip(said, sentences)]
+def breaks(sentences: Sequence[Sentence], finder: Finder, limits: Limits = Limits()) -> list[Broken | None]:
+    """What breaks each sentence in the run of the finder's scenario; None for a sentence that holds."""
+    said = decided(Claims(finder.scenario), finder.scenario.text, sentences, limits)
+    return [reason(it, sentence, finder) for it, sentence in zip(said, sentences)]
 
 
-def reason(said: str | None, sentence: Sentence, judge: Judge) -> Broken | None:
+def reason(said: Break | None, sentence: Sentence, finder: Finder) -> Broken | None:
     """What breaks a sentence, after `motecheck` has decided it."""
-    found = None if said == '' else judge.broken(sentence)
-    return found or (Broken(said, kind='claim') if said else None)
+    return reason_of(said, finder) if said else of_text(sentence, finder)
 
 
-def is_broken(said: str | None, sentence: Sentence, judge: Judge) -> bool:
-    """Returns whether a sentence is broken, after `motecheck` has decided it. The report decides one about a text."""
-    return bool(judge.broken(sentence) if said is None else said)
+def is_broken(said: Break | None, sentence: Sentence, finder: Finder) -> bool:
+    """Returns whether a sentence is broken, after `motecheck` has decided it."""
+    return said is not None or of_text(sentence, finder) is not None

@@ -30,8 +30,8 @@ RULES: dict[int, tuple[str, str]] = {
 
 
 class Allowed(str):
-    """What may stand at the place of a fault, as messages show it. `kind` is `word`, the kind of a name such as `a
-    timer`, or empty; `names` has the word, or the known names."""
+    """What may stand at the place of a fault, as messages show it. `kind` is `word`, the kind of a name such as
+    `timer`, or empty; `names` has the word, or the known names."""
     kind: str
     names: tuple[str, ...]
 

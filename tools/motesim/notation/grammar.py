@@ -97,6 +97,7 @@ _TIMERS = ('etimer', 'ctimer', 'set', 'reset', 'restart_timer', 'stop', 'fired',
 COLOURS: dict[str, tuple[str, ...]] = {
     'send': ('send',), 'print': ('print',), 'recv': _PACKETS, 'timer': _TIMERS,
     'keyword': tuple(sorted(RESERVED.difference(('send', 'print'), _PACKETS, _TIMERS))),
+    'operator': tuple(sorted({*''.join(SIGNS)})),
 }
 # The classes of words in the grammars for editors.
 _CONTROL = ('if', 'else', 'while', *(word for word, it in STATEMENTS.items() if it.waits), 'signal')

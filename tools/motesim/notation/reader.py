@@ -95,8 +95,8 @@ class _Reader:
     def known(self, kind: str) -> Allowed:
         """The names of a kind."""
         found = [name for name, its in self.names.items() if its == kind and name != self.own_thread]
-        what = '%s %s' % (ARTICLES[kind], kind)
-        return Allowed('%s (%s)' % (what, ', '.join(found) if found else 'none is declared here'), what, found)
+        shown = ', '.join(found) if found else 'none is declared here'
+        return Allowed('%s %s (%s)' % (ARTICLES[kind], kind, shown), kind, found)
 
     def target(self, kind: str) -> Token:
         """Reads a known name of this kind."""

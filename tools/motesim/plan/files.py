@@ -10,7 +10,7 @@ from pathlib import Path
 
 from motesim.faults import Fault
 from motesim.plan.tables import Key, PlanFault, shown
-from motesim.report.run import read_file
+from motesim.scenario.encodings import read_file
 from motesim.scenario.places import Place
 
 

@@ -22,6 +22,7 @@ from motesim.plan.tables import Key, NoParameter, PlanFault, Tables, filled, nee
 from motesim.plan.text import Mote, Net, scenario_text, tables_of
 from motesim.scenario import Scenario
 from motesim.scenario.encodings import decoded
+from motesim.scenario.made import PARAMETERS
 from motesim.scenario.places import Path, Place
 from motesim.toml import MARK
 
@@ -82,11 +83,10 @@ class Builder:
 
     def head(self) -> list[str]:
         """The scenario's comment on its origin."""
-        given = self.tables.parameters
-        parameters = ', '.join('%s = %s' % (name, text_of_value(value)) for name, value in given.items())
+        parameters = ', '.join('%s = %s' % (name, text_of_value(it)) for name, it in self.tables.parameters.items())
         files = files_of(self.tables, self.files)
         return ['Written by tools/scenario from the plan %s: change that, and not this file.' % self.tables.name,
-                'Parameters: %s' % (parameters or 'none'),
+                PARAMETERS + (parameters or 'none'),
                 'Files beside the plan: %s' % (', '.join(files) or 'none'),
                 'SHA-256 of the plan and these files: %s' % self.files.digest(self.tables.of_runs(), files)]
 

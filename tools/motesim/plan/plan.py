@@ -17,8 +17,7 @@ from motesim.plan.files import Files
 from motesim.plan.keys import TOP
 from motesim.plan.net import Builder, files_of
 from motesim.plan.tables import NAME, Tables, Value, as_truth
-from motesim.report.run import read_file
-from motesim.scenario.encodings import decoded
+from motesim.scenario.encodings import decoded, read_file
 from motesim.text import nearest
 
 UNUSED = 'nothing uses the parameter %s, so its values make no difference: write ${%s} in the plan or in a program'

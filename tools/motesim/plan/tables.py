@@ -12,7 +12,7 @@ from copy import copy
 from dataclasses import dataclass
 from typing import Any, NoReturn
 
-from motesim.text import shown_place, wrapped
+from motesim.text import folded, shown_place
 from motesim.faults import Fault
 from motesim.notation.grammar import PARAMETER
 from motesim.scenario.places import Path, Place, place_of, value_of
@@ -102,8 +102,7 @@ def filled(text: str, parameters: Mapping[str, Value]) -> str:
 
 def shown(name: str, text: str, place: Place, rule: str, may: str) -> str:
     """The message of a fault: the line with a mark, the rule, and the allowed values."""
-    rows = shown_place(name, text, place) + wrapped(rule)
-    return '\n'.join(rows + (wrapped('Allowed here: %s' % may) if may else []))
+    return '\n'.join(folded([*shown_place(name, text, place), rule, *['Allowed here: %s' % may] * bool(may)]))
 
 
 class Tables:

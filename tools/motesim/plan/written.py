@@ -6,6 +6,7 @@ import sys
 from collections.abc import Sequence
 from pathlib import Path
 
+from motesim.scenario.encodings import read_file
 from motesim.scenario import faults as scenario_faults
 from motesim.faults import Fault
 from motesim.files import refuse_inputs, write_whole
@@ -13,7 +14,6 @@ from motesim.output import beside
 from motesim.plan.from_scenario import write_plan
 from motesim.plan.plan import UNUSED, Plan
 from motesim.plan.tables import Value, value_of_text
-from motesim.report.run import read_file
 from motesim.scenario import Scenario
 
 

@@ -85,7 +85,7 @@ def _passed(program: Program, own: Sequence[Reached]) -> tuple[int, ...]:
 
 def instead(program: Program, number: int) -> str:
     """The wait that always waits, instead of one that may not wait."""
-    text = program.statement(number).text
-    if text.startswith('wait_until'):
-        return '`yield_until%s`' % text.removeprefix('wait_until')
+    its = program.statement(number)
+    if its.kind == 'wait_until':
+        return '`yield_until%s`' % its.text.removeprefix(its.kind)
     return '`yield_until` with the opposite condition'

@@ -14,7 +14,8 @@ from motesim.faults import Fault
 from motesim.replay.translate import Process, Program
 
 UNITS, RUNS, RING, QUEUE = 10_000, 64, 8, 32
-MOST_START = 2 ** 62
+# The latest start that `reset` gives a timer of motesim.
+LATEST_START = 2 ** 62
 BOOT = -1
 ETIMER, CTIMER, RADIO = -3, -2, -1
 SYSTEM = {ETIMER: 'etimer', CTIMER: 'ctimer', RADIO: 'radio'}
@@ -408,7 +409,7 @@ class Replay:
         timer = self.timers[number]
         is_callback = self.program.timers[number].callback is not None
         if statement == 'reset':
-            timer.start = min(timer.due, MOST_START)
+            timer.start = min(timer.due, LATEST_START)
         else:
             timer.start = self.now
         if statement == 'set':

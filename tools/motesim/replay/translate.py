@@ -78,6 +78,7 @@ class Statement(NamedTuple):
     process  the number of the process in whose code it is
     around   the statements around it, the outer ones first
     inside   the block in which it is: body_0, thread_0_listen, onpoll_0, onexit_0 or callback_0
+    constant its value, if that is always the same number
     """
     line: int
     text: str
@@ -85,6 +86,7 @@ class Statement(NamedTuple):
     process: int
     around: tuple[Around, ...] = ()
     inside: str = ''
+    constant: int | None = None
 
 
 @dataclass
@@ -249,7 +251,7 @@ class _Translator:
     def statement(self, it: tree.Statement) -> None:
         number = len(self.program.statements) + 1
         self.program.statements.append(Statement(it.token.line, self.text_of(it), it.kind, self.process.number,
-                                                 tuple(self.around), self.inside))
+                                                 tuple(self.around), self.inside, self.constant(it.value)))
         self.unit()
         if self.is_detailed:
             self.emit('k.reach(%d)' % number)
@@ -363,6 +365,12 @@ class _Translator:
         if word in self.process.variables:
             return 'V[%d]' % self.process.variables[word]
         return {'data': 'd', 'from': 'f', 'now': 'k.clock', 'self': 'k.mote'}.get(word, word)
+
+    def constant(self, it: tree.Expression | None) -> int | None:
+        """The value of an expression that has only numbers; None for another one."""
+        is_fixed = it is not None and all(isinstance(part, (tree.Operation, tree.Not)) or tree.is_number(part)
+                                          for part in tree.parts_of(it))
+        return int(eval(self.expression(it), {'divided': divided, 'remainder': remainder})) if is_fixed else None
 
     def operation(self, left: str, operator: str, right: str) -> str:
         assert operator in OPERATORS

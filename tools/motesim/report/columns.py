@@ -60,6 +60,10 @@ class Trace:
             for field, column in fields.items():
                 self.of[name][field].extend(column)
 
+    def start(self, mote: int) -> int:
+        """The index of a mote's first line."""
+        return self.starts[mote]
+
     def mote_of(self, index: int) -> int:
         """The mote whose line this is."""
         return bisect_right(self.starts, index) - 1

@@ -9,13 +9,13 @@ from array import array
 from collections.abc import Iterator
 from typing import NamedTuple
 
+from motesim import runner
 from motesim.faults import Fault
 from motesim.report.columns import Log, Trace
 from motesim.report.lines import MOST_NUMBER
 from motesim.report.patterns import HEAD
 from motesim.report.pieces import Lines, Packets, PieceReader, Span
 from motesim.report.strict import Bad, Numbers
-from motesim.runner.batch import each_part
 
 # The number of bytes of a piece, and the least number of bytes of a report that several processes read.
 PIECE = 1 << 19
@@ -86,11 +86,11 @@ def _heads(data: bytes, end: int) -> tuple[list[str], list[Span]]:
 
 def _read_all(data: bytes, pieces: list[Piece], motes: int) -> Iterator[Lines | Packets]:
     """The contents of all pieces, in their order; several processes read a long report."""
-    reader = PieceReader(motes, len(data))
+    reader = PieceReader(motes)
 
     def read_one(piece: Piece) -> Lines | Packets:
         return reader.lines(data, piece) if isinstance(piece, list) else reader.packets(data[piece[0]:piece[1]])
-    return each_part(read_one, pieces, is_much=len(data) >= MANY)
+    return runner.each_part(read_one, pieces) if len(data) >= MANY else map(read_one, pieces)
 
 
 class _Joined:

@@ -73,6 +73,10 @@ class LazyTrace(Trace):
         """The kind of each line."""
         return ANY.findall(self.text)
 
+    def start(self, mote: int) -> int:
+        # (the heads of this mote and of earlier ones aren't counted)
+        return self.text.count('\n', 0, self.text.index('\nmote %d ' % mote)) - mote
+
     def place(self, mote: int, kind: str) -> slice:
         self.of[kind]
         return slice(self.begins[kind][mote], self.begins[kind][mote + 1])
@@ -108,7 +112,7 @@ class LazyReport(Report):
     @cached_property
     def log(self) -> Log:  # type: ignore[override]
         log, end = Log(), self.data.rindex(b'left')
-        log.extend(*PieceReader(1 << 16, len(self.data)).packets(self.data[self.at + 8:end]))
+        log.extend(*PieceReader(1 << 16).packets(self.data[self.at + 8:end]))
         return log
 
     @cached_property

@@ -26,10 +26,8 @@ DIGITS = b'0123456789'
 LETTERS = bytes(byte for byte in range(128) if chr(byte).isalpha()) + b'_'
 # A text with `a` for each letter and `0` for each digit.
 CLASSES = bytes(ord('a') if byte in LETTERS else ord('0') if byte in DIGITS else byte for byte in range(256))
-# Numbers up to the first limit are in a table, which is faster than reading them; for a text with fewer bytes than the
-# second limit the table isn't made.
-MOST_TABLED = 65_535
-WORTH_A_TABLE = 1 << 20
+# The greatest number that is kept by its text: to look it up takes less time than to read it again.
+MOST_KEPT = 65_535
 # The fields of a packet, and those of a copy, as marks.
 PACKET, COPY = b'\0\1\2\3', b'\4\5'
 MARKED = [bytes(int(byte == mark) for byte in range(256)) for mark in range(len(PACKET + COPY))]
@@ -64,10 +62,17 @@ class Packets(NamedTuple):
 
 
 class _Numbers(dict[str, int]):
-    """Numbers by their texts; and `lost`, which may be an arrival."""
+    """Numbers by their texts: the small ones that have occurred in any report."""
 
     def __missing__(self, word: str) -> int:
-        return LOST if word == 'lost' else int(word)
+        number = int(word)
+        if number <= MOST_KEPT:
+            self[word] = number
+        return number
+
+
+# (`lost` may be an arrival)
+NUMBERS = _Numbers(lost=LOST)
 
 
 class _Shapes(dict[bytes, int]):
@@ -130,7 +135,7 @@ def _column(field: str, values: list[int]) -> array[int]:
 class PieceReader:
     """Reads pieces of a report of this many motes, and remembers the words that have occurred."""
 
-    def __init__(self, motes: int, size: int):
+    def __init__(self, motes: int):
         self.motes = motes
         self.most = {'sender': motes - 1, 'number': MOST_NUMBER, 'serial': MOST_NUMBER}
         self.names: list[str] = []
@@ -138,10 +143,7 @@ class PieceReader:
         self.aliases: dict[bytes, bytes] = {}
         real: dict[bytes, str] = {}
         self.real, self.shapes = real, _Shapes(self.names, real)
-        self.number: Callable[[str], int] = _Numbers().__missing__
-        if size >= WORTH_A_TABLE:
-            tabled = range(MOST_TABLED + 1)
-            self.number = _Numbers(zip(map(str, tabled), tabled), lost=LOST).__getitem__
+        self.number = NUMBERS.__getitem__
 
     def lines(self, data: bytes, spans: list[Span]) -> Lines:
         """Reads the lines of some spans. Raises Bad or OverflowError if they aren't lines of traces."""

@@ -14,11 +14,11 @@ from itertools import compress, count, repeat
 from operator import add, mul
 from typing import NamedTuple, overload
 
+from motesim import runner
 from motesim.faults import Fault
 from motesim.report import fast, strict
 from motesim.report.columns import KINDS, LOST, Log, MoteLines, Trace
 from motesim.report.lines import Copy, Line, Packet
-from motesim.runner.batch import each_part
 
 
 class Mote:
@@ -150,7 +150,8 @@ class Report:
         packets = list(log.of_copies(list(_keys(log.sender, log.number, motes))))
         groups = [range(first, min(first + MOTES_AT_ONCE, motes)) for first in range(0, motes, MOTES_AT_ONCE)]
         work = partial(self._fates_at, packets)
-        by_mote = [iter(its) for part in each_part(work, groups, is_much=len(packets) >= MANY) for its in part]
+        parts = runner.each_part(work, groups) if len(packets) >= MANY else map(work, groups)
+        by_mote = [iter(its) for part in parts for its in part]
         following: Callable[[Iterator[int]], int] = next
         found = bytearray(map(following, map(by_mote.__getitem__, log.to)))
         for index in compress(count(), map(LOST.__eq__, log.arrival)):

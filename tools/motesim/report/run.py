@@ -20,12 +20,11 @@ Errors are `motesim.faults.Fault`, whose text can be shown to users:
 from __future__ import annotations
 
 import re
-import sys
 from pathlib import Path
 from typing import NamedTuple
 
 from motesim.report.belongs import check_scenario as check_scenario
-from motesim.scenario.encodings import decoded
+from motesim.scenario.encodings import decoded, read_file
 from motesim.faults import Fault
 from motesim.runner.process import Answer as Answer, Limits, NoReport as NoReport, Runner
 from motesim.runner.programs import TOP as TOP, ProgramFault as ProgramFault, program_path as program_path
@@ -63,16 +62,6 @@ def answer(scenario: bytes, *arguments: str, limits: Limits = Limits()) -> Answe
 def run_program(scenario: bytes, *arguments: str, limits: Limits = Limits()) -> bytes:
     """The report of a scenario. Raises a `NoReport` if `motesim` refuses the scenario."""
     return Runner(limits=limits).report(scenario, *arguments)
-
-
-def read_file(path: str | Path) -> bytes:
-    """The bytes of a file, or of standard input for the name `-`."""
-    if str(path) == '-' and sys.stdin is None:
-        raise Fault('standard input is closed')
-    try:
-        return sys.stdin.buffer.read() if str(path) == '-' else Path(path).read_bytes()
-    except OSError as fault:
-        raise Fault('%s: %s' % (path, fault.strerror)) from None
 
 
 def is_report(data: bytes) -> bool:

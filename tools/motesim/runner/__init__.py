@@ -5,9 +5,17 @@
     Runner(limits=Limits(20)).answer(scenario)  one run, within limits of time, memory and bytes (process)
     run_each(work, items)                       many runs, several at once (batch)
 """
-from motesim.runner.batch import Done, run_each
-from motesim.runner.process import Answer, LimitMet, Limits, NoReport, Runner, Running, Stopped
-from motesim.runner.programs import ProgramFault, program_path
+from typing import TYPE_CHECKING
+
+from motesim.on_demand import on_demand
+
+if TYPE_CHECKING:
+    from motesim.runner.batch import Done, each_part, run_each
+    from motesim.runner.process import Answer, LimitMet, Limits, NoReport, Runner, Running, Stopped
+    from motesim.runner.programs import ProgramFault, program_path
 
 __all__ = ['Answer', 'Done', 'LimitMet', 'Limits', 'NoReport', 'ProgramFault', 'Runner', 'Running',
-           'Stopped', 'program_path', 'run_each']
+           'Stopped', 'each_part', 'program_path', 'run_each']
+__getattr__ = on_demand(__name__, {
+    'batch': ['Done', 'each_part', 'run_each'], 'programs': ['ProgramFault', 'program_path'],
+    'process': ['Answer', 'LimitMet', 'Limits', 'NoReport', 'Runner', 'Running', 'Stopped']})

@@ -9,6 +9,7 @@ runs.
 from __future__ import annotations
 
 import gc
+import itertools
 import os
 import signal
 import sys
@@ -159,12 +160,12 @@ class _Worker:
         self.channel.close()
 
 
-class _Batch(Generic[Item, Result]):
-    """Workers, and the items that they have."""
+class Workers(Generic[Item, Result]):
+    """Workers that do the same work for one series of items after another, and the items that they have."""
 
-    def __init__(self, work: Callable[[Item], Result], items: Iterable[Item], most: int, seconds: float,
-                 stop: threading.Event | None):
-        self.work, self.items, self.most, self.seconds, self.stop = work, enumerate(items), most, seconds, stop
+    def __init__(self, work: Callable[[Item], Result], most: int, seconds: float):
+        self.work, self.most, self.seconds = work, most, seconds
+        self.items: Iterator[tuple[int, Item]] = iter(())
         self.held: dict[int, Item] = {}
         self.again: list[int] = []
         self.workers: list[_Worker] = []
@@ -174,11 +175,7 @@ class _Batch(Generic[Item, Result]):
         found: list[int] = []
         while len(found) < most and self.again:
             found.append(self.again.pop())
-        while len(found) < most and not (self.stop and self.stop.is_set()):
-            try:
-                number, item = next(self.items)
-            except StopIteration:
-                break
+        for number, item in itertools.islice(self.items, most - len(found)):
             self.held[number] = item
             found.append(number)
         return found
@@ -213,9 +210,10 @@ class _Batch(Generic[Item, Result]):
         self.again += reversed(worker.given)
         return self.done(first, None, fault)
 
-    def results(self) -> Iterator[tuple[int, Done[Item, Result]]]:
+    def results(self, items: Iterable[Item]) -> Iterator[tuple[int, Done[Item, Result]]]:
         """The results in the order in which they arrive, with the numbers of their items."""
         from multiprocessing.connection import wait
+        self.items = enumerate(items)
         while self.feed():
             by_channel: dict[Any, _Worker] = {it.channel: it for it in self.workers if it.given}
             for channel in wait(list(by_channel), TICK):
@@ -233,8 +231,19 @@ class _Batch(Generic[Item, Result]):
                 yield self.drop(worker, 'not finished after %g seconds' % self.seconds)
 
     def end(self) -> None:
+        """Ends the workers at once, with their runs."""
         for worker in self.workers:
             worker.end()
+
+
+def until(is_over: Callable[[], bool], items: Iterable[Item]) -> Iterator[Item]:
+    """The items that are read before `is_over()` is true."""
+    rest = iter(items)
+    while not is_over():
+        try:
+            yield next(rest)
+        except StopIteration:
+            return
 
 
 def _in_order(found: Iterable[tuple[int, Done[Item, Result]]]) -> Iterator[Done[Item, Result]]:
@@ -259,29 +268,28 @@ def run_each(work: Callable[[Item], Result], items: Iterable[Item], *, workers: 
 
     Items are read when workers become free.
     """
+    begun = until(stop.is_set, items) if stop else items
     if workers == 0:
-        for item in items:
-            if stop and stop.is_set():
-                return
+        for item in begun:
             result, fault = _tried(work, item)
             yield Done(item, result, fault)
         return
-    batch = _Batch(work, items, workers or os.cpu_count() or 1, seconds, stop)
+    batch = Workers(work, workers or os.cpu_count() or 1, seconds)
     try:
-        found = batch.results()
+        found = batch.results(begun)
         yield from _in_order(found) if ordered else (done for _, done in found)
     finally:
         batch.end()
 
 
-def each_part(work: Callable[[Item], Result], parts: Iterable[Item], is_much: bool) -> Iterator[Result]:
-    """The result of each part of a piece of work, in order; if there is much work, several processes do it.
+def each_part(work: Callable[[Item], Result], parts: Iterable[Item]) -> Iterator[Result]:
+    """The result of each part of much work, in order: several processes do it.
 
     The processes are copies of this one, so they share its memory. If this process has threads, it does all the
     work itself. Raises a `Fault` if one of the processes fails.
     """
     workers = min(MOST_SHARING, os.cpu_count() or 1)
-    if not is_much or workers < 2 or threading.active_count() > 1 or _is_worker():
+    if workers < 2 or threading.active_count() > 1 or _is_worker():
         yield from map(work, parts)
         return
     for done in run_each(work, parts, workers=workers, ordered=True):

@@ -30,11 +30,17 @@ def started(start: Callable[[], subprocess.Popen[bytes]]) -> subprocess.Popen[by
             _Runs.leaders.add(process.pid)
     except BaseException:
         if process:
-            _kill(process.pid)
-            over(process.pid)
-            process.wait()
+            end(process)
         raise
     return process
+
+
+def end(process: subprocess.Popen[bytes]) -> None:
+    """Ends a run that `started` has returned, with its child processes, unless it has ended."""
+    if process.pid in _Runs.leaders:
+        _kill(process.pid)
+    process.wait()
+    over(process.pid)
 
 
 def over(leader: int) -> None:

@@ -111,9 +111,13 @@ def last_change(top: Path = TOP) -> int:
     return max(os.stat(it).st_mtime_ns for it in [*found, str(top / 'crates.txt')])
 
 
+# (a process asks for two programs of the same sources)
+_last_change_here = functools.cache(last_change)
+
+
 def is_newer_than_sources(program: Path) -> bool:
     """Returns whether a binary exists, and no source, contract or proof has changed since it was built."""
-    return is_program(program) and last_change() <= program.stat().st_mtime_ns
+    return is_program(program) and _last_change_here() <= program.stat().st_mtime_ns
 
 
 # Kept binaries.

@@ -1,9 +1,22 @@
-"""The texts of files: they are in UTF-8."""
+"""The bytes of files, and their texts, which are in UTF-8."""
 from __future__ import annotations
+
+import sys
+from pathlib import Path
 
 from motesim.faults import Fault
 
 SAVE = 'Save it as UTF-8: an editor has that under "Save as" or "Encoding"'
+
+
+def read_file(path: str | Path) -> bytes:
+    """The bytes of a file, or of standard input for the name `-`."""
+    if str(path) == '-' and sys.stdin is None:
+        raise Fault('standard input is closed')
+    try:
+        return sys.stdin.buffer.read() if str(path) == '-' else Path(path).read_bytes()
+    except OSError as fault:
+        raise Fault('%s: %s' % (path, fault.strerror)) from None
 
 
 def decoded(file: str, data: bytes) -> str:

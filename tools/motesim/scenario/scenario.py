@@ -3,11 +3,13 @@ from __future__ import annotations
 
 from collections.abc import Callable, Iterable, Iterator
 from functools import cached_property
-from typing import Any, NamedTuple
+from typing import TYPE_CHECKING, Any, NamedTuple
 
 from motesim.faults import Fault
-from motesim.scenario.fields import Field
 from motesim.toml import NoToml, read_toml
+
+if TYPE_CHECKING:
+    from motesim.scenario.fields import Field
 
 
 class ScenarioFault(Fault):
@@ -60,7 +62,8 @@ class Scenario:
     """
 
     def __init__(self, tables: dict[str, Any], text: str = ''):
-        self.text, self.fields = text, tuple[Field, ...]()
+        self.text = text
+        self.fields: tuple[Field, ...] = ()
         medium: dict[str, Any] = _get(tables, 'medium', dict, 'the scenario')
         self.version: int = _get(tables, 'version', int, 'the scenario')
         self.end: int = _get(tables, 'end', int, 'the scenario')

@@ -3,6 +3,7 @@
     command.py         tools/search
     asking.py          the request for a search, and its preparation
     search.py          the search itself: what it covered, and what it found
+    notes.py           what is remarkable before it begins, as data
     sets.py            sets of faults, the smaller ones first, without sets that are decided already
     faults.py          the faults of each kind that a scenario can have
     forms.py           the forms of a fault, as in the option --fault of tools/shrink
@@ -16,6 +17,7 @@
     runner.py          many runs by several processes, or by a Dask cluster
     kept.py            the sets that were tried, for --resume
     progress.py        the progress of a search, on standard error
+    cuts.py            the motes that a set of faults cuts off
     found.py           the files and tables of the sets that were found
     say.py             what is said about a search and its results
     numbers.py         the whole numbers of an option, or of a key of a study

@@ -8,7 +8,7 @@ endless loop stops the program instead of kills: it halts the mote. The loop als
 """
 from __future__ import annotations
 
-import re
+from collections.abc import Set
 
 from motesim.faults import Fault
 from motesim.notation.grammar import LONGEST_NAME
@@ -32,27 +32,34 @@ def halts(program: str) -> bool:
     return any(token.text in GOES_ON for token in read_program(program).tokens)
 
 
-def _wait(moment: int) -> str:
-    """The statements that wait until a moment, from boot on."""
+def _wait(moment: int, timer: str, count: str) -> str:
+    """The statements that wait until a moment, from boot on, by a timer and a variable of these names."""
     rounds, rest = divmod(moment, LONGEST_WAIT)
     found = ''
     if rounds:
-        found += ('    while (rounds < %d) {\n      set wait %d;\n      yield_until fired(wait);\n'
-                  '      rounds = (rounds + 1);\n    }\n' % (rounds, LONGEST_WAIT))
+        found += ('    while ({1} < %d) {{\n      set {0} %d;\n      yield_until fired({0});\n'
+                  '      {1} = ({1} + 1);\n    }}\n' % (rounds, LONGEST_WAIT))
     if rest or not rounds:
-        found += '    set wait %d;\n    yield_until fired(wait);\n' % rest
-    return found
+        found += '    set {0} %d;\n    yield_until fired({0});\n' % rest
+    return found.format(timer, count)
 
 
-def added_code(name: str, kind: str, moment: int, processes: list[str], by_halting: bool = False) -> str:
-    """The code of the process that waits for the moment, and then kills or starts these processes."""
+def _free(name: str, used: Set[str]) -> str:
+    """A name that isn't in use; a name in one process may be a name that all processes of the program share."""
+    return name if name not in used else _free(name + '_', used)
+
+
+def added_code(name: str, kind: str, moment: int, processes: list[str], by_halting: bool, used: Set[str]) -> str:
+    """The code of the process that waits for the moment, and then kills or starts these processes. `used` has the names
+    of the program."""
     verb = 'kill' if kind == DIES else 'start'
     acts = ''.join('    %s %s;\n' % (verb, it) for it in processes)
     if by_halting:
         acts = '    while 1 {\n    }\n'
-    wait = '' if kind == LATE and not moment else _wait(moment)
-    rounds = '  var rounds = 0;\n' if 'rounds' in wait else ''
-    timer = '  etimer wait;\n' if wait else ''
+    inner, count = _free('wait', used), _free('rounds', used)
+    wait = '' if kind == LATE and not moment else _wait(moment, inner, count)
+    rounds = '  var %s = 0;\n' % count if moment >= LONGEST_WAIT else ''
+    timer = '  etimer %s;\n' % inner if wait else ''
     return 'code %s {\n%s%s  body {\n%s%s  }\n}\n' % (name, rounds, timer, wait, acts)
 
 
@@ -68,13 +75,8 @@ def changed_program(program: str, kind: str, moment: int) -> str:
     read, name = read_program(program), added_name(program, kind)
     processes, starts = [it.text for it in read.processes], read.starts
     is_halted = kind == DIES and halts(program)
-    code = added_code(name, kind, moment, starts if kind == LATE else processes, is_halted)
-    # (a name in one process may be a name that all processes of the program share)
     used = {it.text for it in read.tokens if it.kind == 'name'}
-    for inner in ('wait', 'rounds'):
-        while re.search(r'\b%s\b' % inner, code) and inner in used:
-            code = re.sub(r'\b%s\b' % inner, inner + '_', code)
-            inner += '_'
+    code = added_code(name, kind, moment, starts if kind == LATE else processes, is_halted, used)
     for begin, end, text in _edits(read, name, kind):
         program = program[:begin] + text + program[end:]
     program += ('' if program.endswith('\n') else '\n') + code

@@ -9,10 +9,9 @@ from motesim.judge.sentences import Sentence
 from motesim.runner.versions import program_digest
 from motesim.search import calculated
 from motesim.search.change import Base
-from motesim.search.faults import (
-    WHY_NONE, Asked, absent_kinds, after_packets, faults_of, untried_copies, without_effect,
-)
+from motesim.search.faults import Asked, absent_kinds, after_packets, faults_of, untried_copies, without_effect
 from motesim.search.kept import Kept
+from motesim.search.notes import Note, note
 from motesim.runner import Limits, Runner, program_path
 from motesim.runner.cluster import Binary
 from motesim.runner.programs import CHECKER, PROGRAM
@@ -39,36 +38,30 @@ class Asking:
         asked.sent = tuple(self.plain.sent)
         faults = faults_of(base, asked)
         self.absent = absent_kinds(base, asked)
-        self.untried = untried_copies(base, asked) if 'packets' in asked.kinds else ''
+        self.untried = untried_copies(base, asked)
         self.prepared = prepare(base, self.plain, program, sentences, faults)
         self.idle = without_effect(base, self.prepared.faults, self.plain.sent)
         self.late = after_packets(self.prepared.faults, self.plain.last)
 
     @property
-    def notes(self) -> list[str]:
-        """The lines to show before anything is tried."""
-        broken = [self.texts[number] for number in self.plain.broken]
-        rows = ['broken without a fault, so left out (tools/expect shows why): ' + it for it in broken]
-        rows += ['there is no fault of the kind %s in this scenario%s' % (kind, WHY_NONE.get(kind, ''))
-                 for kind in self.absent]
-        rows += ['left out: ' + it for it in self.prepared.left_out]
+    def breaks_all(self) -> bool:
+        """True if each expectation is broken without a fault, so that there is nothing to search for."""
+        return len(self.plain.broken) == len(self.texts)
+
+    @property
+    def notes(self) -> list[Note]:
+        """What is to be known before anything is tried."""
         blind = union(self.prepared.blind.values())
-        rows += ['left out for motes that fail or start late, because the process that causes these faults breaks the '
-                 'expectation by itself: ' + self.texts[number] for number in numbers_of(blind)]
-        return rows
+        return [*(note('broken', expectation=self.texts[number]) for number in self.plain.broken),
+                *(note('absent', kind=kind) for kind in self.absent), *self.prepared.left_out,
+                *(note('blind', expectation=self.texts[number]) for number in numbers_of(blind))]
 
     @property
-    def left_out(self) -> list[str]:
-        """The line about the single copies whose loss isn't tried, if there are any."""
-        return ['left out: ' + self.untried] if self.untried else []
-
-    @property
-    def remarks(self) -> list[str]:
-        """The notes, a line about the single copies whose loss isn't tried, because the results say nothing about
-        these copies, and lines about faults without an effect, about programs that draw random numbers, and about
-        numbers in programs that are too great, below 0, or 0 with a value of a parameter."""
-        of_numbers = calculated.remark(self.base, self.prepared.faults)
-        return [*self.notes, *self.left_out, *filter(None, [self.idle, self.late, of_numbers])]
+    def remarks(self) -> list[Note]:
+        """The notes; one on the single copies whose loss isn't tried, because the results say nothing about these
+        copies; and those on faults without an effect, on programs that draw random numbers, and on numbers in programs
+        that are too great, below 0, or 0 with a value of a parameter."""
+        return [*self.notes, *self.untried, *self.idle, *self.late, *calculated.remark(self.base, self.prepared.faults)]
 
     def digest(self) -> str:
         """The identity of a search, by which it differs from others."""
@@ -101,7 +94,6 @@ class Asking:
         except KeyboardInterrupt:
             search.is_stopped = True
             search.is_over()
-            runner.kill()
         finally:
             runner.close()
             kept.close()

@@ -2,6 +2,8 @@
 from __future__ import annotations
 
 import argparse
+from collections.abc import Iterator
+from itertools import product
 from pathlib import Path
 
 from motesim import packages
@@ -9,19 +11,22 @@ from motesim.plan.values import values_of
 from motesim.runner.interrupt import Break
 from motesim.faults import INTERRUPTED, Fault
 from motesim.files import refuse_inputs
-from motesim.judge.expectations import beside, parts_of, read_all, text_of
+from motesim.judge.expectations import beside, parts_of, text_of
 from motesim.judge.sentences import Names, Refused, Sentence, names_of
+from motesim.judge.several import read_all
 from motesim.plan.plan import Plan
 from motesim.plan.tables import Value, text_of_value
 from motesim.scenario.fields import Field
 from motesim.search.asking import Asking
 from motesim.search.change import NUMBERS, Base
-from motesim.search.faults import KINDS, Asked
-from motesim.search.found import Found, as_csv, earlier_files, found_by, write_files, write_whole
+from motesim.search.faults import Asked, refuse_unknown
+from motesim.search.found import Found, as_csv, as_json, coverage_of, earlier_files, found_by, write_files, write_whole
 from motesim.search.kept import Kept
 from motesim.search.numbers import LEAST, numbers_of_words
-from motesim.search.progress import ProgressOfSearch
-from motesim.search.say import as_json, covered_lines, last_line, line_of_earlier, result_line, verdict_lines
+from motesim.search.progress import ProgressOfSearch, told
+from motesim.search.say import (
+    covered_lines, last_line, line_of_earlier, note_in_words, repeated_lines, result_line, verdict_lines,
+)
 from motesim.search.search import Bounds, Search
 from motesim.search.shrink import parts_and_sentences
 from motesim.search.shrink_found import shrink_each
@@ -53,9 +58,7 @@ def asked_of(words: argparse.Namespace) -> Asked:
     implied = ','.join(kind for kind, names in (('values', numbers), ('parameters', given)) if names)
     faults = words.faults or implied or USUAL
     kinds = tuple(it.strip() for it in faults.split(','))
-    unknown = next((it for it in kinds if it not in KINDS), None)
-    if unknown is not None:
-        raise Fault('there is no kind of fault %s; allowed are: %s' % (unknown, ', '.join(KINDS)))
+    refuse_unknown(kinds)
     for kind, names, what in (('values', list(numbers), 'range=8..12'),
                               ('parameters', list(given), 'gap=10,20, of a plan')):
         if kind in kinds and not names:
@@ -141,7 +144,8 @@ def show(words: argparse.Namespace, asking: Asking, search: Search, folder: Path
     else:
         if words.json:
             write_whole(Path(words.json), as_text)
-        for row in [*asking.remarks, *covered_lines(search), *verdict_lines(search, found, asking.texts, words.all)]:
+        for row in [*map(note_in_words, asking.remarks), *covered_lines(coverage_of(search)),
+                    *verdict_lines(search, found, asking.texts, words.all)]:
             print(row)
         print()
         print(last_line(search, found, folder, asking.base))
@@ -172,6 +176,11 @@ def checked(files: list[str], processes: int) -> int:
 
 def status_of(words: argparse.Namespace) -> int:
     """Carries out the command line; returns the status."""
+    return told(words.progress, lambda: carried_out(words))
+
+
+def carried_out(words: argparse.Namespace) -> int:
+    """Searches, or checks fault studies; returns the status."""
     if words.jobs < 1 or words.at_most < 0 or words.random < 0 or words.seconds <= 0 or words.bytes < 1:
         raise Fault('--jobs, --seconds and --bytes are more than 0, and --at-most and --random 0 or more')
     if words.expectations and words.expect:
@@ -188,6 +197,9 @@ def status_of(words: argparse.Namespace) -> int:
     if words.repeat:
         return repeated(words, base, folder)
     asking = asking_of(words, base)
+    if asking.breaks_all:
+        raise Fault('%s breaks each of the expectations without a fault, so there is nothing to search for; tools/expect '
+                    'shows why' % words.scenario)
     refuse_all_inputs(words, asking, folder)
     search = searched(words, asking, folder)
     return show(words, asking, search, folder)
@@ -195,9 +207,6 @@ def status_of(words: argparse.Namespace) -> int:
 
 def searched(words: argparse.Namespace, asking: Asking, folder: Path) -> Search:
     """The search of a request, whose files are in a folder."""
-    if len(asking.plain.broken) == len(asking.texts):
-        raise Fault('%s breaks each of the expectations without a fault, so there is nothing to search for; tools/expect '
-                    'shows why' % words.scenario)
     folder.mkdir(parents=True, exist_ok=True)
     kept = Kept()
     kept.open(folder / STATE, asking.digest(), words.resume)
@@ -208,30 +217,41 @@ def searched(words: argparse.Namespace, asking: Asking, folder: Path) -> Search:
     return search
 
 
+# Searches with each value of a plan's parameters.
+
+def asked_again(words: argparse.Namespace, base: Base) -> Iterator[dict[str, Value]]:
+    """The values of parameters with which a plan is searched: each choice of one value for each parameter."""
+    asked = dict[str, list[Value]]()
+    for name, _, text in (it.partition('=') for it in words.repeat):
+        if base.plan is None or not text:
+            raise Fault('--repeat is for a parameter of a plan: tools/search NAME.plan.toml --repeat seed=1..5')
+        asked.setdefault(name, []).extend(values_of(text))
+        base.plan.with_given({name: 0})
+    return (dict(zip(asked, values)) for values in product(*asked.values()))
+
+
 def repeated(words: argparse.Namespace, base: Base, folder: Path) -> int:
-    """Searches once for each value of a plan's parameter, and shows with how many of them each set breaks an
-    expectation. Returns the status."""
-    name, _, text = words.repeat.partition('=')
-    if base.plan is None or not text:
-        raise Fault('--repeat is for a parameter of a plan: tools/search NAME.plan.toml --repeat seed=1..5')
+    """Searches once with each choice of values, and shows in how many of these searches each set breaks an expectation,
+    and how many lines it lacks in all of them. Returns the status."""
     if words.shrink or words.json or words.csv:
-        raise Fault('--repeat can\'t be combined with --shrink, --json or --csv')
-    base.plan.with_given({name: 0})
-    sets, values = dict[str, list[str]](), values_of(text)
-    for value in values:
-        shown = text_of_value(value)
-        asking = asking_of(words, base.with_parameters({name: value}))
-        here = folder / ('%s_%s' % (name, shown))
+        raise Fault('--repeat can\'t be combined with --shrink, --json or --csv: there is a found.csv in each folder')
+    sets, searches = dict[str, list[tuple[str, Found]]](), 0
+    for given in asked_again(words, base):
+        shown = ', '.join('%s = %s' % (name, text_of_value(it)) for name, it in given.items())
+        asking = asking_of(words, base.with_parameters(given))
+        if asking.breaks_all:
+            print('%s: each expectation is broken without a fault, so nothing is searched' % shown)
+            continue
+        here, searches = folder / shown.replace(' = ', '_').replace(', ', '_'), searches + 1
         search = searched(words, asking, here)
         found = found_by(search, asking.texts, asking.base)
         write_files(found, asking.base, asking.texts, here)
-        print('%s = %s: %s' % (name, shown, result_line(search, found)))
+        write_whole(here / 'found.csv', as_csv(found))
+        print('%s: %s' % (shown, result_line(search, found)))
         for it in found:
-            sets.setdefault(it.words, []).append(shown)
+            sets.setdefault(it.words, []).append((shown, it))
         if search.is_stopped:
             return INTERRUPTED
-    if sets:
-        print('\nbroken with these values of %s, out of %d:' % (name, len(values)))
-    for faults, its in sorted(sets.items(), key=lambda pair: -len(pair[1])):
-        print('%3d  %s  (%s)' % (len(its), faults, ', '.join(its)))
-    return 1 if sets else 0
+    for row in repeated_lines(list(sets.values()), searches):
+        print(row)
+    return 1 if sets else 0 if searches else 2

@@ -4,15 +4,12 @@ A path leads over links that don't lose everything. Motes that fail or start lat
 """
 from __future__ import annotations
 
-from collections.abc import Iterable, Sequence
+from collections.abc import Sequence
 from typing import NamedTuple
 
 from motesim.scenario import Scenario
 from motesim.search.change import Base, CannotChange
 from motesim.search.faults import FaultyPart, change_of
-
-# The most motes that a line names.
-SHOWN = 8
 
 
 class Cut(NamedTuple):
@@ -27,31 +24,6 @@ class Cut(NamedTuple):
     deaf: list[int]
     apart: list[tuple[list[int], list[int]]]
     is_own: bool
-
-    @property
-    def words(self) -> str:
-        """The cut in words."""
-        both = [it for it in self.mute if it in self.deaf]
-        rows = [_off(motes, how) for motes, how in (
-            (both, 'from %s or to %s'), ([it for it in self.mute if it not in both], 'from %s'),
-            ([it for it in self.deaf if it not in both], 'to %s')) if motes]
-        ways = ['no path is left from %s to %s%s' % (
-            motes_in_words(senders), motes_in_words(lost), ', or back' * ((lost, senders) in self.apart))
-            for senders, lost in self.apart if senders < lost or (lost, senders) not in self.apart]
-        rows += ['cuts the net: ' + '; '.join(ways)] if ways else []
-        return '; '.join(rows + ['no other mote is cut off'] * self.is_own)
-
-
-def _off(motes: Sequence[int], how: str) -> str:
-    return 'cuts %s off: no protocol can deliver %s' % (
-        motes_in_words(motes), how.replace('%s', 'it' if len(motes) == 1 else 'them'))
-
-
-def motes_in_words(motes: Iterable[int]) -> str:
-    """Motes, as in `mote 3` and `motes 3, 4 and 2 more`."""
-    its = sorted(motes)
-    shown = ', '.join(map(str, its[:SHOWN])) + (' and %d more' % (len(its) - SHOWN) if len(its) > SHOWN else '')
-    return ('mote ' if len(its) == 1 else 'motes ') + shown
 
 
 def numbers_in(bits: int) -> list[int]:

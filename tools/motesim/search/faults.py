@@ -14,7 +14,8 @@ from motesim.plan.tables import Value, text_of_value
 from motesim.search.added import DIES, LATE
 from motesim.search.change import NUMBERS, Base, CannotChange, Change
 from motesim.search.forms import FORMS, form_of
-from motesim.text import nearest
+from motesim.search.notes import Note, note
+from motesim.text import known, nearest
 
 # For each kind, its names in the help and in the lines about the coverage: in the singular, and in the plural.
 KINDS: dict[str, tuple[str, str]] = {
@@ -201,40 +202,36 @@ def _packets(base: Base, asked: Asked) -> Iterator[FaultyPart]:
                              ('link', sender, receiver), ('lose', sender, receiver, number + 1))
 
 
-def untried_copies(base: Base, asked: Asked) -> str:
-    """The copies that no fault of the kind `packets` loses, with an example and advice, or an empty text."""
+def untried_copies(base: Base, asked: Asked) -> list[Note]:
+    """A note on the copies that no fault of the kind `packets` loses, with an example, if there are any."""
+    if 'packets' not in asked.kinds:
+        return []
     losses = base.scenario_itself.losses
     tried = {(fault.effect[1], fault.effect[2], int(fault.effect[3]) - 1) for fault in _packets(base, asked)}
     copies = [(sender, receiver, number) for sender, receiver in _directed(base)
               for number in range(asked.sent[sender]) if (number + 1) % losses.get((sender, receiver), number + 2)]
     left = [copy for copy in copies if copy not in tried]
     if not left:
-        return ''
+        return []
     sender, receiver, number = left[0]
     is_lossy = losses.get((sender, receiver), asked.sent[sender] + 1) <= asked.sent[sender]
-    why = 'its link loses other packets already' if is_lossy else 'no `every` above 1 loses only this packet'
-    return ('{:,} of {:,} copies, such as packet {} of mote {} on its way to mote {}: {}. Use `--faults links,every`, '
-            'or let the receiver ignore the packet (docs/use/SCENARIO.md, "A lost first packet")'
-            .format(len(left), len(copies), number, sender, receiver, why))
+    return [note('untried', count=len(left), of=len(copies), sender=sender, receiver=receiver, number=number,
+                 is_lossy=is_lossy)]
 
 
-def without_effect(base: Base, faults: Sequence[FaultyPart], sent: Sequence[int]) -> str:
-    """The number of the faults that lose none of the packets of the run without a fault, with an example, or an empty
-    text.
+def without_effect(base: Base, faults: Sequence[FaultyPart], sent: Sequence[int]) -> list[Note]:
+    """A note on the faults that lose none of the packets of the run without a fault, with an example, if there are any.
 
     sent  how many packets each mote sends in the run without a fault
     """
     idle = [it for it in faults if _is_idle(base, it, sent)]
-    return ('{:,} of the {:,} faults {} no effect without other faults, because a mote sends too few packets; the '
-            'first: {}'.format(len(idle), len(faults), 'has' if len(idle) == 1 else 'have', idle[0].words)
-            if idle else '')
+    return [note('idle', count=len(idle), of=len(faults), first=idle[0].words)] if idle else []
 
 
-def after_packets(faults: Sequence[FaultyPart], last: int) -> str:
-    """The number of the motes' failures after the last packet of the run without a fault, or an empty text."""
+def after_packets(faults: Sequence[FaultyPart], last: int) -> list[Note]:
+    """A note on the motes' failures after the last packet of the run without a fault, if there are any."""
     late = [it for it in faults if it.effect[0] == 'fails' and int(it.effect[2]) > last]
-    return ('{:,} of the {:,} faults let a mote fail after the last packet, at {}, so they test no delivery: choose '
-            'earlier --moments'.format(len(late), len(faults), last) if late else '')
+    return [note('late', count=len(late), of=len(faults), last=last)] if late else []
 
 
 def _is_idle(base: Base, fault: FaultyPart, sent: Sequence[int]) -> bool:
@@ -324,13 +321,6 @@ def _parameters(base: Base, asked: Asked) -> Iterator[FaultyPart]:
                                  ('parameter', name, value))
 
 
-# The reason why a scenario has no fault of a kind.
-WHY_NONE = {
-    'packets': (': a link loses only packet n if its sender sends n + 1 to 2n + 1 packets, n is at least 1, and the '
-                'link loses no packet yet. docs/use/SCENARIO.md says how to lose only the first packet'),
-    'collisions': ': its packets collide already',
-    'links': ': no mote hears another one, or each link loses everything already',
-}
 MAKERS: dict[str, Callable[[Base, Asked], Iterator[FaultyPart]]] = {
     'links': _links, 'both-ways': _both_ways, 'every': _every, 'packets': _packets, 'motes': _motes,
     'deaths': _deaths, 'late': _late, 'collisions': _collisions, 'queues': _queues, 'values': _values,
@@ -338,11 +328,16 @@ MAKERS: dict[str, Callable[[Base, Asked], Iterator[FaultyPart]]] = {
 }
 
 
+def refuse_unknown(kinds: Sequence[str]) -> None:
+    """Raises a `Fault` if one of these kinds doesn't exist."""
+    for kind in kinds:
+        if kind not in KINDS:
+            raise Fault('there is no kind of fault %s; %s' % (kind, known(kind, [*KINDS])))
+
+
 def faults_of(base: Base, asked: Asked) -> list[FaultyPart]:
     """The faults of the kinds that are wanted."""
-    unknown = next((kind for kind in asked.kinds if kind not in KINDS), None)
-    if unknown is not None:
-        raise Fault('there is no kind of fault %s; allowed are: %s' % (unknown, ', '.join(KINDS)))
+    refuse_unknown(asked.kinds)
     found = [fault for kind in KINDS if kind in asked.kinds for fault in MAKERS[kind](base, asked)]
     # (two kinds may have the same fault)
     by_effect = {fault.effect: fault for fault in reversed(found)}

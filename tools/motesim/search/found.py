@@ -5,7 +5,8 @@ import csv
 import io
 import json
 import os
-import re
+from collections import Counter
+from collections.abc import Sequence
 from dataclasses import dataclass
 from functools import cached_property
 from pathlib import Path
@@ -13,16 +14,19 @@ from typing import Any
 
 from motesim.faults import Fault
 from motesim.judge.shortfall import Shortfall
+from motesim.scenario.fields import Field
+from motesim.scenario.made import OF_SEARCH, WITH_FAULT
 from motesim.search.change import Base
 from motesim.search.cuts import Cut, cut_of
 from motesim.search.faults import FaultyPart, change_of
+from motesim.search.notes import Note
 from motesim.search.search import Search
+from motesim.search.sets import Tally
 from motesim.search.work import numbers_of
 from motesim.toml import MARK
 
-LONGEST_FILE_NAME = 120
-# The first line of a scenario that a search has written, and the number of characters that are read of it.
-OF_SEARCH, LONGEST_LINE = re.compile(r'# .* with a fault: |# Made small by tools/shrink from '), 1000
+# The most characters of a name, and those that are read of a first line.
+LONGEST_FILE_NAME, LONGEST_LINE = 120, 1000
 
 
 @dataclass
@@ -39,10 +43,6 @@ class Found:
     def cut(self) -> Cut | None:
         """The motes that the faults cut off from others for any protocol, if there are any."""
         return cut_of(self.faults, self.base) if self.base else None
-
-    @property
-    def cut_words(self) -> str:
-        return self.cut.words if self.cut else ''
 
     @property
     def severity(self) -> str:
@@ -75,6 +75,13 @@ def toml_text(text: str) -> str:
     return json.dumps(text, ensure_ascii=False).replace('\x7f', '\\u007f')
 
 
+def expectations_text(sentences: Sequence[str], fields: Sequence[Field] = ()) -> str:
+    """The text of a file of expectations, with the format of packets."""
+    rows = ''.join('  %s,\n' % toml_text(it) for it in sentences)
+    formulas = ', '.join('%s = %s' % (it.name, toml_text(it.formula)) for it in fields)
+    return 'expect = [\n%s]\n' % rows + ('fields = { %s }\n' % formulas) * bool(fields)
+
+
 def write_whole(path: Path, text: str) -> None:
     """Writes a file completely or not at all."""
     beside = path.with_name('.%s.new' % path.name)
@@ -94,14 +101,13 @@ def write_files(found: list[Found], base: Base, sentences: list[str], folder: Pa
             name += 'x'
         names.add(name)
         text = base.text(change_of(it.faults, base))
-        head = ['# %s with a fault: %s.' % (Path(base.name).name, it.words), '# This breaks:']
+        head = ['# %s%s%s.' % (Path(base.name).name, WITH_FAULT, it.words), '# This breaks:']
         head += ['#   %s' % ' '.join(sentence.split()) for sentence in it.sentences]
         it.file = str(folder / (name + '.toml'))
         # (a byte order mark is allowed only at the front)
         write_whole(Path(it.file), ''.join(row + '\n' for row in head) + text.removeprefix(MARK))
-        rows = ''.join('  %s,\n' % toml_text(sentence) for sentence in sentences)
-        write_whole(folder / (name + '.expect.toml'),
-                    '# The expectations of %s without the fault.\nexpect = [\n%s]\n' % (Path(base.name).name, rows))
+        write_whole(folder / (name + '.expect.toml'), '# The expectations of %s without the fault.\n%s' % (
+            Path(base.name).name, expectations_text(sentences, base.scenario_itself.fields)))
 
 
 def earlier_files(found: list[Found], small: list[str], folder: Path) -> list[str]:
@@ -119,7 +125,7 @@ def _is_counter_example(path: Path) -> bool:
     """Returns whether a search has written a scenario, by its first line."""
     try:
         with path.open(encoding='utf-8') as file:
-            return bool(OF_SEARCH.match(file.readline(LONGEST_LINE)))
+            return OF_SEARCH.match(file.readline(LONGEST_LINE)) is not None
     except (OSError, UnicodeDecodeError):
         return False
 
@@ -130,16 +136,46 @@ def is_whole(search: Search) -> bool:
 
 
 def row_of(it: Found, sentence: str) -> dict[str, Any]:
+    cut = it.cut or Cut([], [], [], False)
+    apart = ('%s > %s' % (' '.join(map(str, senders)), ' '.join(map(str, lost))) for senders, lost in cut.apart)
     return {'expectation': sentence, 'size': len(it.faults), 'faults': it.words, 'file': it.file,
-            'missing': it.lacks.missing, 'wanted': it.lacks.wanted, 'cut': it.cut_words}
+            'missing': it.lacks.missing, 'wanted': it.lacks.wanted, 'mute': ' '.join(map(str, cut.mute)),
+            'deaf': ' '.join(map(str, cut.deaf)), 'apart': '; '.join(apart)}
 
 
 def as_csv(found: list[Found]) -> str:
     """A row for each minimal set and expectation that it breaks."""
     text = io.StringIO()
-    rows = csv.DictWriter(text, ['expectation', 'size', 'faults', 'file', 'missing', 'wanted', 'cut'],
+    rows = csv.DictWriter(text, ['expectation', 'size', 'faults', 'file', 'missing', 'wanted', 'mute', 'deaf', 'apart'],
                           lineterminator='\n')
     rows.writeheader()
     for it in found:
         rows.writerows(row_of(it, sentence) for sentence in it.sentences)
     return text.getvalue()
+
+
+def coverage_of(search: Search) -> dict[str, Any]:
+    """The number of faults of each kind, the tallies of the sets by their size, that of the sample, and why sets weren't
+    run."""
+    def tally(it: Tally) -> dict[str, Any]:
+        return {**it.__dict__, 'all': it.is_whole}
+    bounds = search.bounds
+    return {
+        'faults': len(search.known.faults), 'kinds': Counter(it.kind for it in search.known.faults),
+        'covered': {size: tally(it) for size, it in search.tallies.items()},
+        'sample': {**tally(search.sample), 'seed': bounds.seed, 'asked': bounds.sample} if search.sample.sets else None,
+        'reasons': dict(search.why.most_common())}
+
+
+def as_json(search: Search, found: list[Found], sentences: list[str], name: str, notes: list[Note]) -> str:
+    """All results of a search, for another program."""
+    broken = {sentence for it in found for sentence in it.sentences}
+    return json.dumps({
+        'scenario': name, **coverage_of(search), 'ended_by': search.ended_by or None, 'runs': search.runs,
+        'seconds': round(search.seconds, 3), 'notes': [it._asdict() for it in notes],
+        'holds': [sentences[number] for number in numbers_of(search.holding)],
+        'broken': [sentences[it] for it in numbers_of(search.known.wanted) if sentences[it] in broken],
+        'found': [{'faults': [fault.words for fault in it.faults], 'effects': [fault.effect for fault in it.faults],
+                   'expectations': it.sentences, 'file': it.file, 'cut': it.cut._asdict() if it.cut else None,
+                   'lines': it.lacks._asdict()} for it in found],
+    }, indent=1, ensure_ascii=False) + '\n'

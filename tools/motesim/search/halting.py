@@ -5,8 +5,6 @@ run.
 """
 from __future__ import annotations
 
-from collections.abc import Iterable
-
 from motesim.judge.claims import Claims, NoClaim
 from motesim.judge.sentences import Lines, Sentence
 
@@ -34,11 +32,3 @@ def has_halted(report: bytes, mote: int, moment: int) -> bool:
     at, _, words = report[begin:end].rpartition(b'\n')[2].partition(b' ')
     return words == b'halt' and int(at) <= moment
 
-
-def without_halts(report: bytes, failed: Iterable[tuple[int, int]]) -> bytes:
-    """The report without the lines `halt` of motes that failed, each named with the moment of its failure. A mote that
-    halted earlier keeps its line."""
-    for mote, moment in failed:
-        end = trace_of(report, mote)[1]
-        report = report[:end].removesuffix(b'\n%d halt' % moment) + report[end:]
-    return report

@@ -7,7 +7,6 @@ leave out the line `halt` are left out too.
 """
 from __future__ import annotations
 
-import re
 from collections.abc import Callable
 from typing import NamedTuple
 
@@ -17,19 +16,20 @@ from motesim.search.added import DIES, LATE, NoRoom, added_name, halts
 from motesim.search.change import Base, CannotChange, Change
 from motesim.search.faults import FaultyPart
 from motesim.search.halting import counts_halt, has_halted
+from motesim.search.notes import Note, note
 from motesim.search.sets import Set, union
 from motesim.search.work import mask_of
 from motesim.judge.claims import Claims
-from motesim.judge.judge import Judge
+from motesim.judge.finder import Finder
 from motesim.judge.sentences import Sentence
 from motesim.judge.verdicts import decided, is_broken
+from motesim.report import Line, Packet, Report
 from motesim.report.lazy import LazyReport
 from motesim.scenario.scenario import Scenario
 
 ADDED = {'fails': DIES, 'late': LATE}
-INTO = {DIES: 'fail', LATE: 'start late'}
-# The lines of a trace about a packet.
-OF_PACKETS = re.compile(rb'^(\d+) (?:send|recv|lost|collide) ', re.M)
+# The kinds of lines about a packet.
+OF_PACKETS = ('send', 'recv', 'lost', 'collide')
 # The advice if a run reaches a limit.
 LIMITS = ' (an option such as --seconds sets the limits of a run)'
 
@@ -52,33 +52,23 @@ def plain_run(base: Base, program: Runner, sentences: list[Sentence]) -> Plain:
         why = '%s%s' % (fault, LIMITS)
     if why:
         raise Fault('%s has no report, even if no fault is added: %s' % (base.name, why))
-    sections = answer.report.partition(b'\nmedium\n')[0].split(b'\nmote ')
+    trace, motes = LazyReport(answer.report).trace, range(base.scenario_itself.motes)
     return Plain(answer.report, broken_in(base.scenario_itself, answer.report, sentences, program),
-                 [section.count(b' send ') for section in sections],
-                 max(map(int, OF_PACKETS.findall(answer.report)), default=0))
+                 [len(trace.moments(mote, 'send')) for mote in motes],
+                 max((at for mote in motes for kind in OF_PACKETS for at in trace.moments(mote, kind)), default=0))
 
 
 def broken_in(scenario: Scenario, report: bytes, sentences: list[Sentence], program: Runner) -> list[int]:
     """The numbers of the sentences that are broken in the run of a scenario, which has this report."""
     said = decided(Claims(scenario), scenario.text, sentences, program.limits)
-    judge = Judge(LazyReport(report), scenario)
-    return [number for number, its in enumerate(zip(said, sentences)) if is_broken(*its, judge)]
+    finder = Finder(LazyReport(report), scenario)
+    return [number for number, its in enumerate(zip(said, sentences)) if is_broken(*its, finder)]
 
 
-def without_process(report: bytes, mote: int, process: str) -> list[bytes]:
-    """The lines of a report without those lines of one mote that name a process, and without the name of the mote's
-    program."""
-    rows, here = [], False
-    named = re.compile(rb'\d+ (?:start|leave|take \d+|post \d+|drop \d+|full|busy) %s\b' % process.encode())
-    for row in report.split(b'\n'):
-        if row.startswith(b'mote '):
-            here = row.startswith(b'mote %d ' % mote)
-            row = b'mote %d' % mote if here else row
-        elif row == b'medium':
-            here = False
-        if not (here and named.match(row)):
-            rows.append(row)
-    return rows
+def without_process(data: bytes, mote: int, process: str) -> list[Line | Packet]:
+    """The lines of a report, and its packets, without those lines of one mote that name a process."""
+    report = Report.parse(data)
+    return [*(it for it in report.lines() if it.mote != mote or it.process != process), *report.medium]
 
 
 def difference(base: Base, plain: Plain, program: Runner, mote: int, kind: str, text: str) -> tuple[str, bytes]:
@@ -95,8 +85,8 @@ def difference(base: Base, plain: Plain, program: Runner, mote: int, kind: str, 
     if here == there:
         return '', answer.report
     rows = [(one, other) for one, other in zip(here, there) if one != other]
-    one, other = rows[0] if rows else (b'more lines', b'fewer')
-    return 'the process that is added changes the run: %s for %s' % (one.decode(), other.decode()), b''
+    one, other = map(str, rows[0] if rows else ('more lines', 'fewer'))
+    return 'the process that is added changes the run: %s for %s' % (one, other), b''
 
 
 class Prepared(NamedTuple):
@@ -106,7 +96,7 @@ class Prepared(NamedTuple):
     halting  the faults that halt a mote
     """
     faults: list[FaultyPart]
-    left_out: list[str]
+    left_out: list[Note]
     blind: dict[int, int]
     halting: frozenset[int]
 
@@ -120,7 +110,7 @@ def prepare(base: Base, plain: Plain, program: Runner, sentences: list[Sentence]
     """Leaves out the faults that can't be made, and notes the reasons."""
     seen = dict[tuple[int, str], tuple[str, int]]()
     kept: list[FaultyPart] = []
-    left_out, blind, halting = dict[tuple[int, str], list[str]](), dict[int, int](), set[int]()
+    left_out, blind, halting = dict[tuple[int, str], dict[str, None]](), dict[int, int](), set[int]()
     claims = Claims(base.scenario_itself)
     for fault in faults:
         kind = ADDED.get(str(fault.effect[0]))
@@ -130,8 +120,7 @@ def prepare(base: Base, plain: Plain, program: Runner, sentences: list[Sentence]
                 seen[mote, kind] = _tried(base, plain, program, sentences, mote, kind)
             why, mask = seen[mote, kind]
             if why:
-                kinds = left_out.setdefault((mote, why), [])
-                kinds += [INTO[kind]] if INTO[kind] not in kinds else []
+                left_out.setdefault((mote, why), {})[str(fault.effect[0])] = None
                 continue
             program_of = base.tables['programs'][base.scenario_itself.places[mote].program]
             if kind == DIES and halts(program_of) and not has_halted(plain.report, mote, moment):
@@ -144,13 +133,12 @@ def prepare(base: Base, plain: Plain, program: Runner, sentences: list[Sentence]
     return Prepared(kept, _left_out(left_out), blind, frozenset(halting))
 
 
-def _left_out(reasons: dict[tuple[int, str], list[str]]) -> list[str]:
-    """A line for each reason, with the motes for which it is the reason and what they can't do."""
-    motes_of: dict[tuple[str, str], list[str]] = {}
+def _left_out(reasons: dict[tuple[int, str], dict[str, None]]) -> list[Note]:
+    """A note for each reason, with the motes for which it is the reason and what they can't do."""
+    motes_of: dict[tuple[str, tuple[str, ...]], list[int]] = {}
     for (mote, why), kinds in reasons.items():
-        motes_of.setdefault((why, ' or '.join(kinds)), []).append(str(mote))
-    return ['%s %s can\'t be made to %s: %s' % ('mote' if len(motes) == 1 else 'motes', ', '.join(motes), kinds, why)
-            for (why, kinds), motes in motes_of.items()]
+        motes_of.setdefault((why, tuple(kinds)), []).append(mote)
+    return [note('unmade', motes=motes, kinds=kinds, why=why) for (why, kinds), motes in motes_of.items()]
 
 
 def _tried(base: Base, plain: Plain, program: Runner, sentences: list[Sentence], mote: int,

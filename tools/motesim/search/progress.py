@@ -2,14 +2,28 @@
 from __future__ import annotations
 
 import json
+import sys
 import time
+from collections.abc import Callable
 from typing import TYPE_CHECKING
 
+from motesim.faults import FAILED, Fault
 from motesim.progress import Progress, clock
 from motesim.search.sets import count_of
 
 if TYPE_CHECKING:
     from motesim.search.search import Search
+
+
+def told(as_json: bool, work: Callable[[], int]) -> int:
+    """The status of a command's work. If its progress is in JSON, an error of it is a line of JSON too."""
+    try:
+        return work()
+    except Fault as fault:
+        if not as_json:
+            raise
+        print(json.dumps({'error': str(fault)}), file=sys.stderr)
+        return FAILED
 
 
 class ProgressOfSearch(Progress):

@@ -11,8 +11,9 @@ from dataclasses import dataclass, field
 from typing import NamedTuple
 
 from motesim.faults import Fault
-from motesim.judge.claims import Claims
-from motesim.judge.judge import Broken, Judge
+from motesim.judge.claims import OF_TEXT, Claims
+from motesim.judge.finder import Finder
+from motesim.judge.reasons import Broken
 from motesim.judge.sentences import Sentence, SentenceFault, names_of, read_sentence
 from motesim.judge.verdicts import decided, reason
 from motesim.report.lazy import LazyReport
@@ -22,7 +23,6 @@ from motesim.scenario.scenario import Scenario
 from motesim.search.change import Base, Change
 from motesim.search.faults import MOTES_OF, Effect, put_into
 from motesim.search.following import follow, names_motes_in_quotes
-from motesim.search.halting import without_halts
 from motesim.search.net import PARTS, Net, NetStep, loss_steps, mote_steps, net_of, number_steps, program_steps
 from motesim.why.cause import NO_CAUSE, Cause, cause_of
 from motesim.why.source import Source
@@ -41,8 +41,8 @@ class Case(NamedTuple):
 
 
 class Way(NamedTuple):
-    """The way in which a sentence is broken: the kind of the reason, whether lines are missing, whether there are none
-    at all, and whether a line of the report shows it. An extra line, or a wrong line, is a different way from a missing
+    """The way in which a sentence is broken: the kind of the test, whether lines are missing, whether there are none at
+    all, and whether a line of the report shows it. An extra line, or a wrong line, is a different way from a missing
     line."""
     kind: str
     is_few: bool
@@ -135,7 +135,7 @@ class Shrinking:
         is_wanted = [is_first_broken, *[False] * (len(words) - 1)]
         try:
             said = decided(Claims(scenario), text, read, self.program.limits, failed)
-            if any(it is not None and bool(it) != wanted for it, wanted in zip(said, is_wanted)):
+            if any(type(it) not in OF_TEXT and bool(its) != wanted for it, its, wanted in zip(read, said, is_wanted)):
                 return None
             answer = self.program.answer(text.encode())
         except ProgramFault:
@@ -144,8 +144,8 @@ class Shrinking:
         is_long = self.longest is not None and len(answer.report) > self.longest and scenario.end < self.first_end
         if answer.status or is_long:
             return None
-        judge = Judge(LazyReport(without_halts(answer.report, failed.items())), scenario)
-        broken = [reason(*its, judge) for its in zip(said, read)]
+        finder = Finder(LazyReport(answer.report), scenario)
+        broken = [reason(*its, finder) for its in zip(said, read)]
         return Seen(answer.report, scenario, broken) if [it is not None for it in broken] == is_wanted else None
 
     def scenario(self, text: str) -> Scenario:

@@ -10,20 +10,23 @@ from pathlib import Path
 from motesim.runner.interrupt import Break
 from motesim.faults import INTERRUPTED, Fault
 from motesim.files import refuse_inputs
-from motesim.judge.expectations import beside, fields_beside, parts_of, read_all, text_of
+from motesim.judge.expectations import beside, fields_beside, parts_of, text_of
 from motesim.judge.sentences import names_of
+from motesim.judge.several import read_all
 from motesim.runner import Runner, program_path
+from motesim.scenario.made import MADE_SMALL
 from motesim.scenario.scenario import Scenario
 from motesim.search.change import Base
 from motesim.search.faults import effect_of
-from motesim.search.found import toml_text, write_whole
+from motesim.search.found import expectations_text, write_whole
 from motesim.search.net import PARTS, Net, net_of
 from motesim.search.prepare import plain_run
-from motesim.search.progress import ProgressOfSearch
+from motesim.search.progress import ProgressOfSearch, told
 from motesim.search.say import counted
 from motesim.search.shrink import Case, Shrinking, case_of, parts_and_sentences
 from motesim.search.smaller import statements_in
 from motesim.search.work import LIMITS
+from motesim.why.say import of_cause
 
 OTHER_CAUSE = 'Another cause now: --fault, or --keep with an expectation or parts of the scenario, may prevent it'
 STOPPED = 'it was stopped before the first step, so no file is written'
@@ -58,11 +61,10 @@ def motes_before(shrinking: Shrinking, net: Net, name: str) -> str:
 def write_result(shrinking: Shrinking, net: Net, name: str, path: Path) -> None:
     """Writes the scenario with its expectation. `net` is the one from which it was made."""
     case = shrinking.case
-    head = '# Made small by tools/shrink from %s. It still breaks: %s\n' % (name, ' '.join(case.sentence.split()))
+    head = '%s%s. It still breaks: %s\n' % (MADE_SMALL, name, ' '.join(case.sentence.split()))
     head += motes_before(shrinking, net, name)
-    rows = ''.join('  %s,\n' % toml_text(it) for it in (case.sentence, *case.keeps))
     write_whole(path, head + shrinking.text)
-    write_whole(beside(path), 'expect = [\n%s]\n' % rows)
+    write_whole(beside(path), expectations_text((case.sentence, *case.keeps), shrinking.fields))
 
 
 def runs_of(case: Case) -> int:
@@ -98,7 +100,7 @@ class Work:
         self.path = Path(asked.scenario)
         self.output = Path(asked.output or self.path.name.removesuffix('.toml') + '.small.toml')
         self.begun = time.monotonic()
-        self.progress = ProgressOfSearch()
+        self.progress = ProgressOfSearch(asked.progress)
 
     def why_over(self, runs: int) -> str:
         """The reason why the tool can't make this many runs; an empty text if it can."""
@@ -168,12 +170,17 @@ class Work:
 def differing(shrinking: Shrinking) -> list[str]:
     """The lines about the causes, if the small scenario breaks the sentence for another one."""
     causes = shrinking.causes()
-    return [OTHER_CAUSE, *('  %s %s' % (when, it.words or 'none was found') for when, it in zip(
+    return [OTHER_CAUSE, *('  %s %s' % (when, of_cause(it) or 'none was found') for when, it in zip(
         ('before:', 'now:   '), causes))] if causes else []
 
 
 def status_of(asked: argparse.Namespace) -> int:
     """The work of tools/shrink; returns the status."""
+    return told(asked.progress, lambda: status_within(asked))
+
+
+def status_within(asked: argparse.Namespace) -> int:
+    """The work of tools/shrink, which Ctrl-C ends early; returns the status."""
     with Break() as stop:
         program = Runner(program_path(), LIMITS._replace(seconds=asked.seconds), lambda: stop.is_asked)
         try:

@@ -20,15 +20,16 @@ from pathlib import Path
 from typing import Any
 
 from motesim.faults import Fault
-from motesim.judge.expectations import changed, read_all, text_of
+from motesim.judge.expectations import changed, text_of
 from motesim.judge.sentences import names_of
+from motesim.judge.several import read_all
 from motesim.search.asking import Asking
 from motesim.search.change import Base
 from motesim.search.faults import Asked
-from motesim.search.found import found_by
+from motesim.search.found import coverage_of, found_by
 from motesim.search.kept import Kept
 from motesim.search.numbers import LEAST, numbers_of_words
-from motesim.search.say import covered_lines
+from motesim.search.say import covered_lines, note_in_words
 from motesim.search.search import Bounds
 from motesim.toml import NoToml, read_toml
 
@@ -117,9 +118,9 @@ def wrong_with(study: dict[str, Any], asking: Asking, processes: int) -> list[st
     none."""
     search = asking.search(processes, Kept())
     found = found_by(search, asking.texts)
-    rows = asking.notes
+    rows = [*map(note_in_words, asking.notes)]
     if not all(tally.is_done for tally in search.tallies.values()):
-        rows += covered_lines(search)
+        rows += covered_lines(coverage_of(search))
     if 'counts' in study:
         counts = Counter(len(it.faults) for it in found)
         sizes = [counts[size] for size in range(1, study.get('at_most', 1) + 1)]
@@ -144,6 +145,6 @@ def check_studies(path: Path, processes: int) -> tuple[int, int]:
         wrong = wrong_with(study, asking, processes)
         passed, failed = passed + (not wrong), failed + bool(wrong)
         print('%s %s: %s' % ('wrong  ' if wrong else 'holds  ', path.name, study.get('about', 'a study')))
-        for row in [*wrong, *asking.left_out]:
+        for row in [*wrong, *map(note_in_words, asking.untried)]:
             print('          ' + row)
     return passed, failed

@@ -78,7 +78,7 @@ def survey_of(base: Base, faults: Sequence[FaultyPart], sentences: Mapping[int, 
         return None
     claims = Claims(base.scenario_itself)
     try:
-        rows = [(number, row) for number, it in sentences.items() for row in claims.of(it)]
+        rows = [(number, claim.text) for number, it in sentences.items() for claim in claims.of(it)]
         lines = answers(base.source.encode(), [row for _, row in rows], *(OPTIONS[it] for it in kinds),
                         '--at-most', str(at_most), '--workers', str(min(workers, MOST_WORKERS)), limits=limits,
                         asks_end=asks_end)

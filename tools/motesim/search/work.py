@@ -12,8 +12,8 @@ from motesim.search.added import NoRoom
 from motesim.search.faults import FaultyPart, change_of
 from motesim.search.sets import Set
 from motesim.search.single_packets import loses_more
-from motesim.judge.claims import Claims, NoClaim
-from motesim.judge.judge import Judge
+from motesim.judge.claims import OF_TEXT, Claims, NoClaim
+from motesim.judge.finder import Finder
 from motesim.judge.sentences import Sentence
 from motesim.judge.shortfall import Shortfall, shortfall_of
 from motesim.judge.verdicts import NoVerdict, decided, is_broken
@@ -91,8 +91,8 @@ class Bench:
             wanted = [self.sentences[number] for number in numbers]
             claims = Claims(scenario, {} if change.added or change.parameters else self.same)
             said = decided(claims, text, wanted, self.limits, failing, self.checker)
-            # (`loses_more` needs the report)
-            if not any(it is None or it for it in said) and all(it.kind != 'packets' for it in its):
+            # (sentences about texts and `loses_more` need the report)
+            if not any(said) and not OF_TEXT.keys() & map(type, wanted) and all(it.kind != 'packets' for it in its):
                 return Outcome(found, RUN)
             answer = self.program.answer(text.encode())
         except (CannotChange, NoRoom, NoClaim, NoVerdict) as fault:
@@ -104,10 +104,10 @@ class Bench:
         losses = self.base.with_parameters(change.parameters).scenario_itself.losses
         if loses_more(its, answer.report, losses):
             return Outcome(found, MORE)
-        judge = Judge(LazyReport(answer.report), scenario)
-        broken = [place for place, its in enumerate(zip(said, wanted)) if is_broken(*its, judge)]
-        lacks = shortfall_of(judge, wanted, broken) if broken else Shortfall()
-        return Outcome(found, RUN, mask_of([numbers[place] for place in broken]), lacks=lacks)
+        finder = Finder(LazyReport(answer.report), scenario)
+        broken = [number for number, its, it in zip(numbers, said, wanted) if is_broken(its, it, finder)]
+        meant = (claim for it in wanted if broken and type(it) not in OF_TEXT for claim in claims.of(it, failing))
+        return Outcome(found, RUN, mask_of(broken), lacks=shortfall_of(finder, meant))
 
     def failing(self, task: Task) -> dict[int, int]:
         """The motes that the faults halt, each with its moment."""

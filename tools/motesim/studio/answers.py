@@ -8,11 +8,13 @@ from motesim.explain.say import in_words
 from motesim.explain.warnings import warnings
 from motesim.faults import Fault
 from motesim.judge import expectations
-from motesim.judge.judge import Judge
+from motesim.judge.finder import Finder
 from motesim.judge.sentences import names_of
+from motesim.judge.several import read_all
 from motesim.report import Report
 from motesim.report.run import Run
 from motesim.scenario import Scenario
+from motesim.scenario.fields import Field
 from motesim.scenario.places import Place, place_of
 from motesim.scenario.in_programs import place_of_token
 
@@ -30,9 +32,10 @@ class Finished(NamedTuple):
         return self.run._replace(name=name)
 
 
-def finished(number: int, text: str, data: bytes, name: str) -> Finished:
-    """A run from its report."""
+def finished(number: int, text: str, data: bytes, name: str, fields: tuple[Field, ...] = ()) -> Finished:
+    """A run from its report, with the format of its packets."""
     scenario = Scenario.parse(text)
+    scenario.fields = fields
     return Finished(number, text, Run(name, Report.parse(data), scenario, (name or 'text', text)), scenario)
 
 
@@ -41,25 +44,11 @@ def column16(text: str, column: int) -> int:
     return len(text[:column].encode('utf-16-le')) // 2
 
 
-def unwrapped(lines: list[str]) -> list[str]:
-    """An explanation as text: the marked place, and below it the rules, each in one long line."""
-    head = 0
-    if lines and lines[0].endswith(':'):
-        head = next((row for row, line in enumerate(lines) if row and not line.startswith('  ')), len(lines))
-    found = lines[:head]
-    for line in lines[head:]:
-        if line.startswith('  ') and len(found) > head:
-            found[-1] += ' ' + line.strip()
-        else:
-            found.append(line)
-    return found
-
-
 def fault(text: str, line: str) -> dict[str, Any]:
     """An error in the words of tools/explain, with its place in the text and the corrected text if they are known."""
     data = text.encode('utf-8')
     place, found = place_of_fault(data, line), correction_of(text)
-    return {'line': line, 'words': unwrapped(explanation(TEXT, data, line)),
+    return {'line': line, 'words': explanation(TEXT, data, line),
             'corrected': found.applied(text) if found and found.edits else None,
             'place': stretch16(text, place) if place else None}
 
@@ -110,11 +99,18 @@ def checks(done: Finished, saved: str, expected: tuple[str, str] | None) -> dict
 
 def marks(part: expectations.Part, done: Finished) -> list[dict[str, Any]]:
     """A mark for each sentence of a part, and one for its report, if it has one."""
-    done.scenario.fields = part.fields
-    sentences = expectations.read_all(part.sentences, names_of(done.scenario))
-    verdicts = expectations.of_report(part, sentences, Judge(done.run.report, done.scenario))
+    sentences = read_all(part.sentences, names_of(done.scenario))
+    verdicts = expectations.of_report(part, sentences, Finder(done.run.report, done.scenario))
     return [{'sentence': it.sentence, 'holds': it.holds, 'required': number < part.required, 'row': it.row,
              'more': it.more, 'remark': it.remark} for number, it in enumerate(verdicts)]
+
+
+def fields_of(expected: tuple[str, str] | None) -> tuple[Field, ...]:
+    """The format of packets that a file of expectations declares; none if the file has an error."""
+    try:
+        return expectations.parts_of(expected[1], expected[0])[0].fields if expected else ()
+    except Fault:
+        return ()
 
 
 def sentences_for(text: str, saved: str, expected: tuple[str, str] | None) -> list[str]:
@@ -133,5 +129,4 @@ def change_of(expected: tuple[str, str] | None) -> dict[str, Any] | None:
         first = expectations.parts_of(source, name)[1]
     except (Fault, IndexError):
         return None
-    about = 'the first change' if first.name == 'change 1 of %s' % name else first.name
-    return {'try': 'Try: ' + about, 'replace': first.replace}
+    return {'try': 'Try: ' + (first.about or 'the first change'), 'replace': first.replace}

@@ -9,7 +9,6 @@ from __future__ import annotations
 import contextlib
 import json
 import os
-import signal
 import subprocess
 import sys
 import tempfile
@@ -18,24 +17,28 @@ from pathlib import Path
 from typing import Any, NamedTuple
 
 from motesim.faults import Fault
-from motesim.runner import Limits
+from motesim.runner import Limits, ending
+from motesim.scenario.fields import Field
 from motesim.search.faults import KINDS
+from motesim.search.found import expectations_text
+from motesim.search.say import lines_of
 
 TOOLS = Path(__file__).resolve().parent.parent.parent
 SEARCH = 'from motesim.commands.search import main; main()'
 SHRINK = 'from motesim.commands.shrink import main; main()'
 # (two kinds need values, for which the page doesn't ask)
 OF_PAGE = [kind for kind in KINDS if kind not in ('values', 'parameters')]
-MOST_FAULTS, NAME = 3, 'scenario.toml'
+MOST_FAULTS, NAME, EXPECTED = 3, 'scenario.toml', 'scenario.expect.toml'
 GONE = 'The studio no longer has this search. Search again.'
 
 
 class Wanted(NamedTuple):
-    """A search: a text with sentences, the kinds of faults, and the most faults at once."""
+    """A search: a text with sentences, the kinds of faults, the most faults at once, and the format of packets."""
     text: str
     sentences: list[str]
     kinds: list[str]
     at_most: int
+    fields: tuple[Field, ...] = ()
 
 
 def wanted_of(text: str, sentences: list[str], kinds: object, at_most: object) -> Wanted:
@@ -50,67 +53,64 @@ def wanted_of(text: str, sentences: list[str], kinds: object, at_most: object) -
     return Wanted(text, sentences, kinds, at_most)
 
 
-class Going:
-    """A process of a search, with the folder in which it works, and its progress."""
+class Command:
+    """A command of the tools in a process of its own, which reports its progress and its error in JSON."""
 
-    def __init__(self, number: int, wanted: Wanted, limits: Limits):
-        self.number, self.wanted, self.limits = number, wanted, limits
-        self.room = tempfile.TemporaryDirectory(prefix='motesim-search-')
-        self.folder = Path(self.room.name)
+    def __init__(self, code: str, words: list[str], folder: Path):
         self.progress: dict[str, Any] = {}
-        self.errors = ''
-        self.found: dict[str, Any] | None = None
-        self.shrinking: subprocess.Popen[bytes] | None = None
-        (self.folder / NAME).write_text(wanted.text, 'utf-8', newline='')
-        words = [NAME, '--faults', ','.join(wanted.kinds), '--at-most', str(wanted.at_most), '--json', 'found.json',
-                 '-o', 'found', '--progress', '--seconds', str(limits.seconds), '--bytes',
-                 str(limits.report)]
-        for sentence in wanted.sentences:
-            words += ['--expect', sentence]
-        self.process = self.started(SEARCH, words)
-        self.reader = threading.Thread(target=self.read, daemon=True)
-        self.reader.start()
-
-    def started(self, code: str, words: list[str]) -> subprocess.Popen[bytes]:
+        self.error = ''
         here = {**os.environ, 'PYTHONPATH': str(TOOLS), 'PYTHONDONTWRITEBYTECODE': '1'}
         for name in filter(here.get, ('MOTESIM', 'MOTECHECK')):
             here[name] = str(Path(here[name]).resolve())
-        return subprocess.Popen([sys.executable, '-c', code, *words], cwd=self.folder, env=here,
-                                stdin=subprocess.DEVNULL, stdout=subprocess.DEVNULL, stderr=subprocess.PIPE,
-                                start_new_session=True)
+        self.process = ending.started(lambda: subprocess.Popen(
+            [sys.executable, '-c', code, *words, '--progress'], cwd=folder, env=here, stdin=subprocess.DEVNULL,
+            stdout=subprocess.DEVNULL, stderr=subprocess.PIPE, process_group=0))
+
+    def read(self) -> None:
+        """Reads the reports of the command up to its end."""
+        assert self.process.stderr
+        with self.process.stderr as rows:
+            for row in rows:
+                with contextlib.suppress(ValueError):
+                    self.progress = json.loads(row)
+        self.error = self.progress.get('error', '')
+        ending.end(self.process)
+
+
+class Going:
+    """The process of a search, with the folder in which it works."""
+
+    def __init__(self, number: int, wanted: Wanted, limits: Limits):
+        self.number, self.limits = number, limits
+        self.room = tempfile.TemporaryDirectory(prefix='motesim-search-')
+        self.folder = Path(self.room.name)
+        self.found: dict[str, Any] | None = None
+        self.shrinking: Command | None = None
+        for name, text in (NAME, wanted.text), (EXPECTED, expectations_text(wanted.sentences, wanted.fields)):
+            (self.folder / name).write_text(text, 'utf-8', newline='')
+        self.search = Command(SEARCH, [
+            NAME, '--faults', ','.join(wanted.kinds), '--at-most', str(wanted.at_most), '--json', 'found.json', '-o',
+            'found', '--seconds', str(limits.seconds), '--bytes', str(limits.report)], self.folder)
+        self.reader = threading.Thread(target=self.read, daemon=True)
+        self.reader.start()
 
     def read(self) -> None:
         """Reads the progress of the search up to its end, and then its results."""
-        assert self.process.stderr
-        for row in self.process.stderr:
-            try:
-                self.progress = json.loads(row)
-            except ValueError:
-                self.errors += row.decode('utf-8', 'backslashreplace')
-        self.process.stderr.close()
-        self.process.wait()
+        self.search.read()
         with contextlib.suppress(OSError, ValueError):
             self.found = json.loads((self.folder / 'found.json').read_text('utf-8'))
 
-    def stop(self, process: subprocess.Popen[bytes]) -> None:
-        """Ends a process, and the processes that it started."""
-        with contextlib.suppress(ProcessLookupError):
-            os.killpg(process.pid, signal.SIGKILL)
-        process.wait()
-
     def close(self) -> None:
-        for process in self.process, self.shrinking:
-            if process:
-                self.stop(process)
+        for command in filter(None, (self.search, self.shrinking)):
+            ending.end(command.process)
         self.reader.join(5)
         self.room.cleanup()
 
     def state(self) -> dict[str, Any]:
         is_over = not self.reader.is_alive()
-        fault = ''
-        if is_over and self.found is None:
-            fault = self.errors.strip().removeprefix('search: ') or 'the search ended without a result'
-        return {'progress': self.progress, 'over': is_over, 'fault': fault, 'found': self.found if is_over else None}
+        fault = self.search.error or 'the search ended without a result' if is_over and self.found is None else ''
+        return {'progress': self.search.progress, 'over': is_over, 'fault': fault,
+                'found': {**self.found, 'said': lines_of(self.found)} if is_over and self.found else None}
 
     def one(self, index: object) -> dict[str, Any]:
         """One of the sets that were found."""
@@ -130,12 +130,10 @@ class Going:
         words = [NAME, sentence, '-o', 'small.toml', '--seconds', str(self.limits.seconds)]
         for effect in self.one(index)['effects']:
             words += ['--fault', ' '.join(map(str, effect))]
-        process = self.started(SHRINK, words)
-        self.shrinking = process
-        errors = process.communicate()[1].decode('utf-8', 'backslashreplace').strip()
-        if process.returncode:
-            # (lines about the progress may be before the message)
-            raise Fault(errors.partition('shrink: ')[2] or 'the shrinking was stopped')
+        self.shrinking = command = Command(SHRINK, words, self.folder)
+        command.read()
+        if command.process.returncode:
+            raise Fault(command.error or 'the shrinking was stopped')
         return {'text': (self.folder / 'small.toml').read_text('utf-8')}
 
 

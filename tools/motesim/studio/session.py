@@ -131,7 +131,8 @@ class Session:
                 if got.status:
                     line = got.fault.decode('utf-8', 'backslashreplace').rstrip('\n')
                     return framed({'fault': answers.fault(text, line)}, b'')
-                done = answers.finished(ticket, text, got.report, _text(asked, 'name'))
+                fields = answers.fields_of(self.expectations(asked))
+                done = answers.finished(ticket, text, got.report, _text(asked, 'name'), fields)
                 self.runs.check(ticket)
                 columns = Columns(done.run.report)
         except Superseded:
@@ -202,7 +203,8 @@ class Session:
         """Starts a search for the faults that break the expectations for a text."""
         text, expected = _text(asked, 'text'), self.expectations(asked)
         sentences = answers.sentences_for(text, _text(asked, 'saved'), expected)
-        wanted = wanted_of(text, sentences, asked.get('kinds'), asked.get('at_most'))
+        wanted = wanted_of(text, sentences, asked.get('kinds'), asked.get('at_most'))._replace(
+            fields=answers.fields_of(expected))
         return as_json({'number': self.searches.begin(wanted)})
 
     def searched(self, asked: dict[str, Any]) -> Answered:

@@ -8,12 +8,13 @@ from __future__ import annotations
 from typing import Any, NamedTuple
 
 from motesim.faults import Fault
-from motesim.judge.judge import Broken
+from motesim.judge.reasons import Broken
 from motesim.judge.sentences import Value
 from motesim.report.run import Run
 from motesim.why.miss import last_of, misses
 from motesim.why.pages import source_of
 from motesim.why.question import Asked, Asker, Missing
+from motesim.why.say import about, of_miss
 from motesim.why.source import Source
 
 MOST_LINES = 8
@@ -55,7 +56,7 @@ def note_of(run: Run, sentence: str, broken: Broken | None, more: tuple[str, ...
         return Note(sentence, broken.why)
     if isinstance(found, Asked):
         row = source.traces.row(found.where)
-        return Note(sentence, found.remark or broken.why, (Line(_text(source, row), row),))
+        return Note(sentence, about(source, found) or broken.why, (Line(_text(source, row), row),))
     if found.sentence.deed.way == 'set' and len(found.motes) > 1:
         # (any of the motes may print the missing values, at any moment, so no line is near them)
         return Note(sentence, found.remark)
@@ -71,7 +72,7 @@ def _near(asker: Asker, missing: Missing) -> tuple[Line, ...]:
     deed = missing.sentence.deed
     has_value = deed.way in ('just', 'set') or isinstance(deed.patterns[0][-1], Value)
     try:
-        lines = [Line('mote %d: %s' % (mote, it.words), it.row if it.is_wanted or not has_value else 0)
+        lines = [Line('mote %d: %s' % (mote, of_miss(asker.source, it)), it.row if it.is_wanted or not has_value else 0)
                  for mote, its in misses(asker, missing) for it in sorted(its, key=lambda it: not it.is_wanted)]
     except Fault:
         return ()

@@ -4,24 +4,25 @@ from __future__ import annotations
 from typing import NamedTuple
 
 from motesim.faults import Fault
-from motesim.why.chain import chain
-from motesim.why.miss import misses
+from motesim.why.chain import Hop, chain
+from motesim.why.miss import Miss, misses
 from motesim.why.question import Asked, Asker
 from motesim.why.source import Source
 
 
 class Cause(NamedTuple):
-    """The kinds of the causes in a chain, those of `Hop.how`; or, if lines are missing, that of the nearest miss, one of
-    `Miss.kind`. The words are about the nearest cause."""
+    """The kinds of the causes in a chain, those of `Link.how`; or, if lines are missing, that of the nearest miss. And
+    the nearest cause in the run."""
     kinds: frozenset[str]
-    words: str
+    source: Source | None = None
+    nearest: Hop | Miss | None = None
 
     def differs(self, first: Cause) -> bool:
         """Returns whether this run has a cause of another kind than the first one."""
         return not self.kinds <= first.kinds
 
 
-NO_CAUSE = Cause(frozenset(), '')
+NO_CAUSE = Cause(frozenset())
 
 
 def cause_of(source: Source, sentence: str) -> Cause:
@@ -32,7 +33,7 @@ def cause_of(source: Source, sentence: str) -> Cause:
     except Fault:
         return NO_CAUSE
     if isinstance(found, Asked):
-        its = [(hop.how, hop.because) for hop in chain(source, found.where)]
-    else:
-        its = [(near[0].kind, near[0].words) for _, near in misses(asker, found)[:1] if near]
-    return Cause(frozenset(kind for kind, _ in its), its[0][1] if its else '')
+        hops = chain(source, found.where)
+        return Cause(frozenset(hop.link.how for hop in hops), source, hops[0])
+    near = [near[0] for _, near in misses(asker, found)[:1] if near]
+    return Cause(frozenset(it.kind for it in near), source, near[0]) if near else NO_CAUSE

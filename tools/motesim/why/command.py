@@ -7,16 +7,16 @@ import sys
 from pathlib import Path
 
 from motesim.faults import Fault
-from motesim.judge.expectations import beside, parts_of, read_all, text_of
+from motesim.judge.expectations import beside, parts_of, text_of
 from motesim.judge.sentences import names_of
+from motesim.judge.several import read_all
 from motesim.judge.verdicts import breaks
-from motesim.why.chain import Hop, as_json, chain, on_values, path_of, rows
+from motesim.why.chain import Hop, chain, path_of
 from motesim.why.diverge import diverged
-from motesim.why.diverge import rows as parted_rows
-from motesim.why.miss import as_json as missed
 from motesim.why.miss import misses
-from motesim.why.miss import rows as near_rows
 from motesim.why.question import Asked, Asker, Missing
+from motesim.why.say import (about, chain_as_json, misses_as_json, of_path, on_values, rows_of_chain, rows_of_misses,
+                             rows_of_two, words_of)
 from motesim.why.source import Source, read_source
 from motesim.why.state import as_json as state_as_json
 from motesim.why.state import read_state
@@ -36,13 +36,15 @@ def show_chain(source: Source, asked: Asked, is_short: bool) -> None:
     """Writes a chain as text."""
     hops = chain(source, asked.where)
     first = hops[0]
-    print('mote %d, line %d of the report: %d %s' % (first.where.mote, first.row, first.at, first.words))
-    if asked.remark:
-        print(asked.remark)
+    print('mote %d, line %d of the report: %d %s' % (first.where.mote, first.row, first.at,
+                                                       words_of(source, first.where)))
+    remark = about(source, asked)
+    if remark:
+        print(remark)
     print()
-    print('\n'.join(rows(short(hops) if is_short else hops, source.scenario.fields)))
+    print('\n'.join(rows_of_chain(source, short(hops) if is_short else hops, source.scenario.fields)))
     print()
-    print(path_of(hops))
+    print(of_path(path_of(hops)))
     remark = on_values(source, hops)
     if remark:
         print(remark)
@@ -59,7 +61,7 @@ def show_state(source: Source, asked: argparse.Namespace) -> int:
     """Shows the state of a mote."""
     replay, at, heading = read_state(source, ' '.join(asked.state))
     state = state_as_json(replay, at)
-    print(json.dumps(state, indent=1) if asked.json else '\n'.join([heading, *state_rows(state)]))
+    print(json.dumps(state, indent=1) if asked.json else '\n'.join([heading, *(it.text for it in state_rows(state))]))
     return 0
 
 
@@ -77,8 +79,8 @@ def of_first(asker: Asker, other: Asker, question: str) -> Asked | None:
     """The line in another run of the first mote that has it there and lacks it in this run. None if the question isn't
     a sentence about motes, or if no such mote has the line in the other run."""
     for one in asker.lacking(asker.read(question)):
-        if all(mote < other.traces.motes for mote in other.judge.chosen(one.motes)):
-            found = None if breaks([one], other.judge)[0] else other.answer(one)
+        if all(mote < other.traces.motes for mote in other.finder.chosen(one.motes)):
+            found = None if breaks([one], other.finder)[0] else other.answer(one)
             if isinstance(found, Asked):
                 return found
     return None
@@ -97,7 +99,7 @@ def show_other(asker: Asker, missing: Missing, asked: argparse.Namespace) -> Non
     if isinstance(found, Asked):
         print('%s has the line: mote %d, line %d: %s' % (other.name, found.where.mote, other.traces.row(found.where),
                                                          other.traces.text(found.where)))
-        print('\n'.join(parted_rows(other, source, diverged(other, source, found.where))))
+        print('\n'.join(rows_of_two(other, source, diverged(other, source, found.where))))
     else:
         print('%s does not have the line either: %s' % (other.name, found.remark))
 
@@ -108,18 +110,18 @@ def show_why(source: Source, asked: argparse.Namespace) -> int:
     found = answered(asker, asked)
     if not isinstance(found, Asked):
         near = misses(asker, found)
-        print(json.dumps({'question': asked.question, **missed(found, near)}, indent=1) if asked.json else
-              '\n'.join(near_rows(found, near)))
+        print(json.dumps({'question': asked.question, **misses_as_json(source, found, near)}, indent=1) if asked.json
+              else '\n'.join(rows_of_misses(source, found, near)))
         if asked.other is not None:
             show_other(asker, found, asked)
         return 1
     if asked.other is not None:
         other = read_source(asked.other, asked.other_scenario)
-        print('\n'.join(parted_rows(source, other, diverged(source, other, found.where))))
+        print('\n'.join(rows_of_two(source, other, diverged(source, other, found.where))))
     elif asked.json:
         hops = chain(source, found.where)
-        print(json.dumps({'question': asked.question, 'holds': found.holds, 'about': found.remark or None,
-                          **as_json(source, hops)}, indent=1))
+        print(json.dumps({'question': asked.question, 'holds': found.holds, 'about': about(source, found) or None,
+                          **chain_as_json(source, hops)}, indent=1))
     else:
         show_chain(source, found, asked.short)
     return 0
@@ -130,7 +132,7 @@ def broken_beside(source: Source, path: Path) -> str:
     if not path.exists():
         raise Fault('a question is needed: an expectation, a line, --watch or --state; or a file %s' % path)
     texts = parts_of(text_of(path), str(path))[0].sentences
-    found = breaks(read_all(texts, names_of(source.scenario)), Asker(source).judge)
+    found = breaks(read_all(texts, names_of(source.scenario)), Asker(source).finder)
     for text, broken in zip(texts, found):
         if broken:
             return text

@@ -12,7 +12,7 @@ from typing import NamedTuple
 
 from motesim.cells import aligned
 from motesim.faults import Fault
-from motesim.judge.judge import Span, within
+from motesim.judge.links import Span, within
 from motesim.report import FIELDS, Report
 from motesim.report.columns import CODES, KINDS
 from motesim.scenario.fields import Field, of_line

@@ -6,34 +6,88 @@ from __future__ import annotations
 
 from collections.abc import Iterator, Set
 from functools import cached_property
-from typing import Any, NamedTuple
+from typing import NamedTuple
 
 from motesim.judge.hearing import unheard
-from motesim.judge.claim_words import period_text
-from motesim.judge.judge import Event, Span
+from motesim.judge.links import Span
 from motesim.judge.sentences import Pattern, Value
-from motesim.scenario.fields import in_words as in_fields
-from motesim.why.chain import count, in_words, used_up
+from motesim.replay.mote import Reached, Replay
+from motesim.replay.translate import Around, Program, Statement
+from motesim.report import Line, Packet
 from motesim.why.fate import Fate, fate_of
 from motesim.why.question import Asker, Missing
-from motesim.replay.mote import Reached, Replay
 from motesim.why.source import At, Source
-from motesim.replay.translate import Program
 
 MOST_COPIES, MOST_OTHERS = 8, 3
+WHOLE: Span = 0, None
+
+
+class Moved(NamedTuple):
+    """The wanted line, too late or too early for a limit."""
+    line: Line
+    limit: int
+
+
+class Unheard(NamedTuple):
+    """The mote can't hear the sender."""
+    sender: int
+
+
+class Untaken(NamedTuple):
+    """The copy of a packet, which no process took."""
+    packet: Packet
+    fate: Fate
+
+
+class Absent(NamedTuple):
+    """No such statement of the process, or of the whole program, could write the line; `has_others`: with other values,
+    they could."""
+    process: str | None
+    statement: str
+    has_others: bool
+
+
+class Away(NamedTuple):
+    """A process isn't on the process list: the line with which it left, or started after the moment `until`."""
+    process: str
+    line: Line | None
+    until: int
+
+
+class Times(NamedTuple):
+    """How often something happened in a time, which is the whole run if it never happened outside, and when last."""
+    number: int
+    span: Span
+    last: int
+
+
+class Passed(NamedTuple):
+    """A statement that could write the line; and the outermost condition around it that wasn't true, or not the last
+    time."""
+    statement: int
+    reached: Times
+    around: Around | None = None
+    tested: Times = Times(0, WHOLE, 0)
+    is_never: bool = False
+
+
+class Waiting(NamedTuple):
+    """A process waits at a statement, up to a moment or the end; its condition was tested so often in this time."""
+    process: str
+    statement: int
+    since: int
+    until: int | None
+    tests: int
 
 
 class Miss(NamedTuple):
-    """A near miss: its kind, a sentence about it, and the line that shows it, if there is one. `is_wanted` says whether
-    it is about exactly the line or the packet that the sentence wants."""
+    """A near miss at a mote: its kind, its facts (of a halt, it has none), and the line of the report that shows it, or
+    0. `is_wanted` says whether it is about exactly the line or the packet that the sentence wants."""
     kind: str
-    words: str
+    mote: int
+    facts: Moved | Unheard | Untaken | Absent | Away | Passed | Waiting | None
     row: int = 0
     is_wanted: bool = False
-
-
-def times(number: int) -> str:
-    return {1: 'once', 2: 'twice'}.get(number, '%d times' % number)
 
 
 def last_of(span: Span, source: Source) -> int:
@@ -57,7 +111,8 @@ class _Misses:
         self.pattern = missing.sentence.deed.patterns[0]
         self.kind = str(self.pattern[0])
         # (the process that the sentence names)
-        self.name = self.pattern[1] if self.kind in ('print', 'start', 'leave') and len(self.pattern) > 1 else None
+        name = self.pattern[1] if self.kind in ('print', 'start', 'leave') and len(self.pattern) > 1 else None
+        self.name = name if isinstance(name, str) else None
         self.sender = sender_of(self.pattern)
         self.begin, self.end = missing.span[0], last_of(missing.span, asker.source)
         self.lines = self.source.traces.lines(mote)
@@ -80,26 +135,22 @@ class _Misses:
         """The wanted line, at another moment."""
         own = [it for it in self.missing.found if it.line.mote == self.mote]
         for it in [it for it in own if it.line.at > self.end][:1]:
-            yield self.moved('late', it, '%s too late, because the expectation allows up to %d' % (
-                count(it.line.at - self.end, 'moment'), self.end))
+            yield Miss('late', self.mote, Moved(it.line, self.end), it.row, True)
         for it in [it for it in own if it.line.at < self.begin][-1:]:
-            yield self.moved('early', it, '%s too early' % count(self.begin - it.line.at, 'moment'))
-
-    def moved(self, kind: str, event: Event, how: str) -> Miss:
-        return Miss(kind, '`%s`, at %d: %s' % (str(event.line).partition(' ')[2], event.line.at, how), event.row, True)
+            yield Miss('early', self.mote, Moved(it.line, self.begin), it.row, True)
 
     def unheard(self) -> Iterator[Miss]:
-        """The reason why no packet of the sender that the sentence names can arrive."""
-        if self.sender is not None and self.sender < self.source.traces.motes:
-            why = unheard(self.source.scenario, self.mote, self.sender)
-            if why:
-                yield Miss('unheard', 'it cannot hear mote %d: %s' % (self.sender, why), is_wanted=True)
+        """The fact that no packet of the sender that the sentence names can arrive."""
+        if self.sender is not None and self.sender < self.source.traces.motes and unheard(
+                self.source.scenario, self.mote, self.sender):
+            yield Miss('unheard', self.mote, Unheard(self.sender), is_wanted=True)
 
     def halted(self) -> Iterator[Miss]:
-        last = self.lines[-1].split(' ') if self.lines else ['', '']
-        if last[1] == 'halt' and int(last[0]) <= self.end:
-            yield Miss('halted', '; '.join(['it halted at %s' % last[0], *used_up(self.source, self.mote)]),
-                       self.source.traces.row(At(self.mote, len(self.lines) - 1)))
+        if self.lines and self.lines[-1].kind == 'halt' and self.lines[-1].at <= self.end:
+            yield Miss('halted', self.mote, None, self.row(len(self.lines) - 1))
+
+    def row(self, place: int) -> int:
+        return self.source.traces.row(At(self.mote, place))
 
     # Packets
 
@@ -108,7 +159,7 @@ class _Misses:
         wanted = next((it for it in reversed(self.pattern) if isinstance(it, Value)), None)
         if wanted is None or (self.kind == 'recv' and len(self.pattern) < 4):
             return set()
-        return self.asker.judge.links.values(wanted, self.mote)
+        return self.asker.finder.links.values(wanted, self.mote)
 
     def copies(self) -> Iterator[Miss]:
         """The last copies that this mote didn't get, up to the last moment: those with a wanted value, or, if there are
@@ -118,26 +169,20 @@ class _Misses:
             return
         lost, values = [*self.lost()], self.values()
         is_any = not values and self.missing.sentence.deed.way == 'any'
-        wanted = [it for it in lost if int(it[0][3]) in values]
-        for words, row, fate in wanted[-MOST_COPIES:] or lost[-MOST_OTHERS:]:
-            value = words[3] + in_fields(self.source.scenario.fields, int(words[3]))
-            yield Miss(fate.how, 'packet %s of mote %s, with the value %s, was sent at %s: %s' % (
-                words[2], words[1], value, words[0], fate.words), fate.row or row, bool(wanted) or is_any)
+        wanted = [it for it in lost if it[0].value in values]
+        for packet, fate in wanted[-MOST_COPIES:] or lost[-MOST_OTHERS:]:
+            yield Miss(fate.how, self.mote, Untaken(packet, fate), fate.row, bool(wanted) or is_any)
 
-    def lost(self) -> Iterator[tuple[list[str], int, Fate]]:
-        """The copies that didn't arrive, or that no process took: the words and the row of their packet, and their
-        fate. For a line `recv` they only have to arrive."""
-        for row, packet in self.source.traces.packets_to(self.mote, self.sender):
+    def lost(self) -> Iterator[tuple[Packet, Fate]]:
+        """The copies that didn't arrive, or that no process took: their packet, and their fate. For a line `recv` they
+        only have to arrive."""
+        for place in self.source.traces.packets_to(self.mote, self.sender):
+            packet = self.source.traces.report.log[place]
             if packet.at > self.end:
                 return
-            words = str(packet).split(' ')
-            fate = fate_of(self.source, row, words, self.mote)
-            if fate.is_loss and not (self.kind == 'recv' and self.is_received(words)):
-                yield words, row, fate
-
-    def is_received(self, words: list[str]) -> bool:
-        place = self.source.traces.arrivals(self.mote).get((int(words[1]), int(words[2])))
-        return place is not None and ' recv ' in self.lines[place]
+            fate = fate_of(self.source, place, self.mote)
+            if fate.is_loss and not (self.kind == 'recv' and fate.is_received):
+                yield packet, fate
 
     # The program
 
@@ -154,66 +199,65 @@ class _Misses:
         """The processes that could write the line."""
         return [it.number for it in self.program.processes if self.name in (None, it.name)]
 
+    def own(self) -> Iterator[tuple[int, Statement]]:
+        """The statements that write lines of this kind, by their numbers."""
+        processes = self.processes()
+        for number, it in enumerate(self.program.statements, 1):
+            if it.kind == self.kind and it.process in processes:
+                yield number, it
+
+    def able(self) -> list[int]:
+        """The statements that could write the line. One whose value is always another one couldn't."""
+        values = self.values()
+        return [number for number, it in self.own() if it.constant is None or not values or it.constant in values]
+
     def absent(self) -> Miss | None:
         """The fact that no statement of the program could write the line, if it has none."""
-        processes = self.processes() if self.kind in ('print', 'send') else []
-        if not processes or any(it.kind == self.kind and it.process in processes for it in self.program.statements):
+        if self.kind not in ('print', 'send') or not self.processes() or self.able():
             return None
-        whose = 'process %s' % self.name if self.name else 'program %s' % self.source.traces.programs[self.mote]
-        return Miss('statement', 'its %s has no `%s`' % (whose, self.kind), is_wanted=True)
+        return Miss('statement', self.mote, Absent(self.name, self.kind, any(self.own())), is_wanted=True)
 
     def process(self) -> Iterator[Miss]:
         """A process that isn't on the process list at the last moment."""
         if self.name is None:
             return
-        its = [(int(words[0]), words[1], At(self.mote, place)) for place, words in enumerate(
-            line.split(' ') for line in self.lines) if words[1] in ('start', 'leave') and words[2] == self.name]
-        before = [it for it in its if it[0] <= self.end]
-        if before and before[-1][1] == 'leave':
-            yield Miss('process', '%s had left at %d' % (self.name, before[-1][0]),
-                       self.source.traces.row(before[-1][2]))
-        elif not before and self.kind != 'start':
-            when = 'up to %d: it started at %d' % (self.end, its[0][0]) if its else 'at any moment'
-            yield Miss('process', 'its process %s was not there %s' % (self.name, when),
-                       self.source.traces.row(its[0][2]) if its else 0)
+        its = [(place, it) for place, it in enumerate(self.lines) if it.kind in ('start', 'leave')
+               and it.process == self.name]
+        before = [it for it in its if it[1].at <= self.end]
+        if before and before[-1][1].kind == 'leave' or its and not before and self.kind != 'start':
+            place, line = before[-1] if before else its[0]
+            yield Miss('process', self.mote, Away(self.name, line, self.end), self.row(place))
+        elif not its and self.kind != 'start':
+            yield Miss('process', self.mote, Away(self.name, None, self.end))
 
     def statements(self) -> Iterator[Miss]:
         """The statements that could write the line: how often they were reached, and the condition that wasn't true.
         Then the statements at which their processes wait."""
-        processes = self.processes() if self.kind in ('print', 'send', 'leave') else []
-        for number, it in enumerate(self.program.statements if self.kind != 'leave' and processes else (), 1):
-            if it.kind == self.kind and it.process in processes:
-                yield self.statement(number)
-        for process in processes:
+        for number in self.able() if self.kind in ('print', 'send') else ():
+            yield self.statement(number)
+        for process in self.processes() if self.kind in ('print', 'send', 'leave') else ():
             yield from self.waits(process)
 
-    def inside(self, reached: list[Reached]) -> list[Reached]:
-        return [it for it in reached if self.begin <= it.at <= self.end]
+    def times(self, every: list[Reached]) -> Times:
+        """How often a statement was reached or tested in the wanted time."""
+        here = [it for it in every if self.begin <= it.at <= self.end]
+        return Times(len(here), self.missing.span if len(here) < len(every) else WHOLE, here[-1].at if here else 0)
 
     def statement(self, number: int) -> Miss:
-        """Reports how often a statement was reached; and the outermost condition around it that wasn't true, or not the
+        """Tells how often a statement was reached; and the outermost condition around it that wasn't true, or not the
         last time."""
-        its = [it for it in self.replay.reached if it.statement == number and it.holds is None]
-        here = self.inside(its)
-        when = period_text(self.missing.span) if len(here) < len(its) else ''
-        words = '%s was %s%s' % (in_words(self.program, number), 'reached %s' % times(len(here)) if here else
-                                 'never reached', when)
-        words += ', the last time at %d' % here[-1].at if here else ''
+        found = [it for it in self.replay.reached if it.statement == number and it.holds is None]
         for around in self.program.statement(number).around:
             every = [it for it in self.replay.reached if it.statement == around.number and it.holds is not None]
-            tests = self.inside(every)
-            if tests and tests[-1].holds == around.is_else:
-                wanted = 'false' if around.is_else else 'true'
-                was = 'was never' if all(it.holds == around.is_else for it in tests) else 'was not'
-                return Miss('condition', '%s; %s was tested %s%s, and %s %s%s, at %d' % (
-                    words, in_words(self.program, around.number), times(len(tests)),
-                    period_text(self.missing.span) if len(tests) < len(every) else '', was, wanted,
-                    ', the last time' if was == 'was never' else ' the last time', tests[-1].at))
-        return Miss('reached', words)
+            tests = [it.holds for it in every if self.begin <= it.at <= self.end]
+            if tests and tests[-1] == around.is_else:
+                return Miss('condition', self.mote, Passed(number, self.times(found), around, self.times(every),
+                                                           set(tests) == {around.is_else}))
+        return Miss('reached', self.mote, Passed(number, self.times(found)))
 
     def waits(self, process: int) -> Iterator[Miss]:
-        """Reports the statement at which a process waits at the last moment, and how often its condition has been
-        tested since it began to wait."""
+        """Tells at which statement a process waits at the last moment, and how often its condition has been tested
+        since it began to wait."""
         calls = self.replay.calls_of(process, self.end)
         if not calls or not calls[-1].is_end or not calls[-1].waits or not calls[-1].waits[-1]:
             # (it was never called, it ended, or the mote halted during the call)
@@ -221,12 +265,9 @@ class _Misses:
         waits = calls[-1].waits[-1]
         here = [it for it in self.replay.reached if it.statement == waits and it.at <= self.end]
         came = max(place for place, it in enumerate(here) if it.holds is None)
-        tests = len(here) - came - 1
-        until = '' if self.end == self.source.scenario.end else ' until %d' % self.end
-        words = '%s %s at %s from %d%s' % (self.program.processes[process].name, 'waited' if until else 'has waited',
-                                           in_words(self.program, waits), here[came].at, until)
-        yield Miss('waits', words + ('; its condition was tested %s in this time, and was never true' % times(tests)
-                                     if tests else ', and nothing called it in this time'))
+        until = None if self.end == self.source.scenario.end else self.end
+        yield Miss('waits', self.mote, Waiting(self.program.processes[process].name, waits, here[came].at, until,
+                                               len(here) - came - 1))
 
 
 def misses(asker: Asker, missing: Missing) -> list[tuple[int, list[Miss]]]:
@@ -234,23 +275,3 @@ def misses(asker: Asker, missing: Missing) -> list[tuple[int, list[Miss]]]:
     motes."""
     return [(mote, list(_Misses(asker, missing, mote).found())) for mote in missing.motes[:MOST_OTHERS]]
 
-
-def as_json(missing: Missing, found: list[tuple[int, list[Miss]]]) -> dict[str, Any]:
-    """The near misses for programs."""
-    return {
-        'holds': False, 'about': missing.remark, 'line': None, 'from': missing.span[0], 'to': missing.span[1],
-        'motes': [{'mote': mote, 'misses': [{'kind': it.kind, 'words': it.words, 'line': it.row or None}
-                                            for it in its]} for mote, its in found],
-    }
-
-
-def rows(missing: Missing, found: list[tuple[int, list[Miss]]]) -> list[str]:
-    """The near misses as text."""
-    lines = [missing.remark]
-    for mote, its in found:
-        lines += ['', 'Near misses at mote %d:' % mote]
-        for it in its:
-            lines.append('  %s%s' % (it.words, ' (line %d of the report)' % it.row if it.row else ''))
-        if not its:
-            lines.append('  none was found')
-    return lines

@@ -9,8 +9,9 @@ from typing import Any
 
 from motesim.faults import Fault
 from motesim.report.run import Run
-from motesim.why.chain import Explainer, cause_of, wait_of
+from motesim.why.chain import cause_of, wait_of
 from motesim.scenario.in_programs import ScenarioFile
+from motesim.why.say import Reasons
 from motesim.why.source import At, Source
 
 # A page with more lines than this doesn't have their causes: the search for them would last longer than making the
@@ -50,7 +51,7 @@ class Causes:
 
     def add(self, mote: int) -> None:
         source, begin = self.source, self.begins[mote]
-        explain, links = Explainer(source, mote), source.replay(mote).links
+        reasons, links = Reasons(source, mote), source.replay(mote).links
         for place, link in enumerate(links):
             cause = cause_of(source, At(mote, place))
             assert cause is not None
@@ -61,7 +62,7 @@ class Causes:
                 self.causes.append(2 * back if back > 0 else -2 * back + 1)
             if link.how in ('call', 'timer', 'boot'):
                 at = source.traces.moment(At(mote, place))
-                text = explain.because(place), wait_of(link, at, at - 1) if link.how == 'timer' else ''
+                text = reasons.because(place, link), wait_of(link, at, at - 1) if link.how == 'timer' else ''
                 known = self.texts.get(text)
                 if known is None and len(self.texts) < MOST_REASONS:
                     known = self.texts[text] = len(self.texts)

@@ -11,12 +11,14 @@ from dataclasses import dataclass, replace
 from functools import cached_property
 
 from motesim.faults import Fault
+from motesim.judge.claims import periods
+from motesim.judge.finder import IN_TIME, Event, Finder, Row
 from motesim.judge.hearing import hearing
-from motesim.judge.judge import Apart, Broken, Event, Judge, Row, Span, periods, within
+from motesim.judge.links import Apart, Span, within
+from motesim.judge.reasons import Broken
 from motesim.judge.remarks import outcome_never
 from motesim.judge.sentences import Copies, Count, Does, Hears, Motes, Packets, Sentence, names_of, read_sentence
 from motesim.judge.verdicts import breaks
-from motesim.why.fate import loss_of
 from motesim.why.source import At, Source, Traces
 
 LINE = re.compile(r'\s*(?:(?:mote\s+)?(\d+)\s*:\s*)?(?:line\s+)?(\d+)\s*', re.I)
@@ -31,10 +33,12 @@ NO_LINE = 'the expectation holds, and no line of a trace shows it'
 
 @dataclass(frozen=True)
 class Asked:
-    """The line that a question is about. `holds` says whether the question's sentence holds."""
+    """The line that a question is about. `holds` says whether the question's sentence holds; `lost` has the motes for
+    which the medium lost copies of the line's packet, if the sentence is about such copies."""
     where: At
     holds: bool
     remark: str = ''
+    lost: tuple[int, ...] = ()
 
 
 @dataclass(frozen=True)
@@ -78,11 +82,11 @@ def line_asked(traces: Traces, question: str) -> At | None:
         mote = int(text[1])
         if mote >= traces.motes:
             raise Unasked('there is no mote %d: the motes are 0 to %d' % (mote, traces.motes - 1))
-        if text[2] not in traces.lines(mote):
+        if text[2] not in traces.texts(mote):
             raise Unasked("mote %d has no line '%s'" % (mote, text[2]))
-        return At(mote, traces.lines(mote).index(text[2]))
+        return At(mote, traces.texts(mote).index(text[2]))
     bare = BARE.fullmatch(question)
-    found = next((mote for mote in range(traces.motes) if bare and bare[1] in traces.lines(mote)), None)
+    found = next((mote for mote in range(traces.motes) if bare and bare[1] in traces.texts(mote)), None)
     if bare and found is not None:
         raise Unasked('a line of a trace is named with its mote, %d: %s, or by its number' % (found, bare[1]))
     return None
@@ -100,8 +104,8 @@ class Asker:
         self.source, self.traces = source, source.traces
 
     @cached_property
-    def judge(self) -> Judge:
-        return Judge(self.traces.report, self.source.scenario)
+    def finder(self) -> Finder:
+        return Finder(self.traces.report, self.source.scenario)
 
     def read(self, question: str) -> Sentence:
         return read_sentence(question, names_of(self.source.scenario))
@@ -153,15 +157,16 @@ class Asker:
             raise self.of_hearing(it)
         if not isinstance(it, (Does, Copies, Packets)) or isinstance(it, Copies) and it.outcome == 'left':
             raise Unasked('this expectation is about no line of a trace')
-        broken, = breaks([it], self.judge)
+        broken, = breaks([it], self.finder)
         if broken:
             return self.of_broken(it, broken)
         row = self.shown(it) if isinstance(it, Does) else self.completing(it)
         where = self.line(row)
         if where is None:
             raise Unasked(NO_LINE, True)
-        is_last = isinstance(it, Does) and it.motes.kind == 'each' and len(self.judge.chosen(it.motes)) > 1
-        return Asked(where, True, 'mote %d is the last of them' % where.mote if is_last else self.of_losses(where, it))
+        is_last = isinstance(it, Does) and it.motes.kind == 'each' and len(self.finder.chosen(it.motes)) > 1
+        remark = 'mote %d is the last of them' % where.mote if is_last else ''
+        return Asked(where, True, remark, self.losses(where, it))
 
     def line(self, row: int | None) -> At | None:
         """The line of a trace in a row of the report, or the line that sent the packet of a row of the medium."""
@@ -169,64 +174,67 @@ class Asker:
 
     def of_broken(self, it: Does | Copies | Packets, broken: Broken) -> Asked | Missing:
         """The line that breaks a sentence, or the lines that it lacks."""
-        why = broken.why.replace('\n', '; ')
         if isinstance(it, Does) and broken.lacks:
-            motes, span = broken.lacks.motes, broken.lacks.span
-            sentence, found = replace(it, than=None, relation=None), tuple(self.judge.done(it.deed, motes))
-            return Missing(sentence, motes, span, found, why)
+            motes = broken.lacks.motes or self.finder.chosen(it.motes)
+            found = tuple(self.finder.done(it.deed.patterns, motes))
+            return Missing(replace(it, than=None, relation=None), motes, broken.lacks.span, found, broken.why)
         where = self.line(broken.row)
         if where:
-            return Asked(where, False, '; '.join(filter(None, [why, broken.shows, self.of_losses(where, it)])))
-        never = outcome_never(it, self.judge) if isinstance(it, Copies) else ''
-        raise Unasked('; '.join(filter(None, [why, never])), False)
+            return Asked(where, False, broken.why, self.losses(where, it))
+        never = outcome_never(it, self.finder) if isinstance(it, Copies) else ''
+        raise Unasked('; '.join(filter(None, [broken.why, never])), False)
 
     def shown(self, it: Does) -> int | None:
         """The row by which a sentence about motes holds: if all motes have to fulfil it, the last of the lines that do;
         otherwise the line of the last mote that is needed. Of several periods, that in the last one."""
         if parts := periods(it):
             return next((row for row in map(self.shown, reversed(parts)) if row is not None), None)
-        chosen = self.judge.chosen(it.motes)
+        chosen = self.finder.chosen(it.motes)
         if it.motes.kind == 'together':
-            event = self.judge.shown_by(it, chosen)
+            event = self.shown_by(it, chosen)
             return event.row if event else None
-        doing = [mote for mote, broken in zip(chosen, breaks(self.each(it), self.judge)) if broken is None]
-        events = sorted((one.line.at, one.row) for mote in doing if (one := self.judge.shown_by(it, (mote,))))
+        doing = [mote for mote, broken in zip(chosen, breaks(self.each(it), self.finder)) if broken is None]
+        events = sorted((one for mote in doing if (one := self.shown_by(it, (mote,)))), key=IN_TIME)
         if it.motes.kind == 'each':
-            return events[-1][1] if events else None
+            return events[-1].row if events else None
         count = it.motes.count or (Count('at most', 0) if it.motes.kind == 'no' else Count('at least', 1))
         number = needed(count, len(doing), len(chosen) if count.is_part else 1)
         # (a mote without a line has met the sentence from the start)
         left = events[max(number - 1 - len(doing) + len(events), 0):] if number else []
-        return left[0][1] if left else None
+        return left[0].row if left else None
+
+    def shown_by(self, it: Does, motes: tuple[int, ...]) -> Event | None:
+        """The line with which a mote, or several together, have done what the sentence says; of several periods, that in
+        the last one."""
+        events = self.finder.done(it.deed.patterns, motes)
+        for span in reversed(self.finder.spans(it.window, motes)):
+            inside = [event for event in events if within(event.at, span)]
+            if inside:
+                least = 1 if it.than else max(it.count.least, 1)
+                return inside[-1 if it.deed.way != 'any' else min(least, len(inside)) - 1]
+        return None
 
     def rows(self, it: Copies | Packets) -> list[Row]:
         """The rows of the copies or packets in the time of a sentence; of several periods, those in the last one that
         has some."""
-        rows = self.judge.of_packets() if isinstance(it, Packets) else self.judge.of_copies(it)
-        if isinstance(it, Copies) and it.count.is_part:
-            return rows
-        parts: dict[int, list[Row]] = {}
-        for row in rows:
-            for part, span in enumerate(self.judge.spans(it.window, (row.mote,))):
-                if within(row.at, span):
-                    parts.setdefault(part, []).append(row)
-        return parts[max(parts)] if parts else []
+        rows = self.finder.rows_of(it)
+        of_parts = ([row for row in rows if within(row.at, span)] for span in reversed(self.finder.spans(it.window, ())))
+        return next(filter(None, of_parts), []) if it.window.every else rows
 
     def completing(self, it: Copies | Packets) -> int | None:
         """The row that completes the number of copies or packets that a sentence wants."""
         rows = self.rows(it)
         is_part = isinstance(it, Copies) and it.count.is_part
-        number = needed(it.count, len(rows), self.judge.due(it) if isinstance(it, Copies) and is_part else 1)
+        number = needed(it.count, len(rows), self.finder.due(it.motes) if isinstance(it, Copies) and is_part else 1)
         return rows[number - 1].row if number else None
 
-    def of_losses(self, where: At, it: Sentence) -> str:
-        """The reasons for which the medium lost the copies of the packet that a line sent."""
+    def losses(self, where: At, it: Sentence) -> tuple[int, ...]:
+        """The motes for which the medium lost copies of the packet that a line sent."""
         if not isinstance(it, Copies) or it.outcome != 'lost':
-            return ''
-        found = self.traces.packet(where.mote, int(self.traces.text(where).split(' ')[2]))
-        lost = [copy.to for copy in found[1].copies if copy.at is None] if found else []
-        return '; '.join('the copy for mote %d: %s' % (to, loss_of(self.source, where.mote, to)) for to in lost
-                         if it.motes is None or to in it.motes)
+            return ()
+        packet = self.traces.packet(where.mote, self.traces.line(where).number or 0)
+        copies = () if packet is None else self.traces.report.log[packet].copies
+        return tuple(copy.to for copy in copies if copy.at is None and (it.motes is None or copy.to in it.motes))
 
     def of_hearing(self, it: Hears) -> Unasked:
         """The answer to a sentence about who hears whom, for the first mote that breaks it, or for all of them."""
@@ -241,23 +249,20 @@ class Asker:
         if not isinstance(it, Does) or it.motes.kind not in EACH_ITSELF:
             return []
         own = self.each(it)
-        return [one for one, broken in zip(own, breaks(own, self.judge)) if broken and broken.lacks]
+        return [one for one, broken in zip(own, breaks(own, self.finder)) if broken and broken.lacks]
 
     def each(self, it: Does) -> list[Does]:
         """The same sentence about each mote by itself."""
-        return [replace(it, motes=Motes('each', frozenset((mote,)))) for mote in self.judge.chosen(it.motes)]
+        return [replace(it, motes=Motes('each', frozenset((mote,)))) for mote in self.finder.chosen(it.motes)]
 
     def lines(self, it: Sentence) -> list[int]:
         """The rows of all lines of traces that a sentence is about. Raises an `Unasked` if it is about none."""
-        judge = self.judge
         try:
             if isinstance(it, Does):
-                return [event.row for mote in judge.chosen(it.motes) for event in judge.within(
-                    judge.done(it.deed, (mote,)), it.window, (mote,))]
+                return [event.row for mote in self.finder.chosen(it.motes)
+                        for event in self.finder.lines_of(it, (mote,))]
             if isinstance(it, Packets) or isinstance(it, Copies) and it.outcome != 'left':
-                rows = judge.of_packets() if isinstance(it, Packets) else judge.of_copies(it)
-                sent = [self.line(row.row) for row in rows
-                        if any(within(row.at, span) for span in judge.spans(it.window, (row.mote,)))]
+                sent = [self.line(row.row) for row in self.finder.rows_of(it)]
                 return [self.traces.row(where) for where in sent if where]
         except Apart as apart:
             raise Unasked(str(apart)) from None

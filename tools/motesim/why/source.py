@@ -10,13 +10,13 @@ from typing import NamedTuple
 from motesim.judge.expectations import fields_beside
 from motesim.report.belongs import check_scenario
 from motesim.faults import Fault
-from motesim.report import Packet, Report
-from motesim.report.run import NoReport, is_scenario, read_file, refuse_others, run_program
-from motesim.scenario.encodings import decoded
+from motesim.report import Line, Packet, Report
+from motesim.report.run import NoReport, is_scenario, refuse_others, run_program
+from motesim.scenario.encodings import decoded, read_file
 from motesim.scenario.scenario import Scenario
 from motesim.replay.endless import Endless, LastRun, endless
 from motesim.scenario.in_programs import ScenarioFile
-from motesim.replay.mote import QUEUE, Replay
+from motesim.replay.mote import ARRIVALS, QUEUE, Replay
 from motesim.replay.translate import Program, translated
 
 class At(NamedTuple):
@@ -26,35 +26,43 @@ class At(NamedTuple):
 
 
 class Traces:
-    """The lines of a report's traces as texts, by their places."""
+    """The lines of a report's traces, by their places."""
 
     def __init__(self, report: Report):
         self.report = report
         self.programs = [it.program for it in report.motes]
-        self.kept: dict[int, list[str]] = {}
+        self.kept: dict[int, list[Line]] = {}
         self.sends: dict[int, list[int]] = {}
-        self.came: dict[int, dict[tuple[int, int], int]] = {}
-        self.collided: dict[int, dict[str, list[int]]] = {}
+        self.came: dict[int, dict[tuple[int, int] | None, int]] = {}
+        self.collided: dict[int, dict[int, list[int]]] = {}
 
     @property
     def motes(self) -> int:
         return len(self.programs)
 
-    def lines(self, mote: int) -> list[str]:
+    def lines(self, mote: int) -> list[Line]:
         """The lines of a mote's trace."""
         if mote not in self.kept:
-            self.kept[mote] = list(map(str, self.report.motes[mote].lines))
+            self.kept[mote] = list(self.report.motes[mote].lines)
         return self.kept[mote]
+
+    def texts(self, mote: int) -> list[str]:
+        """The texts of a mote's lines."""
+        return list(map(str, self.lines(mote)))
+
+    def line(self, where: At) -> Line:
+        """A line that isn't a head."""
+        return self.lines(where.mote)[where.place]
 
     def row(self, where: At) -> int:
         """The line of the report, counted from 1."""
         return self.report.motes[where.mote].row + 1 + where.place
 
     def text(self, where: At) -> str:
-        return str(self.report.motes[where.mote]) if where.place < 0 else self.lines(where.mote)[where.place]
+        return str(self.report.motes[where.mote] if where.place < 0 else self.line(where))
 
     def moment(self, where: At) -> int:
-        return 0 if where.place < 0 else int(self.text(where).partition(' ')[0])
+        return 0 if where.place < 0 else self.line(where).at
 
     def medium_line(self, row: int) -> Packet | None:
         """A line of the log of the medium, by its line of the report."""
@@ -73,45 +81,44 @@ class Traces:
         if sender >= self.motes:
             return None
         if sender not in self.sends:
-            self.sends[sender] = [place for place, line in enumerate(self.lines(sender)) if ' send ' in line]
+            self.sends[sender] = [place for place, line in enumerate(self.lines(sender)) if line.kind == 'send']
         sends = self.sends[sender]
         return At(sender, sends[number]) if number < len(sends) else None
 
-    def arrivals(self, mote: int) -> dict[tuple[int, int], int]:
+    def sent(self, line: Line) -> At | None:
+        """The line by which the packet of a line was sent."""
+        return self.send_of(*line.packet) if line.packet else None
+
+    def arrivals(self, mote: int) -> dict[tuple[int, int] | None, int]:
         """The places of the lines about packets that arrived, by the packets' senders and numbers."""
         if mote not in self.came:
-            found = self.came[mote] = {}
-            for place, line in enumerate(self.lines(mote)):
-                words = line.split(' ')
-                if words[1] in ('recv', 'lost', 'collide'):
-                    found[int(words[2]), int(words[3])] = place
+            self.came[mote] = {line.packet: place for place, line in enumerate(self.lines(mote))
+                               if line.kind in ARRIVALS}
         return self.came[mote]
 
-    def collisions(self, mote: int, at: str) -> list[int]:
+    def collisions(self, mote: int, at: int) -> list[int]:
         """The places of the packets that collide at a mote at a moment. (A million packets are looked up one after
         another.)"""
         if mote not in self.collided:
             found = self.collided[mote] = {}
             for place, line in enumerate(self.lines(mote)):
-                moment, kind, *_ = line.split(' ', 2)
-                if kind == 'collide':
-                    found.setdefault(moment, []).append(place)
+                if line.kind == 'collide':
+                    found.setdefault(line.at, []).append(place)
         return self.collided[mote].get(at, [])
 
-    def packets_to(self, mote: int, sender: int | None) -> Iterator[tuple[int, Packet]]:
-        """The packets with a copy for a mote, each with its line of the report; if a sender is named, only its own."""
+    def packets_to(self, mote: int, sender: int | None) -> Iterator[int]:
+        """The places in the log of the packets with a copy for a mote; if a sender is named, only of its own."""
         log = self.report.log
         for copy in compress(count(), map(mote.__eq__, log.to)):
             packet = bisect_right(log.first, copy) - 1
             if sender in (None, log.sender[packet]):
-                yield self.report.medium_row + 1 + packet, log[packet]
+                yield packet
 
-    def packet(self, sender: int, number: int) -> tuple[int, Packet] | None:
-        """The line of a packet in the log of the medium, and the packet."""
+    def packet(self, sender: int, number: int) -> int | None:
+        """The place of a packet in the log of the medium."""
         log = self.report.log
         places = compress(count(), map(number.__eq__, log.number))
-        place = next((it for it in places if log.sender[it] == sender), None)
-        return None if place is None else (self.report.medium_row + 1 + place, log[place])
+        return next((it for it in places if log.sender[it] == sender), None)
 
 
 class Source:
@@ -148,13 +155,13 @@ class Source:
     def replay(self, mote: int) -> Replay:
         """The replay of a mote."""
         if mote not in self.replays:
-            made = Replay(self.program(mote), mote, self.room(mote), self.traces.lines(mote))
+            made = Replay(self.program(mote), mote, self.room(mote), self.traces.texts(mote))
             self.replays[mote] = made.to_end(self.scenario.end)
         return self.replays[mote]
 
     def detailed_replay(self, mote: int) -> Replay:
         """The replay of a mote, with each statement that it reached."""
-        made = Replay(self.detailed(mote), mote, self.room(mote), self.traces.lines(mote))
+        made = Replay(self.detailed(mote), mote, self.room(mote), self.traces.texts(mote))
         return made.to_end(self.scenario.end)
 
     def room(self, mote: int) -> int:
@@ -164,7 +171,7 @@ class Source:
     def loop(self, mote: int) -> Endless | None:
         """The loop that used up the work of a mote that halted; None if the mote didn't halt, or if no loop did."""
         if mote not in self.loops:
-            made = LastRun(self.detailed(mote), mote, self.room(mote), self.traces.lines(mote))
+            made = LastRun(self.detailed(mote), mote, self.room(mote), self.traces.texts(mote))
             made.to_end(self.scenario.end)
             self.loops[mote] = endless(made)
         return self.loops[mote]

@@ -5,13 +5,13 @@ A report doesn't show at which statement a process waits, or which timers run. T
 from __future__ import annotations
 
 import re
-from collections.abc import Sequence
-from typing import Any
+from collections.abc import Iterator, Sequence
+from typing import Any, NamedTuple
 
 from motesim.faults import Fault
-from motesim.why.chain import in_words
 from motesim.why.question import LINE, line_asked
 from motesim.replay.mote import CTIMER, Replay
+from motesim.why.say import in_words
 from motesim.why.source import At, Source
 
 ASKED = re.compile(r'\s*mote\s+(\d{1,9})\s+at\s+(\d{1,9})\s*')
@@ -20,7 +20,7 @@ ASKED = re.compile(r'\s*mote\s+(\d{1,9})\s+at\s+(\d{1,9})\s*')
 def fresh(source: Source, mote: int) -> Replay:
     """A replay that hasn't run yet."""
     room = source.replay(mote).room
-    return Replay(source.program(mote), mote, room, source.traces.lines(mote))
+    return Replay(source.program(mote), mote, room, source.traces.texts(mote))
 
 
 def after_moment(source: Source, mote: int, at: int) -> Replay:
@@ -111,30 +111,38 @@ def call_in_words(call: dict[str, Any], processes: list[dict[str, Any]]) -> str:
     return '%s, called with %s' % (call['process'], event)
 
 
-def rows(state: dict[str, Any], changed: Sequence[str] = ()) -> list[str]:
+class Row(NamedTuple):
+    """A line about a state, and whether it is about a variable that is changed next."""
+    text: str
+    is_changed: bool = False
+
+
+def rows(state: dict[str, Any], changed: Sequence[str] = ()) -> Iterator[Row]:
     """A state as text, with a mark at the variables that are changed next."""
     if state['halted']:
-        return ['  it has halted']
-    lines = ['  runs now: ' + call_in_words(state['call'], state['processes'])] if state['call'] else []
+        yield Row('  it has halted')
+        return
+    if state['call']:
+        yield Row('  runs now: ' + call_in_words(state['call'], state['processes']))
     for it in state['processes']:
-        polled = ', and is to be polled' if it['polled'] else ''
-        lines.append('  process %s %s%s' % (it['name'], it['waits'], polled))
-        lines += ['    %s = %d%s' % (name, value, ' (changed)' if '%s.%s' % (it['name'], name) in changed else '')
-                  for name, value in it['variables'].items()]
+        yield Row('  process %s %s%s' % (it['name'], it['waits'], ', and is to be polled' if it['polled'] else ''))
+        for name, value in it['variables'].items():
+            is_changed = '%s.%s' % (it['name'], name) in changed
+            yield Row('    %s = %d%s' % (name, value, ' (changed)' if is_changed else ''), is_changed)
     for it in state['timers']:
         left = it['due'] - state['at']
         when = 'in %d moments' % left if left > 1 else 'in 1 moment' if left else 'now'
-        lines.append('  timer %s of %s is due at %d, %s; set at %d in %s' % (
+        yield Row('  timer %s of %s is due at %d, %s; set at %d in %s' % (
             it['name'], it['process'], it['due'], when if left >= 0 else 'and waits for room in the queue',
             it['set_at'], it['set_by']))
     if not state['timers']:
-        lines.append('  no timer runs')
+        yield Row('  no timer runs')
     for it in state['queue']:
-        lines.append('  event %d waits: %s %d for %s, posted at %d' % (
+        yield Row('  event %d waits: %s %d for %s, posted at %d' % (
             it['serial'], it['event'], it['word'], it['for'], it['posted_at']))
     if not state['queue']:
-        lines.append('  the event queue is empty')
+        yield Row('  the event queue is empty')
     if state['waiting_packets']:
-        lines.append('  %d packets wait for the radio process' % state['waiting_packets'])
-    lines += ['  semaphore %s = %d' % pair for pair in state['semaphores'].items()]
-    return lines
+        yield Row('  %d packets wait for the radio process' % state['waiting_packets'])
+    for pair in state['semaphores'].items():
+        yield Row('  semaphore %s = %d' % pair)

@@ -7,12 +7,11 @@ from typing import Any
 
 from motesim.faults import Fault
 from motesim.report.run import Run
-from motesim.why.chain import as_json as chain_as_json
 from motesim.why.chain import chain
-from motesim.why.miss import as_json as misses_as_json
 from motesim.why.miss import misses
 from motesim.why.pages import source_of
 from motesim.why.question import Asked, Asker
+from motesim.why.say import about, chain_as_json, misses_as_json
 from motesim.why.source import At, Source
 from motesim.why.state import after_line, as_json, rows
 
@@ -67,14 +66,15 @@ class Causes:
         asker = Asker(source)
         found = asker.about(str(asked.get('question', '')))
         if isinstance(found, Asked):
-            return {**chain_as_json(source, chain(source, found.where)), 'holds': found.holds, 'about': found.remark}
-        return misses_as_json(found, misses(asker, found))
+            return {**chain_as_json(source, chain(source, found.where)), 'holds': found.holds,
+                    'about': about(source, found)}
+        return misses_as_json(source, found, misses(asker, found))
 
     def state(self, source: Source, asked: Said) -> Said:
         """The state of a mote after a line, in words, with a mark at the variables that the step of the line changed."""
         where = _line(source, asked)
         state = as_json(after_line(source, where), source.traces.moment(where))
-        return {'rows': rows(state, self.changed(source, where))}
+        return {'rows': [it._asdict() for it in rows(state, self.changed(source, where))]}
 
     @staticmethod
     def changed(source: Source, where: At) -> list[str]:

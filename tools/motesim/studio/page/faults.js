@@ -83,13 +83,13 @@ function forgetFaults() {
 }
 
 /** Shows the coverage of the search, and a table of the broken and the kept expectations. */
-function showFound({covered_lines: lines, covered, runs, notes, holds, broken, found}) {
+function showFound({said, covered, runs, holds, broken, found}) {
   const isWhole = runs > 0 && Object.values(covered).every(it => it.all);
   if (broken.length) labelTab('faults', `Faults ${broken.length}`, 'bad');
   else if (isWhole) labelTab('faults', 'Faults ✓', 'good');
   const kept = holds.map(sentence => element('tr', '', [element('td', '✓ holds'), element('td', sentence)],
     {className: 'holds'}));
-  byId('faults-found').replaceChildren(...[...notes, ...lines].map(line => element('p', line)), runs ?
+  byId('faults-found').replaceChildren(...said.map(line => element('p', line)), runs ?
     table(['fault', 'expectation', ''], [...broken.flatMap(sentence => rowsOf(sentence, found)), ...kept]) :
     element('p', 'Nothing was searched: choose other kinds of faults.'));
 }

@@ -21,8 +21,8 @@ async function showState({run}) {
   if (!state || page.state !== asked) return;
   byId('state-at').replaceChildren(element('strong', `Mote ${mote} at moment ${run.at[line]}`),
     `, after line ${row} of the report: `, element('code', run.text(line)));
-  box.replaceChildren(...(state.rows || [state.said]).map(text =>
-    element('div', '', withPlaces(text), {className: text.endsWith('(changed)') ? 'changed' : ''})));
+  box.replaceChildren(...(state.rows || [{text: state.said}]).map(it =>
+    element('div', '', withPlaces(it.text), {className: it.is_changed ? 'changed' : ''})));
 }
 
 /** Marks the statement that wrote the selected line, as a debugger does. */

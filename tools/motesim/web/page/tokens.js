@@ -10,7 +10,6 @@ const TABLE_TOKENS = [
 ];
 const OPENING = /"""|'''|["'](?=\s*(event|semaphore|process)\b)/y;
 const PROGRAM_TOKEN = /\s+|\/\/.*|[A-Za-z0-9_]+|./y;
-const OPERATORS = '{}();,=!+-*/%<>&|';
 
 /** The text of a pattern at a place of a row, or ''. */
 function found(pattern, row, at) {
@@ -35,7 +34,7 @@ export function rowTokens({colours, naming}) {
     if (!text.trim()) return null;
     if (text.startsWith('//')) return 'comment';
     if (/^[0-9]/.test(text)) return /^(0|[1-9][0-9]*)$/.test(text) ? 'number' : 'error';
-    if (!/^\w/.test(text)) return OPERATORS.includes(text) ? 'operator' : 'error';
+    if (!/^\w/.test(text)) return colourOf.get(text) || 'error';
     if (naming.includes(before)) return 'def';
     return colourOf.get(text) || (/[A-Z]/.test(text) ? 'error' : 'variable');
   };

@@ -152,7 +152,7 @@ async function runNow() {
   clearTimeout(web.timer);
   const asked = ++web.asked, {step} = web.history;
   setTimeout(() => { byId('stop').hidden = asked !== web.asked || web.ran === asked; }, LONG);
-  const answer = await attempt(() => page.backend.run({text: step.text, name: web.document.name}));
+  const answer = await attempt(() => page.backend.run({...web.document, text: step.text}));
   if (answer?.superseded || asked !== web.asked) return;
   web.ran = asked;
   byId('stop').hidden = true;

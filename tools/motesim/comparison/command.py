@@ -1,0 +1,33 @@
+"""The command tools/compare: prints how two runs diverge, and writes a page of their timelines."""
+from __future__ import annotations
+
+import argparse
+from collections.abc import Callable
+
+from motesim.comparison.columns import MEDIUM
+from motesim.comparison.reports import Difference, compared, packet_of
+from motesim.faults import Fault
+from motesim.files import refuse_inputs
+from motesim.report.run import Run, read_run
+
+
+def write_html(write_page: Callable[..., None], path: str, a: Run, b: Run, first: Difference | None) -> None:
+    """Writes both timelines, one above the other, from the first difference on."""
+    mote = first.mote if first else None
+    if first and first.mote == MEDIUM:
+        mote = packet_of((a.report, b.report), first).sender
+    write_page(path, '%s and %s' % (a.name, b.name), [a, b], first.at if first else None, mote)
+
+
+def status_of(asked: argparse.Namespace, write_page: Callable[..., None]) -> int:
+    """Prints the comparison; returns the status. `write_page` writes a page of timelines."""
+    if asked.a == asked.b == '-':
+        raise Fault('A and B can\'t both be standard input: one of them is a file')
+    if asked.html:
+        refuse_inputs(asked.html, [asked.a, asked.b], '--html')
+    a, b = read_run(asked.a), read_run(asked.b)
+    lines, first, is_same = compared(a, b, max(1, asked.rows))
+    if asked.html:
+        write_html(write_page, asked.html, a, b, first)
+    print('\n'.join(lines))
+    return 0 if is_same else 1

@@ -1,0 +1,414 @@
+"""What is said about causes, fates, near misses and two runs: text, and JSON for other programs."""
+from __future__ import annotations
+
+from collections.abc import Iterator, Sequence
+from typing import Any
+
+from motesim.cells import aligned
+from motesim.judge.claim_words import period_text
+from motesim.judge.hearing import unheard
+from motesim.replay.endless import AT_ONCE, LETS_WAIT, MOST_WAITS, Endless, instead
+from motesim.replay.mote import RING, SYSTEM, Frame, Link
+from motesim.replay.translate import Around, Program
+from motesim.report import Line
+from motesim.scenario.fields import Field, in_words as in_fields, of_line
+from motesim.why.cause import Cause
+from motesim.why.chain import Hop, Path, path_of, received_before
+from motesim.why.diverge import Diverged, Instead, Turn, Twin
+from motesim.why.fate import Fate
+from motesim.why.miss import Absent, Away, Miss, Moved, Passed, Unheard, Untaken, Waiting
+from motesim.why.question import Asked, Missing
+from motesim.why.source import At, Source
+
+WIDEST = 60
+# The reason for a collision with more packets names only their number.
+MOST_MET = 3
+# The calls that have their own line; and the most calls without a line that a reason names.
+HAVE_LINES, MOST_CALLS = ('take', 'init', 'boot'), 8
+MOST_LINES = 6
+FATES = {
+    'taken': '%(process)s took it at %(at)d',
+    'dropped': 'its event was dropped at %(at)d, because %(process)s was not on the process list',
+    'passed': 'its event did not reach %(process)s at %(at)d, because %(process)s was not on the process list',
+    'waiting': 'its event is still in the queue at the end',
+    'untaken': 'mote %(mote)d halted at %(at)d, before its event was taken',
+    'full': 'it was received, but the event queue was full',
+    'deaf': 'it was received, but the program has no receiver',
+    'unhandled': 'it was received, but mote %(mote)d halted before its radio process ran',
+    'halted': 'it arrived at %(at)d, and mote %(mote)d had halted at %(last)d',
+    'overflowed': 'it arrived at %(at)d, when %(ring)d packets were waiting',
+    'collided': 'it collided at %(at)d with %(others)s',
+    'left': 'it would arrive at %(at)d, after the end',
+    'lost': 'the medium lost it, because it loses %(rule)s',
+    'unheard': 'mote %(to)d does not hear mote %(sender)d',
+}
+
+
+def count(number: int, one: str) -> str:
+    return '%d %s' % (number, one if number == 1 else one + 's')
+
+
+# Statements
+
+def in_words(program: Program, number: int) -> str:
+    """A statement of a program, with its line."""
+    it = program.statement(number)
+    text = it.text if len(it.text) <= WIDEST else it.text[:WIDEST - 3] + '...'
+    return '%s: `%s`' % (program.line(it.line), text)
+
+
+def used_up(source: Source, mote: int) -> list[str]:
+    """The loop that used up the work of a mote that halted; an empty list if no loop did."""
+    program, found = source.program(mote), source.loop(mote)
+    if found and found.waits:
+        return [in_rounds(program, found) + ', and '.join(
+            '%s never waited, because its condition was %s each time' % (
+                in_words(program, it), AT_ONCE[program.statement(it).kind]) for it in found.waits[:MOST_WAITS]
+        ) + ': %s waits for the next call first' % instead(program, found.waits[0])]
+    return [in_rounds(program, found) + 'nothing in its block waited: ' + LETS_WAIT] if found else []
+
+
+def in_rounds(program: Program, found: Endless) -> str:
+    return '%s repeated %s in this call, and ' % (in_words(program, found.loop), count(found.rounds, 'time'))
+
+
+def led_by(program: Program, number: int) -> str:
+    """The `if` that led to a statement: the innermost one around it, with its line."""
+    for around in reversed(program.statement(number).around):
+        if program.statement(around.number).kind == 'if':
+            return ', in %s%s' % ('the `else` of ' if around.is_else else '', in_words(program, around.number))
+    return ''
+
+
+# Causes
+
+class Reasons:
+    """The reasons for the lines of one mote."""
+
+    def __init__(self, source: Source, mote: int):
+        self.source, self.mote = source, mote
+        self.lines, self.program = source.traces.lines(mote), source.program(mote)
+
+    def name(self, process: int) -> str:
+        return SYSTEM[process] if process < 0 else self.program.processes[process].name
+
+    def event(self, frame: Frame) -> str:
+        if frame.event == 'timer':
+            return 'timer %s' % self.program.timers[frame.word].name if frame.word < len(
+                self.program.timers) else 'timer %d' % frame.word
+        if frame.event == 'exited':
+            return 'exited %s' % self.name(frame.word)
+        if frame.event in ('init', 'poll'):
+            return frame.event
+        return '%s %d' % (frame.event, frame.word)
+
+    def calls(self, frame: Frame | None) -> Iterator[str]:
+        """The calls that have no line, beginning with the innermost one; only the last few calls, because a process
+        that polls itself has very many."""
+        for _ in range(MOST_CALLS):
+            if not frame or frame.how in HAVE_LINES:
+                return
+            by = self.name(frame.made_by.process) if frame.made_by else 'the kernel'
+            place = ' in %s' % in_words(self.program, frame.row) if frame.row else ''
+            if frame.how == 'callback':
+                yield 'the callback of timer %s' % self.program.timers[frame.word].name
+            elif frame.how == 'poll':
+                yield '%s was polled by %s%s' % (self.name(frame.process), by, place)
+            elif frame.how == 'exited':
+                yield '%s is called, because %s exits%s' % (self.name(frame.process), self.name(frame.word), place)
+            elif frame.how == 'exit':
+                yield '%s was killed by %s%s' % (self.name(frame.process), by, place)
+            else:
+                yield '%s was called by %s with %s%s' % (self.name(frame.process), by, self.event(frame), place)
+            frame = frame.made_by
+        if frame and frame.how not in HAVE_LINES:
+            yield 'and so on, by more such calls'
+
+    def of_call(self, kind: str, link: Link) -> str:
+        """The reason for a line that was written in a call."""
+        frame = link.frame
+        if kind == 'leave' and not link.row and frame:
+            own = '%s %s' % (self.name(frame.process),
+                             'was called with exit' if frame.event == 'exit' else 'ended')
+        elif kind == 'halt':
+            own = '; '.join(['the work of this run of the kernel was used up', *used_up(self.source, self.mote)])
+        elif link.row and frame:
+            own = '%s, %s%s' % (self.name(frame.process), in_words(self.program, link.row),
+                                led_by(self.program, link.row))
+        else:
+            own = 'the mote boots'
+        return '; '.join([own, *self.calls(frame)])
+
+    def of_timer(self, line: Line, link: Link) -> str:
+        due = max(link.since + link.interval, link.since)
+        reason = 'timer %s was due' % self.program.timers[line.word or 0].name
+        if line.at > due:
+            reason += ' at %d, and its event is offered until the queue has room; it was due' % due
+        if due > link.since:
+            reason += ' %s after' % count(due - link.since, 'moment')
+        else:
+            reason += ' as soon as'
+        reason += ' %s set it in %s' % (self.name(link.frame.process) if link.frame else 'the mote',
+                                        in_words(self.program, link.row) if link.row else '')
+        return '; '.join([reason, *self.calls(link.frame)])
+
+    def because(self, place: int, link: Link) -> str:
+        """The reason for a line, or for the head, in a sentence without a full stop."""
+        if link.how == 'start':
+            return 'the start'
+        line = self.lines[place]
+        if link.how == 'boot':
+            return 'a process of the system' if line.process in SYSTEM.values() else 'in the list of autostart'
+        if link.how == 'timer':
+            return self.of_timer(line, link)
+        if link.how == 'packet':
+            return 'the radio process hands on ' + of_packet(self.lines[link.line])
+        if link.how == 'posted':
+            if line.kind == 'drop':
+                return 'event %d was dropped: %s was not on the process list' % (line.serial or 0, line.process)
+            later = line.at - self.lines[link.line].at
+            return 'event %d was next in the queue%s' % (
+                line.serial or 0, ', %s after it was posted' % count(later, 'moment') if later else '')
+        return self.of_copy(place) if link.how == 'medium' else self.of_call(line.kind, link)
+
+    def of_copy(self, place: int) -> str:
+        """The reason why a packet arrived, and its fate."""
+        line, traces = self.lines[place], self.source.traces
+        sent = traces.sent(line)
+        reason = '%s arrived after %s on the way' % (
+            of_packet(line), count(line.at - (traces.moment(sent) if sent else 0), 'moment'))
+        if line.kind == 'lost':
+            return reason + ', but eight packets were waiting already'
+        if line.kind == 'collide':
+            return reason + ', together with ' + others(self.source, At(self.mote, place))
+        return reason
+
+
+def of_packet(line: Line) -> str:
+    return 'packet %s of mote %s' % (line.number, line.sender)
+
+
+def others(source: Source, where: At) -> str:
+    """The packets with which the packet of a line collides."""
+    met = source.traces.collisions(where.mote, source.traces.moment(where))
+    if len(met) > MOST_MET + 1:
+        return count(len(met) - 1, 'other packet')
+    lines = source.traces.lines(where.mote)
+    return ' and '.join(of_packet(lines[place]) for place in met if place != where.place) or 'another packet'
+
+
+def because(source: Source, hop: Hop) -> str:
+    """The reason for a line of a chain."""
+    return Reasons(source, hop.where.mote).because(hop.where.place, hop.link)
+
+
+def words_of(source: Source, where: At) -> str:
+    """The text of a line after its moment, or of a head."""
+    text = source.traces.text(where)
+    return text if where.place < 0 else text.partition(' ')[2]
+
+
+def of_path(it: Path) -> str:
+    names = {'timer': ('waiting for %s', 'timer'), 'medium': ('on the way, over %s', 'hop'),
+             'queue': ('in queues', ''), 'full': ('for timers that found the queue full', '')}
+    parts = []
+    for kind, (reason, what) in names.items():
+        moments, times = it.waits[kind]
+        if times or kind in ('timer', 'medium'):
+            parts.append('%d %s' % (moments, reason % count(times, what) if what else reason))
+    return '%s: %s' % (count(it.moments, 'moment'), ', '.join(parts))
+
+
+def on_values(source: Source, hops: list[Hop]) -> str:
+    """The remark on a packet by which a mote of the chain may have learned the value; empty if there is none."""
+    found = received_before(source, hops)
+    if found is None:
+        return ''
+    line = source.traces.line(found)
+    return ('Mote %d had received the value %s before, in %s at %d. The chain follows events, not values: to follow '
+            'that packet, ask about line %d.' % (found.mote, line.value, of_packet(line), line.at, source.traces.row(found)))
+
+
+def rows_of_chain(source: Source, hops: list[Hop], fields: Sequence[Field] = ()) -> list[str]:
+    """A chain as text, a line for each hop, with the fields of its value."""
+    table = [('moment', 'mote', 'line', ' ', '')]
+    for hop in hops:
+        words = words_of(source, hop.where)
+        table.append((str(hop.at), str(hop.where.mote), str(hop.row), ' %s%s' % (words, of_line(fields, words)),
+                      ' ' + because(source, hop)))
+    return list(aligned(table, [3, 4]))
+
+
+def chain_as_json(source: Source, hops: list[Hop]) -> dict[str, Any]:
+    """A chain for programs."""
+    path = path_of(hops)
+    places = [source.program(hop.where.mote).place if hop.program_row else None for hop in hops]
+    return {
+        'line': hops[0].row, 'mote': hops[0].where.mote, 'at': hops[0].at, 'words': words_of(source, hops[0].where),
+        'chain': [{
+            'mote': hop.where.mote, 'line': hop.row, 'at': hop.at, 'words': words_of(source, hop.where),
+            'how': hop.link.how, 'because': because(source, hop), 'waited': hop.waited, 'for': hop.wait or None,
+            'program': hop.program or None, 'program_line': hop.program_row or None,
+            'file': place.file if place else None, 'file_line': place.above + hop.program_row if place else None,
+        } for hop, place in zip(hops, places)],
+        'path': {'moments': path.moments, **{kind: {'moments': its[0], 'times': its[1]}
+                                             for kind, its in path.waits.items()}},
+    }
+
+
+# Fates
+
+def of_fate(source: Source, it: Fate) -> str:
+    """The fate of a copy, or of an event."""
+    where, (sender, to) = it.where, it.link
+    return FATES[it.what] % {
+        'process': it.process, 'at': it.at, 'mote': where.mote if where else to, 'ring': RING, 'sender': sender,
+        'to': to, 'last': source.traces.moment(where) if where else 0, 'rule': rule_of(source, sender, to),
+        'others': others(source, where) if where and it.what == 'collided' else ''}
+
+
+def rule_of(source: Source, sender: int, to: int) -> str:
+    """The packets that a link loses."""
+    every = source.scenario.losses.get((sender, to), 0)
+    return '%s from %d to %d' % ('all packets' if every == 1 else 'one packet in %d' % every, sender, to)
+
+
+# Lines that aren't there
+
+def times(number: int) -> str:
+    return {1: 'once', 2: 'twice'}.get(number, '%d times' % number)
+
+
+def of_miss(source: Source, miss: Miss) -> str:
+    """A near miss."""
+    program = source.program(miss.mote)
+    if isinstance(miss.facts, Passed):
+        return of_passed(program, miss.facts)
+    match miss.facts:
+        case Moved() as it:
+            return '`%s`, at %d: %s too %s' % (
+                str(it.line).partition(' ')[2], it.line.at, count(abs(it.line.at - it.limit), 'moment'),
+                'early' if miss.kind == 'early' else 'late, because the expectation allows up to %d' % it.limit)
+        case Unheard() as it:
+            return 'it cannot hear mote %d: %s' % (it.sender, unheard(source.scenario, miss.mote, it.sender))
+        case Untaken(packet, fate):
+            return 'packet %d of mote %d, with the value %d%s, was sent at %d: %s' % (
+                packet.number, packet.sender, packet.value, in_fields(source.scenario.fields, packet.value), packet.at,
+                of_fate(source, fate))
+        case Absent() as it:
+            whose = 'process %s' % it.process if it.process else 'program %s' % source.traces.programs[miss.mote]
+            rest = ' that could have this value' if it.has_others else ''
+            return 'its %s has no `%s`%s' % (whose, it.statement, rest)
+        case Away() as it:
+            if it.line and it.line.kind == 'leave':
+                return '%s had left at %d' % (it.process, it.line.at)
+            return 'its process %s was not there %s' % (
+                it.process, 'up to %d: it started at %d' % (it.until, it.line.at) if it.line else 'at any moment')
+        case Waiting() as it:
+            words = '%s %s at %s from %d%s' % (
+                it.process, 'has waited' if it.until is None else 'waited', in_words(program, it.statement), it.since,
+                '' if it.until is None else ' until %d' % it.until)
+            return words + ('; its condition was tested %s in this time, and was never true' % times(it.tests)
+                            if it.tests else ', and nothing called it in this time')
+    return '; '.join(['it halted at %d' % source.traces.lines(miss.mote)[-1].at, *used_up(source, miss.mote)])
+
+
+def of_passed(program: Program, it: Passed) -> str:
+    """How often a statement was reached, and the condition that led around it."""
+    reached = it.reached
+    number = 'reached %s' % times(reached.number) if reached.number else 'never reached'
+    words = '%s was %s%s' % (in_words(program, it.statement), number, period_text(reached.span))
+    words += ', the last time at %d' % reached.last if reached.number else ''
+    if it.around is None:
+        return words
+    return '%s; %s was tested %s%s, and %s, at %d' % (
+        words, in_words(program, it.around.number), times(it.tested.number), period_text(it.tested.span),
+        ('was never %s, the last time' if it.is_never else 'was not %s the last time') % wanted(it.around),
+        it.tested.last)
+
+
+def wanted(around: Around) -> str:
+    """The result of a condition that leads to a statement."""
+    return 'false' if around.is_else else 'true'
+
+
+def misses_as_json(source: Source, missing: Missing, found: list[tuple[int, list[Miss]]]) -> dict[str, Any]:
+    """The near misses for programs."""
+    return {
+        'holds': False, 'about': missing.remark, 'line': None, 'from': missing.span[0], 'to': missing.span[1],
+        'motes': [{'mote': mote, 'misses': [{'kind': it.kind, 'words': of_miss(source, it), 'line': it.row or None}
+                                            for it in its]} for mote, its in found],
+    }
+
+
+def rows_of_misses(source: Source, missing: Missing, found: list[tuple[int, list[Miss]]]) -> list[str]:
+    """The near misses as text."""
+    lines = [missing.remark]
+    for mote, its in found:
+        lines += ['', 'Near misses at mote %d:' % mote]
+        lines += ['  %s%s' % (of_miss(source, it), ' (line %d of the report)' % it.row if it.row else '') for it in its]
+        if not its:
+            lines.append('  none was found')
+    return lines
+
+
+def of_cause(it: Cause) -> str:
+    """The nearest cause for which a run breaks a sentence; an empty text if there is none."""
+    if it.source is None or it.nearest is None:
+        return ''
+    return because(it.source, it.nearest) if isinstance(it.nearest, Hop) else of_miss(it.source, it.nearest)
+
+
+# Two runs
+
+def of_instead(other: Source, hop: Hop, it: Instead) -> str:
+    """The lines of the other run at the point at which a hop would follow."""
+    mote, traces = hop.where.mote, other.traces
+    match it:
+        case Fate():
+            return of_fate(other, it)
+        case Twin():
+            return 'line %d is the same, but it has another cause: line %d, `%s`' % (
+                traces.row(it.line), traces.row(it.cause), traces.text(it.cause))
+        case Turn(lines=[]):
+            return 'mote %d writes nothing at %d; its last line before is `%s`, and its next is %s' % (
+                mote, hop.at, it.before or 'none', '`%s`' % str(it.after) if it.after else 'none')
+        case Turn():
+            shown = '; '.join('`%s`' % str(line) for line in it.lines[:MOST_LINES])
+            test = it.test and '; %s was not %s' % (in_words(other.program(mote), it.test.number), wanted(it.test))
+            return 'mote %d writes this at %d: %s%s%s' % (
+                mote, hop.at, shown, '; ..' * (len(it.lines) > MOST_LINES), test or '')
+    return 'there is no mote %d: the motes are 0 to %d' % (mote, traces.motes - 1)
+
+
+def rows_of_two(one: Source, other: Source, found: Diverged | None) -> list[str]:
+    """The text about a chain of one run and another run, with the point at which they part, if there is one."""
+    if found is None:
+        return ['%s has all of this chain too.' % other.name]
+    last, hop = found.last, found.hop
+    words, there = words_of(one, hop.where), of_instead(other, hop, found.instead)
+    if not found.common:
+        return [
+            'The two runs have no line of this chain in common:',
+            '  %s, line %d: %s, at which the chain begins' % (one.name, hop.row, words),
+            '  %s: %s' % (other.name, there),
+        ]
+    return [
+        'The two runs have the same chain from the start up to here:',
+        '  mote %d: %d %s (line %d in %s, line %d in %s)' % (
+            last.where.mote, last.at, words_of(one, last.where), last.row, one.name, other.traces.row(found.there),
+            other.name),
+        'Then they diverge:',
+        '  %s, line %d, mote %d: %d %s' % (one.name, hop.row, hop.where.mote, hop.at, words),
+        '      %s' % because(one, hop),
+        '  %s: %s' % (other.name, there),
+    ]
+
+
+# Questions
+
+def about(source: Source, it: Asked) -> str:
+    """The remark on the line that a question is about; an empty text if there is none."""
+    return '; '.join(filter(None, [it.remark, *(
+        'the copy for mote %d: the medium lost it, because it loses %s' % (to, rule_of(source, it.where.mote, to))
+        for to in it.lost)]))
