@@ -9,7 +9,7 @@ use Rattle.copy_inbox.specs.declared.items.Carried.TheVariants.{Packet, Mark}
 use Rattle.copy_inbox.specs.declared.items.Item.{Item}
 use Rattle.copy_inbox.specs.declared.rule.TakerState.{TakerState}
 use Rattle.copy_inbox.specs.Items.{copies_of, part}
-use Rattle.copy_inbox.specs.Handles.{TakerView, after_taking, IsNextTaken, state_with}
+use Rattle.copy_inbox.specs.Handles.{TakerView, after_taking, MayBeTaken, state_with}
 use Rattle.copy_inbox.proofs.Parts.{part-append, part-here, part-else}
 use Rattle.copy_exchange.proofs.Lists.{each_join}
 use Rattle.copy_exchange.proofs.Parts.{copies-append}
@@ -31,7 +31,7 @@ few_marks (Packet c ∷ ws) = let h = few_marks ws in omega arith
 few_marks (Mark n ∷ ws) = let h = few_marks ws in omega arith
 
 -- the count doesn't overflow
-pub count_fits : (marks : List ℕ) (d : TakerState) (x : Item) (n m : ℕ) → AreTakersCounts marks d → IsNextTaken d x → x.what ≡ Mark n → m ≡ get_or marks x.sender m → m + 1 ≤ 2 ^ 62
+pub count_fits : (marks : List ℕ) (d : TakerState) (x : Item) (n m : ℕ) → AreTakersCounts marks d → MayBeTaken d x → x.what ≡ Mark n → m ≡ get_or marks x.sender m → m + 1 ≤ 2 ^ 62
 count_fits marks d x n m c next is at =
     let e = at ∙ c.each x.sender m next.number in
     let here = marks_here x.sender d.taken x refl ∙ ap (λ w. marks_of x.sender d.taken + marks_in (w ∷ [])) is in
@@ -39,7 +39,7 @@ count_fits marks d x n m c next is at =
     let few = next.few in
     omega arith
 
-pub counts_packet : (marks : List ℕ) (d : TakerState) (x : Item) (copy : RadioCopy) → AreTakersCounts marks d → IsNextTaken d x → x.what ≡ Packet copy → AreTakersCounts marks (state_with d x)
+pub counts_packet : (marks : List ℕ) (d : TakerState) (x : Item) (copy : RadioCopy) → AreTakersCounts marks d → MayBeTaken d x → x.what ≡ Packet copy → AreTakersCounts marks (state_with d x)
 counts_packet marks d x copy c next is = record {
   all = c.all;
   each = λ s none lt. c.each s none lt ∙ ⊎_elim
@@ -49,7 +49,7 @@ counts_packet marks d x copy c next is = record {
       (eqb_tells x.sender s);
 }
 
-pub counts_mark : (marks : List ℕ) (d : TakerState) (x : Item) (n m : ℕ) → AreTakersCounts marks d → IsNextTaken d x → x.what ≡ Mark n → m ≡ get_or marks x.sender m → AreTakersCounts (set marks x.sender (m + 1)) (state_with d x)
+pub counts_mark : (marks : List ℕ) (d : TakerState) (x : Item) (n m : ℕ) → AreTakersCounts marks d → MayBeTaken d x → x.what ≡ Mark n → m ≡ get_or marks x.sender m → AreTakersCounts (set marks x.sender (m + 1)) (state_with d x)
 counts_mark marks d x n m c next is at =
     let all = c.all in
     let number = next.number in

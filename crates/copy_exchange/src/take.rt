@@ -2,7 +2,7 @@
 
 ghost use Rattle.std.specs.Prelude.{◌≡◌, ◌↔◌, true, [], IfOk, IfErr, OnOk, IsTrue};
 ghost use Rattle.copy_inbox.specs.declared.rule.TakerState.{TakerState};
-ghost use Rattle.copy_inbox.specs.Handles.{IsNextTaken, state_with};
+ghost use Rattle.copy_inbox.specs.Handles.{MayBeTaken, state_with};
 ghost use Rattle.copy_exchange.specs.declared.take.MarkError.TheVariants.{Stopped, Unexpected};
 ghost use Rattle.copy_exchange.specs.Expected.{AddsCopy, IsExpectedAt, Refuses, TakesExpected, TakesUnexpected};
 ghost use Rattle.copy_exchange.specs.Expected.{position_of};
@@ -81,9 +81,9 @@ fn record_item(
     arrived: &mut Vec<RadioCopy>,
     item: Item,
 ) -> Result<(), MarkError>
-    requires is_next { (d : TakerState) × AreTakersCounts marks.old.items d × IsNextTaken d item }
+    requires is_next { (d : TakerState) × AreTakersCounts marks.old.items d × MayBeTaken d item }
     ensures counts { OnOk result
-        ((d : TakerState) → AreTakersCounts marks.old.items d → IsNextTaken d item
+        ((d : TakerState) → AreTakersCounts marks.old.items d → MayBeTaken d item
         → AreTakersCounts marks.new.items (state_with d item)) }
     ensures arrived { OnOk result
         (AddsCopy (position_of window_position.now) item arrived.old.items arrived.new.items) }

@@ -7,7 +7,7 @@ use Rattle.copy_inbox.specs.declared.items.Carried.TheVariants.{Packet}
 use Rattle.copy_inbox.specs.declared.items.Item.{Item}
 use Rattle.copy_inbox.specs.Items.{what_of, ArePackets, part}
 use Rattle.copy_inbox.specs.Gathered.{known_of, is_gathered, Later, NoOthers}
-use Rattle.copy_inbox.specs.Handles.{TakerView, after_taking, TakesPackets, IsNextTaken}
+use Rattle.copy_inbox.specs.Handles.{TakerView, after_taking, TakesPackets, MayBeTaken}
 use Rattle.copy_inbox.proofs.Parts.{part-snoc_else}
 
 abbrev pub known_to : TakerView → ℕ
@@ -42,7 +42,7 @@ cond_le false = omega arith
 
 -- one more packet is taken, and its copy appended
 pub drain_goes : (old t u : TakerView) (copies longer : List RadioCopy) (k : ℕ) (x : Item) (copy : RadioCopy) → Drained old t copies k
-    → u ≡ after_taking t (x ∷ []) → IsNextTaken t.state x → x.what ≡ Packet copy → longer ≡ copies ++ copy ∷ [] → Drained old u longer (k + 1)
+    → u ≡ after_taking t (x ∷ []) → MayBeTaken t.state x → x.what ≡ Packet copy → longer ≡ copies ++ copy ∷ [] → Drained old u longer (k + 1)
 drain_goes old t u copies longer k x copy d e next of added =
     let is : u ≡ after_taking old (d.items ++ x ∷ []) = e ∙ (ap (λ y. after_taking y (x ∷ [])) d.now ∙ (λ i. record { inbox = old.inbox; state = record { marked = old.state.marked; made = old.state.made; taken = append_assoc old.state.taken d.items (x ∷ []) i; gathered = old.state.gathered } })) in
     let b : Bool = is_gathered t.state.gathered x.sender in

@@ -20,7 +20,7 @@ use Rattle.copy_inbox.specs.Items.{part, carries_packet, Packets, HasPrefix}
 use Rattle.copy_inbox.specs.Gathered.{is_gathered, untaken_of, known_of}
 use Rattle.copy_inbox.specs.Views.{make_taker_state, make_gathered, with_one_more, with_gathered, with_taken}
 use Rattle.copy_inbox.specs.Rule.{Sound, SeenBy}
-use Rattle.copy_inbox.specs.Handles.{taker_state_in, sender_state_in, IsTaker, IsSender, IsNextTaken, AllGathered, PacketsLeft, TakesPackets, state_with}
+use Rattle.copy_inbox.specs.Handles.{taker_state_in, sender_state_in, IsTaker, IsSender, MayBeTaken, AllGathered, PacketsLeft, TakesPackets, state_with}
 use Rattle.copy_inbox.proofs.Parts.{part-append, part-here, part-else, part-moved, part-not_nil, part-nil_left, part-nil_right}
 use Rattle.copy_inbox.proofs.Moves.{each_map, below, SoundWith, seen_sound}
 use Rattle.copy_inbox.proofs.Counts.{left_is, Adds, adds_of, known-is, begun_of, front_counts, tally-nil, tally-le, front_known}
@@ -126,7 +126,7 @@ module _ (d : TakerState) (x : Item) (rest : List Item) (pass_of : ℕ → Optio
       let all = ap length (sym (part-append x.sender (d.taken ++ x ∷ []) rest) ∙ (part-moved x.sender d.taken rest x ∙ s.parts x.sender)) in
       omega (arith, length-append (part x.sender (d.taken ++ x ∷ [])) (part x.sender rest))
 
-  pub is_next : IsNextTaken d x
+  pub is_next : MayBeTaken d x
   is_next = record {
     number = next_of d x rest pass_of pushed s;
     few = few_taken;
@@ -257,7 +257,7 @@ next_below v counts k x rest t seen =
     let b = t.made in
     omega arith
 
-pub next_known : (v : View) (x : Item) (rest : List Item) → v ≡ Taking (taker_state_in v) → SeenBy v (x ∷ rest) → IsNextTaken (taker_state_in v) x
+pub next_known : (v : View) (x : Item) (rest : List Item) → v ≡ Taking (taker_state_in v) → SeenBy v (x ∷ rest) → MayBeTaken (taker_state_in v) x
 next_known v x rest is seen = let s = seen_sound v (taker_state_in v) (x ∷ rest) is seen in is_next (taker_state_in v) x rest s.0 s.1 s.2
 
 -- nothing is known if the queue is empty

@@ -124,8 +124,8 @@ TakesPackets d = (d.marked ≡ false) ⊎ (AllGathered d × PacketsLeft d)
 abbrev pub state_with : TakerState → Item → TakerState
 state_with d x = make_taker_state d.marked d.made (d.taken ++ x ∷ []) d.gathered
 
--- x is the next item that the taker takes
-pub record IsNextTaken (d : TakerState) (x : Item) : Type 0 where
+-- the taker may take x next; that x is the oldest item isn't said
+pub record MayBeTaken (d : TakerState) (x : Item) : Type 0 where
   -- the item is from a sender that was made, and no more items are taken from this sender than a sender may push
   pub number : x.sender < d.made
   pub few : length (part x.sender (d.taken ++ x ∷ [])) ≤ 2 ^ 62

@@ -67,12 +67,6 @@ pub record InboxRule (items : List Item) (views : List View) : Type 0 where
 abbrev pub SeenBy : View → List Item → Type 0
 SeenBy v items = (views : List View) × (pass : ℕ) × InboxRule items views × (get_elem? views pass ≡ some v)
 
--- The rule allows an empty queue beside this knowledge of the taker. This says neither when, nor that it was this
--- queue: it follows from the fact that no item is known. Tests show that an answer of `None` comes from a look at the
--- queue.
-abbrev pub WasEmpty : TakerState → Type 0
-WasEmpty d = SeenBy (Taking d) []
-
 -- the item was the oldest in the queue, and is now the last that the taker took
 abbrev pub Took : View → Item → View → Type 0
 Took v x w = (w ≡ with_taken v x) × ((rest : List Item) × SeenBy v (x ∷ rest))

@@ -9,9 +9,8 @@ ghost use Rattle.copy_inbox.specs.Gathered.{known_of, TookFronts};
 ghost use Rattle.copy_inbox.specs.Views.{make_taker_state, make_sender_state};
 ghost use Rattle.copy_inbox.specs.Handles.{InboxId, TakerView, SenderView, after_sender, after_pushing, after_gather};
 ghost use Rattle.copy_inbox.specs.Handles.{after_taking, TakesCopies, Empties, AllGathered, NoMarkLeft, TakesPackets};
-ghost use Rattle.copy_inbox.specs.Handles.{taker_state_in, sender_state_in, IsSender, IsNextTaken};
+ghost use Rattle.copy_inbox.specs.Handles.{taker_state_in, sender_state_in, IsSender, MayBeTaken};
 ghost use Rattle.copy_inbox.specs.Kept.{KeepsSenderCounts};
-ghost use Rattle.copy_inbox.specs.Rule.{WasEmpty};
 ghost use Rattle.copy_inbox.specs.Drains.{Drains};
 
 use crate::count::{Count, count_taken, forget_first};
@@ -313,22 +312,20 @@ impl Inbox {
         *known
     }
 
-    /// Takes the oldest copy or mark, and returns it with the number of its sender. This allocates nothing. If it
-    /// returns `None`, no item is known and nothing has changed. It returns `None` if it finds the queue empty; no
-    /// clause can bind this to the moment of the call, because other threads push at any moment. The tests
-    /// `inbox_in_one_thread` and `marked_inbox` show it. The items taken from a gathered sender are still a prefix of
-    /// those that it pushed.
+    /// Takes a copy or a mark, and returns it with the number of its sender. This allocates nothing. The items taken
+    /// from a gathered sender are still a prefix of those that it pushed. If it returns `None`, no item is known and
+    /// nothing has changed. It takes the oldest item, and returns `None` only if it finds the queue empty; no clause
+    /// says so, because other threads push at any moment. The tests `marked_inbox` and `items_one_by_one` show it.
     pub fn take_next<R: Wait>(&self, rt: &R, taker: &mut Taker) -> Option<Item>
         requires of_inbox { taker.old.inbox ≡ self.now }
         ensures still { (taker.new.inbox ≡ taker.old.inbox) × (taker.new.state.made ≡ taker.old.state.made)
             × (taker.new.state.gathered ≡ taker.old.state.gathered) }
         ensures taken { IfSome result (λ x. taker.new ≡ after_taking taker.old (x ∷ [])) }
-        ensures next { IfSome result (λ x. IsNextTaken taker.old.state x) }
+        ensures next { IfSome result (λ x. MayBeTaken taker.old.state x) }
         ensures items { TookFronts taker.new.state.gathered taker.new.state.taken
             × OfMade taker.new.state.made taker.new.state.taken }
         ensures same { IfNone result (taker.new ≡ taker.old) }
-        ensures none { IfNone result ((known_of taker.old.state.gathered taker.old.state.taken ≡ 0)
-            × WasEmpty taker.old.state) }
+        ensures none { IfNone result (known_of taker.old.state.gathered taker.old.state.taken ≡ 0) }
     {
         let item = self.queue.pop_as::<Takes, R>(rt, &mut taker.pass)?;
         let gathered = count_taken(taker.first, &mut taker.counts, item.sender);

@@ -50,7 +50,7 @@ impl<T, W: Work<T>, L: Ledger> Promise<Ended<T, L>> for Promised<W, T> {
 /// started or `may_start` refused the start, or `Memory` if an allocation for the handles failed. If a worker's handle
 /// couldn't be stored, the worker is joined and its result is dropped. If an allocation for a worker's result failed,
 /// the worker counts as one that returned `Memory`. The error is never `Stopped`: a worker stops only after another
-/// worker or a start has failed.
+/// worker or a start has failed. The clause says only this of an error; tests show the rest.
 pub fn fork_join<R, T, W>(
     rt: &R,
     alloc: Global,

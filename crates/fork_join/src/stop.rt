@@ -132,7 +132,8 @@ impl<'a, L: Ledger> Watch<'a, L> {
         }
     }
 
-    /// Returns whether the flag is set.
+    /// Returns whether the flag is set. The clause says only that the worker remembers the answer; tests show that it
+    /// looks.
     pub fn is_set<R: Wait>(&mut self, rt: &R) -> bool
         ensures seen { self.new.seen ≡ result }
     {

@@ -152,9 +152,9 @@ where
 ///
 /// # Errors
 /// `Workers`, `CutLength` or `CutWorker`, the first that applies, exactly if the partition doesn't fit. Otherwise,
-/// `Memory` if an allocation fails, or `Thread` if a thread couldn't be started, the gate refused a start, or an
-/// executor returned an error. If several workers failed, it is the error of the one with the lowest number, as a test
-/// shows. After an error, the inboxes are dropped.
+/// `Memory` if an allocation fails, or `Thread` if a thread couldn't be started, the gate refused a start, an executor
+/// returned an error, or a worker got a copy before its time, which the protocol excludes. If several workers failed,
+/// it is the error of the one with the lowest number, as a test shows. After an error, the inboxes are dropped.
 pub fn run_inboxes<R, G>(
     rt: &R,
     alloc: Global,
@@ -198,9 +198,9 @@ where
 ///
 /// # Errors
 /// `Workers`, `CutLength` or `CutWorker`, the first that applies, exactly if the partition doesn't fit. Otherwise,
-/// `Memory` if an allocation fails, or `Thread` if a thread couldn't be started, the gate refused a start, or an
-/// executor returned an error. If several workers failed, it is the error of the one with the lowest number, as a test
-/// shows.
+/// `Memory` if an allocation fails, or `Thread` if a thread couldn't be started, the gate refused a start, an executor
+/// returned an error, or a worker got a copy before its time, which the protocol excludes. If several workers failed,
+/// it is the error of the one with the lowest number, as a test shows.
 pub fn run_workers<R, G>(
     rt: &R,
     alloc: Global,

@@ -1,8 +1,7 @@
-use Rattle.std.proofs.Common.{◌≡◌, [], ap, subst}
+use Rattle.std.proofs.Common.{◌≡◌, ap, subst}
 use Rattle.copy_inbox.specs.declared.rule.TakerState.{TakerState}
 use Rattle.copy_inbox.specs.Gathered.{known_of}
-use Rattle.copy_inbox.specs.Rule.{SeenBy, WasEmpty}
-use Rattle.copy_inbox.specs.Handles.{taker_state_in, IsNextTaken}
+use Rattle.copy_inbox.specs.Handles.{taker_state_in, MayBeTaken}
 use Rattle.copy_inbox.proofs.Moves.{takes_as, learns}
 use Rattle.copy_inbox.proofs.Kept.{next_made, next_few, next_down, keeps_taken}
 use Rattle.copy_inbox.proofs.Takers.{next_known, none_known}
@@ -16,9 +15,8 @@ returns-in_err-item-clause-none g c =
     let matches = c.in_err-item.ensures.rule in
     let v = c.taker.inside.pass.me.view.client in
     let none = none_known _ _ _ c.taker.invariant.0.taker matches.1 in
-    let empty : WasEmpty (taker_state_in v) = subst (λ w. SeenBy w []) c.taker.invariant.0.taker.is matches.1 in
-    let P : TakerState → Type 0 = λ d. (known_of d.gathered d.taken ≡ 0) × WasEmpty d in
-    rw c.from_residual.ensures (subst P (ap (λ t. t.state) c.taker.view_is) (none, empty))
+    let P : TakerState → Type 0 = λ d. known_of d.gathered d.taken ≡ 0 in
+    rw c.from_residual.ensures (subst P (ap (λ t. t.state) c.taker.view_is) none)
 
 pub count_taken-gathered-requires-clause-made : goal.count_taken-gathered-requires-clause-made
 count_taken-gathered-requires-clause-made g c =
@@ -45,7 +43,7 @@ pub returns-clause-next : goal.returns-clause-next
 returns-clause-next g c =
     let matches = c.in_ok-item.ensures.rule in
     let next = next_known c.taker.inside.pass.me.view.client c.in_ok-item.item matches.0.1.0 c.taker.invariant.0.taker.is matches.0.1.1 in
-    let P : TakerState → Type 0 = λ d. IsNextTaken d c.in_ok-item.item in
+    let P : TakerState → Type 0 = λ d. MayBeTaken d c.in_ok-item.item in
     subst P (ap (λ t. t.state) c.taker.view_is) next
 
 pub returns-clause-items : goal.returns-clause-items
