@@ -28,7 +28,7 @@ from motesim.plan.tables import Key
 from motesim.runner.programs import TOP
 from motesim.scenario import faults as scenario
 from motesim.words import Words, words_of
-from project.spec_lists import headline
+from project.spec_lists import further, headline
 
 SYNTAX = TOP / 'tools/editor/syntaxes/mote.tmLanguage.json'
 WIDTH = 120
@@ -229,7 +229,8 @@ def syntax_of(text: str) -> str:
 
 
 PARTS: dict[str, Callable[[], Iterator[str]]] = {
-    'definitions': lambda: iter(headline(TOP).splitlines()), 'grammar': grammar, 'limits': limits, 'options': all_options,
+    'definitions': lambda: iter(headline(TOP).splitlines()),
+    'definitions of answers': lambda: iter(further(TOP).splitlines()), 'grammar': grammar, 'limits': limits, 'options': all_options,
     'plan keys': plan_keys, 'program errors': program_errors, 'reserved words': reserved,
     'scenario errors': scenario_errors, 'scenario keys': scenario_keys, 'warnings': warnings}
 

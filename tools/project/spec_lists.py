@@ -1,21 +1,26 @@
-"""The list of definitions of docs/proof/HEADLINE.md, which tools/dev/pages writes.
+"""The lists of definitions of docs/proof/HEADLINE.md, which tools/dev/pages writes.
 
 The page lists the files on which the theorem rests: the contract of `simulate`
-(crates/simulation/specs/Simulation*.antt), the files of specs/ that this contract imports, the files that these import,
-and so on. The list is in order from the top down: the crates from the last of crates.txt to the first, and within a
-crate a file before the files that it imports. It has the first sentence of each file's first comment.
+(crates/simulation/specs/Simulation.antt), the files of specs/ that this contract imports, the files that these import,
+and so on. A second list has the further files for the answers of `motecheck`. A list is in order from the top down: the
+crates from the last of crates.txt to the first, and within a crate a file before the files that it imports. It has the
+first sentence of each file's first comment.
 """
 from __future__ import annotations
 
 import re
 import textwrap
 from collections import defaultdict
+from collections.abc import Iterable, Iterator
 from graphlib import TopologicalSorter
+from itertools import chain
 from pathlib import Path
 
 from motesim.faults import Fault
 
-HEADLINE = 'crates/simulation/specs/Simulation*.antt'
+# The files with the contracts of `simulate`, and of `check` and `check_with_faults`.
+HEADLINE = 'crates/simulation/specs/Simulation.antt',
+ANSWERS = 'crates/claim_check/specs/Check.antt', 'crates/claim_check/specs/Survey.antt'
 CONSTANTS = 'TheConstants'
 # An import, with its name if the name has a known form.
 IMPORT = re.compile(r'^(?:pub )?use (?:([\w.]+?)(?:\.\{| as |\.?$))?', re.M)
@@ -58,17 +63,15 @@ def modules_of(top: Path) -> dict[str, Path]:
 
 
 class Rests:
-    """The files on which the headline rests, each with the files that it imports. Also the libraries that these files
+    """The files on which a contract rests, each with the files that it imports. Also the libraries that these files
     import, and for each source the types that they name."""
 
-    def __init__(self, top: Path):
+    def __init__(self, top: Path, contract: tuple[str, ...] = HEADLINE):
         self.crates, self.modules = crates_of(top), modules_of(top)
         self.files: dict[Path, list[Path]] = {}
         self.libraries: set[str] = set()
         self.types: dict[Path, set[str]] = defaultdict(set)
-        left = sorted(top.glob(HEADLINE))
-        if not left:
-            raise Fault('there is no file %s, which has the contract of `simulate`' % HEADLINE)
+        left = [top / it for it in contract]
         while left:
             path = left.pop()
             if path not in self.files:
@@ -111,23 +114,29 @@ def lines_of(*paths: Path) -> int:
     return sum(it.read_bytes().count(b'\n') for it in paths)
 
 
+def by_crate(top: Path, rests: Rests, files: Iterable[Path]) -> Iterator[str]:
+    """The rows of some of the files, crate by crate."""
+    of_crate = defaultdict[str, dict[Path, list[Path]]](dict)
+    for path in files:
+        of_crate[crate_of(top, path)][path] = rests.files[path]
+    yield from ['', 'The list has %s with %s, in %s.' % (
+        counted(sum(map(len, of_crate.values())), 'file'), counted(lines_of(*chain(*of_crate.values())), 'line'),
+        counted(len(of_crate), 'crate'))]
+    for crate in sorted(of_crate, key=rests.crates[::-1].index):
+        folder, order = 'crates/%s/specs' % crate, from_the_top(of_crate[crate])
+        yield from ['', '**[%s](../../%s)**: %s, %s' % (folder, folder, counted(len(order), 'file'),
+                                                        counted(lines_of(*order), 'line')), '']
+        yield from (item('`%s` (%d): %s' % (it.relative_to(top / folder).as_posix(), lines_of(it), about(it)))
+                    for it in order)
+
+
 def headline(top: Path) -> str:
     """The list of the definitions on which the headline rests."""
-    rests, by_crate = Rests(top), defaultdict[str, dict[Path, list[Path]]](dict)
-    for path, below in rests.files.items():
-        by_crate[crate_of(top, path)][path] = below
-    rows = ['', 'The list has %s with %s, in %s.' % (
-        counted(len(rests.files), 'file'), counted(lines_of(*rests.files), 'line'), counted(len(by_crate), 'crate')),
-        'All `specs/` together have %d files.' % len(list(top.glob('crates/*/specs/**/*.antt'))), '']
+    rests = Rests(top)
+    rows = [*by_crate(top, rests, rests.files)]
+    rows.insert(2, 'All `specs/` together have %d files.' % len(list(top.glob('crates/*/specs/**/*.antt'))))
     crates = rests.crates[::-1]
-    for crate in sorted(by_crate, key=crates.index):
-        folder, order = 'crates/%s/specs' % crate, from_the_top(by_crate[crate])
-        rows += ['**[%s](../../%s)**: %s, %s' % (folder, folder, counted(len(order), 'file'),
-                                                counted(lines_of(*order), 'line')), '']
-        rows += [item('`%s` (%d): %s' % (it.relative_to(top / folder).as_posix(), lines_of(it), about(it)))
-                 for it in order]
-        rows.append('')
-    rows += ['**Types of the source files** that these definitions use: %s, from %s' % (
+    rows += ['', '**Types of the source files** that these definitions use: %s, from %s' % (
         counted(sum(len(names - {CONSTANTS}) for names in rests.types.values()), 'type'),
         counted(len(rests.types), 'file')), '']
     for path in sorted(rests.types, key=lambda path: (crates.index(crate_of(top, path)), path)):
@@ -135,3 +144,9 @@ def headline(top: Path) -> str:
         rows.append(item('`%s`: %s' % (path.relative_to(top / 'crates').as_posix(), ', '.join(names))))
     libraries = ', '.join('`%s`' % it for it in sorted(rests.libraries)) or 'none'
     return '\n'.join([*rows, '', '**Libraries** of the kit that these files import: %s.' % libraries, '', ''])
+
+
+def further(top: Path) -> str:
+    """The list of the definitions on which the answers of `motecheck` rest, without those of the headline."""
+    rests, first = Rests(top, ANSWERS), Rests(top).files
+    return '\n'.join([*by_crate(top, rests, (it for it in rests.files if it not in first)), '', ''])
