@@ -5,7 +5,8 @@ use Rattle.mote_net.specs.Report.{ReportModel}
 use Rattle.claims.specs.declared.trace.Found.{Found}
 use Rattle.claims.specs.declared.trace.Deed.{Deed}
 use Rattle.claims.specs.declared.trace.Watch.{Watch}
-use Rattle.claims.specs.Traces.{trace_at, found_at, lines_of_mote, lines_of, any_in, count_in, shows}
+use Rattle.claims.specs.Traces.{trace_at, found_at, lines_of_mote, lines_of, shows}
+use Rattle.claims.specs.PerMote.{any_in, count_in}
 use Rattle.claims.proofs.ListLaws.{list_any-flat_map, list_any-filter-map, count_by-flat_map, count_by-filter-map}
 
 any_by : (q : Found → Bool) (r : ReportModel) (d : Deed) (ws : List Watch) → list_any (λ w. list_any q (filter (λ f. shows d w f.line) (lines_of_mote r w.mote))) ws ≡ list_any (any_in q r d) ws

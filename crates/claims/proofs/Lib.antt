@@ -5,6 +5,7 @@ pub mod PickLaws
 pub mod OrderLaws
 pub mod RatioLaws
 pub mod PermutationLaws
+pub mod TimeLaws
 pub mod AnyLaws
 pub mod SeenLaws
 pub mod ScanLaws

@@ -6,8 +6,9 @@ use Rattle.std.proofs.lemmas.List.Sums.{length-filter}
 use Rattle.mote_net.specs.Report.{ReportModel}
 use Rattle.claims.specs.declared.lines.Lines.{Lines}
 use Rattle.claims.specs.declared.trace.Watch.{Watch}
-use Rattle.claims.specs.Traces.{trace_at, found_at, lines_of_mote, count_in, shows}
-use Rattle.claims.specs.Lines.{is_wanted, is_counted, counted_in, wanted_lines}
+use Rattle.claims.specs.Traces.{trace_at, found_at, lines_of_mote, shows}
+use Rattle.claims.specs.PerMote.{count_in, is_counted, counted_in}
+use Rattle.claims.specs.Lines.{is_wanted, wanted_lines}
 use Rattle.claims.proofs.ListLaws.{count_by-map}
 
 filter-append : {A : Type 0} (q : A → Bool) (xs ys : List A) → filter q (xs ++ ys) ≡ filter q xs ++ filter q ys

@@ -11,7 +11,8 @@ use Rattle.claims.specs.declared.trace.Watch.{Watch}
 use Rattle.claims.specs.declared.order.Order.{Order}
 use Rattle.claims.specs.declared.order.Relation.{Relation}
 use Rattle.claims.specs.Orders.{is_related}
-use Rattle.claims.specs.Traces.{lines_of, any_in}
+use Rattle.claims.specs.Traces.{lines_of}
+use Rattle.claims.specs.PerMote.{any_in}
 use Rattle.claims.proofs.DeedLaws.{list_any-lines_of}
 use Rattle.claims.specs.Seen.{Stands, Extends, is_followed, some_is, each_is, still_known, is_shared_from, reach}
 use Rattle.claims.proofs.AnyLaws.{or_left, or_right, any_weaker, any_split}

@@ -11,7 +11,8 @@ use Rattle.claims.specs.declared.trace.Found.{Found}
 use Rattle.claims.specs.declared.trace.Watch.{Watch}
 use Rattle.claims.specs.declared.order.Order.{Order}
 use Rattle.claims.specs.Orders.{is_related}
-use Rattle.claims.specs.Traces.{found_at, trace_at, shows, any_in}
+use Rattle.claims.specs.Traces.{found_at, trace_at, shows}
+use Rattle.claims.specs.PerMote.{any_in}
 use Rattle.claims.specs.Seen.{Extends, some_is, is_shared_from, reach, rises_from}
 use Rattle.claims.proofs.AnyLaws.{or_left, or_weaker, any_weaker, any_in_drop}
 use Rattle.claims.proofs.SeenLaws.{unrelated_far}

@@ -3,7 +3,7 @@ use Rattle.std.proofs.Common.{◌≡◌, ◌∙◌, refl, arith, length, cond, L
 use Rattle.std.proofs.lemmas.List.Sums.{sum_by-cons}
 use Rattle.claims.specs.declared.trace.Found.{Found}
 use Rattle.claims.specs.declared.values.Mark.TheVariants.{Any}
-use Rattle.claims.specs.Marks.{has_mark}
+use Rattle.claims.specs.PerMote.{has_mark}
 
 pub count_by-any : (ls : List Found) → count_by (has_mark Any) ls ≡ length ls
 count_by-any [] = refl

@@ -5,10 +5,11 @@ pub mod Whats
 pub mod Patterns
 pub mod Traces
 pub mod Orders
-pub mod Seen
 pub mod Values
-pub mod Marks
+pub mod InTime
 pub mod Lines
+pub mod PerMote
+pub mod Seen
 pub mod Limits
 pub mod Medium
 pub mod Counts

@@ -1,11 +1,10 @@
 -- Lines, and how many there are.
-use Rattle.std.specs.Prelude.{ℕ, Bool, true, ◌&&◌, List, filter, Option, Some, None, count_by}
+use Rattle.std.specs.Prelude.{ℕ, Bool, true, List, filter, Option, Some, None, count_by}
 use Rattle.mote_net.specs.Report.{ReportModel}
 use Rattle.claims.specs.declared.trace.Found.{Found}
-use Rattle.claims.specs.declared.trace.Watch.{Watch}
 use Rattle.claims.specs.declared.order.Order.{Order}
 use Rattle.claims.specs.declared.lines.Lines.{Lines}
-use Rattle.claims.specs.Traces.{lines_of, lines_of_mote, shows}
+use Rattle.claims.specs.Traces.{lines_of}
 use Rattle.claims.specs.Orders.{is_ordered}
 
 -- the line has the order, if there is one
@@ -20,11 +19,3 @@ count_of s r = count_by (is_wanted s.order r) (lines_of r s.deed)
 -- the lines that are counted, mote by mote
 abbrev pub wanted_lines : Lines → ReportModel → List Found
 wanted_lines s r = filter (is_wanted s.order r) (lines_of r s.deed)
-
--- the line is in the period of the watch, fits the deed's pattern, and has the order
-abbrev pub is_counted : Lines → ReportModel → Watch → Found → Bool
-is_counted s r w f = shows s.deed w f.line && is_wanted s.order r f
-
--- those of one mote
-abbrev pub counted_in : Lines → ReportModel → Watch → List Found
-counted_in s r w = filter (is_counted s r w) (lines_of_mote r w.mote)

@@ -1,4 +1,5 @@
 -- What is known of the events of an order once a line of a mote is decided: one event, which stands for all others.
+-- No public contract cites this file.
 use Rattle.std.specs.Prelude.{⊤, ◌≡◌, ℕ, Bool, true, false, ◌&&◌, ◌||◌, ◌==◌, not, nat_lt, nat_le, ◌+◌, List, [], ◌∷◌, Option, Some, None, if◌then◌else◌}
 use Rattle.std.specs.List.{list_any, list_all}
 use Rattle.mote_net.specs.Report.{ReportModel}
@@ -10,7 +11,8 @@ use Rattle.claims.specs.declared.order.Relation.{Relation}
 use Rattle.claims.specs.declared.order.Relation.TheVariants.{After, NotBefore, Within, Followed}
 use Rattle.claims.specs.declared.seen.Seen.{Seen}
 use Rattle.claims.specs.Orders.{is_related}
-use Rattle.claims.specs.Traces.{trace_at, lines_of, any_in}
+use Rattle.claims.specs.Traces.{trace_at, lines_of}
+use Rattle.claims.specs.PerMote.{any_in}
 
 -- b is a, or a later line of the same mote
 abbrev pub is_followed : Found → Found → Bool

@@ -1,5 +1,5 @@
 -- The lines of a report that fit a pattern.
-use Rattle.std.specs.Prelude.{ℕ, Bool, ◌&&◌, List, [], map, filter, slice_get, unwrap_or, count_by}
+use Rattle.std.specs.Prelude.{ℕ, Bool, ◌&&◌, List, [], map, filter, slice_get, unwrap_or}
 use Rattle.std.specs.List.{enumerate_from, flat_map, list_any}
 use Rattle.mote_net.specs.Report.{ReportModel}
 use Rattle.trace_lines.specs.declared.line.Line.{Line}
@@ -28,11 +28,3 @@ shows d w l = is_in w.when l.at && list_any (λ p. fits p l.what) d.patterns.ite
 -- the lines of a deed: those of its motes, each in its period, that fit one of its patterns, mote by mote
 abbrev pub lines_of : ReportModel → Deed → List Found
 lines_of r d = flat_map (λ w. filter (λ f. shows d w f.line) (lines_of_mote r w.mote)) d.watches.items
-
--- whether a line of a mote passes a test
-abbrev pub any_in : (Found → Bool) → ReportModel → Deed → Watch → Bool
-any_in q r d w = list_any (λ e. shows d w e.1 && q (found_at w.mote e)) (enumerate_from 0 (trace_at r w.mote))
-
--- how many lines of a mote pass a test
-abbrev pub count_in : (Found → Bool) → ReportModel → Deed → Watch → ℕ
-count_in q r d w = count_by (λ e. shows d w e.1 && q (found_at w.mote e)) (enumerate_from 0 (trace_at r w.mote))

@@ -15,7 +15,7 @@ use mote_net::Report;
 pub enum Test {
     /// A number is within limits.
     Count(Count, Limits),
-    /// A number is at most so many times as great as another one.
+    /// A number times a factor is at most another number times a factor, or below it.
     Ratio(Ratio),
     /// The values of the lines are in these sets, one by one, in the order of the moments.
     Values(Deed, Vec<Set>),

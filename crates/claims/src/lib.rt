@@ -19,7 +19,7 @@ mod what;
 
 pub use claim::{Case, Claim, Test, holding, holds};
 pub use count::Count;
-pub use laws::{after_means_after_the_first, any_order_is_a_permutation};
+pub use laws::{after_means_after_the_first, any_order_is_a_permutation, values_are_in_time};
 pub use limits::Limits;
 pub use lines::Lines;
 pub use medium::{Arrival, Copies, Packets};

@@ -1,8 +1,8 @@
 //! Lines, and how many there are.
 ghost use Rattle.std.specs.Prelude.{◌≡◌, slice_get};
 ghost use Rattle.mote_net.specs.Report.{report_of};
-ghost use Rattle.claims.specs.Traces.{count_in};
-ghost use Rattle.claims.specs.Lines.{is_wanted, count_of, is_counted, counted_in, wanted_lines};
+ghost use Rattle.claims.specs.PerMote.{count_in, is_counted, counted_in};
+ghost use Rattle.claims.specs.Lines.{is_wanted, count_of, wanted_lines};
 ghost use Rattle.claims.specs.Seen.{IsSeenBy};
 
 use crate::order::Order;
@@ -50,11 +50,12 @@ impl Lines {
         self.deed.shows(watch, &line.line) && self.are_in_order(report, seen, line)
     }
 
-    fn count_in(&self, report: &Report, watch: Watch) -> usize
+    fn count_in(&self, report: &Report, watch: Watch, start: Seen) -> usize
+        requires { IsSeenBy self.now.order (report_of report.now) start }
         ensures value { result ≡ count_in (is_wanted self.now.order (report_of report.now)) (report_of report.now)
             self.now.deed watch }
     {
-        let mut seen = self.begin(report);
+        let mut seen = start;
         let mut count = 0;
         for (place, line) in trace_of(report, watch.mote).iter().enumerate() {
             let found = Found {
@@ -73,17 +74,19 @@ impl Lines {
     pub fn count(&self, report: &Report) -> u128
         ensures value { result ≡ count_of self.now (report_of report.now) }
     {
+        let start = self.begin(report);
         let mut count = 0;
         for watch in &self.deed.watches {
-            count += self.count_in(report, *watch) as u128;
+            count += self.count_in(report, *watch, start) as u128;
         }
         count
     }
 
-    fn line_in(&self, report: &Report, watch: Watch, index: u64) -> Option<Found>
+    fn line_in(&self, report: &Report, watch: Watch, start: Seen, index: u64) -> Option<Found>
+        requires { IsSeenBy self.now.order (report_of report.now) start }
         ensures value { result ≡ slice_get (counted_in self.now (report_of report.now) watch) index }
     {
-        let mut seen = self.begin(report);
+        let mut seen = start;
         let mut left = index;
         for (place, line) in trace_of(report, watch.mote).iter().enumerate() {
             let found = Found {
@@ -105,11 +108,12 @@ impl Lines {
     pub fn line_at(&self, report: &Report, index: u64) -> Option<Found>
         ensures value { result ≡ slice_get (wanted_lines self.now (report_of report.now)) index }
     {
+        let start = self.begin(report);
         let mut left = index;
         for watch in &self.deed.watches {
-            let count = self.count_in(report, *watch) as u64;
+            let count = self.count_in(report, *watch, start) as u64;
             if left < count {
-                return self.line_in(report, *watch, left);
+                return self.line_in(report, *watch, start, left);
             }
             left -= count;
         }

@@ -13,7 +13,8 @@ pub enum Relation {
     NotBefore,
     /// The event is before the line, or at the same moment at another mote, and at most this many moments earlier.
     Within(u64),
-    /// The event is after the line, or at the same moment at another mote, and at most this many moments later.
+    /// The event is after the line, or at the same moment at another mote, and at most this many moments later. A line
+    /// near the end of a run isn't followed by an event that would come in time, but after the end.
     Followed(u64),
 }
 

@@ -263,8 +263,9 @@ impl Order {
         }
     }
 
-    /// Returns whether a line has, or doesn't have, the relation to some line of the event. Lines of a mote that follow
-    /// one another are decided in time linear in the lines if the traces of the event are sorted by moment.
+    /// Returns whether a line has, or doesn't have, the relation to some line of the event. If the traces of the event are
+    /// sorted by moment, each is searched by halves for the moment up to which the last line of the mote was decided, and
+    /// read from there. So all lines of a mote read the events once, but those at one moment are compared pairwise.
     pub(crate) fn admits(&self, report: &Report, seen: &mut Seen, line: &Found) -> bool
         requires { IsSeen self.now (report_of report.now) seen.old }
         ensures seen { IsSeen self.now (report_of report.now) seen.new }

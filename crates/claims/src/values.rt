@@ -3,8 +3,8 @@ ghost use Rattle.std.specs.Prelude.{◌≡◌, ◌==◌, ◌&&◌, length, count
 ghost use Rattle.std.specs.List.{list_all, list_any, enumerate_from};
 ghost use Rattle.mote_net.specs.Report.{report_of};
 ghost use Rattle.claims.specs.Sets.{is_this};
-ghost use Rattle.claims.specs.Traces.{lines_of, any_in, count_in};
-ghost use Rattle.claims.specs.Marks.{has_mark};
+ghost use Rattle.claims.specs.Traces.{lines_of};
+ghost use Rattle.claims.specs.PerMote.{any_in, count_in, has_mark};
 ghost use Rattle.claims.specs.Values.{is_earlier, value_of, has_value, is_such, is_there, have_values, is_value};
 ghost use Rattle.claims.specs.Values.{is_as_often, have_in_any_order, is_last, ends_in, last_has};
 

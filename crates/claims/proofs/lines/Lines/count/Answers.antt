@@ -3,7 +3,7 @@ use Rattle.std.proofs.lemmas.List.{take_all}
 use Rattle.std.specs.List.{sum_by}
 use Rattle.mote_net.specs.Report.{report_of}
 use Rattle.claims.specs.Lines.{is_wanted}
-use Rattle.claims.specs.Traces.{count_in}
+use Rattle.claims.specs.PerMote.{count_in}
 use Rattle.claims.proofs.DeedLaws.{count_by-lines_of}
 use Rattle.claims.proofs.lines.Lines.count.Goals as goal
 

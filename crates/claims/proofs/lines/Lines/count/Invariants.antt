@@ -2,7 +2,7 @@ use Rattle.std.proofs.Common.{◌≡◌, ◌≤◌, ◌*◌, take}
 use Rattle.std.specs.List.{sum_by}
 use Rattle.mote_net.specs.Report.{report_of}
 use Rattle.claims.specs.Lines.{is_wanted}
-use Rattle.claims.specs.Traces.{count_in}
+use Rattle.claims.specs.PerMote.{count_in}
 use Rattle.claims.proofs.lines.Lines.count.Given as goal
 
 abbrev pub invariant-loop-watch : goal.invariant-loop-watch

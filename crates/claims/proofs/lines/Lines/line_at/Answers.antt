@@ -3,7 +3,7 @@ use Rattle.std.specs.List.{flat_map}
 use Rattle.std.proofs.lemmas.List.{drop_all}
 use Rattle.mote_net.specs.Report.{report_of}
 use Rattle.claims.specs.declared.trace.Watch.{Watch}
-use Rattle.claims.specs.Lines.{counted_in}
+use Rattle.claims.specs.PerMote.{counted_in}
 use Rattle.claims.proofs.PickLaws.{get-here, get-later, wanted-by-watch, length-counted}
 use Rattle.claims.proofs.lines.Lines.line_at.Goals as goal
 

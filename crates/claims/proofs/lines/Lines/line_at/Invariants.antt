@@ -1,7 +1,7 @@
 use Rattle.std.proofs.Common.{◌≡◌, drop, slice_get}
 use Rattle.std.specs.List.{flat_map}
 use Rattle.mote_net.specs.Report.{report_of}
-use Rattle.claims.specs.Lines.{counted_in}
+use Rattle.claims.specs.PerMote.{counted_in}
 use Rattle.claims.proofs.lines.Lines.line_at.Given as goal
 
 abbrev pub invariant-loop-watch : goal.invariant-loop-watch

@@ -2,7 +2,7 @@ use Rattle.std.proofs.Common.{◌≡◌, drop, slice_get, map, filter}
 use Rattle.std.specs.List.{enumerate_from}
 use Rattle.mote_net.specs.Report.{report_of}
 use Rattle.claims.specs.Traces.{found_at}
-use Rattle.claims.specs.Lines.{is_counted}
+use Rattle.claims.specs.PerMote.{is_counted}
 use Rattle.claims.specs.Seen.{IsSeenBy}
 use Rattle.claims.proofs.lines.Lines.line_in.Given as goal
 

@@ -2,8 +2,7 @@ use Rattle.std.proofs.Common.{ap, ◌∙◌, sym, ◌≤◌, length}
 use Rattle.std.proofs.lemmas.List.{take_all}
 use Rattle.std.specs.List.{sum_by}
 use Rattle.mote_net.specs.Report.{report_of}
-use Rattle.claims.specs.Marks.{has_mark}
-use Rattle.claims.specs.Traces.{count_in}
+use Rattle.claims.specs.PerMote.{has_mark, count_in}
 use Rattle.claims.proofs.DeedLaws.{count_by-lines_of}
 use Rattle.claims.proofs.trace.Deed.count_marked.Goals as goal
 

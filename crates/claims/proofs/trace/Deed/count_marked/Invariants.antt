@@ -1,8 +1,7 @@
 use Rattle.std.proofs.Common.{◌≡◌, ◌≤◌, ◌*◌, take}
 use Rattle.std.specs.List.{sum_by}
 use Rattle.mote_net.specs.Report.{report_of}
-use Rattle.claims.specs.Marks.{has_mark}
-use Rattle.claims.specs.Traces.{count_in}
+use Rattle.claims.specs.PerMote.{has_mark, count_in}
 use Rattle.claims.proofs.trace.Deed.count_marked.Given as goal
 
 abbrev pub invariant-loop-watch : goal.invariant-loop-watch

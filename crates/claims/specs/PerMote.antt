@@ -1,0 +1,34 @@
+-- The lines of a deed at one mote. No public contract cites this file.
+use Rattle.std.specs.Prelude.{ℕ, Bool, true, ◌&&◌, List, filter, count_by}
+use Rattle.std.specs.List.{enumerate_from, list_any}
+use Rattle.mote_net.specs.Report.{ReportModel}
+use Rattle.claims.specs.declared.trace.Found.{Found}
+use Rattle.claims.specs.declared.trace.Watch.{Watch}
+use Rattle.claims.specs.declared.trace.Deed.{Deed}
+use Rattle.claims.specs.declared.lines.Lines.{Lines}
+use Rattle.claims.specs.declared.values.Mark.{Mark}
+use Rattle.claims.specs.declared.values.Mark.TheVariants.{Any, EarlierThan, Value}
+use Rattle.claims.specs.Traces.{trace_at, found_at, lines_of_mote, shows}
+use Rattle.claims.specs.Lines.{is_wanted}
+use Rattle.claims.specs.Values.{is_earlier, is_value}
+
+-- whether a line of a mote passes a test
+abbrev pub any_in : (Found → Bool) → ReportModel → Deed → Watch → Bool
+any_in q r d w = list_any (λ e. shows d w e.1 && q (found_at w.mote e)) (enumerate_from 0 (trace_at r w.mote))
+
+-- how many lines of a mote pass a test
+abbrev pub count_in : (Found → Bool) → ReportModel → Deed → Watch → ℕ
+count_in q r d w = count_by (λ e. shows d w e.1 && q (found_at w.mote e)) (enumerate_from 0 (trace_at r w.mote))
+
+-- the line is in the period of the watch, fits the deed's pattern, and has the order
+abbrev pub is_counted : Lines → ReportModel → Watch → Found → Bool
+is_counted s r w f = shows s.deed w f.line && is_wanted s.order r f
+
+-- the lines of a mote that are counted
+abbrev pub counted_in : Lines → ReportModel → Watch → List Found
+counted_in s r w = filter (is_counted s r w) (lines_of_mote r w.mote)
+
+abbrev pub has_mark : Mark → Found → Bool
+has_mark Any f = true
+has_mark (EarlierThan l) f = is_earlier f l
+has_mark (Value v) f = is_value v f
