@@ -24,7 +24,8 @@ from project.differential.random_scenario import random_scenario
 from motesim.runner import Answer
 from motesim.judge.claims import Claims, NoClaim
 from motesim.judge.expectations import parts_of
-from motesim.judge.sentences import names_of, read_sentence
+from motesim.judge.names import names_of
+from motesim.judge.sentences import read_sentence
 from motesim.runner.module import SOURCES, about_of, file_of, read_about, script_of
 from motesim.runner.programs import CODE, TOP, digest
 from motesim.scenario import Scenario

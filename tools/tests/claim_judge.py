@@ -15,7 +15,7 @@ from unittest import mock
 
 sys.path.insert(0, str(Path(__file__).resolve().parents[1]))
 from motesim.judge.claims import EVENTS, FIRST_DECLARED  # noqa: E402
-from motesim.judge.sentences import processes_of  # noqa: E402
+from motesim.judge.names import processes_of  # noqa: E402
 from motesim.notation.reader import read_program  # noqa: E402
 from motesim.report import FIELDS  # noqa: E402
 from motesim.scenario import Scenario  # noqa: E402

@@ -13,7 +13,8 @@ from pathlib import Path
 from claim_judge import answers_to
 from here import TOP, call, room_of
 from motesim.judge.claims import Claims, NoClaim
-from motesim.judge.sentences import names_of, read_sentence
+from motesim.judge.names import names_of
+from motesim.judge.sentences import read_sentence
 from motesim.report.run import program_path
 from motesim.scenario import Scenario
 from page_judge import PageJudge

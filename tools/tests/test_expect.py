@@ -19,7 +19,10 @@ from motesim.judge.claims import Claims
 from motesim.judge.expectations import expect, judged, parts_of
 from motesim.judge.finder import Finder
 from motesim.judge.reasons import Broken
-from motesim.judge.sentences import EXAMPLES, Does, Names, SentenceFault, Value, names_of, read_sentence
+from motesim.judge.meaning import Does, Value
+from motesim.judge.names import Names, names_of
+from motesim.judge.sentence_fault import EXAMPLES, SentenceFault
+from motesim.judge.sentences import read_sentence
 from motesim.judge.several import read_all, UnknownSentence
 from motesim.judge.verdicts import breaks
 from motesim.report import Report
@@ -241,6 +244,8 @@ class Page(unittest.TestCase):
         calls = [it for it in ast.walk(ast.parse(inspect.getsource(sentences))) if isinstance(it, ast.Call)
                  and isinstance(it.func, ast.Attribute) and it.func.attr in ('accept', 'need', 'verb')]
         phrases = {it.value for call in calls for it in call.args if isinstance(it, ast.Constant)}
+        phrases |= {*sentences.MOTES_OF, *sentences.VALUES_OF, *sentences.ALL_COPIES, *sentences.OUTCOMES,
+                    *(verb + 's' for verb in sentences.VERBS)}
         self.assertGreater(len(phrases), 60)
         missing = {phrase for phrase in phrases if not set(re.findall(r'\w+|%', phrase)) <= known}
         self.assertLessEqual(missing, {'per cent', 'print', 'receive', 'send', 'leave', 'write', 'halt', 'start'})

@@ -12,7 +12,9 @@ from claim_judge import deciding_by
 from motesim.judge.claims import NoClaim
 from motesim.judge.finder import Finder
 from motesim.judge.reasons import Broken
-from motesim.judge.sentences import Sentence, names_of, read_sentence
+from motesim.judge.meaning import Sentence
+from motesim.judge.names import names_of
+from motesim.judge.sentences import read_sentence
 from motesim.judge.verdicts import breaks
 from motesim.report import Report
 from motesim.report.columns import KINDS

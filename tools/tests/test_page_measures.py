@@ -12,7 +12,7 @@ import here  # noqa: F401
 import motesim
 from motesim.experiments.measures import Bench, read_measure, sentence_of
 from motesim.judge.claims import Claims
-from motesim.judge.sentences import names_of
+from motesim.judge.names import names_of
 from motesim.judge.verdicts import decided
 from motesim.scenario import Scenario
 from motesim.summary.counts import summary

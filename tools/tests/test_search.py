@@ -20,7 +20,8 @@ from here import SECONDS, TOOLS, TOP, call
 from motesim.faults import Fault
 from motesim.judge.claims import Claims
 from motesim.judge.expectations import beside
-from motesim.judge.sentences import names_of, read_sentence
+from motesim.judge.names import names_of
+from motesim.judge.sentences import read_sentence
 from motesim.plan.plan import Plan
 from motesim.report.report import Report
 from motesim.report.run import answer, program_path

@@ -13,7 +13,8 @@ from claim_judge import deciding_by
 from here import SECONDS, TOOLS, TOP, call, text_of
 from motesim.faults import Fault
 from motesim.judge.finder import Finder
-from motesim.judge.sentences import Names, motes_named, names_of, read_sentence
+from motesim.judge.names import Names, names_of
+from motesim.judge.sentences import motes_named, read_sentence
 from motesim.judge.verdicts import breaks
 from motesim.notation.printer import program_text
 from motesim.notation.reader import read_program

@@ -22,7 +22,8 @@ from motesim.experiments.sweep import Sweeper
 from motesim.faults import Fault
 from motesim.judge.breaks import Break
 from motesim.judge.claims import Claims
-from motesim.judge.sentences import Sentence, names_of
+from motesim.judge.meaning import Sentence
+from motesim.judge.names import names_of
 from motesim.judge.verdicts import decided
 from motesim.plan.plan import Plan
 from motesim.plan.values import values_of

@@ -9,7 +9,8 @@ from motesim.faults import Fault
 from motesim.report.run import answer
 from motesim.scenario import Scenario
 from motesim.why.source import At, Source
-from motesim.why.state import after_line, after_moment, as_json, read_state, rows
+from motesim.why.say import heading, rows_of_state, state_as_json
+from motesim.why.state import after_line, after_moment, read_state
 from motesim.why.watch import read_watch, replayed
 
 MARK = 60_001
@@ -58,14 +59,14 @@ class States(unittest.TestCase):
 
     def test_after_a_moment(self) -> None:
         """At 4 c has set its timer, and has left; the timer runs on, and its callback will come at 6."""
-        self.assertEqual([it.text for it in rows(as_json(after_moment(self.source, 0, 4), 4))], [
+        self.assertEqual([it.text for it in rows_of_state(state_as_json(after_moment(self.source, 0, 4)))], [
             '  process a waits at line 14: `yield`', '  process b waits at line 23: `yield_until is(msg)`',
             '  process c has left', '  timer late of c is due at 6, in 2 moments; set at 4 in line 36: `set late 2`',
             '  the event queue is empty'])
 
     def test_after_a_line(self) -> None:
         """After the post of line 9 the event for b waits, and a is in its call; c isn't started yet."""
-        state = as_json(after_line(self.source, At(0, 7)), 4)
+        state = state_as_json(after_line(self.source, At(0, 7)))
         self.assertEqual(state['queue'], [{'serial': 1, 'for': 'b', 'event': 'msg', 'word': 5, 'from': 0,
                                            'posted_at': 4}])
         self.assertEqual([(it['name'], it['started'], it['polled']) for it in state['processes']],
@@ -73,11 +74,13 @@ class States(unittest.TestCase):
         self.assertEqual(state['processes'][2]['waits'], 'is not started')
         self.assertEqual(state['timers'], [])
         self.assertEqual(state['call']['process'], 'a')
-        self.assertIsNone(as_json(after_moment(self.source, 0, 4), 4)['call'])
+        self.assertIsNone(state_as_json(after_moment(self.source, 0, 4))['call'])
 
     def test_what_is_asked(self) -> None:
-        self.assertEqual(read_state(self.source, 'mote 0 at 6')[1:], (6, 'mote 0 at the end of moment 6'))
-        self.assertEqual(read_state(self.source, '0:9')[1:], (4, 'mote 0 after line 9: 4 post 1 b msg 5'))
+        for words, at, said in (('mote 0 at 6', 6, 'mote 0 at the end of moment 6'),
+                                ('0:9', 4, 'mote 0 after line 9: 4 post 1 b msg 5')):
+            state = read_state(self.source, words)
+            self.assertEqual((state.at, heading(self.source, state)), (at, said))
         for words in 'mote 2 at 3', 'mote 0 at 21', '0:1', 'here':
             with self.assertRaises(Fault):
                 read_state(self.source, words)

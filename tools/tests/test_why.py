@@ -18,7 +18,7 @@ from motesim.why.chain import cause_of, chain, places
 from motesim.why.command import show_chain
 from motesim.why.fate import after_post
 from motesim.why.miss import Miss, _Misses, misses
-from motesim.why.question import Asked, Asker, Missing, Unasked
+from motesim.why.question import Asked, Asker, Missing
 from motesim.why.say import MOST_CALLS, Reasons, about, because, chain_as_json, of_fate, of_miss, on_values
 from motesim.why.source import At, Source
 from project.differential.random_scenario import random_scenario
@@ -152,7 +152,7 @@ def test_reasons_and_json_have_both_lines() -> None:
 @pytest.mark.parametrize('question, kind, found', rows_of('why_questions.tsv'))
 def test_the_line_of_a_question(question: str, kind: str, found: str) -> None:
     if kind == 'refused':
-        with pytest.raises(Unasked if found else Fault, match=found):
+        with pytest.raises(Fault, match=found):
             Asker(source()).about(question)
     elif kind == 'missing':
         missing_of(source(), question)
@@ -172,7 +172,7 @@ def test_sentences_on_two_events(question: str, line: str, holds: bool, remark: 
     run = run_of('flooding')
     asked = asked_of(run, question)
     at = places(run, asked.where)[0]
-    assert ('%d: %s' % (at.mote, run.traces.text(at)), asked.holds, remark in asked.remark) == (line, holds, True)
+    assert ('%d: %s' % (at.mote, run.traces.text(at)), asked.holds, remark in about(run, asked)) == (line, holds, True)
 
 
 @pytest.mark.parametrize('example, question, mote', [

@@ -6,7 +6,8 @@ import skips
 import test_why
 from browser import InBrowser
 from motesim.judge.finder import Finder
-from motesim.judge.sentences import names_of, read_sentence
+from motesim.judge.names import names_of
+from motesim.judge.sentences import read_sentence
 from motesim.judge.verdicts import breaks
 from motesim.report import Report
 from motesim.report.run import Run, answer, read_run

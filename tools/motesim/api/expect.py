@@ -7,7 +7,7 @@ from typing import TYPE_CHECKING
 from motesim.api.answers import Kept
 from motesim.faults import Fault
 from motesim.judge.finder import Finder
-from motesim.judge.sentences import names_of
+from motesim.judge.names import names_of
 from motesim.judge.several import read_all
 from motesim.judge.verdicts import breaks
 

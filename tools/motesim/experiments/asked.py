@@ -10,7 +10,8 @@ from motesim.experiments.measures import file_of, imports_of, mote_of, processes
 from motesim.cells import text_of
 from motesim.experiments.results import MADE, Row
 from motesim.faults import Fault
-from motesim.judge.sentences import Names, SentenceFault, names_of
+from motesim.judge.names import Names, names_of
+from motesim.judge.sentence_fault import SentenceFault
 from motesim.plan.plan import Plan
 from motesim.plan.tables import Value, optional, text_of_value
 from motesim.plan.values import MOST_RUNS, values_of

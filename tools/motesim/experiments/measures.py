@@ -39,7 +39,9 @@ from motesim.report import OUTCOMES, Line
 from motesim.report.run import Run
 from motesim.scenario import Scenario
 from motesim.scenario.scenario import hops_over
-from motesim.judge.sentences import Copies, Does, Motes, Names, Packets, Refused, Sentence, read_sentence
+from motesim.judge.meaning import Copies, Does, Motes, Packets, Refused, Sentence
+from motesim.judge.names import Names
+from motesim.judge.sentences import read_sentence
 from motesim.judge.verdicts import is_broken
 
 SUMMARY = ('sent', 'copies', *OUTCOMES, 'ratio', *counts.COUNTED.values(), 'halt')
@@ -90,9 +92,14 @@ class Bench:
         return not is_broken(self.verdicts[it], it, self.finder)
 
     @cached_property
-    def summary(self) -> tuple[list[dict[str, Any]], dict[str, Any]]:
-        """The rows of tools/summary: those of the motes, and that of the net."""
-        return counts.of_motes(self.run.report, counts.counted_links(self.run.report))
+    def net(self) -> counts.Row:
+        """The row of the net in the table of tools/summary."""
+        return counts.of_net(self.run.report)
+
+    @cached_property
+    def motes(self) -> list[counts.Row]:
+        """The rows of the motes in this table."""
+        return counts.of_motes(self.run.report)
 
 
 def _no_warning(bench: Bench) -> str:
@@ -114,10 +121,9 @@ class Measure:
 
 def _of_summary(name: str, mote: str | None) -> Callable[[Bench], Cell]:
     def of(bench: Bench) -> Cell:
-        motes, net = bench.summary
-        if mote is not None and int(mote) >= len(motes):
+        if mote is not None and int(mote) >= len(bench.run.report.motes):
             raise MeasureFault('there is no mote %s' % mote)
-        found: Cell = (net if mote is None else motes[int(mote)])[name]
+        found: Cell = (bench.net if mote is None else bench.motes[int(mote)])[name]
         return found
 
     return of
@@ -134,8 +140,7 @@ def reachable(scenario: Scenario | None) -> float | None:
 def loss(bench: Bench) -> float | None:
     """The share of the copies that the medium lost by the scenario's losses; copies on the way at the end don't
     count."""
-    net = bench.summary[1]
-    return share(net['lost'], net['copies'] - net['left'])
+    return share(bench.net['lost'], bench.net['copies'] - bench.net['left'])
 
 
 def _of_flow(name: str, words: str) -> Callable[[Bench], Cell]:

@@ -13,7 +13,7 @@ from motesim.experiments.measures import Bench, name_of, read_measure, sentence_
 from motesim.cells import Cell
 from motesim.faults import Fault
 from motesim.judge.claims import Claims
-from motesim.judge.sentences import names_of
+from motesim.judge.names import Names, names_of
 from motesim.judge.verdicts import decided
 from motesim.plan.files import Files
 from motesim.plan.plan import Plan
@@ -24,7 +24,6 @@ from motesim.runner.batch import fault_of
 from motesim.runner.cluster import Binary
 from motesim.runner.process import Limits, Runner
 from motesim.report.run import ProgramFault, Run
-from motesim.scenario import Scenario
 
 DIGITS = 16
 # The time on the clock that a run may last is this many times its limit of processor time.
@@ -94,12 +93,11 @@ def reason_of(failure: BaseException) -> str:
     return line if len(line) <= LONGEST_FAULT else line[:LONGEST_FAULT] + '..'
 
 
-def measured(work: Work, bench: Bench, known: Scenario) -> Result:
+def measured(work: Work, bench: Bench, names: Names) -> Result:
     """The measures of a run. Each measure has the same limit as the run."""
     found: dict[str, Cell] = {}
     notes: list[str] = []
     codes: dict[str, None] = {}
-    names = names_of(known)
     for words in work.measures:
         name = name_of(words)
         try:
@@ -108,7 +106,7 @@ def measured(work: Work, bench: Bench, known: Scenario) -> Result:
                 found[name] = measure.of(bench)
                 codes[measure.warning(bench)] = None
                 if measure.is_of_arrivals:
-                    codes.update(dict.fromkeys(of_full(bench.summary[1], bench.run.report)))
+                    codes.update(dict.fromkeys(of_full(bench.net, bench.run.report)))
         except BaseException as failure:
             # (a user's measure may raise any exception, even one that asks Python to exit)
             found[name] = None
@@ -131,10 +129,11 @@ def run_job(work: Work, job: Job) -> Result:
             raise ProgramFault(got.why)
         read = Report.parse(got.report)
         places = digest(repr([(it.x, it.y) for it in known.places]).encode())
-        asked = [it for words in work.measures if (it := sentence_of(words, names_of(known)))]
+        names = names_of(known)
+        asked = [it for words in work.measures if (it := sentence_of(words, names))]
         bench = Bench(Run(work.plan, read, known), job.given, asked, lambda its: decided(
             Claims(known), text, its, limits, program=work.checker.here()))
-        found = measured(work, bench, known)
+        found = measured(work, bench, names)
         return made._replace(measures=found.measures, note=found.note, warnings=found.warnings, places=places,
                              report=digest(got.report))
     except BaseException as failure:

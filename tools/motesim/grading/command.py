@@ -20,7 +20,7 @@ from motesim.grading.own import OF_KEY
 from motesim.grading.pages import keep_names, pages_of, remove_earlier
 from motesim.progress import Progress
 from motesim.judge.expectations import parts_of, text_of
-from motesim.judge.sentences import Names, names_of
+from motesim.judge.names import Names, names_of
 from motesim.judge.several import read_all
 from motesim.runner import Limits, program_path, run_each
 from motesim.runner.programs import CHECKER

@@ -9,7 +9,7 @@ from itertools import groupby
 from typing import NamedTuple
 
 from motesim.judge.links import Span
-from motesim.judge.sentences import Pattern
+from motesim.judge.meaning import Pattern
 
 ALL: Span = (0, None)
 Limits = tuple[int, int | None]

@@ -16,13 +16,13 @@ from motesim.judge.claim_words import (
 )
 from motesim.judge.hearing import hearing
 from motesim.judge.links import Apart, Links, Span
-from motesim.judge.sentences import (
-    BECAME, Copies, Count, Deed as Action, Does, Hears, Lines, MediumLine, Motes, Packets, Pattern, Refused, Relation,
-    Sentence, Value, Window, parts_of, processes_of,
-)
+from motesim.judge.meaning import (
+    Copies, Count, Deed as Action, Does, Hears, Lines, MediumLine, Motes, Packets, Pattern, Refused, Relation,
+    Sentence, Value, Window, parts_of)
+from motesim.judge.names import processes_of
 from motesim.notation.grammar import SYSTEM
 from motesim.notation.reader import read_program
-from motesim.report import FIELDS
+from motesim.report import BECAME, FIELDS
 from motesim.scenario import Scenario
 
 EVENTS = {'init': 0x81, 'poll': 0x82, 'exit': 0x83, 'continue': 0x85, 'msg': 0x86, 'exited': 0x87, 'timer': 0x88,

@@ -6,7 +6,7 @@ from __future__ import annotations
 
 import dataclasses
 import itertools
-from collections.abc import Callable, Iterator, Sequence
+from collections.abc import Callable, Iterable, Iterator, Sequence
 from dataclasses import dataclass
 from pathlib import Path
 from typing import Any, NamedTuple
@@ -26,7 +26,8 @@ from motesim.scenario import Scenario, ScenarioFault
 from motesim.scenario.encodings import decoded, read_file
 from motesim.scenario.faults import TOP
 from motesim.scenario.fields import Field, of_line, read_fields
-from motesim.judge.sentences import Names, Refused, Sentence, names_of
+from motesim.judge.meaning import Refused, Sentence
+from motesim.judge.names import Names, names_of
 from motesim.judge.several import read_all
 from motesim.judge.verdicts import breaks
 from motesim.toml import NoToml, read_toml
@@ -147,16 +148,16 @@ def changed(scenario: str, replace: dict[str, str]) -> str:
     return scenario
 
 
-def more_of(broken: Broken, rows: Sequence[str], fields: Sequence[Field] = ()) -> list[str]:
+def more_of(broken: Broken, report: Report, fields: Sequence[Field] = ()) -> list[str]:
     """The lines that are shown for a broken sentence, with the fields of their values."""
     if broken.row is None:
         return [broken.words]
-    row = rows[broken.row - 1]
+    row = report.row(broken.row)
     shown = row if len(row) <= LONGEST_SHOWN else row[:LONGEST_SHOWN] + '..'
     return [broken.words, 'line %d: %s%s' % (broken.row, shown, of_line(fields, row.partition(' ')[2]))]
 
 
-def same_report(rows: Sequence[str], wanted: str) -> Verdict:
+def same_report(rows: Iterable[str], wanted: str) -> Verdict:
     """The verdict on a report that must be the same as another report."""
     for number, (row, line) in enumerate(itertools.zip_longest(rows, wanted.splitlines(), fillvalue='the end'), 1):
         if row != line:
@@ -179,9 +180,9 @@ def of_report(part: Part, sentences: list[Sentence], finder: Finder, limits: Lim
     found = []
     for text, it, its in zip(part.sentences, sentences, breaks(sentences, finder, limits)):
         remark = tried(lambda: remark_of(it, finder, its is None), lambda words: '')
-        found.append(Verdict(text, its is None, more_of(its, finder.rows, part.fields) if its else [], False, remark,
+        found.append(Verdict(text, its is None, more_of(its, finder.report, part.fields) if its else [], False, remark,
                              its.row if its else None, its))
-    return found + ([same_report(finder.rows, part.report)] if part.report is not None else [])
+    return found + ([same_report(finder.report.rows(), part.report)] if part.report is not None else [])
 
 
 def known_of(text: str, fields: tuple[Field, ...] = ()) -> tuple[Scenario | None, Names]:

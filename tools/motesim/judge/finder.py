@@ -2,7 +2,6 @@
 from __future__ import annotations
 
 from collections.abc import Iterator, Sequence
-from functools import cached_property
 from itertools import compress, repeat
 from itertools import count as counting
 from operator import and_, attrgetter
@@ -10,8 +9,8 @@ from typing import NamedTuple
 
 from motesim.judge.claim_words import Counted, Deed, OfNet
 from motesim.judge.links import Links, Span, within
-from motesim.judge.sentences import BECAME, Copies, Does, Motes, Packets, Pattern, Value, Window
-from motesim.report import LOST, Line, Report, Rows
+from motesim.judge.meaning import Copies, Does, Motes, Packets, Pattern, Value, Window
+from motesim.report import BECAME, LOST, Line, Report
 from motesim.scenario import Scenario
 
 
@@ -41,11 +40,6 @@ class Finder:
     def __init__(self, report: Report, scenario: Scenario):
         self.report, self.scenario = report, scenario
         self.links = Links(scenario)
-
-    @cached_property
-    def rows(self) -> Sequence[str]:
-        """The lines of the report's text."""
-        return Rows(self.report)
 
     def row(self, mote: int, number: int) -> int:
         """The row of a line, by its number in the trace of its mote, from 1."""

@@ -4,7 +4,7 @@ from __future__ import annotations
 from collections.abc import Set
 from functools import cached_property
 
-from motesim.judge.sentences import Value, Window
+from motesim.judge.meaning import Value, Window
 from motesim.scenario import Scenario
 
 # The first and the last moment of a period; None if it has no last one.

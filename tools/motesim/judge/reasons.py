@@ -11,7 +11,7 @@ from motesim.judge.breaks import Break
 from motesim.judge.claim_words import ALL, Test
 from motesim.judge.finder import Event, Finder, Row
 from motesim.judge.links import Span
-from motesim.judge.sentences import MediumLine, Refused, Sentence
+from motesim.judge.meaning import MediumLine, Refused, Sentence
 
 
 class Lack(NamedTuple):

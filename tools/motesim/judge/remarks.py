@@ -6,7 +6,7 @@ from __future__ import annotations
 from motesim.judge.claims import OF_TEXT
 from motesim.judge.finder import Finder
 from motesim.judge.links import Apart
-from motesim.judge.sentences import Copies, Does, Packets, Sentence
+from motesim.judge.meaning import Copies, Does, Packets, Sentence
 
 NOT_PROVED = 'not proved: no claim can say it, so the tool compares texts'
 AFTER_THE_END = 'the run ends at %d, before the interval of this expectation, which begins at %d'

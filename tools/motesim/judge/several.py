@@ -4,7 +4,10 @@ from __future__ import annotations
 from collections.abc import Sequence
 
 from motesim.faults import Fault
-from motesim.judge.sentences import Names, Sentence, SentenceFault, read_sentence
+from motesim.judge.meaning import Sentence
+from motesim.judge.names import Names
+from motesim.judge.sentence_fault import SentenceFault
+from motesim.judge.sentences import read_sentence
 
 # The most sentences that can't be read which an error shows.
 MOST_UNKNOWN = 10

@@ -10,7 +10,7 @@ from motesim.judge.claim_words import Claim
 from motesim.judge.claims import OF_TEXT, Claims
 from motesim.judge.finder import Finder
 from motesim.judge.reasons import Broken, of_text, reason_of
-from motesim.judge.sentences import Sentence
+from motesim.judge.meaning import Sentence
 from motesim.runner import Limits, ProgramFault, Runner
 from motesim.runner.programs import CHECKER, program_path
 

@@ -7,8 +7,8 @@
 """
 from motesim.report.columns import KINDS, LOST, MASKS, NONE, Log, Trace
 from motesim.report.lines import FIELDS, MOST_MOMENT, MOST_WORD, Copy, Line, Packet
-from motesim.report.report import OUTCOMES, Mote, Outcome, Report, Rows
+from motesim.report.report import BECAME, OUTCOMES, Mote, Outcome, Report
 from motesim.report.strict import ReportFault
 
-__all__ = ['FIELDS', 'KINDS', 'LOST', 'MASKS', 'MOST_MOMENT', 'MOST_WORD', 'NONE', 'OUTCOMES', 'Copy', 'Line', 'Log',
-           'Mote', 'Outcome', 'Packet', 'Report', 'ReportFault', 'Rows', 'Trace']
+__all__ = ['BECAME', 'FIELDS', 'KINDS', 'LOST', 'MASKS', 'MOST_MOMENT', 'MOST_WORD', 'NONE', 'OUTCOMES', 'Copy', 'Line',
+           'Log', 'Mote', 'Outcome', 'Packet', 'Report', 'ReportFault', 'Trace']

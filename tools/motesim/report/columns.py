@@ -10,7 +10,7 @@ from bisect import bisect_right
 from collections.abc import Callable, Iterable, Iterator, Sequence
 from functools import cached_property
 from itertools import accumulate, chain, compress, repeat
-from typing import Any, overload
+from typing import Any, TypeVar, overload
 
 from motesim.report.lines import FIELDS, FORMS, Copy, Line, Packet
 
@@ -25,6 +25,7 @@ NONE = 0xFFFF
 LOST = 2 ** 64 - 1
 
 Fields = dict[str, 'array[int]']
+Item = TypeVar('Item')
 
 
 def new_fields(kind: str) -> Fields:
@@ -191,8 +192,42 @@ class Trace:
         return self._of_field('H', 'word value')
 
 
-class MoteLines(Sequence[Line]):
-    """The lines of one mote; each is made when it is needed."""
+class Made(Sequence[Item]):
+    """Items that are made when they are needed."""
+    __slots__ = ()
+
+    def item(self, index: int) -> Item:
+        """The item at a place."""
+        raise NotImplementedError
+
+    def some(self, indices: range) -> list[Item]:
+        """The items at these places."""
+        return list(map(self.item, indices))
+
+    @overload
+    def __getitem__(self, index: int) -> Item: ...
+
+    @overload
+    def __getitem__(self, index: slice) -> list[Item]: ...
+
+    def __getitem__(self, index: int | slice) -> Item | list[Item]:
+        if isinstance(index, slice):
+            return self.some(range(*index.indices(len(self))))
+        if not -len(self) <= index < len(self):
+            raise IndexError('there are %d' % len(self))
+        return self.item(index % len(self))
+
+    def __iter__(self) -> Iterator[Item]:
+        return map(self.item, range(len(self)))
+
+    def __eq__(self, other: object) -> bool:
+        return isinstance(other, Sequence) and len(self) == len(other) and all(a == b for a, b in zip(self, other))
+
+    __hash__ = None  # type: ignore[assignment]
+
+
+class MoteLines(Made[Line]):
+    """The lines of one mote."""
     __slots__ = ('trace', 'mote')
 
     def __init__(self, trace: Trace, mote: int):
@@ -201,33 +236,19 @@ class MoteLines(Sequence[Line]):
     def __len__(self) -> int:
         return self.trace.starts[self.mote + 1] - self.trace.starts[self.mote]
 
-    @overload
-    def __getitem__(self, index: int) -> Line: ...
+    def item(self, index: int) -> Line:
+        return self.trace.line(self.trace.starts[self.mote] + index)
 
-    @overload
-    def __getitem__(self, index: slice) -> list[Line]: ...
-
-    def __getitem__(self, index: int | slice) -> Line | list[Line]:
-        if isinstance(index, slice):
-            begin, end, step = index.indices(len(self))
-            if step == 1:
-                return list(self.trace.lines(self.mote, begin, end)) if begin < end else []
-            return [self[it] for it in range(begin, end, step)]
-        count = len(self)
-        if not -count <= index < count:
-            raise IndexError('the mote has %d lines' % count)
-        return self.trace.line(self.trace.starts[self.mote] + index % count)
+    def some(self, indices: range) -> list[Line]:
+        if indices.step != 1:
+            return super().some(indices)
+        return list(self.trace.lines(self.mote, indices.start, indices.stop)) if indices else []
 
     def __iter__(self) -> Iterator[Line]:
         return self.trace.lines(self.mote)
 
-    def __eq__(self, other: object) -> bool:
-        return isinstance(other, Sequence) and len(self) == len(other) and all(a == b for a, b in zip(self, other))
 
-    __hash__ = None  # type: ignore[assignment]
-
-
-class Log(Sequence[Packet]):
+class Log(Made[Packet]):
     """The log of the medium: packets, and their copies.
 
     at, sender, number, value   of each packet
@@ -263,30 +284,8 @@ class Log(Sequence[Packet]):
         counts = map(int.__sub__, self.first[1:], self.first)
         return chain.from_iterable(repeat(value, count) for value, count in zip(column, counts))
 
-    def packet(self, index: int) -> Packet:
-        """A packet by its place."""
+    def item(self, index: int) -> Packet:
         begin, end = self.first[index], self.first[index + 1]
         copies = tuple(Copy(to, None if at == LOST else at)
                        for to, at in zip(self.to[begin:end], self.arrival[begin:end]))
         return Packet(self.at[index], self.sender[index], self.number[index], self.value[index], copies)
-
-    @overload
-    def __getitem__(self, index: int) -> Packet: ...
-
-    @overload
-    def __getitem__(self, index: slice) -> list[Packet]: ...
-
-    def __getitem__(self, index: int | slice) -> Packet | list[Packet]:
-        if isinstance(index, slice):
-            return [self.packet(it) for it in range(*index.indices(len(self)))]
-        if not -len(self) <= index < len(self):
-            raise IndexError('the log has %d packets' % len(self))
-        return self.packet(index % len(self))
-
-    def __iter__(self) -> Iterator[Packet]:
-        return map(self.packet, range(len(self)))
-
-    def __eq__(self, other: object) -> bool:
-        return isinstance(other, Sequence) and len(self) == len(other) and all(a == b for a, b in zip(self, other))
-
-    __hash__ = None  # type: ignore[assignment]

@@ -12,7 +12,7 @@ from collections.abc import Callable, Iterable, Iterator, Sequence
 from functools import cached_property, partial
 from itertools import compress, count, repeat
 from operator import add, mul
-from typing import NamedTuple, overload
+from typing import NamedTuple
 
 from motesim import runner
 from motesim.faults import Fault
@@ -56,7 +56,8 @@ _LOST, _HALTED, _LEFT = (OUTCOMES.index(it) for it in ('lost', 'halted', 'left')
 # The least number of copies for which several processes find the outcomes; and the number of motes for which each of
 # these processes finds them at a time.
 MANY, MOTES_AT_ONCE = 200_000, 256
-_BECAME = {'recv': 'received', 'lost': 'overflowed', 'collide': 'collided'}
+# The kinds of lines of the copies that have one.
+BECAME = {'received': 'recv', 'overflowed': 'lost', 'collided': 'collide'}
 
 
 class Report:
@@ -129,10 +130,15 @@ class Report:
         """The packets by sender and number."""
         return {(packet.sender, packet.number): packet for packet in self.medium}
 
-    def packet(self, sender: int, number: int) -> Packet | None:
-        """A packet by its sender and its number at this sender. For a few packets this is faster than `packets`."""
+    def place_of(self, sender: int, number: int) -> int | None:
+        """The place of a packet in the log, by its sender and its number at this sender."""
         places = compress(count(), map(number.__eq__, self.log.number))
-        return next((self.log[place] for place in places if self.log.sender[place] == sender), None)
+        return next((place for place in places if self.log.sender[place] == sender), None)
+
+    def packet(self, sender: int, number: int) -> Packet | None:
+        """A packet by its sender and its number. For a few packets this is faster than `packets`."""
+        place = self.place_of(sender, number)
+        return None if place is None else self.log[place]
 
     def outcomes(self) -> list[Outcome]:
         """The outcome of each copy, in the order of the log of the medium. `fates` has them as numbers."""
@@ -175,7 +181,7 @@ class Report:
     def _became(self, mote: int) -> dict[int, int]:
         """The outcomes of the packets that arrived at a mote, from the mote's lines, by the keys of the packets."""
         found: dict[int, int] = {}
-        for kind, fate in _BECAME.items():
+        for fate, kind in BECAME.items():
             place, fields = self.trace.place(mote, kind), self.trace.of[kind]
             keys = _keys(fields['sender'][place], fields['number'][place], len(self.motes))
             found.update(zip(keys, repeat(OUTCOMES.index(fate))))
@@ -185,29 +191,3 @@ class Report:
 def _keys(senders: Iterable[int], numbers: Iterable[int], motes: int) -> Iterator[int]:
     """The keys of packets: for each packet one number, made from its sender and its number."""
     return map(add, map(mul, numbers, repeat(motes)), senders)
-
-
-class Rows(Sequence[str]):
-    """The lines of a report's text, without their ends; each line is made when it is needed."""
-
-    def __init__(self, report: Report):
-        self.report = report
-
-    def __len__(self) -> int:
-        return self.report.length
-
-    @overload
-    def __getitem__(self, index: int) -> str: ...
-
-    @overload
-    def __getitem__(self, index: slice) -> list[str]: ...
-
-    def __getitem__(self, index: int | slice) -> str | list[str]:
-        if isinstance(index, slice):
-            return [self.report.row(it + 1) for it in range(*index.indices(len(self)))]
-        if not -len(self) <= index < len(self):
-            raise IndexError('the report has %d lines' % len(self))
-        return self.report.row(index % len(self) + 1)
-
-    def __iter__(self) -> Iterator[str]:
-        return self.report.rows()

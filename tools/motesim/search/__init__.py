@@ -10,7 +10,6 @@
     change.py          the changes that faults make to a scenario, and the changed text
     added.py           the process that makes a mote fail, or start late
     prepare.py         the checks before a search
-    halting.py         the line `halt` of a failed mote: the expectations that can't leave it out, and reports without it
     work.py            one run of a set of faults
     survey.py          the sets that motecheck decides
     single_packets.py  whether the link of a lost packet loses only this packet in the run
@@ -25,6 +24,6 @@
 
     shrink_command.py  tools/shrink
     shrink.py          delta debugging
-    net.py, smaller.py, tree.py   scenarios and programs as values, and the steps to smaller ones
+    net.py, smaller.py   scenarios and programs as values, and the steps to smaller ones
     following.py       sentences that follow motes with other numbers
 """

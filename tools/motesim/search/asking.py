@@ -5,7 +5,7 @@ import hashlib
 import time
 from collections.abc import Callable
 
-from motesim.judge.sentences import Sentence
+from motesim.judge.meaning import Sentence
 from motesim.runner.versions import program_digest
 from motesim.search import calculated
 from motesim.search.change import Base

@@ -12,7 +12,8 @@ from motesim.runner.interrupt import Break
 from motesim.faults import INTERRUPTED, Fault
 from motesim.files import refuse_inputs
 from motesim.judge.expectations import beside, parts_of, text_of
-from motesim.judge.sentences import Names, Refused, Sentence, names_of
+from motesim.judge.meaning import Refused, Sentence
+from motesim.judge.names import Names, names_of
 from motesim.judge.several import read_all
 from motesim.plan.plan import Plan
 from motesim.plan.tables import Value, text_of_value

@@ -1,7 +1,8 @@
 """Adapts sentences to a scenario whose motes have new numbers."""
 from __future__ import annotations
 
-from motesim.judge.sentences import Names, motes_named
+from motesim.judge.names import Names
+from motesim.judge.sentences import motes_named
 
 
 def follow(sentence: str, names: Names, removed: frozenset[int]) -> str | None:

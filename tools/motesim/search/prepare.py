@@ -15,16 +15,14 @@ from motesim.runner import ProgramFault, Runner
 from motesim.search.added import DIES, LATE, NoRoom, added_name, halts
 from motesim.search.change import Base, CannotChange, Change
 from motesim.search.faults import FaultyPart
-from motesim.search.halting import counts_halt, has_halted
 from motesim.search.notes import Note, note
 from motesim.search.sets import Set, union
 from motesim.search.work import mask_of
-from motesim.judge.claims import Claims
+from motesim.judge.claims import Claims, NoClaim
 from motesim.judge.finder import Finder
-from motesim.judge.sentences import Sentence
+from motesim.judge.meaning import Lines, Sentence
 from motesim.judge.verdicts import decided, is_broken
 from motesim.report import Line, Packet, Report
-from motesim.report.lazy import LazyReport
 from motesim.scenario.scenario import Scenario
 
 ADDED = {'fails': DIES, 'late': LATE}
@@ -37,7 +35,7 @@ LIMITS = ' (an option such as --seconds sets the limits of a run)'
 class Plain(NamedTuple):
     """The run without a fault: its report, which expectations it breaks, how many packets each mote sends, and the
     moment of the last packet or arrival."""
-    report: bytes
+    report: Report
     broken: list[int]
     sent: list[int]
     last: int = 0
@@ -52,41 +50,52 @@ def plain_run(base: Base, program: Runner, sentences: list[Sentence]) -> Plain:
         why = '%s%s' % (fault, LIMITS)
     if why:
         raise Fault('%s has no report, even if no fault is added: %s' % (base.name, why))
-    trace, motes = LazyReport(answer.report).trace, range(base.scenario_itself.motes)
-    return Plain(answer.report, broken_in(base.scenario_itself, answer.report, sentences, program),
-                 [len(trace.moments(mote, 'send')) for mote in motes],
-                 max((at for mote in motes for kind in OF_PACKETS for at in trace.moments(mote, kind)), default=0))
+    report = Report.parse(answer.report)
+    return Plain(report, broken_in(base.scenario_itself, report, sentences, program),
+                 [len(report.trace.rows(mote.number, 'send')) for mote in report.motes],
+                 max((it.at for it in report.lines(*OF_PACKETS)), default=0))
 
 
-def broken_in(scenario: Scenario, report: bytes, sentences: list[Sentence], program: Runner) -> list[int]:
+def broken_in(scenario: Scenario, report: Report, sentences: list[Sentence], program: Runner) -> list[int]:
     """The numbers of the sentences that are broken in the run of a scenario, which has this report."""
     said = decided(Claims(scenario), scenario.text, sentences, program.limits)
-    finder = Finder(LazyReport(report), scenario)
+    finder = Finder(report, scenario)
     return [number for number, its in enumerate(zip(said, sentences)) if is_broken(*its, finder)]
 
 
-def without_process(data: bytes, mote: int, process: str) -> list[Line | Packet]:
+def counts_halt(it: Sentence, claims: Claims, mote: int, moment: int) -> bool:
+    """Returns whether a sentence can't leave out the line `halt` of a mote that fails at a moment: this line is the
+    fault's, not the protocol's."""
+    try:
+        claims.of(it, {mote: moment})
+    except NoClaim:
+        return True
+    return isinstance(it, Lines)
+
+
+def without_process(report: Report, mote: int, process: str) -> list[Line | Packet]:
     """The lines of a report, and its packets, without those lines of one mote that name a process."""
-    report = Report.parse(data)
     return [*(it for it in report.lines() if it.mote != mote or it.process != process), *report.medium]
 
 
-def difference(base: Base, plain: Plain, program: Runner, mote: int, kind: str, text: str) -> tuple[str, bytes]:
-    """The difference that the added process makes to the report of a scenario, or an empty text; if there is none, also
-    the report with the process."""
+def difference(base: Base, plain: Plain, program: Runner, mote: int, kind: str, text: str
+               ) -> str | Report:
+    """The difference that the added process makes to the report of a scenario; if there is none, the report with the
+    process."""
     try:
         answer = program.answer(text.encode())
     except ProgramFault as fault:
-        return str(fault), b''
+        return str(fault)
     if answer.status:
-        return answer.why, b''
+        return answer.why
+    report = Report.parse(answer.report)
     name = added_name(base.tables['programs'][base.scenario_itself.places[mote].program], kind)
-    here, there = (without_process(report, mote, name) for report in (answer.report, plain.report))
+    here, there = (without_process(it, mote, name) for it in (report, plain.report))
     if here == there:
-        return '', answer.report
+        return report
     rows = [(one, other) for one, other in zip(here, there) if one != other]
     one, other = map(str, rows[0] if rows else ('more lines', 'fewer'))
-    return 'the process that is added changes the run: %s for %s' % (one, other), b''
+    return 'the process that is added changes the run: %s for %s' % (one, other)
 
 
 class Prepared(NamedTuple):
@@ -123,7 +132,8 @@ def prepare(base: Base, plain: Plain, program: Runner, sentences: list[Sentence]
                 left_out.setdefault((mote, why), {})[str(fault.effect[0])] = None
                 continue
             program_of = base.tables['programs'][base.scenario_itself.places[mote].program]
-            if kind == DIES and halts(program_of) and not has_halted(plain.report, mote, moment):
+            halted = plain.report.motes[mote].halted()
+            if kind == DIES and halts(program_of) and (halted is None or halted > moment):
                 halting.add(len(kept))
                 mask |= mask_of([number for number, it in enumerate(sentences) if number not in plain.broken
                                  and counts_halt(it, claims, mote, moment)])
@@ -147,10 +157,10 @@ def _tried(base: Base, plain: Plain, program: Runner, sentences: list[Sentence],
     change.added[mote] = kind, base.scenario_itself.end + 1 if kind == DIES else 0
     try:
         text = base.text(change)
-        why, report = difference(base, plain, program, mote, kind, text)
+        found = difference(base, plain, program, mote, kind, text)
     except (NoRoom, CannotChange) as fault:
         return str(fault), 0
-    if why:
-        return why, 0
-    broken = broken_in(Scenario.parse(text), report, sentences, program)
+    if isinstance(found, str):
+        return found, 0
+    broken = broken_in(Scenario.parse(text), found, sentences, program)
     return '', mask_of([number for number in broken if number not in plain.broken])

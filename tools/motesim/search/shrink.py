@@ -14,7 +14,10 @@ from motesim.faults import Fault
 from motesim.judge.claims import OF_TEXT, Claims
 from motesim.judge.finder import Finder
 from motesim.judge.reasons import Broken
-from motesim.judge.sentences import Sentence, SentenceFault, names_of, read_sentence
+from motesim.judge.meaning import Sentence
+from motesim.judge.names import names_of
+from motesim.judge.sentence_fault import SentenceFault
+from motesim.judge.sentences import read_sentence
 from motesim.judge.verdicts import decided, reason
 from motesim.report.lazy import LazyReport
 from motesim.runner import ProgramFault, Runner

@@ -11,7 +11,7 @@ from motesim.runner.interrupt import Break
 from motesim.faults import INTERRUPTED, Fault
 from motesim.files import refuse_inputs
 from motesim.judge.expectations import beside, fields_beside, parts_of, text_of
-from motesim.judge.sentences import names_of
+from motesim.judge.names import names_of
 from motesim.judge.several import read_all
 from motesim.runner import Runner, program_path
 from motesim.scenario.made import MADE_SMALL

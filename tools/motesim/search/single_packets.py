@@ -7,22 +7,17 @@ from __future__ import annotations
 
 from collections.abc import Iterable
 
+from motesim.report import Trace
 from motesim.search.faults import FaultyPart
-from motesim.search.halting import trace_of
 
 
-def sent_by(report: bytes, mote: int) -> int:
-    """The number of packets that a mote sends, by its report."""
-    return report.count(b' send ', *trace_of(report, mote))
-
-
-def loses_more(faults: Iterable[FaultyPart], report: bytes, losses: dict[tuple[int, int], int]) -> bool:
+def loses_more(faults: Iterable[FaultyPart], trace: Trace, losses: dict[tuple[int, int], int]) -> bool:
     """Returns whether the link of a fault of the kind `packets` loses more than this packet, by the loss of the fault
     or by the loss of the scenario without faults."""
     for it in faults:
         if it.kind == 'packets':
             sender, receiver, every = map(int, it.effect[1:])
-            sent = sent_by(report, sender)
+            sent = len(trace.moments(sender, 'send'))
             if sent >= min(2 * every, losses.get((sender, receiver), sent + 1)):
                 return True
     return False

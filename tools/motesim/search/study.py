@@ -21,7 +21,7 @@ from typing import Any
 
 from motesim.faults import Fault
 from motesim.judge.expectations import changed, text_of
-from motesim.judge.sentences import names_of
+from motesim.judge.names import names_of
 from motesim.judge.several import read_all
 from motesim.search.asking import Asking
 from motesim.search.change import Base

@@ -14,7 +14,7 @@ from functools import cached_property
 
 from motesim.judge.claims import Claims, NoClaim, values_of_links
 from motesim.judge.links import Apart, Links
-from motesim.judge.sentences import Sentence, Value
+from motesim.judge.meaning import Sentence, Value
 from motesim.judge.verdicts import answers
 from motesim.runner import Limits, ProgramFault
 from motesim.runner.programs import CHECKER, is_module, program_path

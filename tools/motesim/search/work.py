@@ -14,7 +14,7 @@ from motesim.search.sets import Set
 from motesim.search.single_packets import loses_more
 from motesim.judge.claims import OF_TEXT, Claims, NoClaim
 from motesim.judge.finder import Finder
-from motesim.judge.sentences import Sentence
+from motesim.judge.meaning import Sentence
 from motesim.judge.shortfall import Shortfall, shortfall_of
 from motesim.judge.verdicts import NoVerdict, decided, is_broken
 from motesim.report.lazy import LazyReport
@@ -101,10 +101,10 @@ class Bench:
             return Outcome(found, STOPPED, 0, str(fault))
         if answer.status:
             return Outcome(found, UNMADE, 0, answer.why)
-        losses = self.base.with_parameters(change.parameters).scenario_itself.losses
-        if loses_more(its, answer.report, losses):
+        report = LazyReport(answer.report)
+        if loses_more(its, report.trace, self.base.with_parameters(change.parameters).scenario_itself.losses):
             return Outcome(found, MORE)
-        finder = Finder(LazyReport(answer.report), scenario)
+        finder = Finder(report, scenario)
         broken = [number for number, its, it in zip(numbers, said, wanted) if is_broken(its, it, finder)]
         meant = (claim for it in wanted if broken and type(it) not in OF_TEXT for claim in claims.of(it, failing))
         return Outcome(found, RUN, mask_of(broken), lacks=shortfall_of(finder, meant))

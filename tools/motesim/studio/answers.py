@@ -9,7 +9,7 @@ from motesim.explain.warnings import warnings
 from motesim.faults import Fault
 from motesim.judge import expectations
 from motesim.judge.finder import Finder
-from motesim.judge.sentences import names_of
+from motesim.judge.names import names_of
 from motesim.judge.several import read_all
 from motesim.report import Report
 from motesim.report.run import Run

@@ -44,27 +44,24 @@ def copies_row(counts: Counter[Any], key: object) -> Row:
     return row
 
 
-def by_mote(report: Report, became: Counter[Any]) -> list[Row]:
+def row_of(report: Report, became: Counter[Any], key: object, begin: int, end: int) -> Row:
+    """The counts of the lines from one to another, with the outcomes of the copies that are counted under a key."""
+    counts = {kind: report.trace.kind.count(code, begin, end) for code, kind in enumerate(KINDS)}
+    return {'sent': counts['send'], **copies_row(became, key), **{name: counts[kind] for kind, name in COUNTED.items()}}
+
+
+def of_motes(report: Report) -> list[Row]:
     """A row for each mote."""
-    rows = []
-    for mote in report.motes:
-        begin, end = report.trace.starts[mote.number], report.trace.starts[mote.number + 1]
-        kinds = {kind: report.trace.kind.count(code, begin, end) for code, kind in enumerate(KINDS)}
-        rows.append({'mote': mote.number, 'program': mote.program, 'sent': kinds['send'],
-                     **copies_row(became, mote.number), **{name: kinds[kind] for kind, name in COUNTED.items()},
-                     'halt': mote.halted()})
-    return rows
+    became, starts = Counter(zip(report.log.to, map(OUTCOMES.__getitem__, report.fates))), report.trace.starts
+    return [{'mote': it.number, 'program': it.program, **row_of(report, became, it.number, *starts[it.number:it.number + 2]),
+             'halt': it.halted()} for it in report.motes]
 
 
-def of_net(motes: list[Row]) -> Row:
-    """The sums of the motes' rows."""
-    row: Row = {'mote': 'net', 'program': ''}
-    for name in motes[0]:
-        if name not in row:
-            row[name] = sum(it[name] or 0 for it in motes)
-    row['ratio'] = ratio(row)
-    row['halt'] = sum(it['halt'] is not None for it in motes)
-    return row
+def of_net(report: Report) -> Row:
+    """The sums of the motes' rows. `halt` is the number of motes that halted."""
+    became = Counter({('net', OUTCOMES[code]): count for code, count in Counter(report.fates).items()})
+    return {'mote': 'net', 'program': '', **row_of(report, became, 'net', 0, len(report.trace)),
+            'halt': report.trace.kind.count(KINDS.index('halt'))}
 
 
 # A link: its sender and its receiver.
@@ -108,19 +105,10 @@ def by_link(report: Report, scenario: Scenario | None, became: Counter[tuple[Lin
             for link in sorted(delays)]
 
 
-def of_motes(report: Report, links: Counter[tuple[Link, str]]) -> tuple[list[Row], Row]:
-    """The rows of the motes, and that of the net, from the counts of the links."""
-    receivers: Counter[Any] = Counter()
-    for ((_, to), what), number in links.items():
-        receivers[to, what] += number
-    motes = by_mote(report, receivers)
-    return motes, of_net(motes)
-
-
 def summary(run: Run) -> tuple[list[Row], Row, list[Row]]:
     """The rows of the motes, that of the net, and those of the links."""
-    links = counted_links(run.report)
-    return *of_motes(run.report, links), by_link(run.report, run.scenario, links)
+    report = run.report
+    return of_motes(report), of_net(report), by_link(report, run.scenario, counted_links(report))
 
 
 def shown(value: int | float | str | None) -> str:

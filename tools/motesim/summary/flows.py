@@ -19,7 +19,7 @@ from motesim.text import nearest
 from motesim.notation.grammar import SYSTEM
 from motesim.report import MOST_WORD, Line, Report
 from motesim.scenario import Scenario
-from motesim.judge.sentences import names_of, processes_of
+from motesim.judge.names import names_of, processes_of
 from motesim.summary.shares import share
 
 Row = dict[str, Union[int, float, str, None]]

@@ -9,7 +9,7 @@ from typing import Any, NamedTuple
 
 from motesim.faults import Fault
 from motesim.judge.reasons import Broken
-from motesim.judge.sentences import Value
+from motesim.judge.meaning import Value
 from motesim.report.run import Run
 from motesim.why.miss import last_of, misses
 from motesim.why.pages import source_of

@@ -8,23 +8,19 @@ from pathlib import Path
 
 from motesim.faults import Fault
 from motesim.judge.expectations import beside, parts_of, text_of
-from motesim.judge.sentences import names_of
+from motesim.judge.names import names_of
 from motesim.judge.several import read_all
 from motesim.judge.verdicts import breaks
 from motesim.why.chain import Hop, chain, path_of
 from motesim.why.diverge import diverged
 from motesim.why.miss import misses
 from motesim.why.question import Asked, Asker, Missing
-from motesim.why.say import (about, chain_as_json, misses_as_json, of_path, on_values, rows_of_chain, rows_of_misses,
-                             rows_of_two, words_of)
+from motesim.why.say import (about, chain_as_json, heading, misses_as_json, of_path, on_values, rows_of_chain,
+                             rows_of_misses, rows_of_state, rows_of_two, rows_of_values, state_as_json, values_as_json,
+                             words_of)
 from motesim.why.source import Source, read_source
-from motesim.why.state import as_json as state_as_json
 from motesim.why.state import read_state
-from motesim.why.state import rows as state_rows
 from motesim.why.watch import read_watch, replayed
-from motesim.why.watch import as_json as values_as_json
-from motesim.why.watch import rows as value_rows
-
 
 
 def short(hops: list[Hop]) -> list[Hop]:
@@ -53,15 +49,16 @@ def show_chain(source: Source, asked: Asked, is_short: bool) -> None:
 def show_watch(source: Source, asked: argparse.Namespace) -> int:
     """Shows the values of variables."""
     values = replayed(source, *read_watch(source, ' '.join(asked.watch)))
-    print(json.dumps(values_as_json(values), indent=1) if asked.json else '\n'.join(value_rows(values)))
+    print(json.dumps(values_as_json(values), indent=1) if asked.json else '\n'.join(rows_of_values(values)))
     return 0
 
 
 def show_state(source: Source, asked: argparse.Namespace) -> int:
     """Shows the state of a mote."""
-    replay, at, heading = read_state(source, ' '.join(asked.state))
-    state = state_as_json(replay, at)
-    print(json.dumps(state, indent=1) if asked.json else '\n'.join([heading, *(it.text for it in state_rows(state))]))
+    found = read_state(source, ' '.join(asked.state))
+    state = state_as_json(found)
+    print(json.dumps(state, indent=1) if asked.json else
+          '\n'.join([heading(source, found), *(it.text for it in rows_of_state(state))]))
     return 0
 
 

@@ -119,7 +119,7 @@ def instead(one: Source, other: Source, hop: Hop, there: At) -> Instead:
     """What the other run has at the point at which a hop would follow."""
     mote, traces = hop.where.mote, other.traces
     if hop.link.how == 'medium':
-        packet = traces.packet(there.mote, traces.line(there).number or 0)
+        packet = traces.report.place_of(there.mote, traces.line(there).number or 0)
         if packet is not None:
             return fate_of(other, packet, mote)
     if hop.link.how == 'posted' and there.place >= 0 and hop.line:

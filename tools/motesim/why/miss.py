@@ -10,7 +10,7 @@ from typing import NamedTuple
 
 from motesim.judge.hearing import unheard
 from motesim.judge.links import Span
-from motesim.judge.sentences import Pattern, Value
+from motesim.judge.meaning import Pattern, Value
 from motesim.replay.mote import Reached, Replay
 from motesim.replay.translate import Around, Program, Statement
 from motesim.report import Line, Packet

@@ -17,7 +17,9 @@ from motesim.judge.hearing import hearing
 from motesim.judge.links import Apart, Span, within
 from motesim.judge.reasons import Broken
 from motesim.judge.remarks import outcome_never
-from motesim.judge.sentences import Copies, Count, Does, Hears, Motes, Packets, Sentence, names_of, read_sentence
+from motesim.judge.meaning import Copies, Count, Does, Hears, Motes, Packets, Sentence
+from motesim.judge.names import names_of
+from motesim.judge.sentences import read_sentence
 from motesim.judge.verdicts import breaks
 from motesim.why.source import At, Source, Traces
 
@@ -33,12 +35,21 @@ NO_LINE = 'the expectation holds, and no line of a trace shows it'
 
 @dataclass(frozen=True)
 class Asked:
-    """The line that a question is about. `holds` says whether the question's sentence holds; `lost` has the motes for
-    which the medium lost copies of the line's packet, if the sentence is about such copies."""
+    """The line that a question is about. `why` has the reason why the question's sentence doesn't hold.
+
+    lost        the motes for which the medium lost copies of the line's packet, if the sentence is about such copies
+    medium_row  the line of the medium that the question names, if it does: `where` sent its packet
+    is_last     all motes have to fulfil the sentence, and this one is the last that does
+    """
     where: At
-    holds: bool
-    remark: str = ''
+    why: str = ''
     lost: tuple[int, ...] = ()
+    medium_row: int = 0
+    is_last: bool = False
+
+    @property
+    def holds(self) -> bool:
+        return not self.why
 
 
 @dataclass(frozen=True)
@@ -79,9 +90,7 @@ def line_asked(traces: Traces, question: str) -> At | None:
             raise Unasked('line %d is in the trace of mote %d, and not of mote %s' % (row, where.mote, number[1]))
         return where
     if text:
-        mote = int(text[1])
-        if mote >= traces.motes:
-            raise Unasked('there is no mote %d: the motes are 0 to %d' % (mote, traces.motes - 1))
+        mote = traces.checked(int(text[1]))
         if text[2] not in traces.texts(mote):
             raise Unasked("mote %d has no line '%s'" % (mote, text[2]))
         return At(mote, traces.texts(mote).index(text[2]))
@@ -117,7 +126,7 @@ class Asker:
             return packet
         where = line_asked(self.traces, question)
         if where:
-            return Asked(where, True)
+            return Asked(where)
         try:
             return self.answer(self.read(question))
         except Unasked as unasked:
@@ -129,10 +138,9 @@ class Asker:
     def of_medium(self, question: str) -> Asked | None:
         """The line that sent a packet, if a question is about the packet's line of the medium."""
         number = LINE.fullmatch(question)
-        packet = self.traces.medium_line(int(number[2])) if number and number[1] is None else None
-        sent = self.traces.send_of(packet.sender, packet.number) if packet else None
-        said = 'this line sent the packet of `%s`, in the log of the medium' % str(packet)
-        return Asked(sent, True, said) if sent else None
+        row = int(number[2]) if number and number[1] is None else 0
+        sent = self.sent(row)
+        return Asked(sent, medium_row=row) if sent else None
 
     def sent(self, row: int) -> At | None:
         """The line that sent the packet of a line of the medium."""
@@ -165,8 +173,7 @@ class Asker:
         if where is None:
             raise Unasked(NO_LINE, True)
         is_last = isinstance(it, Does) and it.motes.kind == 'each' and len(self.finder.chosen(it.motes)) > 1
-        remark = 'mote %d is the last of them' % where.mote if is_last else ''
-        return Asked(where, True, remark, self.losses(where, it))
+        return Asked(where, lost=self.losses(where, it), is_last=is_last)
 
     def line(self, row: int | None) -> At | None:
         """The line of a trace in a row of the report, or the line that sent the packet of a row of the medium."""
@@ -180,7 +187,7 @@ class Asker:
             return Missing(replace(it, than=None, relation=None), motes, broken.lacks.span, found, broken.why)
         where = self.line(broken.row)
         if where:
-            return Asked(where, False, broken.why, self.losses(where, it))
+            return Asked(where, broken.why, self.losses(where, it))
         never = outcome_never(it, self.finder) if isinstance(it, Copies) else ''
         raise Unasked('; '.join(filter(None, [broken.why, never])), False)
 
@@ -232,8 +239,8 @@ class Asker:
         """The motes for which the medium lost copies of the packet that a line sent."""
         if not isinstance(it, Copies) or it.outcome != 'lost':
             return ()
-        packet = self.traces.packet(where.mote, self.traces.line(where).number or 0)
-        copies = () if packet is None else self.traces.report.log[packet].copies
+        packet = self.traces.report.packet(where.mote, self.traces.line(where).number or 0)
+        copies = packet.copies if packet else ()
         return tuple(copy.to for copy in copies if copy.at is None and (it.motes is None or copy.to in it.motes))
 
     def of_hearing(self, it: Hears) -> Unasked:

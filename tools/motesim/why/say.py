@@ -2,13 +2,13 @@
 from __future__ import annotations
 
 from collections.abc import Iterator, Sequence
-from typing import Any
+from typing import Any, NamedTuple
 
 from motesim.cells import aligned
 from motesim.judge.claim_words import period_text
 from motesim.judge.hearing import unheard
 from motesim.replay.endless import AT_ONCE, LETS_WAIT, MOST_WAITS, Endless, instead
-from motesim.replay.mote import RING, SYSTEM, Frame, Link
+from motesim.replay.mote import CTIMER, RING, SYSTEM, Frame, Link
 from motesim.replay.translate import Around, Program
 from motesim.report import Line
 from motesim.scenario.fields import Field, in_words as in_fields, of_line
@@ -19,6 +19,8 @@ from motesim.why.fate import Fate
 from motesim.why.miss import Absent, Away, Miss, Moved, Passed, Unheard, Untaken, Waiting
 from motesim.why.question import Asked, Missing
 from motesim.why.source import At, Source
+from motesim.why.state import State, Wait, call_now, wait_of
+from motesim.why.watch import Given
 
 WIDEST = 60
 # The reason for a collision with more packets names only their number.
@@ -26,6 +28,8 @@ MOST_MET = 3
 # The calls that have their own line; and the most calls without a line that a reason names.
 HAVE_LINES, MOST_CALLS = ('take', 'init', 'boot'), 8
 MOST_LINES = 6
+WAITS = {'left': 'has left', 'unstarted': 'is not started', 'called': 'is being called',
+         'begins': 'begins at its next call'}
 FATES = {
     'taken': '%(process)s took it at %(at)d',
     'dropped': 'its event was dropped at %(at)d, because %(process)s was not on the process list',
@@ -55,6 +59,12 @@ def in_words(program: Program, number: int) -> str:
     it = program.statement(number)
     text = it.text if len(it.text) <= WIDEST else it.text[:WIDEST - 3] + '...'
     return '%s: `%s`' % (program.line(it.line), text)
+
+
+def places_as_json(source: Source) -> dict[str, int]:
+    """The places of statements in the programs' file, as texts name them, each with its line of the file."""
+    return {program.line(it.line): program.place.above + it.line for program in source.translated.values()
+            if program.place for it in program.statements}
 
 
 def used_up(source: Source, mote: int) -> list[str]:
@@ -409,6 +419,111 @@ def rows_of_two(one: Source, other: Source, found: Diverged | None) -> list[str]
 
 def about(source: Source, it: Asked) -> str:
     """The remark on the line that a question is about; an empty text if there is none."""
-    return '; '.join(filter(None, [it.remark, *(
+    packet = 'this line sent the packet of `%s`, in the log of the medium' % source.traces.report.row(
+        it.medium_row) if it.medium_row else ''
+    last = 'mote %d is the last of them' % it.where.mote if it.is_last else ''
+    return '; '.join(filter(None, [packet, last, it.why, *(
         'the copy for mote %d: the medium lost it, because it loses %s' % (to, rule_of(source, it.where.mote, to))
         for to in it.lost)]))
+
+
+# States and values
+
+def heading(source: Source, it: State) -> str:
+    mote, where = it.replay.mote, it.where
+    if where is None:
+        return 'mote %d at the end of moment %d' % (mote, it.at)
+    return 'mote %d after line %d: %s' % (mote, source.traces.row(where), source.traces.text(where))
+
+
+def of_wait(program: Program, it: Wait) -> str:
+    """The state of a process."""
+    return WAITS.get(it.how) or 'waits at %s' % ', in '.join(in_words(program, one) for one in reversed(it.statements))
+
+
+def state_as_json(it: State) -> dict[str, Any]:
+    """A state for programs, and for the pages."""
+    replay, program = it.replay, it.replay.program
+    timers = []
+    for number, timer in enumerate(replay.timers):
+        if number in replay.timer_list:
+            owner = program.timers[number].process if timer.owner == CTIMER else timer.owner
+            timers.append({'number': number, 'name': program.timers[number].name, 'due': timer.due,
+                           'process': replay.name(owner), 'set_at': timer.since,
+                           'set_by': in_words(program, timer.row) if timer.row else None})
+    processes = []
+    for number, process in enumerate(program.processes):
+        wait = wait_of(replay, number)
+        processes.append({
+            'name': process.name, 'started': number in replay.list, 'waits': of_wait(program, wait),
+            'program_line': program.statement(wait.statements[-1]).line if wait.statements else None,
+            'variables': {variable: replay.variables[number][place] for variable, place in process.variables.items()},
+            'polled': number in replay.needs_poll})
+    return {
+        'mote': replay.mote, 'at': it.at, 'halted': replay.is_halted, 'call': call_now(replay), 'processes': processes,
+        'timers': sorted(timers, key=lambda it: (it['due'], it['number'])),
+        'queue': [{'serial': event.serial, 'for': replay.name(event.target), 'event': event.event, 'word': event.word,
+                   'from': event.sender, 'posted_at': int(replay.trace[event.line].partition(' ')[0])}
+                  for event in ([replay.taken] if replay.taken else []) + replay.events],
+        'semaphores': {name: replay.counts[place] for name, place in program.semaphores.items()},
+        'waiting_packets': len(replay.ring),
+    }
+
+
+def call_in_words(call: dict[str, Any], processes: list[dict[str, Any]]) -> str:
+    """A call, `b, called with timer 0`."""
+    if call['how'] == 'callback':
+        return '%s, in the callback of its timer' % call['process']
+    event = ('exited: %s has exited' % processes[call['word']]['name'] if call['how'] == 'exited' else
+             call['event'] if call['event'] in ('init', 'exit', 'poll') else '%(event)s %(word)d' % call)
+    return '%s, called with %s' % (call['process'], event)
+
+
+class Row(NamedTuple):
+    """A line about a state, and whether it is about a variable that is changed next."""
+    text: str
+    is_changed: bool = False
+
+
+def rows_of_state(state: dict[str, Any], changed: Sequence[str] = ()) -> Iterator[Row]:
+    """A state as text, with a mark at the variables that are changed next."""
+    if state['halted']:
+        yield Row('  it has halted')
+        return
+    if state['call']:
+        yield Row('  runs now: ' + call_in_words(state['call'], state['processes']))
+    for it in state['processes']:
+        yield Row('  process %s %s%s' % (it['name'], it['waits'], ', and is to be polled' if it['polled'] else ''))
+        for name, value in it['variables'].items():
+            is_changed = '%s.%s' % (it['name'], name) in changed
+            yield Row('    %s = %d%s' % (name, value, ' (changed)' if is_changed else ''), is_changed)
+    for it in state['timers']:
+        left = it['due'] - state['at']
+        when = 'in %d moments' % left if left > 1 else 'in 1 moment' if left else 'now'
+        yield Row('  timer %s of %s is due at %d, %s; set at %d in %s' % (
+            it['name'], it['process'], it['due'], when if left >= 0 else 'and waits for room in the queue',
+            it['set_at'], it['set_by']))
+    if not state['timers']:
+        yield Row('  no timer runs')
+    for it in state['queue']:
+        yield Row('  event %d waits: %s %d for %s, posted at %d' % (
+            it['serial'], it['event'], it['word'], it['for'], it['posted_at']))
+    if not state['queue']:
+        yield Row('  the event queue is empty')
+    if state['waiting_packets']:
+        yield Row('  %d packets wait for the radio process' % state['waiting_packets'])
+    for pair in state['semaphores'].items():
+        yield Row('  semaphore %s = %d' % pair)
+
+
+def rows_of_values(values: list[Given]) -> list[str]:
+    """The values of variables as a table."""
+    table = [('moment', 'mote', 'line', ' variable', ' value')]
+    table += [(str(it.at), str(it.mote), str(it.row) if it.row else '-', ' %s.%s' % (it.process, it.variable),
+               ' %d' % it.value) for it in values]
+    return list(aligned(table, [3]))
+
+
+def values_as_json(values: list[Given]) -> list[dict[str, Any]]:
+    return [{'at': it.at, 'mote': it.mote, 'line': it.row or None, 'process': it.process, 'variable': it.variable,
+             'value': it.value} for it in values]

@@ -40,6 +40,12 @@ class Traces:
     def motes(self) -> int:
         return len(self.programs)
 
+    def checked(self, mote: int) -> int:
+        """A mote that a question names. Raises a `Fault` if the report has no such mote."""
+        if mote >= self.motes:
+            raise Fault('there is no mote %d: the motes are 0 to %d' % (mote, self.motes - 1))
+        return mote
+
     def lines(self, mote: int) -> list[Line]:
         """The lines of a mote's trace."""
         if mote not in self.kept:
@@ -113,12 +119,6 @@ class Traces:
             packet = bisect_right(log.first, copy) - 1
             if sender in (None, log.sender[packet]):
                 yield packet
-
-    def packet(self, sender: int, number: int) -> int | None:
-        """The place of a packet in the log of the medium."""
-        log = self.report.log
-        places = compress(count(), map(number.__eq__, log.number))
-        return next((it for it in places if log.sender[it] == sender), None)
 
 
 class Source:

@@ -11,9 +11,9 @@ from motesim.why.chain import chain
 from motesim.why.miss import misses
 from motesim.why.pages import source_of
 from motesim.why.question import Asked, Asker
-from motesim.why.say import about, chain_as_json, misses_as_json
+from motesim.why.say import about, chain_as_json, misses_as_json, places_as_json, rows_of_state, state_as_json
 from motesim.why.source import At, Source
-from motesim.why.state import after_line, as_json, rows
+from motesim.why.state import after_line
 
 MOST_KEPT = 4
 Said = dict[str, Any]
@@ -52,7 +52,8 @@ class Causes:
         does = {'why': self.why, 'state': self.state, 'statement': self.statement}
         with self.lock:
             try:
-                return does[what](self.source(number, run), asked)
+                source = self.source(number, run)
+                return {**does[what](source, asked), 'places': places_as_json(source)}
             except Fault as fault:
                 return {'said': str(fault)}
 
@@ -73,8 +74,8 @@ class Causes:
     def state(self, source: Source, asked: Said) -> Said:
         """The state of a mote after a line, in words, with a mark at the variables that the step of the line changed."""
         where = _line(source, asked)
-        state = as_json(after_line(source, where), source.traces.moment(where))
-        return {'rows': [it._asdict() for it in rows(state, self.changed(source, where))]}
+        state = state_as_json(after_line(source, where))
+        return {'rows': [it._asdict() for it in rows_of_state(state, self.changed(source, where))]}
 
     @staticmethod
     def changed(source: Source, where: At) -> list[str]:

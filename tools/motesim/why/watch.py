@@ -2,12 +2,12 @@
 from __future__ import annotations
 
 import re
-from typing import Any, NamedTuple
+from operator import attrgetter
+from typing import NamedTuple
 
-from motesim.cells import aligned
 from motesim.text import nearest
 from motesim.faults import Fault
-from motesim.why.source import At, Source
+from motesim.why.source import At, Source, Traces
 from motesim.replay.translate import Program
 
 ASKED = re.compile(r'\s*(?:every\s+mote|motes?\s+(?P<motes>\d+(?:\s*(?:,|and|to)\s*\d+)*))\s+(?P<names>[a-z].*)')
@@ -32,20 +32,15 @@ class Given(NamedTuple):
     value: int
 
 
-class Unwatched(Fault):
-    """The variables can't be watched."""
-
-
-def motes_of(words: str | None, count: int) -> list[int]:
+def motes_of(words: str | None, traces: Traces) -> list[int]:
     """The motes that are watched."""
     if words is None:
-        return list(range(count))
+        return list(range(traces.motes))
     found: list[int] = []
     for part in re.split(r',|and', words):
         ends = [int(it) for it in part.split('to')]
         found += range(ends[0], ends[-1] + 1)
-    if max(found) >= count:
-        raise Unwatched('there is no mote %d: the motes are 0 to %d' % (max(found), count - 1))
+    traces.checked(max(found))
     return sorted(set(found))
 
 
@@ -64,8 +59,8 @@ def read_watch(source: Source, text: str) -> tuple[list[int], list[Watched]]:
     """The motes and the variables to watch, from a text such as `mote 3 newest, distance`."""
     asked = ASKED.fullmatch(text)
     if not asked:
-        raise Unwatched("'%s' is not known; write it as: mote 3 newest, distance" % text)
-    motes = motes_of(asked['motes'], source.traces.motes)
+        raise Fault("'%s' is not known; write it as: mote 3 newest, distance" % text)
+    motes = motes_of(asked['motes'], source.traces)
     found: list[Watched] = []
     programs = {source.traces.programs[mote]: source.program(mote) for mote in motes}
     for words in re.split(r'[\s,]+', asked['names'].strip()):
@@ -73,7 +68,7 @@ def read_watch(source: Source, text: str) -> tuple[list[int], list[Watched]]:
         if not its:
             known = sorted({one for program in programs.values() for it in program.processes for one in it.variables})
             like = nearest(words.rpartition('.')[2], known)
-            raise Unwatched("there is no variable '%s'%s" % (words, "; did you mean '%s'?" % like if like else
+            raise Fault("there is no variable '%s'%s" % (words, "; did you mean '%s'?" % like if like else
                                                              '; the variables are ' + ', '.join(known)))
         found += its
     return motes, found
@@ -91,7 +86,7 @@ def first_values(source: Source, motes: list[int], watched: list[Watched]) -> li
 
 
 def replayed(source: Source, motes: list[int], watched: list[Watched]) -> list[Given]:
-    """The values of variables on some motes."""
+    """The values of variables on some motes, in chronological order."""
     found = first_values(source, motes, watched)
     wanted = {(it.program, it.process, it.variable): it.name for it in watched}
     for mote in motes:
@@ -101,22 +96,4 @@ def replayed(source: Source, motes: list[int], watched: list[Watched]) -> list[G
             if name:
                 row = source.traces.row(At(mote, it.lines - 1)) if it.lines else 0
                 found.append(Given(mote, it.at, row, source.program(mote).processes[it.process].name, name, it.value))
-    return found
-
-
-def in_order(values: list[Given]) -> list[Given]:
-    return sorted(values, key=lambda it: (it.at, it.mote, it.row))
-
-
-def rows(values: list[Given]) -> list[str]:
-    """The values as a table, by moment."""
-    table = [('moment', 'mote', 'line', ' variable', ' value')]
-    table += [(str(it.at), str(it.mote), str(it.row) if it.row else '-', ' %s.%s' % (it.process, it.variable),
-               ' %d' % it.value) for it in in_order(values)]
-    return list(aligned(table, [3]))
-
-
-def as_json(values: list[Given]) -> list[dict[str, Any]]:
-    return [{'at': it.at, 'mote': it.mote, 'line': it.row or None, 'process': it.process, 'variable': it.variable,
-             'value': it.value} for it in in_order(values)]
-
+    return sorted(found, key=attrgetter('at', 'mote', 'row'))

@@ -2,7 +2,7 @@
 // What the studio's page asks, answered by its server.
 import {Run, columnsIn} from '../../timeline/page/data.js';
 import {indexRun} from '../../timeline/page/index.js';
-import {Refused} from '../../timeline/page/stage.js';
+import {Refused, page} from '../../timeline/page/stage.js';
 
 const LOST = 'The studio doesn\'t answer. Start it again, and open its page: the browser keeps your text.';
 
@@ -42,6 +42,7 @@ export class Server {
     if (answer.headers.get('Content-Type') !== 'application/json') return got;
     const value = JSON.parse(new TextDecoder().decode(got));
     if (value.refused) throw new Refused(value.refused);
+    if (value.places) page.places = value.places;
     return value;
   }
 }

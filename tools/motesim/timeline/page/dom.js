@@ -34,9 +34,6 @@ export function onSubmit(id, act) {
   });
 }
 
-// A line of a program in its file, as in `line 24 (start (2).toml:34)`.
-const FILE_LINE = /(?<=line \d+ \()(.+?):(\d+)(?=\))/g;
-
 /** A place in the file of the programs, which a click shows. */
 function filePlace(text, line) {
   const go = event => {
@@ -51,13 +48,10 @@ function filePlace(text, line) {
 
 /** A text in pieces, in which places in the file of the programs can be clicked. */
 export function withPlaces(text) {
-  const pieces = [];
-  let from = 0;
-  for (const found of page.goToLine ? text.matchAll(FILE_LINE) : []) {
-    pieces.push(text.slice(from, found.index), filePlace(found[0], Number(found[2])));
-    from = found.index + found[0].length;
-  }
-  return [...pieces, text.slice(from)];
+  const words = Object.keys(page.places).find(it => text.includes(it));
+  if (!words) return [text];
+  const [before, ...after] = text.split(words);
+  return [...withPlaces(before), filePlace(words, page.places[words]), ...withPlaces(after.join(words))];
 }
 
 /** A line of the report as a button: its place, its text, and a remark. */

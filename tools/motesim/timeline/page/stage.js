@@ -31,6 +31,8 @@ export const page = {
   chosen: {pane: none, mote: -1, line: -1, k: -1, copy: -1, times: 0},
   /** The chain of causes that is shown. */
   why: {pane: none, run: none, hops: list()},
+  /** The places in the programs' file that texts about the run may name: their words, and the line of the file. */
+  places: /** @type {Record<string, number>} */ ({}),
   /** The first difference from another run, and the moment of the first one in each lane. */
   differs: {first: none, parts: new Map()},
   /** The map as a way to change the text: whether the next click or Enter adds a mote, and whether the added one gets

@@ -1,0 +1,195 @@
+"""The meaning of sentences about a report: docs/use/TESTING.md."""
+from __future__ import annotations
+
+import operator
+from collections.abc import Iterable, Iterator
+from dataclasses import dataclass, fields, is_dataclass
+
+COMPARES = {
+    'at least': operator.ge, 'at most': operator.le, 'exactly': operator.eq, 'more than': operator.gt,
+    'fewer than': operator.lt,
+}
+
+
+@dataclass(frozen=True)
+class Count:
+    """A condition on a count: a comparison and a number, or a share in per cent."""
+    compare: str
+    number: int
+    is_part: bool = False
+
+    def admits(self, found: int, times: int = 1) -> bool:
+        """Returns whether a count satisfies the condition: `times` is the unit of the number, or the whole."""
+        return bool(COMPARES[self.compare](found * (100 if self.is_part else 1), self.number * times))
+
+    @property
+    def least(self) -> int:
+        return {'at least': self.number, 'exactly': self.number, 'more than': self.number + 1}.get(self.compare, 0)
+
+    @property
+    def most(self) -> int | None:
+        """The greatest number that is allowed, or None if there is no limit."""
+        return {'at most': self.number, 'exactly': self.number, 'fewer than': self.number - 1}.get(self.compare)
+
+    def __str__(self) -> str:
+        return '%s %d%s' % (self.compare, self.number, ' %' if self.is_part else '')
+
+
+@dataclass(frozen=True)
+class Window:
+    """The moments from `begin` to `end`.
+
+    With `hop`, both moments are later by `hop` for each hop from `root`. With `every`, each interval of this many
+    moments is judged separately.
+    """
+    begin: int = 0
+    end: int | None = None
+    hop: int = 0
+    root: int | None = None
+    every: int | None = None
+
+
+@dataclass(frozen=True)
+class Value:
+    """A value: a number, or a value that differs by mote or by net.
+
+    kind   number, any (of `values`), self, greatest (the greatest number of a mote), distance (hops from `number`),
+           heard (the set of the motes that it hears), linked (the set of those that also hear it), nearer (a mote that
+           it hears, one hop nearer to `number`)
+    but    motes that aren't counted in a set
+    """
+    kind: str
+    number: int = 0
+    but: frozenset[int] = frozenset()
+    values: frozenset[int] = frozenset()
+
+
+# The words of a line after its moment, up to the last one that matters. None means any word.
+Pattern = tuple[str | Value | None, ...]
+
+
+@dataclass(frozen=True)
+class Motes:
+    """The motes that a sentence is about.
+
+    kind     each (of them), together, no, some, count (a number of them that `count` allows)
+    numbers  None for all motes
+    """
+    kind: str
+    numbers: frozenset[int] | None = None
+    but: frozenset[int] = frozenset()
+    count: Count | None = None
+
+    @property
+    def is_one(self) -> bool:
+        """True for one mote, and for several together."""
+        return self.kind == 'together' or self.numbers is not None and len(self.numbers) == 1
+
+    def chosen(self, motes: int) -> tuple[int, ...]:
+        """The numbers of these motes in a net with so many motes."""
+        numbers = range(motes) if self.numbers is None else sorted(self.numbers)
+        return tuple(mote for mote in numbers if mote not in self.but)
+
+
+@dataclass(frozen=True)
+class Deed:
+    """An action of motes: lines of one of these patterns.
+
+    way     any, finally (the last such line has `value`), just (the values of all such lines are `values`, or only
+            `value`), set (in any order)
+    """
+    patterns: tuple[Pattern, ...]
+    way: str = 'any'
+    value: Value | None = None
+    values: tuple[int, ...] = ()
+
+
+@dataclass(frozen=True)
+class Than:
+    """The other count in a comparison: that of other motes, of another action, or of another time."""
+    motes: Motes | None
+    deed: Deed | None
+    window: Window
+
+
+@dataclass(frozen=True)
+class Relation:
+    """The position of lines relative to other lines, the events.
+
+    kind     after or before the first event; within so many moments after an event; each (after each event there is
+             a line within so many moments)
+    motes    the motes that have the events; None for the mote itself
+    words    the event in the words of the sentence
+    """
+    kind: str
+    moments: int
+    motes: Motes | None
+    deed: Deed
+    words: str
+
+
+@dataclass(frozen=True)
+class Does:
+    """Motes do something: a number of times, or so many times as often as others, or before or after another event."""
+    motes: Motes
+    deed: Deed
+    count: Count
+    window: Window
+    than: Than | None = None
+    relation: Relation | None = None
+    # True if the sentence says how often, or says never.
+    is_counted: bool = False
+
+
+@dataclass(frozen=True)
+class Copies:
+    """A number of copies have this outcome, which is one of those in motesim.report."""
+    count: Count
+    outcome: str
+    motes: frozenset[int] | None
+    window: Window
+
+
+@dataclass(frozen=True)
+class Packets:
+    """A number of packets is sent."""
+    count: Count
+    window: Window
+
+
+@dataclass(frozen=True)
+class Lines:
+    """The report has a number of lines."""
+    count: Count
+
+
+@dataclass(frozen=True)
+class MediumLine:
+    """The log of the medium has a line with these words at its beginning."""
+    words: tuple[str, ...]
+
+
+@dataclass(frozen=True)
+class Hears:
+    """Each of the motes can hear, or can't hear, another mote: that is in range, and the link doesn't lose every
+    packet."""
+    motes: frozenset[int]
+    can: bool
+    other: int
+
+
+@dataclass(frozen=True)
+class Refused:
+    """`motesim` writes the line of an error instead of a report."""
+    fault: str
+
+
+Sentence = Does | Copies | Packets | Lines | MediumLine | Hears | Refused
+
+
+def parts_of(it: object) -> Iterator[object]:
+    """A sentence, or sentences, with all of their parts."""
+    yield it
+    parts: Iterable[object] = it if isinstance(it, (tuple, list)) else ()
+    for part in [getattr(it, field.name) for field in fields(it)] if is_dataclass(it) else parts:
+        yield from parts_of(part)

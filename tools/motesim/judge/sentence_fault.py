@@ -1,0 +1,46 @@
+"""Sentences that can't be read: the place of the error, and the words that are allowed there."""
+from __future__ import annotations
+
+import re
+from collections.abc import Sequence
+
+from motesim.faults import Fault
+from motesim.text import nearest, wrapped
+
+# Sentences of all kinds; an error shows the one that has the most words in common with the sentence.
+EXAMPLES = (
+    'mote 6 prints flood 1 by 60', 'every mote but 0 prints flood its distance from mote 0',
+    'mote 3 prints just flood 1, 2, 3', 'every mote finally prints flood 7', 'no mote sends more than twice',
+    'motes 3 to 7 together send at most 2 times between 40 and 160', 'at least 90 % of motes receive 1 from mote 0',
+    'mote 3 never halts', 'mote 6 sends 1 within 10 of receiving 1', 'mote 6 prints flood 1 after mote 0 sends 1',
+    'exactly 1 mote sends in each 120 from 0 to 1199', 'mote 1 sends at least 80 % as often as mote 0',
+    "mote 1 writes 'post 0 flood'", 'at least 90 % of copies arrive', 'no copy collides at mote 3',
+    'exactly 75 packets are sent', 'the report has at most 2000 lines', 'mote 1 can hear mote 0',
+)
+
+
+def meant(rest: str, names: Sequence[str]) -> str | None:
+    """The allowed word that is nearest to the first word of `rest`."""
+    word = re.match(r'[A-Za-z_]\w{2,}', rest)
+    return nearest(word[0], names) if word else None
+
+
+def example(sentence: str) -> str:
+    """The example that has the most words in common with a sentence."""
+    words = set(sentence.lower().split())
+    return max(EXAMPLES, key=lambda it: len(words.intersection(it.split())))
+
+
+class SentenceFault(Fault):
+    """A sentence that can't be read: the place of the first word that isn't allowed, the allowed ones, and the names
+    that are allowed there."""
+
+    def __init__(self, sentence: str, place: int, wanted: list[str], names: Sequence[str] = ()):
+        self.sentence, self.place, self.wanted = sentence, place, wanted
+        shown = ['"%s"' % it if it.startswith(',') else it.replace(' ,', ',') for it in wanted]
+        self.like = meant(sentence[place:], [*names, *(it.split()[0] for it in wanted)]) or ''
+        lines = [sentence, ' ' * place + '^', *wrapped('Allowed here: ' + ', '.join(shown))]
+        lines += ['Did you mean: ' + self.like] if self.like else []
+        # (the sentence with a mark under the word, and the allowed words)
+        self.explained = '  ' + '\n  '.join([*lines, 'Example: ' + example('%s %s' % (sentence, self.like))])
+        super().__init__('an expectation that is not known\n' + self.explained)
