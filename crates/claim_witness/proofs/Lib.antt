@@ -1,4 +1,1 @@
 pub mod WitnessLaws
-pub mod ShownLaws
-pub mod SpareLaws
-pub mod BreakLaws

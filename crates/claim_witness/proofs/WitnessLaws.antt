@@ -1,35 +1,26 @@
--- Where a claim is broken.
-use Rattle.std.proofs.Common.{◌≡◌, ◌∙◌, refl, ap, sym, arith, ℕ, suc, ◌+◌, ◌<◌, true, false, cond, ◌&&◌, Some, None, List, [], ◌∷◌, length, get_or, drop, count_by}
-use Rattle.std.specs.Prelude.{if◌then◌else◌}
+-- The item that a loop is at.
+use Rattle.std.proofs.Common.{◌≡◌, ◌∙◌, refl, ap, sym, arith, ℕ, ◌+◌, ◌<◌, ◌≤◌, Bool, true, false, cond, ◌&&◌, List, ◌∷◌, length, get_or, drop, slice_get, Some, count_by, nat_le}
 use Rattle.std.specs.List.{list_all}
+use Rattle.std.proofs.lemmas.Bool.Decides.{nat_tests}
 use Rattle.std.proofs.lemmas.List.{drop_more}
 use Rattle.std.proofs.lemmas.List.Sums.{sum_by-cons}
-use Rattle.mote_net.specs.Report.{ReportModel}
-use Rattle.claims.specs.declared.claim.Test.{Test}
-use Rattle.claims.specs.declared.claim.Case.{Case}
-use Rattle.claims.specs.Claims.{test_holds, case_holds}
-use Rattle.claim_witness.specs.Witnesses.{spare_line, broken_test, broken_case, witness_or}
+use Rattle.std.proofs.lemmas.Option.{slice_get_read}
 
-pub test-here : (r : ReportModel) (ts : List Test) (i : ℕ) (t : Test) → i < length ts → t ≡ get_or ts i t → test_holds t r ≡ false
-    → broken_test r i (drop i ts) ≡ Some (record { test = i; line = spare_line t r })
-test-here r ts i t within is fails =
-    ap (broken_test r i) (drop_more ts i t within ∙ ap (λ u. u ∷ drop (i + 1) ts) (sym is))
-    ∙ ap (λ b. if b then broken_test r (i + 1) (drop (i + 1) ts) else Some (record { test = i; line = spare_line t r })) fails
+pub not_above : (n m : ℕ) → n ≤ m → nat_le n m ≡ true
+not_above n m h = grind (arith, nat_tests)
 
-no_test : (r : ReportModel) (n : ℕ) (ts : List Test) → broken_test r n ts ≡ None → list_all (λ t. test_holds t r) ts ≡ true
-no_test r n [] e = refl
-no_test r n (t ∷ ts) e =
-    (elim (test_holds t r) as (λ b. (if b then broken_test r (n + 1) ts else Some (record { test = n; line = spare_line t r })) ≡ None → (b && list_all (λ u. test_holds u r) ts) ≡ true)
-    [ true ↦ λ none. no_test r (n + 1) ts none | false ↦ λ none. cc ]) e
+pub above : (n m : ℕ) → m < n → nat_le n m ≡ false
+above n m h = grind (arith, nat_tests)
 
--- if no case is broken, all cases hold
-pub no_case : (r : ReportModel) (n : ℕ) (ks : List Case) → broken_case r n ks ≡ None → count_by (λ k. case_holds k r) ks ≡ length ks
-no_case r n [] e = refl
-no_case r n (k ∷ ks) e =
-    (elim (broken_test r 0 k.tests.items) as (λ b. broken_test r 0 k.tests.items ≡ b → witness_or n b (broken_case r (n + 1) ks) ≡ None → count_by (λ x. case_holds x r) (k ∷ ks) ≡ suc (length ks)) [
-      | None ↦ λ is none.
-          let holds : case_holds k r ≡ true = no_test r 0 k.tests.items is in
-          let later : count_by (λ x. case_holds x r) ks ≡ length ks = no_case r (n + 1) ks none in
-          sum_by-cons (λ x. cond (case_holds x r) 1 0) k ks ∙ ap (λ b. cond b 1 0 + count_by (λ x. case_holds x r) ks) holds ∙ omega (arith, later)
-      | Some b ↦ λ is none. cc
-    ]) refl e
+pub item_there : {A : Type 0} (xs us : List A) (i : ℕ) (x : A) → us ≡ xs → i < length us → x ≡ get_or us i x → slice_get xs i ≡ Some x
+item_there xs us i x same within is = ap (λ l. slice_get l i) (sym same) ∙ slice_get_read us (length us) i x refl within is
+
+from_here : {A : Type 0} (us : List A) (i : ℕ) (x : A) → i < length us → x ≡ get_or us i x → drop i us ≡ x ∷ drop (i + 1) us
+from_here us i x within is = drop_more us i x within ∙ ap (λ u. u ∷ drop (i + 1) us) (sym is)
+
+pub all_from : {A : Type 0} (p : A → Bool) (us : List A) (i : ℕ) (x : A) → i < length us → x ≡ get_or us i x → list_all p (drop i us) ≡ (p x && list_all p (drop (i + 1) us))
+all_from p us i x within is = ap (list_all p) (from_here us i x within is)
+
+pub count_from : {A : Type 0} (p : A → Bool) (us : List A) (i : ℕ) (x : A) (b : Bool) → i < length us → x ≡ get_or us i x → p x ≡ b → count_by p (drop i us) ≡ cond b 1 0 + count_by p (drop (i + 1) us)
+count_from p us i x b within is h =
+    ap (count_by p) (from_here us i x within is) ∙ sum_by-cons (λ y. cond (p y) 1 0) x (drop (i + 1) us) ∙ ap (λ v. cond v 1 0 + count_by p (drop (i + 1) us)) h

@@ -1,17 +1,17 @@
 //! Where a claim is broken.
-ghost use Rattle.std.specs.Prelude.{◌≡◌, slice_get, IfSome};
+ghost use Rattle.std.specs.Prelude.{◌≡◌, ◌<◌, Some, is_none, nat_le, IfSome};
 ghost use Rattle.mote_net.specs.Report.{report_of};
-ghost use Rattle.claims.specs.Claims.{holds_in};
-ghost use Rattle.claim_witness.specs.Witnesses.{broken_test, broken_case, kept_cases, spare_of, spare_case_of};
-ghost use Rattle.claim_witness.specs.Witnesses.{missing_or_fewer, spare_or_none, break_in, is_kept};
-ghost use Rattle.claim_witness.specs.Shows.{Shows};
+ghost use Rattle.claims.specs.Limits.{is_at_most};
+ghost use Rattle.claims.specs.Claims.{case_holds, holding_in, holds_in};
+ghost use Rattle.claim_witness.specs.Witnesses.{is_kept};
+ghost use Rattle.claim_witness.specs.Shows.{Shows, ShowsTest};
 
 use crate::shown::{shown_in, spare_line};
 use claims::{Case, Claim, Found, holding};
 use mote_net::Report;
 
-/// A test that doesn't hold: its place in its case, and the first line too many, counted mote by mote and not in time,
-/// or `None` if the lines aren't too many.
+/// A test that doesn't hold: its place in its case, and the first line too many, counted mote by mote and not in time.
+/// The line is `None` if the test doesn't count lines, or if there aren't too many.
 #[derive(Clone, Copy)]
 pub struct BrokenTest {
     pub test: usize,
@@ -25,7 +25,8 @@ pub struct Witness {
     pub broken: BrokenTest,
 }
 
-/// A case that holds, beyond those that a claim allows: its place, and the line with which its first test is met.
+/// A case that holds, of more than the claim allows: its place, and the line with which its first test is met, counted
+/// mote by mote and not in time. The line is `None` if this test wants no number of lines.
 #[derive(Clone, Copy)]
 pub struct Spare {
     pub case: usize,
@@ -43,8 +44,10 @@ pub enum Break {
     Fewer,
 }
 
+/// The first test of a case that doesn't hold.
 fn broken_test(case: &Case, report: &Report) -> Option<BrokenTest>
-    ensures value { result ≡ broken_test (report_of report.now) 0 case.now.tests.items }
+    ensures none { is_none result ≡ case_holds case.now (report_of report.now) }
+    ensures shows { IfSome result (ShowsTest case.now (report_of report.now)) }
 {
     for (place, test) in case.tests.iter().enumerate() {
         if !test.holds(report) {
@@ -57,33 +60,36 @@ fn broken_test(case: &Case, report: &Report) -> Option<BrokenTest>
     None
 }
 
-/// The first case that doesn't hold.
-fn broken_case(claim: &Claim, report: &Report) -> Option<Witness>
-    ensures value { result ≡ broken_case (report_of report.now) 0 claim.now.cases.items }
+/// The first case that doesn't hold, or that there are too few cases.
+fn one_missing(claim: &Claim, report: &Report) -> Break
+    requires too_few { holding_in claim.now (report_of report.now) < claim.now.limits.least }
+    ensures shows { Shows claim.now (report_of report.now) result }
 {
     for (place, case) in claim.cases.iter().enumerate() {
         if let Some(broken) = broken_test(case, report) {
-            return Some(Witness {
+            return Break::Missing(Witness {
                 case: place,
                 broken,
             });
         }
     }
-    None
+    Break::Fewer
 }
 
-fn spare_case(cases: &[Case], most: u64, report: &Report) -> Option<Spare>
-    ensures value { result ≡ spare_of (report_of report.now) (slice_get (kept_cases (report_of report.now) cases.now)
-        most) }
+/// The first case that holds after so many others.
+fn spare_case(claim: &Claim, most: u64, report: &Report) -> Option<Break>
+    requires most { claim.now.limits.most ≡ Some most }
+    ensures none { is_kept result ≡ nat_le (holding_in claim.now (report_of report.now)) most }
+    ensures shows { IfSome result (Shows claim.now (report_of report.now)) }
 {
     let mut left = most;
-    for (place, case) in cases.iter().enumerate() {
+    for (place, case) in claim.cases.iter().enumerate() {
         if case.holds(report) {
             if left == 0 {
-                return Some(Spare {
+                return Some(Break::Spare(Spare {
                     case: place,
                     line: shown_in(case, report),
-                });
+                }));
             }
             left -= 1;
         }
@@ -91,43 +97,14 @@ fn spare_case(cases: &[Case], most: u64, report: &Report) -> Option<Spare>
     None
 }
 
-/// The first case too many that holds, or `None` if no more hold than the claim allows.
-fn first_spare(claim: &Claim, report: &Report) -> Option<Spare>
-    ensures value { result ≡ spare_case_of claim.now (report_of report.now) }
+/// The first case too many that holds.
+fn one_too_many(claim: &Claim, report: &Report) -> Option<Break>
+    ensures none { is_kept result ≡ is_at_most (holding_in claim.now (report_of report.now)) claim.now.limits.most }
+    ensures shows { IfSome result (Shows claim.now (report_of report.now)) }
 {
     match claim.limits.most {
         None => None,
-        Some(most) => spare_case(claim.cases.as_slice(), most, report),
-    }
-}
-
-/// A case that doesn't hold, or that there are too few cases.
-fn one_missing(claim: &Claim, report: &Report) -> Break
-    ensures value { result ≡ missing_or_fewer (broken_case (report_of report.now) 0 claim.now.cases.items) }
-{
-    match broken_case(claim, report) {
-        Some(witness) => Break::Missing(witness),
-        None => Break::Fewer,
-    }
-}
-
-/// A case too many.
-fn one_too_many(claim: &Claim, report: &Report) -> Option<Break>
-    ensures value { result ≡ spare_or_none (spare_case_of claim.now (report_of report.now)) }
-{
-    match first_spare(claim, report) {
-        Some(spare) => Some(Break::Spare(spare)),
-        None => None,
-    }
-}
-
-fn find_break(claim: &Claim, report: &Report) -> Option<Break>
-    ensures value { result ≡ break_in claim.now (report_of report.now) }
-{
-    if (holding(claim, report) as u64) < claim.limits.least {
-        Some(one_missing(claim, report))
-    } else {
-        one_too_many(claim, report)
+        Some(most) => spare_case(claim, most, report),
     }
 }
 
@@ -136,5 +113,9 @@ pub fn break_of(claim: &Claim, report: &Report) -> Option<Break>
     ensures decides { is_kept result ≡ holds_in claim.now (report_of report.now) }
     ensures shows { IfSome result (Shows claim.now (report_of report.now)) }
 {
-    find_break(claim, report)
+    if (holding(claim, report) as u64) < claim.limits.least {
+        Some(one_missing(claim, report))
+    } else {
+        one_too_many(claim, report)
+    }
 }

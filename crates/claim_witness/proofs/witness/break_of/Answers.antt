@@ -1,11 +1,24 @@
-use Rattle.std.proofs.Common.{◌∙◌, ap}
+use Rattle.std.proofs.Common.{◌∙◌, ap, sym, arith, ◌<◌, ◌≤◌, ◌&&◌}
 use Rattle.mote_net.specs.Report.{report_of}
-use Rattle.claim_witness.specs.Witnesses.{is_kept}
-use Rattle.claim_witness.proofs.BreakLaws.{decides, shows_if_some}
+use Rattle.claims.specs.Limits.{is_at_most}
+use Rattle.claims.specs.Claims.{holding_in}
+use Rattle.claim_witness.proofs.WitnessLaws.{above, not_above}
 use Rattle.claim_witness.proofs.witness.break_of.Goals as goal
 
-pub returns-clause-decides : goal.returns-clause-decides
-returns-clause-decides c = ap is_kept c.find_break.ensures.value ∙ decides c.args.claim.now (report_of c.args.report.now)
+pub returns-then-holding-claim : goal.returns-then-holding-claim
+returns-then-holding-claim c =
+    let n = holding_in c.args.claim.now (report_of c.args.report.now) in
+    let few : n < c.args.claim.now.limits.least = omega arith in
+    record {
+      decides = sym (ap (λ v. v && is_at_most n c.args.claim.now.limits.most) (above c.args.claim.now.limits.least n few));
+      shows = c.one_missing.ensures.shows;
+    }
 
-pub returns-clause-shows : goal.returns-clause-shows
-returns-clause-shows c = shows_if_some c.args.claim.now (report_of c.args.report.now) c.find_break.result c.find_break.ensures.value
+pub returns-else-holding-claim : goal.returns-else-holding-claim
+returns-else-holding-claim c =
+    let n = holding_in c.args.claim.now (report_of c.args.report.now) in
+    let enough : c.args.claim.now.limits.least ≤ n = omega arith in
+    record {
+      decides = c.one_too_many.ensures.none ∙ sym (ap (λ v. v && is_at_most n c.args.claim.now.limits.most) (not_above c.args.claim.now.limits.least n enough));
+      shows = c.one_too_many.ensures.shows;
+    }

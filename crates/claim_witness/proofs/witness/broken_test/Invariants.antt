@@ -1,7 +1,8 @@
 use Rattle.std.proofs.Common.{◌≡◌, drop}
+use Rattle.std.specs.List.{list_all}
 use Rattle.mote_net.specs.Report.{report_of}
-use Rattle.claim_witness.specs.Witnesses.{broken_test}
+use Rattle.claims.specs.Claims.{test_holds}
 use Rattle.claim_witness.proofs.witness.broken_test.Given as goal
 
 abbrev pub invariant-loop-place : goal.invariant-loop-place
-invariant-loop-place l = broken_test (report_of l.report) l.place (drop l.place l.test-items) ≡ broken_test (report_of l.report) 0 l.test-items
+invariant-loop-place l = list_all (λ t. test_holds t (report_of l.report)) (drop l.place l.test-items) ≡ list_all (λ t. test_holds t (report_of l.report)) l.test-items

@@ -1,10 +1,9 @@
-use Rattle.std.proofs.Common.{◌≡◌, slice_get}
+use Rattle.std.proofs.Common.{◌≡◌, ◌+◌, drop, count_by}
 use Rattle.mote_net.specs.Report.{report_of}
 use Rattle.claims.specs.Claims.{case_holds}
-use Rattle.claims.proofs.PickLaws.{from_place}
 use Rattle.claim_witness.proofs.witness.spare_case.Given as goal
 
 abbrev pub invariant-loop-place : goal.invariant-loop-place
 invariant-loop-place l =
-    slice_get (from_place (λ e. case_holds e.1 (report_of l.report)) (λ e. e) l.cases l.place) l.left
-    ≡ slice_get (from_place (λ e. case_holds e.1 (report_of l.report)) (λ e. e) l.cases 0) l.most
+    l.most + count_by (λ k. case_holds k (report_of l.report)) (drop l.place l.case-items)
+    ≡ l.left + count_by (λ k. case_holds k (report_of l.report)) l.case-items
