@@ -50,7 +50,7 @@ class Reports(unittest.TestCase):
         self.assertEqual(str(hearer.lines[3]), '4 print hearer 65535')
         self.assertEqual((talker.halted(), hearer.halted()), (None, 9))
         self.assertEqual((report.left, report.medium_row), (1, 15))
-        self.assertEqual(report.packets[0, 1], Packet(3, 0, 1, 8, (Copy(1, None),)))
+        self.assertEqual(report.packet(0, 1), Packet(3, 0, 1, 8, (Copy(1, None),)))
         self.assertEqual(SMALL.split('\n')[report.medium_row:report.medium_row + 4], [str(it) for it in report.medium])
 
     def test_lines_of_different_kinds_are_never_the_same(self) -> None:
@@ -134,14 +134,14 @@ class Scenarios(unittest.TestCase):
         found = Scenario.parse(EXAMPLE)
         self.assertEqual([found.hearers(it) for it in range(3)], [[1], [0, 2], [1]])
         self.assertEqual(list(found.links()), [(0, 1), (1, 2)])
-        self.assertEqual((found.delay(0, 1), found.lookahead), (2, 2))
+        self.assertEqual(found.delay(0, 1), 2)
         self.assertEqual([found.loses(0, 1, it) for it in range(4)], [False, True, False, True])
         self.assertFalse(found.loses(1, 0, 1))
         alone = Scenario.parse(EXAMPLE.replace('range = 5', 'range = 4'))
-        self.assertEqual((alone.hearers(1), alone.lookahead), ([], 21))
+        self.assertEqual(alone.hearers(1), [])
         # (3, 4) is 5 away: 25 / 10, rounded down
         near = Scenario.parse(EXAMPLE.replace('x = 5\ny = 0', 'x = 3\ny = 4').replace('per = 100', 'per = 10'))
-        self.assertEqual((near.hearers(0), near.delay(0, 1), near.lookahead), ([1], 4, 4))
+        self.assertEqual((near.hearers(0), near.delay(0, 1)), ([1], 4))
 
     def test_the_medium_of_the_cases_is_the_scenarios(self) -> None:
         for path in (TOP / 'tests/cases/nets').glob('*.toml'):

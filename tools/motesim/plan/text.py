@@ -1,9 +1,12 @@
 """Writes a scenario in the form that docs/use/SCENARIO.md describes."""
 from __future__ import annotations
 
+import re
 from collections.abc import Iterator, Mapping, Sequence
 from typing import Any, NamedTuple
 
+# What a literal string of several lines can't have.
+NOT_LITERAL = re.compile(r"'''|[\x00-\x08\x0b-\x1f\x7f]")
 ESCAPES = {'\\': '\\\\', '"': '\\"', '\n': '\\n', '\t': '\\t', '\r': '\\r'}
 
 
@@ -34,7 +37,7 @@ def escaped(text: str) -> str:
 
 def is_literal(text: str) -> bool:
     """Returns whether a literal string of several lines can have this text."""
-    return "'''" not in text and all(sign in '\n\t' or ord(sign) >= 32 and ord(sign) != 127 for sign in text)
+    return NOT_LITERAL.search(text) is None
 
 
 def _program(name: str, text: str) -> str:

@@ -93,13 +93,6 @@ class Trace:
         """The moments of a mote's lines of one kind."""
         return list(map(self.at.__getitem__, self.rows(mote, kind)))
 
-    def is_named(self, name: str) -> bool:
-        """True if a line has a process of this name."""
-        if name not in self.names:
-            return False
-        place = self.names.index(name)
-        return any(place in fields['process'] for fields in self.of.values() if 'process' in fields)
-
     def processes(self) -> set[str]:
         """The names of all processes that have lines."""
         return self.words_of('process')

@@ -125,18 +125,13 @@ class Report:
         """The text of the report, exactly as it was read."""
         return ''.join(row + '\n' for row in self.rows())
 
-    @cached_property
-    def packets(self) -> dict[tuple[int, int], Packet]:
-        """The packets by sender and number."""
-        return {(packet.sender, packet.number): packet for packet in self.medium}
-
     def place_of(self, sender: int, number: int) -> int | None:
         """The place of a packet in the log, by its sender and its number at this sender."""
         places = compress(count(), map(number.__eq__, self.log.number))
         return next((place for place in places if self.log.sender[place] == sender), None)
 
     def packet(self, sender: int, number: int) -> Packet | None:
-        """A packet by its sender and its number. For a few packets this is faster than `packets`."""
+        """A packet by its sender and its number."""
         place = self.place_of(sender, number)
         return None if place is None else self.log[place]
 

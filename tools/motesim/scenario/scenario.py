@@ -158,11 +158,6 @@ class Scenario:
         """The number of moments that a packet of s needs to reach r, which hears s."""
         return self.base + self.squared(s, r) // self.per
 
-    @cached_property
-    def lookahead(self) -> int:
-        """The least delay between two motes that hear each other; `end + 1` if no two do."""
-        return min((self.delay(s, r) for s, r in self.links()), default=self.end + 1)
-
     def loses(self, s: int, r: int, number: int) -> bool:
         """Returns whether the medium loses the packet of that number on its way from s to r."""
         every = self.losses.get((s, r), 0)

@@ -110,7 +110,6 @@ class Base:
         found.text = ''
         if change.places or 'range' in change.numbers:
             found.__dict__.pop('_neighbours', None)
-        found.__dict__.pop('lookahead', None)
         found.losses = {**base.losses, **change.losses}
         found.collide = base.collide or change.collide
         for name, number in change.numbers.items():

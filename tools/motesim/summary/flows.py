@@ -115,7 +115,7 @@ def check_processes(report: Report, scenario: Scenario, marks: tuple[Mark, Mark]
     """Checks that each process of a flow is one of the scenario's, or has lines in the report."""
     for process in {it.process for it in marks if it.process}:
         known = set(names_of(scenario).processes or ())
-        if process not in known and not report.trace.is_named(process):
+        if process not in known | report.trace.processes():
             raise FlowFault('no flow: the scenario has no process %s%s' % (
                 process, like(process, scenario, known)))
 
