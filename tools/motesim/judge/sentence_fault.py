@@ -19,18 +19,6 @@ EXAMPLES = (
 )
 
 
-def meant(rest: str, names: Sequence[str]) -> str | None:
-    """The allowed word that is nearest to the first word of `rest`."""
-    word = re.match(r'[A-Za-z_]\w{2,}', rest)
-    return nearest(word[0], names) if word else None
-
-
-def example(sentence: str) -> str:
-    """The example that has the most words in common with a sentence."""
-    words = set(sentence.lower().split())
-    return max(EXAMPLES, key=lambda it: len(words.intersection(it.split())))
-
-
 class SentenceFault(Fault):
     """A sentence that can't be read: the place of the first word that isn't allowed, the allowed ones, and the names
     that are allowed there."""
@@ -38,9 +26,12 @@ class SentenceFault(Fault):
     def __init__(self, sentence: str, place: int, wanted: list[str], names: Sequence[str] = ()):
         self.sentence, self.place, self.wanted = sentence, place, wanted
         shown = ['"%s"' % it if it.startswith(',') else it.replace(' ,', ',') for it in wanted]
-        self.like = meant(sentence[place:], [*names, *(it.split()[0] for it in wanted)]) or ''
+        word = re.match(r'[A-Za-z_]\w{2,}', sentence[place:])
+        self.like = word and nearest(word[0], [*names, *(it.split()[0] for it in wanted)]) or ''
         lines = [sentence, ' ' * place + '^', *wrapped('Allowed here: ' + ', '.join(shown))]
         lines += ['Did you mean: ' + self.like] if self.like else []
+        words = {*sentence.lower().split(), self.like.lower()}
+        example = max(EXAMPLES, key=lambda it: len(words.intersection(it.split())))
         # (the sentence with a mark under the word, and the allowed words)
-        self.explained = '  ' + '\n  '.join([*lines, 'Example: ' + example('%s %s' % (sentence, self.like))])
+        self.explained = '  ' + '\n  '.join([*lines, 'Example: ' + example])
         super().__init__('an expectation that is not known\n' + self.explained)

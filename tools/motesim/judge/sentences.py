@@ -38,11 +38,6 @@ VALUES_OF = {
 Found = TypeVar('Found')
 
 
-def gerund(many: str) -> str:
-    """A verb in the form of `within 10 of receiving 1`."""
-    return many.removesuffix('e') + 'ing'
-
-
 class _Reader:
     """Reads a sentence from its first word to its last."""
 
@@ -111,7 +106,8 @@ class _Reader:
     def is_verb(self, *verbs: str) -> str:
         """The verb that is next, in the form for many; an empty text if none of these is."""
         word = self.word().lower()
-        return next((it for it in verbs if word in (it, it + 's') or self.is_event and word == gerund(it)), '')
+        return next((it for it in verbs if word in (it, it + 's') or
+                     self.is_event and word == it.removesuffix('e') + 'ing'), '')
 
     def verb(self, *verbs: str) -> str:
         """Consumes a verb, in the form for one mote or for many; returns the form for many, or an empty text."""
