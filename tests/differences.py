@@ -9,9 +9,11 @@ import pytest
 from motesim.runner import Answer, Limits, Runner
 
 MOST_LINES = 20
+# No run needs so long, on whatever machine; one that never ends is ended then.
+SECONDS = 1800
 
 
-def answer(program: Path, scenario: bytes, *arguments: str, seconds: float = 60) -> Answer:
+def answer(program: Path, scenario: bytes, *arguments: str, seconds: float = SECONDS) -> Answer:
     """The answer of a program to a scenario on standard input."""
     return Runner(program, Limits(seconds)).answer(scenario, *arguments)
 

@@ -18,7 +18,7 @@ from functools import cache
 from pathlib import Path
 
 import pytest
-from differences import check_lines
+from differences import SECONDS, check_lines
 from motesim.runner.programs import TOP
 
 # A block of commands, and the block with their output: only empty lines are between the two.
@@ -26,8 +26,8 @@ BLOCK = re.compile(r'^```(?P<info>.*)\n(?P<text>(?:.*\n)*?)```$(?:\n+```\n(?P<sh
 SAVED = re.compile(r'(?:toml|mote|python|c) ([a-z_.]+[.](?:toml|mote|py|c))')
 WORKSHEET = TOP / 'examples/lesson/WORKSHEET.md'
 RUN = '#!/bin/sh\nexec "$MOTESIM" "$@"\n'
-# The seconds after which the commands of a block are ended, and the status of `timeout` then.
-SECONDS, TIMED_OUT = 300, 124
+# The status of `timeout` after a command that it has ended.
+TIMED_OUT = 124
 
 
 def blocks_of(page: str) -> list[re.Match[str]]:

@@ -21,7 +21,6 @@ WAYS = [['--workers', workers, '--cut', cut, '--sync', sync] for sync, workers, 
     ('joins', 'marks'), ('1', '2', '3', '7', '16'), ('block', 'stripe'))]
 # The script that makes a net of beacons, and its arguments for a report of about 150,000 lines.
 BEACONS, SIZES = TOP / 'bench/beacons', ('10', '1000', '10')
-SECONDS = 300
 
 
 def pytest_generate_tests(metafunc: pytest.Metafunc) -> None:
@@ -36,10 +35,10 @@ def text_of(path: Path) -> bytes:
 
 def test_workers_answer_the_same(path: Path, program: Path) -> None:
     scenario, noted = text_of(path), path.with_suffix('.expected')
-    serial = answer(program, scenario, seconds=SECONDS)
+    serial = answer(program, scenario)
     if noted.is_file():
         text = noted.read_bytes()
         expected = Answer(1, b'', text) if text.startswith(b'motesim:') else Answer(0, text, b'')
         check_answer('on one thread', expected, serial)
     for words in WAYS:
-        check_answer(' '.join(words), serial, answer(program, scenario, *words, seconds=SECONDS))
+        check_answer(' '.join(words), serial, answer(program, scenario, *words))

@@ -20,7 +20,7 @@ NAMES = {'test_memory.py': 'a scenario, and -- with arguments of motesim if ther
                            'scenarios',
          'test_spoiled_bytes.py': None}
 CASES = 'selects tests, as the text above says; without a name, all are run'
-MINUTES = 30
+MINUTES = 60
 NO_PYTEST = ('the tests need pytest: on Debian `apt-get install python3-pytest python3-pytest-xdist` installs it '
              'for %s (./test, as root, installs all that the tests need)' % SYSTEM)
 # Pytest writes no file into the tree; each of its lines says which test failed, and why.

@@ -16,13 +16,12 @@ import os
 import shutil
 import subprocess
 import tempfile
-import time
 import unittest
 import urllib.request
 from pathlib import Path
 from typing import Any
 
-from unbuilt_tree import until
+from here import SECONDS, until
 
 try:
     import websocket
@@ -31,8 +30,6 @@ except ImportError:
 
 # (the first is Chromium without its windows, and needs half of the time)
 NAMES = ['chromium-headless-shell', 'chromium', 'chromium-browser', 'google-chrome', 'google-chrome-stable', 'chrome']
-START_SECONDS = 60
-CALL_SECONDS = 120
 STILL = [{'name': 'prefers-reduced-motion', 'value': 'reduce'}]
 
 
@@ -64,7 +61,7 @@ class Browser:
         self.number = 0
         self.faults: list[str] = []
         try:
-            self.socket = websocket.create_connection(self.page_address(), timeout=CALL_SECONDS, suppress_origin=True)
+            self.socket = websocket.create_connection(self.page_address(), timeout=SECONDS, suppress_origin=True)
             for name in ('Page.enable', 'Runtime.enable'):
                 self.call(name)
         except FAULTS:
@@ -87,27 +84,25 @@ class Browser:
 
     def page_address(self) -> str:
         """The address of the page, once the browser has written it."""
-        until, file = time.monotonic() + START_SECONDS, Path(self.room, 'DevToolsActivePort')
-        while time.monotonic() < until:
+        file, pages = Path(self.room, 'DevToolsActivePort'), list[dict[str, Any]]()
+
+        def has_page() -> bool:
             if self.process.poll() is not None:
                 raise BrowserFault('it ends with status %d' % self.process.returncode)
-            try:
+            with contextlib.suppress(OSError, IndexError, ValueError):
                 port = int(file.read_text().split()[0])
-                with urllib.request.urlopen('http://127.0.0.1:%d/json' % port, timeout=5) as answer:
-                    pages = [page for page in json.load(answer) if page['type'] == 'page']
-                if pages:
-                    return str(pages[0]['webSocketDebuggerUrl'])
-            except (OSError, IndexError, ValueError):
-                pass
-            time.sleep(0.1)
-        raise BrowserFault('it writes no port within %d seconds' % START_SECONDS)
+                with urllib.request.urlopen('http://127.0.0.1:%d/json' % port, timeout=SECONDS) as answer:
+                    pages.extend(page for page in json.load(answer) if page['type'] == 'page')
+            return bool(pages)
+        if not until(has_page):
+            raise BrowserFault('it writes no port')
+        return str(pages[0]['webSocketDebuggerUrl'])
 
     def call(self, name: str, **words: Any) -> dict[str, Any]:
         """Calls the browser, and waits for the answer; errors of the page meanwhile are kept."""
         self.number += 1
         self.socket.send(json.dumps({'id': self.number, 'method': name, 'params': words}))
-        until = time.monotonic() + CALL_SECONDS
-        while time.monotonic() < until:
+        while True:
             said = json.loads(self.socket.recv())
             if said.get('method') == 'Runtime.exceptionThrown':
                 details = said['params']['exceptionDetails']
@@ -118,7 +113,6 @@ class Browser:
                     raise kind('%s: %s' % (name, said['error']['message']))
                 result: dict[str, Any] = said['result']
                 return result
-        raise BrowserFault('no answer to %s' % name)
 
     def run(self, script: str) -> Any:
         """The value of a script in the page; of a promise what it brings."""
@@ -153,15 +147,13 @@ class Browser:
         self.call('Input.insertText', text=text)
 
     def wait(self, script: str) -> None:
-        until = time.monotonic() + CALL_SECONDS
-        while time.monotonic() < until:
+        def is_so() -> Any:
             # (while another page is loaded, there is none to ask)
             with contextlib.suppress(Navigated):
-                if self.run('Boolean(%s)' % script):
-                    return
-            time.sleep(0.05)
-        shown = self.run('document.body && document.body.innerText.slice(0, 300)')
-        raise BrowserFault('the page is not ready: %s %s' % (shown, self.faults))
+                return self.faults or self.run('Boolean(%s)' % script)
+        if not until(is_so) or self.faults:
+            shown = self.run('document.body && document.body.innerText.slice(0, 300)')
+            raise BrowserFault('the page is not ready: %s %s' % (shown, self.faults))
 
     def settle(self) -> None:
         """Waits until what was asked for is drawn."""
@@ -192,10 +184,6 @@ class Browser:
         self.call('Input.dispatchKeyEvent', type='keyUp', key=key, code=code, windowsVirtualKeyCode=number)
         self.settle()
 
-    def picture(self, path: Path, whole: bool = False) -> None:
-        shot = self.call('Page.captureScreenshot', format='png', captureBeyondViewport=whole)
-        Path(path).write_bytes(base64.b64decode(shot['data']))
-
     def print(self, path: Path) -> None:
         """The printed page, as PDF."""
         done = self.call('Page.printToPDF', preferCSSPageSize=True, printBackground=True)
@@ -203,23 +191,18 @@ class Browser:
 
     def close(self) -> None:
         """Ends the browser that was started here, and removes its profile."""
-        try:
+        with contextlib.suppress(*FAULTS):
             if self.socket:
-                with contextlib.suppress(*FAULTS):
-                    self.call('Browser.close')
+                self.call('Browser.close')
                 self.socket.close()
-            self.process.terminate()
-            try:
-                self.process.wait(5)
-            except subprocess.TimeoutExpired:
-                self.process.kill()
-                self.process.wait()
-        finally:
-            for _ in range(20):
-                shutil.rmtree(self.room, ignore_errors=True)
-                if not os.path.exists(self.room):
-                    break
-                time.sleep(0.1)
+        self.process.terminate()
+        self.process.wait(SECONDS)
+
+        def is_removed() -> bool:
+            # (its other processes may still write)
+            shutil.rmtree(self.room, ignore_errors=True)
+            return not os.path.exists(self.room)
+        until(is_removed)
 
     def __enter__(self) -> Browser:
         return self

@@ -4,7 +4,7 @@ NAME is a file of tools/tests, test_report, or a part of its name; without one a
 fails, with its error, and each that is skipped, with the reason: the program or the package that it lacks. A test that
 lacks the browser fails, unless `--may-skip=browser` allows that. A file without tests fails too. With `--quick`,
 tests with the mark `long` of skips.py are left out. The last line is `N
-passed, M failed, K skipped`. With pytest-xdist as many tests run in parallel as there are processors. After 30 minutes
+passed, M failed, K skipped`. With pytest-xdist as many tests run in parallel as there are processors. After 60 minutes
 the tests are ended.
 """
 from __future__ import annotations

@@ -9,8 +9,9 @@ import signal
 import subprocess
 import sys
 import tempfile
+import time
 import unittest
-from collections.abc import Mapping
+from collections.abc import Callable, Mapping
 from functools import cache
 from importlib import import_module
 from pathlib import Path
@@ -21,20 +22,45 @@ TOP = TOOLS.parent
 sys.path.insert(0, str(TOOLS))
 # (a line that tools say once a day is said each time)
 os.environ['MOTESIM_SEEN'] = os.devnull + '/none'
-# (a busy machine may need long)
-SECONDS = 600
+# No outcome of a test depends on how fast the machine is. A test waits for what happens (a file, a line, an end), never
+# for a time; what goes on meanwhile waits for the test (HOLDS); and a limit is SECONDS, which nothing needs, or ends what
+# would never end by itself. (test_layers.py looks for other times.)
+SECONDS = 1800
+# A line of shell that waits until there is a file with the script's name and `.go`, or until the script is removed.
+HOLDS = 'while [ -e "$0" ] && ! [ -e "$0.go" ]; do sleep 0.1; done'
+
+
+def until(is_so: Callable[[], object]) -> bool:
+    """Returns whether something becomes true."""
+    end = time.monotonic() + SECONDS
+    while not (has_become := is_so()) and time.monotonic() < end:
+        time.sleep(0.02)
+    return bool(has_become)
+
+
+def work_of(do: Callable[[], object]) -> float:
+    """The processor time of a call, as a multiple of the time that this machine needs for a loop of a million turns."""
+    begun = time.process_time()
+    do()
+    done = time.process_time()
+    for _ in range(1_000_000):
+        pass
+    return (done - begun) / (time.process_time() - done)
 
 
 @cache
 def load_tools() -> None:
     """Loads the modules of the tools and finds the built programs, which forked processes need not do again."""
     import motesim
+    import motesim.progress as progress
     for module in pkgutil.walk_packages(motesim.__path__, 'motesim.'):
         import_module(module.name)
     from motesim.runner.programs import CHECKER, PROGRAM, ProgramFault, program_path
     for name in PROGRAM, CHECKER:
         with contextlib.suppress(ProgramFault):
             program_path(name)
+    # (a slow machine shows no more of the progress than a fast one)
+    progress.ELSEWHERE = SECONDS
 
 
 def become_tool(path: Path, words: tuple[str, ...], cwd: Path | str | None, env: Mapping[str, str] | None,

@@ -43,6 +43,3 @@ def need_built() -> None:
     except Fault as fault:
         raise unittest.SkipTest(str(fault))
 
-
-def need_program(test: unittest.TestCase) -> None:
-    need_built()

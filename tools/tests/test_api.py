@@ -22,9 +22,7 @@ class Calls(Room):
     def setUp(self) -> None:
         super().setUp()
         # (mote n of the stand-in prints P at moment P * (n + 1))
-        patch = mock.patch.dict(os.environ, programs_of(write_stub(self.room)))
-        patch.start()
-        self.addCleanup(patch.stop)
+        self.enterContext(mock.patch.dict(os.environ, programs_of(write_stub(self.room))))
 
     def test_a_text_is_run(self) -> None:
         run = motesim.run(SCENARIO.encode())

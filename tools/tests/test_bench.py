@@ -32,7 +32,6 @@ class Scenarios(unittest.TestCase):
             self.assertEqual((done.returncode, done.stdout), (1, ''))
             self.assertIn('bench/%s' % name, done.stderr)
 
-
     def test_a_part_has_fewer_moments(self) -> None:
         self.assertIn(b'end = 200000\n', bench.generated('timers'))
         self.assertIn(b'end = 20000\n', bench.generated('timers', 10))

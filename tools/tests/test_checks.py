@@ -11,7 +11,7 @@ from typing import Any, NoReturn
 from unittest import mock
 
 import pytest
-from here import TOP, Room, call, text_of
+from here import HOLDS, TOP, Room, call, text_of
 from motesim.faults import Fault
 from motesim.report import Report
 from motesim.runner import Answer
@@ -53,7 +53,7 @@ class Check(Room):
 
 class Cases(Check):
     def test_a_program_that_does_not_end_is_reported(self) -> None:
-        self.put_motesim('sleep 60')
+        self.put_motesim(HOLDS)
         with self.assertRaisesRegex(Fault, 'no answer in 0.1 seconds'):
             module('differences.py')['answer'](self.program, b'', seconds=0.1)
 

@@ -19,7 +19,7 @@ from motesim.report.run import program_path
 from motesim.scenario import Scenario
 from page_judge import PageJudge
 from page_sentences import Sentences, running_net_of
-from skips import need_program
+from skips import need_built
 from test_expect import RELAY as SCENARIO
 
 # Sentences as comments, each with its claims, as the tool writes them for `SCENARIO` without the link from 2 to 3.
@@ -74,8 +74,7 @@ class Page(unittest.TestCase):
 
 class Verdicts(unittest.TestCase):
     def test_the_verdicts_of_motecheck_are_those_of_the_page(self) -> None:
-        need_program(self)
-        need_motecheck(self)
+        need_built()
         found = [0, 0]
         for seed in NETS:
             chance = random.Random(seed)
@@ -100,7 +99,6 @@ class Verdicts(unittest.TestCase):
 
 class Surveys(unittest.TestCase):
     def test_the_listed_links_are_those_whose_loss_breaks_the_claim(self) -> None:
-        need_motecheck(self)
         news = (TOP / 'examples/news.toml').read_text().replace('from < (self + 3)', 'from < self')
         claims = ['each of motes 1 to 8: the lines "print process news" have in order of time exactly the values 7']
         alone, first, second, covered = answers(self, news, claims, '--links', '--workers', '2')
@@ -113,7 +111,7 @@ class Surveys(unittest.TestCase):
 
 class Searches(unittest.TestCase):
     def test_a_search_finds_the_same_with_a_survey(self) -> None:
-        need_program(self)
+        need_built()
         need_motecheck(self)
         room = room_of(self)
         (room / 'without').write_text('#!/bin/sh\ncase $1 in --*) exit 2 ;; esac\nexec %s "$@"\n' % CHECK)
@@ -141,6 +139,7 @@ def need_motecheck(case: unittest.TestCase) -> None:
 
 def answers(case: unittest.TestCase, scenario: str, claims: list[str], *options: str) -> list[str]:
     """The lines of motecheck: an answer to each claim, or a survey."""
+    need_motecheck(case)
     room = room_of(case)
     (room / 'net.toml').write_text(scenario)
     (room / 'net.claims').write_text('\n'.join(claims))

@@ -8,7 +8,7 @@ from here import text_of
 import test_search
 import test_sweep
 from motesim.runner import program_path
-from skips import interpreter_with, long, need_program
+from skips import interpreter_with, long, need_built
 
 # A scheduler with two workers. It prints its address, and then runs each line that it gets.
 CLUSTER = text_of('cluster.py.txt')
@@ -53,7 +53,7 @@ class Cluster(test_sweep.Bed):
         self.assertEqual((self.room / 'dask.csv').read_bytes(), (self.room / 'net.csv').read_bytes())
 
     def test_the_sets_are_the_same(self) -> None:
-        need_program(self)
+        need_built()
         self.tell_program(program_path())
         words = '--faults', 'links,motes', '--at-most', '2'
         with test_search.folder_with() as folder:

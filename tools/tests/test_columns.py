@@ -40,7 +40,7 @@ class Reading(unittest.TestCase):
         """Both readers refuse the same texts, and read the same from others, in pieces of any size."""
         chance = random.Random(5)
         kept = 0
-        for turn in range(4000):
+        for turn in range(2000):
             text = chance.choice([SMALL,
                                   SMALL.replace('talk', 't4lk').replace(' busy\n', ' b1\n').replace('msg', 'm5g')])
             for _ in range(chance.choice([1, 1, 2])):
@@ -63,7 +63,7 @@ class Reading(unittest.TestCase):
             with mock.patch.object(fast, 'PIECE', chance.choice([1, 20, 100, 1 << 19])):
                 kept += self.check(text.encode('utf-8'))
         # (not all changes make the text a wrong one)
-        self.assertGreater(kept, 200)
+        self.assertGreater(kept, 100)
 
     def test_names_with_digits_stay_apart(self) -> None:
         text = SMALL.replace('4 full all msg', '4 full a1 a1').replace('4 take 0 talk', '4 take 0 a11').replace(

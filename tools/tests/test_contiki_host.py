@@ -4,7 +4,7 @@ import tomllib
 from pathlib import Path
 
 from here import SECONDS, TOOLS, TOP, Room, call
-from skips import long, need, need_program
+from skips import long, need, need_built
 
 from motesim.report.run import program_path
 
@@ -50,7 +50,7 @@ class Host(Room):
                         str(self.room / 'radio.o')], check=True)
 
     def test_the_reports_are_those_of_motesim(self) -> None:
-        need_program(self)
+        need_built()
         self.assertEqual(self.reports(), [subprocess.run([str(program_path()), str(path)], check=True,
                                                          capture_output=True, text=True).stdout for path in SCENARIOS])
 

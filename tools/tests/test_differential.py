@@ -17,7 +17,7 @@ from motesim.notation.reader import find_fault
 from motesim.runner import Runner
 from motesim.runner.programs import program_path
 from motesim.scenario import Scenario
-from skips import long, need_program
+from skips import long, need_built
 
 HOST = TOOLS / 'contiki_host'
 MUTANTS = Path(__file__).resolve().parent / 'contiki_host/mutants.toml'
@@ -85,7 +85,7 @@ class Mutants(Room):
 
     def setUp(self) -> None:
         super().setUp()
-        need_program(self)
+        need_built()
         need_compiler(self)
 
     def mutant(self, number: int, edit: dict[str, str]) -> HostRuns:
@@ -122,7 +122,7 @@ class Mutants(Room):
 class Command(Room):
     def setUp(self) -> None:
         super().setUp()
-        need_program(self)
+        need_built()
         need_compiler(self)
 
     def test_all_agree(self) -> None:

@@ -4,12 +4,11 @@ import contextlib
 import io
 import os
 import re
-import time
 from collections.abc import Sequence
 from unittest import mock
 
 import pytest
-from here import TOP, rows_of, scenario_of
+from here import TOP, rows_of, scenario_of, work_of
 from motesim.explain import explanation as explain
 from motesim.explain.applied import changes
 from motesim.notation import faults as program_faults
@@ -147,14 +146,12 @@ def test_each_line_of_the_scenarios_page_has_its_words() -> None:
     assert lines == {*scenario_faults.RULES}
 
 
-@pytest.mark.parametrize('count', [28, 500, 20_000])
+@pytest.mark.parametrize('count', [28, 500, 5_000])
 @pytest.mark.parametrize('form', ['n = %s1%s;', 'n = %sn + 1;', '%s', '%sn++;', '%s ', '%s  '])
-def test_texts_that_are_nested_deeply_are_explained_within_seconds(count: int, form: str) -> None:
+def test_texts_that_are_nested_deeply_are_explained_at_once(count: int, form: str) -> None:
     begin = {'n = %s1%s;': '(', 'n = %sn + 1;': '!', '%s': 'while 1 {', '%sn++;': 'if (n == 1) ', '%s ': '{', '%s  ': 'n = f('}[form]
     body = form % (begin * count, ' + 1)' * count) if form.count('%s') == 2 else form % (begin * count)
-    before = time.process_time()
-    assert explained(changed('{ body { print 1; } }', '{ var n = 0; body { ' + body))
-    assert time.process_time() - before < 30
+    assert work_of(lambda: explained(changed('{ body { print 1; } }', '{ var n = 0; body { ' + body))) < 1000
 
 
 CASES = [it for folder in ('faults', 'programs') for it in sorted((TOP / 'tests/cases' / folder).glob('*.stderr'))

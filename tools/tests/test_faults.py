@@ -8,7 +8,7 @@ import unittest
 from pathlib import Path
 from typing import Any
 
-from here import TOOLS, TOP, text_of
+from here import SECONDS, TOOLS, TOP, text_of
 from motesim.faults import SHOW
 from motesim.runner.versions import version_line
 from motesim.version import VERSION
@@ -19,7 +19,7 @@ COMMAND = text_of('command.py.txt')
 class Ends(unittest.TestCase):
     def ended(self, work: str, **how: Any) -> subprocess.CompletedProcess[str]:
         words = [sys.executable, '-B', '-c', COMMAND % (str(TOOLS), work)]
-        keywords: dict[str, Any] = {'capture_output': True, 'timeout': 60, **how}
+        keywords: dict[str, Any] = {'capture_output': True, 'timeout': SECONDS, **how}
         done: subprocess.CompletedProcess[str] = subprocess.run(words, text=True, **keywords)
         return done
 
@@ -65,12 +65,12 @@ class Ends(unittest.TestCase):
             self.assertEqual((done.returncode, done.stdout, done.stderr), (status, '', seen), words)
 
     def test_an_interrupt_ends_with_130(self) -> None:
-        words = [sys.executable, '-B', '-c', COMMAND % (str(TOOLS), "print('begun', flush=True); time.sleep(60)")]
-        with subprocess.Popen(words, stdout=subprocess.PIPE, stderr=subprocess.PIPE, text=True) as running:
+        words = [sys.executable, '-B', '-c', COMMAND % (str(TOOLS), "print('begun', flush=True); sys.stdin.read()")]
+        with subprocess.Popen(words, stdin=subprocess.PIPE, stdout=subprocess.PIPE, stderr=subprocess.PIPE, text=True) as running:
             assert running.stdout and running.stderr
             running.stdout.readline()
             running.send_signal(signal.SIGINT)
-            self.assertEqual((running.wait(20), running.stderr.read()), (130, ''))
+            self.assertEqual((running.wait(SECONDS), running.stderr.read()), (130, ''))
 
 
 class Tools(unittest.TestCase):

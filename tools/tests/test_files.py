@@ -12,12 +12,8 @@ from unittest import mock
 from here import TOOLS, Room, scenario_of
 from motesim.faults import Fault
 from motesim.files import NotWritten, write_whole
-from motesim.report import Report
-from motesim.report.run import Run
-from motesim.timeline.html import write_page
 from stub import write_stub
 
-REPORT = 'mote 0 p\n0 start etimer\n0 start ctimer\n0 start radio\n0 start a\nmedium\nleft 0\n'
 SCENARIO = scenario_of('process a; autostart a; code a { body { print 7; } }')
 
 
@@ -75,15 +71,6 @@ class Whole(Room):
         write_whole(self.room / 'pipe', [b'text'])
         reader.join()
         self.assertEqual((got, self.names()), ([b'text'], ['pipe']))
-
-    def test_a_page_that_can_not_be_made_leaves_the_one_before(self) -> None:
-        page = self.room / 'page.html'
-        page.write_text('before')
-        run = Run('run', Report.parse(REPORT), None)
-        with mock.patch('motesim.timeline.html._escaped', side_effect=Fault('no page')):
-            with self.assertRaisesRegex(Fault, 'no page'):
-                write_page(page, 'title', [run])
-        self.assertEqual((page.read_text(), self.names()), ('before', ['page.html']))
 
 
 class OddNames(Room):

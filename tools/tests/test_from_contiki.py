@@ -6,7 +6,7 @@ from here import TOP
 from motesim.notation.reader import find_fault
 from motesim.notation.grammar import RESERVED
 from motesim.report.run import answer
-from skips import need_program
+from skips import need_built
 from test_warnings import net
 
 PAGE = (TOP / 'docs/use/CONTIKI.md').read_text().split('## From the notation to C')[0]
@@ -37,7 +37,7 @@ def program(piece: str) -> str | None:
 
 class Table(unittest.TestCase):
     def test_each_row_is_in_the_notation_and_runs(self) -> None:
-        need_program(self)
+        need_built()
         self.assertLessEqual(len(ROWS), MOST)
         for _, right in ROWS:
             pieces = [made for it in re.findall('`([^`]+)`', right) if (made := program(it)) is not None]

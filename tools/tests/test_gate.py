@@ -6,7 +6,7 @@ import subprocess
 import unittest
 from unittest import mock
 
-from here import TOOLS, TOP, Room, call, text_of
+from here import SECONDS, TOOLS, TOP, Room, call, text_of
 from motesim.faults import Fault
 from project import testing
 from test_checks import go_on_as
@@ -29,13 +29,13 @@ class Gate(Room):
 
     def run_it(self, *words: str, path: str | None = None) -> tuple[list[str], int]:
         here = {**os.environ, 'PATH': path or '%s:%s' % (self.room / 'bin', os.environ['PATH'])}
-        done = subprocess.run([str(self.room / 'test'), *words], env=here, capture_output=True, text=True, timeout=60)
+        done = subprocess.run([str(self.room / 'test'), *words], env=here, capture_output=True, text=True, timeout=SECONDS)
         return done.stdout.splitlines(), done.returncode
 
     def test_all_steps_are_added_up(self) -> None:
         lines, status = self.run_it()
         self.assertEqual((lines[-1], status), ('22 passed, 0 failed, 0 skipped', 0))
-        self.assertEqual(len([it for it in lines if it.startswith('== time: 0m')]), 11)
+        self.assertEqual(len([it for it in lines if it.startswith('== time: ')]), 11)
         lines, status = self.run_it('--quick')
         self.assertEqual((lines[-1], status), ('10 passed, 0 failed, 0 skipped', 0))
 
@@ -84,7 +84,7 @@ class Packages(Room):
         for name in 'test', 'tools/dev/packages.txt':
             shutil.copy(TOP / name, self.room / name)
         here = {**os.environ, 'PATH': '%s:%s' % (self.room / 'bin', os.environ['PATH'])}
-        done = subprocess.run([self.room / 'test', '--quick', *words], env=here, capture_output=True, text=True, timeout=60)
+        done = subprocess.run([self.room / 'test', '--quick', *words], env=here, capture_output=True, text=True, timeout=SECONDS)
         self.assertRegex(done.stdout.splitlines()[-1], r'^0 passed, \d+ failed, 0 skipped$')
         return [it for it in done.stdout.splitlines() if 'not run' not in it][:-2], calls.read_text()
 
@@ -107,7 +107,7 @@ class Packages(Room):
         self.put_program('test', 'echo "./test $*"; exit 3')
         self.put('.ci/run')
         shutil.copy(TOP / '.ci/run', self.room / '.ci/run')
-        done = subprocess.run([self.room / '.ci/run', '--quick'], capture_output=True, text=True, timeout=60)
+        done = subprocess.run([self.room / '.ci/run', '--quick'], capture_output=True, text=True, timeout=SECONDS)
         self.assertEqual((done.stdout, done.returncode), ('./test --quick\n', 3))
 
 

@@ -14,7 +14,7 @@ from pathlib import Path
 from unittest import mock
 
 import pytest
-from here import TOOLS, call, rows_of
+from here import SECONDS, TOOLS, call, rows_of, until
 from motesim.faults import Fault
 from motesim.grading import tables
 from motesim.grading.command import remarks
@@ -31,7 +31,6 @@ from motesim.runner import Limits
 from motesim.scenario import Scenario
 from sessions import TABLES, Table
 from stub import judged, programs_of, write_stub
-from unbuilt_tree import until
 
 TEXTS = Table(TABLES / 'grade.toml').texts
 NET, GOOD, WRONG, PROGRAM = (TEXTS[it] for it in ('net', 'good', 'wrong', 'program'))
@@ -230,12 +229,6 @@ def test_no_two_pages_have_one_name() -> None:
     assert len(set(names)) == len(names), names
 
 
-def test_progress(room: Class) -> None:
-    with mock.patch('motesim.progress.ELSEWHERE', 0):
-        room.grade()
-    assert '1 of 1' in room.seen and 'anna.toml' in room.seen
-
-
 @pytest.mark.parametrize('number', [signal.SIGTERM, signal.SIGHUP, signal.SIGKILL])
 def test_all_its_processes_end_with_it(room: Class, number: signal.Signals) -> None:
     def commands_of(session: int) -> list[str]:
@@ -251,15 +244,8 @@ def test_all_its_processes_end_with_it(room: Class, number: signal.Signals) -> N
     with room.begun() as made:
         assert until(lambda: any(str(room.stub) in it for it in commands_of(made.pid)))
         made.send_signal(number)
-        made.wait(60)
+        made.wait(SECONDS)
         assert until(lambda: not commands_of(made.pid))
-
-
-def test_memory(room: Class) -> None:
-    room.hand_in('memory.toml', GOOD.replace('code a', '// memory\ncode a'))
-    room.stub.write_text(room.stub.read_text().replace(
-        '    sleep 60 if', '    my $much = "1" x 400_000_000 if $text =~ m{// memory};\n    sleep 60 if $much;\n    sleep 60 if'))
-    assert re.search('memory.toml +0 of 3 .* more than 100 megabytes', room.grade('--memory', '100', '--seconds', '20'))
 
 
 def test_no_cell_of_a_spreadsheet_is_a_formula() -> None:

@@ -5,7 +5,7 @@ import subprocess
 from here import TOOLS, Room, call, rows_of, scenario_of, text_of
 from motesim.faults import Fault
 from motesim.files import refuse_inputs
-from skips import interpreter_with, need_program
+from skips import interpreter_with, need_built
 
 SCENARIO = scenario_of('process a; autostart a; receiver a; code a { body { if (self == 0) { send 1; } yield; print '
                        'data; } }', (0, 0), (5, 0))
@@ -37,7 +37,7 @@ class Inputs(Room):
         return call(tool, *given, cwd=self.room)
 
     def test_each_tool_refuses_to_replace_its_inputs(self) -> None:
-        need_program(self)
+        need_built()
         before = self.texts()
         for (words,) in rows_of('inputs.tsv'):
             with self.subTest(words):
@@ -49,7 +49,7 @@ class Inputs(Room):
 
     def test_a_picture_and_its_tables_replace_no_results(self) -> None:
         python = interpreter_with(self, 'matplotlib')
-        need_program(self)
+        need_built()
         self.done('sweep net.plan.toml --vary seed=1..3 --measure sent -o a.table.csv')
         before = self.texts()
         words = 'a.table.csv --measure sent --against seed -o a.svg'

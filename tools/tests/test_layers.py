@@ -1,4 +1,5 @@
-"""The layers of the tools: imports lead only to the packages that ARCHITECTURE allows, and those are lower ones."""
+"""The layers of the tools: imports lead only to the packages that ARCHITECTURE allows, and those are lower ones. And the
+times in tests, which are those of here.py."""
 import ast
 import re
 import unittest
@@ -36,3 +37,10 @@ class Layers(unittest.TestCase):
                 self.assertFalse(is_inner and own not in EDGES, '%s imports in a function' % path)
                 if package in may and own not in EDGES:
                     self.assertIn(package, [own, *may.get(own, [])], path)
+
+    def test_no_test_waits_for_a_time(self) -> None:
+        time = re.compile(r'\b(sleep|setTimeout|time\.(monotonic|process_time|perf_counter))\b|\b(timeout=|wait\(|join\()[0-9]')
+        for path in sorted([*TOP.glob('tests/*.py'), *TOOLS.glob('tests/*.py'), *TOOLS.glob('tests/*/*.js'),
+                            *TOOLS.glob('tests/texts/*.txt')]):
+            if path.name != 'here.py':
+                self.assertIsNone(time.search(path.read_text('utf-8').replace(time.pattern, '')), path)

@@ -8,7 +8,7 @@ from motesim.grading.marks import Marks
 from motesim.grading.nets import Net, nets_of
 from motesim.judge.expectations import parts_of
 from motesim.runner import Limits
-from skips import need_program
+from skips import need_built
 
 LESSON = TOP / 'examples/lesson'
 NETS = {1: 'start.toml', 2: 'start.toml', 3: 'collisions.toml'}
@@ -39,7 +39,7 @@ EVERY_VALUE = text_of('every_value.mote')
 class Lesson(Room):
     def setUp(self) -> None:
         super().setUp()
-        need_program(self)
+        need_built()
 
     def marks(self, task: int, program: str, *hidden: str) -> Marks:
         """The marks of a program, or of a solution named by its file."""

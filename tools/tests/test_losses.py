@@ -18,7 +18,7 @@ from motesim.plan.plan import Plan
 from motesim.report import Report
 from motesim.runner.process import Limits, Runner
 from motesim.report.run import program_path
-from skips import long, need_program
+from skips import long, need_built
 
 WORD = 65_536
 ASSIGNED = re.compile(r'(\w+) = (\(.*\));')
@@ -199,7 +199,7 @@ class ByChance(unittest.TestCase):
         self.assertTrue(many.spread > 1.8 and many.within > 1.5 and many.lag > 0.6 and many.covers < 0.65, many)
 
     def test_the_program_draws_the_same(self) -> None:
-        need_program(self)
+        need_built()
         page = (TOP / 'docs/use/STATISTICS.md').read_text('utf-8')
         parts = dict(re.findall(r'```\w+ (chance\.\S+)\n(.*?)```', page, re.S))
         files = Files(Path(), {'chance.mote': parts['chance.mote'].encode()})

@@ -16,7 +16,7 @@ from motesim.search.added import DIES, LATE, NoRoom, changed_program
 from motesim.search.smaller import programs
 from project.differential.random_program import RandomProgram
 from properties import given, settings, st
-from skips import need_program
+from skips import need_built
 
 PIECES = st.sampled_from(sorted(RESERVED | SIGNS) + [
     'x', 'a', 't', '0', '7', '65535', '65536', '01', 'X', '@', '_x', 'a_very_long_name', 'a_very_long_named', '"', '\\',
@@ -83,7 +83,7 @@ class Reader(unittest.TestCase):
         self.assertEqual(Counter(kept[0]), Counter(kept[1]))
 
     def test_the_first_error_is_the_one_that_motesim_reports(self) -> None:
-        need_program(self)
+        need_built()
         seen: Counter[int] = Counter()
 
         @settings(max_examples=60)

@@ -5,7 +5,7 @@ import unittest
 from here import TOP, scenario_of, text_of
 from motesim.notation.reader import find_fault
 from motesim.report.run import answer
-from skips import need_program
+from skips import need_built
 
 PROGRAM = text_of('two_processes.mote')
 # Both timers are due at 10, and the process takes the event of u first.
@@ -61,7 +61,7 @@ class Tables(unittest.TestCase):
                     self.assertIsNone(find_fault(PROGRAM % ('x = %s;' % in_words(form))))
 
     def test_which_waits_ignore_an_event_that_was_posted_before(self) -> None:
-        need_program(self)
+        need_built()
         text = page('KERNEL.md')
         part = ' '.join(text[text.index('**An event in the queue.**'):text.index('## The timer processes')].split())
         by_timer, by_variable, stops = '(fired(t) && expired(t))', '(fired(t) && wanted)', 'stop t; wanted = 0;'

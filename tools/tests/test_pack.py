@@ -1,4 +1,6 @@
 """The archive for a classroom: what it holds, and that its program and tools run from any folder."""
+import functools
+import gzip
 import hashlib
 import io
 import os
@@ -32,9 +34,9 @@ class Pack(Room):
     def setUp(self) -> None:
         """Without a program that the environment names, unless a test names one."""
         super().setUp()
-        here = mock.patch.dict(os.environ)
-        here.start()
-        self.addCleanup(here.stop)
+        self.enterContext(mock.patch.dict(os.environ))
+        # (the archives of tests are hardly compressed, which would need most of the time)
+        self.enterContext(mock.patch('gzip.compress', functools.partial(gzip.compress, compresslevel=1)))
         os.environ.pop('MOTESIM', None)
 
     def test_an_archive_runs_by_itself(self) -> None:

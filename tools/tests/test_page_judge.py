@@ -25,7 +25,7 @@ from motesim.why.question import Asker, Missing, Unasked
 from motesim.why.source import Source
 from page_judge import PageJudge
 from page_sentences import Sentences, net_of, running_net_of
-from skips import need_program
+from skips import need_built
 
 # The seeds of the nets, and the number of sentences about each net.
 NETS, SENTENCES = range(int(os.environ.get('PAGE_JUDGE_NETS', '60'))), 25
@@ -68,7 +68,7 @@ class Verdicts(unittest.TestCase):
 
 class Reading(unittest.TestCase):
     def test_a_report_that_is_read_as_far_as_needed_has_the_same_lines(self) -> None:
-        need_program(self)
+        need_built()
         for seed in range(8):
             text, motes = running_net_of(random.Random(seed))
             data = answer(text.encode()).report

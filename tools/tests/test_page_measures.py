@@ -20,7 +20,7 @@ from motesim.summary.flows import flow_rows, flow_rows_by
 from motesim.report import Report
 from motesim.summary.series import Series
 from page_measures import NEVER, Lines, PageMeasures
-from skips import need_program
+from skips import need_built
 
 NETS, SENTENCES = range(int(os.environ.get('PAGE_MEASURES_NETS', '30'))), 3
 VERBS = {'print': ('prints', 'print'), 'send': ('sends', 'send'), 'recv': ('receives', 'receive')}
@@ -99,7 +99,7 @@ def lines_of(chance: random.Random, motes: int, end: int, *, process: str = '', 
 
 class Numbers(unittest.TestCase):
     def setUp(self) -> None:
-        need_program(self)
+        need_built()
 
     def assert_same(self, its: Any, page: Any, about: str) -> None:
         if isinstance(its, float) and isinstance(page, (int, float)):

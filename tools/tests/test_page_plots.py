@@ -79,8 +79,7 @@ class Plots(unittest.TestCase):
         self.folder, self.seen = room_of(self), Counter[str]()
         for patch in (mock.patch.object(packages, 'need'), mock.patch.object(drawing, 'draw'),
                       mock.patch.object(drawing, 'draw_differences')):
-            patch.start()
-            self.addCleanup(patch.stop)
+            self.enterContext(patch)
 
     def plot(self, words: list[str]) -> tuple[list[dict[str, str]] | None, str]:
         """The table of a picture, and the lines about it; without a table, the message of an error."""

@@ -3,17 +3,16 @@ import contextlib
 import io
 import shutil
 import signal
-import subprocess
 import unittest
 from pathlib import Path
 from typing import Any
 from unittest import mock
 
-from here import Room  # (it puts tools/ on the path)
+from here import SECONDS, Room, until  # (it puts tools/ on the path)
 from project import prove
 from project.running import started
 from skips import long
-from unbuilt_tree import Tree, until
+from unbuilt_tree import Tree
 
 
 class Copies(Room):
@@ -83,12 +82,11 @@ class Proof(Tree):
             self.assertIn('proving 1 crate:', running.stdout.readline())
             self.assertTrue(until(lambda: bool(self.provers())))
             running.send_signal(number)
-            self.assertEqual(running.wait(10), 128 + number)
+            self.assertEqual(running.wait(SECONDS), 128 + number)
             self.assertIn('./prove continues', running.stdout.read())
             self.assertTrue(until(lambda: not self.provers()),
                             [Path("/proc", it, "cmdline").read_bytes()[:300] for it in self.provers()])
-        done = subprocess.run([self.top / 'prove'], cwd=self.room, stdin=subprocess.DEVNULL, capture_output=True,
-                              text=True)
+        done = self.run_it(self.top / 'prove')
         self.assertEqual(done.returncode, 0, done.stderr)
         self.assertIn('everything is proved', done.stderr)
         self.assertEqual(self.kept(), ['proved', 'proved-motesim'])
@@ -97,8 +95,7 @@ class Proof(Tree):
 
     def test_what_is_not_proved_is_shown(self) -> None:
         self.source.write_text('fn main() {\n    let a: [u8; 1] = [0];\n    let i = 3;\n    let b = a[i];\n}\n')
-        done = subprocess.run([self.top / 'prove'], cwd=self.room, stdin=subprocess.DEVNULL, capture_output=True,
-                              text=True)
+        done = self.run_it(self.top / 'prove')
         self.assertEqual(done.returncode, 2)
         self.assertIn('motesim is not proved', done.stderr)
         self.assertEqual(self.kept(), [])

@@ -146,15 +146,8 @@ class Scenarios(unittest.TestCase):
     def test_the_medium_of_the_cases_is_the_scenarios(self) -> None:
         for path in (TOP / 'tests/cases/nets').glob('*.toml'):
             noted = path.with_suffix('.expected')
-            if not (noted.is_file() and noted.read_bytes().startswith(b'mote ')):
-                continue
-            scenario, report = Scenario.parse(path.read_bytes()), Report.parse(noted.read_bytes())
-            check_scenario(report, scenario)
-            for packet in report.medium:
-                self.assertEqual([it.to for it in packet.copies], scenario.hearers(packet.sender))
-                for copy in packet.copies:
-                    is_lost = scenario.loses(packet.sender, copy.to, packet.number)
-                    self.assertEqual(copy.at, None if is_lost else packet.at + scenario.delay(packet.sender, copy.to))
+            if noted.is_file() and noted.read_bytes().startswith(b'mote '):
+                check_scenario(Report.parse(noted.read_bytes()), Scenario.parse(path.read_bytes()))
 
     def test_a_text_that_is_no_scenario_has_its_fault(self) -> None:
         for old, new, said in rows_of('broken_scenarios.tsv'):

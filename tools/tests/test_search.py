@@ -16,7 +16,7 @@ from unittest import mock
 
 import pytest
 from claim_judge import judge_of
-from here import SECONDS, TOOLS, TOP, call
+from here import HOLDS, SECONDS, TOOLS, TOP, call, until
 from motesim.faults import Fault
 from motesim.judge.claims import Claims
 from motesim.judge.expectations import beside
@@ -40,7 +40,6 @@ from motesim.search.work import RUN, Outcome, Task
 from properties import given, settings, st
 from sessions import TABLES, Table
 from skips import need_built
-from unbuilt_tree import until
 
 TABLE = Table(TABLES / 'search.toml')
 PROGRAM, DIAMOND, ANSWERED = (TABLE.texts[it] for it in ('program', 'diamond', 'answered'))
@@ -461,16 +460,21 @@ def test_hostile_programs_are_stopped() -> None:
 
 def test_interruption_and_resumption() -> None:
     need_built()
-    words = ['--faults', 'links,motes,every', '--at-most', '3']
+    words = ['--faults', 'links,motes,every', '--at-most', '2']
     with folder_with() as folder:
         whole = minimal_sets(folder, *words, '-o', 'whole')[0]
-        with subprocess.Popen([sys.executable, '-B', str(TOOLS / 'search'), 'diamond.toml', *words, '-o', 'part', '--jobs', '1'],
-                              cwd=folder, stdout=subprocess.PIPE, stderr=subprocess.PIPE, text=True) as begun:
-            tried = folder / 'part/tried.txt'
-            assert until(lambda: tried.exists() and tried.stat().st_size > 40)
-            begun.send_signal(signal.SIGINT)
-            said, seen = begun.communicate(timeout=SECONDS)
-        assert begun.returncode == 130 and 'NOT ALL WAS TRIED: it was stopped' in said, seen
-        assert minimal_sets(folder, *words, '-o', 'part', '--resume')[0] == whole
+        # (the tenth run waits until the search is asked to stop)
+        program = folder / 'holding'
+        program.write_text('#!/bin/sh\necho >>calls\n[ $(wc -l <calls) = 10 ] && : >held && %s\nexec %s "$@"\n' % (HOLDS, program_path()))
+        program.chmod(0o755)
+        with mock.patch.dict(os.environ, MOTESIM=str(program)):
+            with subprocess.Popen([sys.executable, '-B', str(TOOLS / 'search'), 'diamond.toml', *words, '-o', 'part', '--jobs', '1'],
+                                  cwd=folder, stdout=subprocess.PIPE, stderr=subprocess.PIPE, text=True) as begun:
+                assert until(lambda: (folder / 'held').exists() or begun.poll() is not None)
+                begun.send_signal(signal.SIGINT)
+                (folder / 'holding.go').touch()
+                said, seen = begun.communicate(timeout=SECONDS)
+            assert begun.returncode == 130 and 'NOT ALL WAS TRIED: it was stopped' in said, seen
+            assert minimal_sets(folder, *words, '-o', 'part', '--resume')[0] == whole
         status, _, seen = search(folder, '--faults', 'links', '-o', 'part', '--resume')
         assert status == 2 and 'belongs to another search' in seen

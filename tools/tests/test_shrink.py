@@ -10,7 +10,7 @@ from unittest import mock
 
 import pytest
 from claim_judge import deciding_by
-from here import SECONDS, TOOLS, TOP, call, text_of
+from here import HOLDS, SECONDS, TOOLS, TOP, call, text_of
 from motesim.faults import Fault
 from motesim.judge.finder import Finder
 from motesim.judge.names import Names, names_of
@@ -216,14 +216,7 @@ def folder(tmp_path: Path) -> Path:
     return tmp_path
 
 
-def test_the_progress_is_shown_if_standard_error_is_a_file(folder: Path) -> None:
-    with mock.patch('motesim.progress.ELSEWHERE', 0):
-        done = call('shrink', 'diamond.toml', REACHED, '--fault', 'silent 0', cwd=folder)
-    rows = done.stderr.splitlines()
-    assert done.returncode == 0 and '0 steps, 2 runs' in rows[0] and '0 steps' not in rows[-1]
-
-
-SLOW = '#!/bin/sh\nif [ -e hang ]; then exec sleep 60; fi\nexec %s "$@"\n'
+SLOW = '#!/bin/sh\n[ -e hang ] && ' + HOLDS + '\nexec %s "$@"\n'
 # (the first run after so many steps ends only by the interrupt)
 HANGING = text_of('hanging.py.txt')
 # (an exception in this call would be ignored)
@@ -235,13 +228,14 @@ def test_an_interrupt_ends_it_at_once_and_writes_the_smallest_scenario_so_far(fo
                                                                               is_written: bool) -> None:
     (folder / 'slow').write_text(SLOW % program_path())
     (folder / 'slow').chmod(0o755)
-    source = 'import sys\nsys.path.insert(0, %r)\n%sfrom motesim.commands.shrink import main\nmain()\n' % (str(TOOLS), before)
+    source = 'import sys\nsys.path.insert(0, %r)\nimport motesim.progress\nmotesim.progress.ELSEWHERE = %d\n%sfrom motesim.commands.shrink ' \
+             'import main\nmain()\n' % (str(TOOLS), SECONDS, before)
     with subprocess.Popen([sys.executable, '-B', '-c', source, 'diamond.toml', REACHED, '--fault', 'silent 0', '--seconds', '600'],
-                          cwd=folder, stdout=subprocess.PIPE, stderr=subprocess.PIPE, text=True) as running:
+                          cwd=folder, stdin=subprocess.PIPE, stdout=subprocess.PIPE, stderr=subprocess.PIPE, text=True) as running:
         assert running.stdout
         while running.stdout.readline() not in ('', 'now\n'):
             pass
         running.send_signal(signal.SIGINT)
         said, seen = running.communicate(timeout=SECONDS)
     assert (running.returncode, (folder / 'diamond.small.toml').exists()) == (130, is_written), seen
-    assert ('1 steps' in said and 'STOPPED' in said and not seen) if is_written else seen == 'shrink: %s\n' % STOPPED
+    assert ('1 steps' in said and 'STOPPED' in said and not seen) if is_written else seen == 'shrink: %s\n' % STOPPED, seen

@@ -7,7 +7,7 @@ from here import TOP, call, Room
 from motesim.analysis.command import table_path
 from motesim.analysis.of_plan import plots_of
 from motesim.plan.plan import Plan
-from skips import interpreter_with, long, need_program
+from skips import interpreter_with, long, need_built
 
 STUDIES = TOP / 'examples/studies'
 
@@ -27,7 +27,7 @@ class PageTest(unittest.TestCase):
 class StudiesTest(Room):
     def study(self, name: str, *words: str) -> list[dict[str, str]]:
         """The rows of a study with fewer values. Its pictures are drawn too, or shown as tables."""
-        need_program(self)
+        need_built()
         interpreter_with(self, 'matplotlib')
         plan = STUDIES / (name + '.plan.toml')
         done = call('sweep', str(plan), '--plot', '--seconds', '500', *words, cwd=self.room)
@@ -70,7 +70,7 @@ class StudiesTest(Room):
             self.assertGreater(of(20, 1, 'delay'), of(20, 4, 'delay'))
 
     def test_trickle_in_phase_collides_more(self) -> None:
-        need_program(self)
+        need_built()
         words = [it for name in ('phases=1,256', 'seed=1,2', 'enough=1', 'step=20') for it in ('--vary', name)]
         done = call('sweep', str(STUDIES / 'trickle.plan.toml'), *words, cwd=self.room)
         self.assertEqual(done.returncode, 0, done)

@@ -7,12 +7,11 @@ import struct
 import subprocess
 import sys
 import threading
-import time
 import unittest
 from typing import Any
 from unittest import mock
 
-from here import SECONDS, TOOLS, TOP, Room
+from here import SECONDS, TOOLS, TOP, Room, until
 import skips
 import stand_in
 from motesim.faults import Fault
@@ -176,8 +175,7 @@ class Running(unittest.TestCase):
         ended: list[object] = []
         runs, alive = Runs(LIMITS), []
 
-        def one(text: str) -> None:
-            ticket = runs.ask()
+        def one(text: str, ticket: int) -> None:
             try:
                 ended.append(runs.run(ticket, text.encode()).status)
             except Superseded:
@@ -185,14 +183,14 @@ class Running(unittest.TestCase):
 
         threads = []
         for number in range(4):
-            thread = threading.Thread(target=one, args=('# never_ends %d' % number,))
-            thread.start()
-            threads.append(thread)
-            time.sleep(0.15)
+            threads.append(threading.Thread(target=one, args=('# never_ends %d' % number, runs.ask())))
+            threads[-1].start()
+            # (the run before is still the one that runs, or a newer one is)
+            self.assertTrue(until(lambda: runs.running and runs.running.pid not in alive))
             alive.append(runs.running.pid if runs.running else None)
-        one(NET)
+        one(NET, runs.ask())
         for thread in threads:
-            thread.join(20)
+            thread.join(SECONDS)
         self.assertEqual(sorted(map(str, ended)), ['0'] + ['superseded'] * 4)
         self.assertIsNone(runs.running)
         for pid in filter(None, alive):
@@ -343,7 +341,7 @@ class Answering(Room):
 
 class Searching(unittest.TestCase):
     def test_faults_are_found_and_shrunk(self) -> None:
-        skips.need_program(self)
+        skips.need_built()
         searches, sentence = Searches(LIMITS), 'mote 1 receives with seq 2'
         self.addCleanup(searches.stop)
         going = searches.of(searches.begin(Wanted(NET, [sentence], ['links'], 1, (Field('seq', 'value / 3'),))))

@@ -2,11 +2,12 @@
 test_web_page.py tries: files, corrections, warnings, expectations, faults, causes and states."""
 import contextlib
 import json
+import os
 import threading
 from typing import Any
 from unittest import mock
 
-from here import SECONDS, TOP, room_of, text_of
+from here import HOLDS, SECONDS, TOP, room_of, text_of
 import skips
 import stand_in
 from browser import InBrowser
@@ -211,9 +212,12 @@ class Page(InStudio):
 
     def test_a_changed_text_stops_the_search(self) -> None:
         self.open()
-        self.value('by("faults-most").value = "3"')
-        self.search('links', 'motes', 'packets', 'deaths', 'every')
-        self.wait('m.faults.isGoing')
+        program = self.room / 'holding'
+        program.write_text('#!/bin/sh\n' + HOLDS)
+        program.chmod(0o755)
+        with mock.patch.dict(os.environ, MOTESIM=str(program)):
+            self.search('links')
+            self.wait('m.faults.isGoing')
         self.put(NET.replace('print 1;', 'print 7;'))
         self.assertEqual(self.shown('faults-state'), 'The text was changed, so the search was stopped.')
         self.settled()
@@ -293,7 +297,7 @@ class Causes(InStudio):
     text = (TOP / 'examples/flooding.toml').read_text()
 
     def setUp(self) -> None:
-        skips.need_program(self)
+        skips.need_built()
         super().setUp()
         self.file = self.room / 'flooding.toml'
         self.file.with_suffix('.expect.toml').write_text('expect = ["mote 0 prints flood 1"]\n')

@@ -5,11 +5,11 @@ import unittest
 from collections.abc import Iterator, Sequence
 from itertools import chain, combinations
 
-from here import text_of
+from here import scenario_of, text_of
 from motesim.report import Report
 from motesim.runner import program_path
 from motesim.scenario import Scenario
-from skips import need_program
+from skips import need_built
 from test_claims import CHECK, answers, need_motecheck
 
 # Each mote that hears a message for the first time prints it, and passes it on.
@@ -32,10 +32,9 @@ For more information, try '--help'.
 
 class FourNets(unittest.TestCase):
     def test_a_survey_lists_the_sets_that_a_brute_force_finds(self) -> None:
-        need_program(self)
-        need_motecheck(self)
+        need_built()
         for name, (places, program) in NETS.items():
-            text = scenario_of(places, program)
+            text = scenario_of(program, *places, end=100)
             claims = ['mote %d: at least 1 line "print value 7"' % mote for mote in range(len(places))]
             for workers in (), ('--workers', '3'):
                 with self.subTest(net=name, workers=workers):
@@ -51,12 +50,6 @@ class Options(unittest.TestCase):
                 done = subprocess.run([CHECK, *options, 'net.toml', 'net.claims'], capture_output=True, text=True)
                 self.assertEqual((done.returncode, done.stdout), (2, ''))
                 self.assertEqual(done.stderr, REFUSED)
-
-
-def scenario_of(places: Sequence[tuple[int, int]], program: str) -> str:
-    motes = ''.join('[[mote]]\nx = %d\ny = %d\nprogram = "p"\n' % place for place in places)
-    medium = '[medium]\nrange = 10\nbase = 5\nper = 100\ncollide = false\n'
-    return 'version = 2\nend = 100\n%s[programs]\np = \'\'\'%s\'\'\'\n%s' % (medium, program, motes)
 
 
 def candidates_of(text: str) -> dict[str, list[Link]]:

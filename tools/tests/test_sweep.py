@@ -12,7 +12,7 @@ from unittest import mock
 
 import pytest
 from claim_judge import deciding_by
-from here import SECONDS, TOOLS, Room, rows_of, scenario_of, text_of
+from here import SECONDS, TOOLS, Room, rows_of, scenario_of, text_of, until
 from motesim.experiments.asked import known_names, measures_of, sweep_of
 from motesim.experiments.doubts import of_full
 from motesim.experiments.measures import Bench, MeasureFault, imports_of, read_measure, sentence_of
@@ -32,7 +32,6 @@ from motesim.report.run import Run
 from motesim.scenario import Scenario
 from sessions import TABLES, Table
 from stub import judged, programs_of, write_stub
-from unbuilt_tree import until
 
 TABLE = Table(TABLES / 'sweep.toml')
 MINE = TABLE.texts['mine']
@@ -198,16 +197,18 @@ class SweepTest(Bed):
 
     def test_ctrl_c_keeps_what_is_finished(self) -> None:
         self.put('wait.mote', TABLE.texts['mote'] + '// wait\n')
-        words = '--vary', 'name=a,wait', '--vary', 'motes=1..4', '--measure', 'prints', '--jobs', '2', '--seconds', '3'
+        # (the worker has at most four runs at a time, so that the last one doesn't begin)
+        words = '--vary', 'name=a,wait', '--vary', 'motes=1..4', '--measure', 'prints', '--jobs', '1'
         with subprocess.Popen([sys.executable, '-B', TOOLS / 'sweep', 'net.plan.toml', *words], cwd=self.room,
                               env={**os.environ, **programs_of(self.stub)}, stdout=subprocess.PIPE,
                               stderr=subprocess.PIPE, text=True, start_new_session=True) as run:
             self.assertTrue(until(lambda: (self.room / 'net.csv').exists() and len(self.rows()) >= 4))
             os.killpg(run.pid, signal.SIGINT)
+            self.stub.with_name('stub.go').touch()
             out, seen = run.communicate(timeout=SECONDS)
         self.assertEqual((run.returncode, out), (130, ''), seen)
         # (a slow machine also writes lines of progress)
-        self.assertRegex(seen, r'^(?:\d of 8 runs, .*\n)*sweep: stopped with [1-4] runs missing; the same command '
+        self.assertRegex(seen, r'^(?:\d of 8 runs, .*\n)*sweep: stopped with [1-3] runs missing; the same command '
                                r'continues\n$')
         self.assertEqual(sorted(row['prints'] for row in self.rows() if row['name'] == 'a'), ['1', '2', '3', '4'])
 
@@ -235,8 +236,3 @@ class SweepTest(Bed):
         again = Results(self.room / 'both.csv', head)
         self.assertEqual([(row['x'], row['sent']) for row in again.rows], [(1, 2)])
         again.close()
-
-    def test_progress_is_on_standard_error(self) -> None:
-        with mock.patch('motesim.progress.ELSEWHERE', 0):
-            done = self.sweep('--vary', 'period=1..2', '--measure', 'prints')
-        self.assertEqual(re.findall(r'\d+ of \d+', done.stderr), ['1 of 2', '2 of 2'])

@@ -6,7 +6,7 @@ from unittest import mock
 from here import call, Room
 from motesim.progress import Progress
 from motesim.terminal import CLEAR, one_line, plain
-from skips import need_program
+from skips import need_built
 
 ERASE = '\r\x1b[2K'
 
@@ -39,7 +39,7 @@ class Terminal(Room):
         self.assertEqual(one_line('a\x1b[31m\n\u202e\udcff'), 'a\\x1b[31m\\n\\u202e\\xff')
 
     def test_each_tool_shows_them_by_their_numbers(self) -> None:
-        need_program(self)
+        need_built()
         name = 'x%sy.toml' % ERASE
         (self.room / name).write_text('end = 1\n[programs]\n"a%sb" = 1\n' % '\\r\\u001b[2K')
         for tool, *words in ('explain', name), ('expect', name), ('why', name, 'mote 0 sends'), ('summary', name):

@@ -1,4 +1,5 @@
-"""The pages of tools/timeline: their data, and in a headless browser, where there is one, what they show."""
+"""The pages of tools/timeline: their data, and in a headless browser, where there is one, what they show. What the command
+says is in sessions/timeline.toml."""
 import itertools
 import json
 import re
@@ -6,7 +7,7 @@ import unittest
 from collections.abc import Callable
 from typing import Any
 
-from here import TOP, call, room_of, text_of
+from here import TOP, room_of, text_of
 from browser import InBrowser
 from motesim.faults import Fault
 from motesim.report import Report
@@ -73,25 +74,6 @@ class Data(unittest.TestCase):
         self.assertEqual(json.loads(data)['runs'][0]['name'], '</script>')
         for word in 'http:', 'https:', ' src=', '@import', 'url(':
             self.assertNotIn(word, page)
-
-
-class Command(unittest.TestCase):
-    def test_the_page_stands_in_the_current_folder(self) -> None:
-        room = room_of(self)
-        (room / 'a.txt').write_text(SILENT)
-        for words, name, title in ((['a.txt'], 'a.html', 'a'),
-                                   (['-', '-o', 'b.html', '--title', 'Two motes'], 'b.html', 'Two motes')):
-            done = call('timeline', *words, cwd=room, input=SILENT)
-            self.assertEqual((done.returncode, done.stdout, done.stderr), (0, name + '\n', ''))
-            self.assertIn('<h1>%s</h1>' % title, (room / name).read_text())
-
-    def test_a_fault_is_one_line(self) -> None:
-        room = room_of(self)
-        for words in (['-'], ['nowhere.txt'], ['-', '--scenario', 'nowhere.toml']):
-            done = call('timeline', *words, cwd=room, input='nothing')
-            self.assertEqual((done.returncode, done.stdout), (2, ''))
-            self.assertRegex(done.stderr, r'\Atimeline: .+\n\Z')
-        self.assertEqual(list(room.iterdir()), [])
 
 
 class Pages(InBrowser):
@@ -183,15 +165,13 @@ class Pages(InBrowser):
             self.open_report(SILENT.replace('msg', event))
             self.click(9)
             self.shows('details', 'Event 2 of mote 0: %s 1' % event, 'still waiting when the run ends')
+            self.assertEqual(self.value('Array.from(run.silent.keys()).filter(i => run.silent[i]).map(i => run.text(i))'),
+                             ['4 take 1 a'])
+            self.assertEqual(self.value('[run.groups[0].sent, run.groups[0].quiet]'), [1, 1])
 
-    def test_silences_are_found(self) -> None:
-        self.open_report(SILENT)
-        self.assertEqual(self.value('Array.from(run.silent.keys()).filter(i => run.silent[i]).map(i => run.text(i))'),
-                         ['4 take 1 a'])
-        self.assertEqual(self.value('[run.groups[0].sent, run.groups[0].quiet]'), [1, 1])
-
-    def test_a_search_finds_lines(self) -> None:
+    def test_a_run_is_played_and_a_search_finds_lines(self) -> None:
         self.open(small_network())
+        self.check_play()
         for words, said in (('print', '2 of 36 lines'), ('at 4..8 send', '2 of 36 lines'),
                             ('all', '0 of 36 lines'), ('nonsense', 'No kind, process or event has the name nonsense.')):
             self.value('find(%s)' % json.dumps(words))
@@ -205,8 +185,7 @@ class Pages(InBrowser):
             self.assertEqual(self.selected(), line)
         self.assertEqual(self.value('by("log-lines").children.length'), 5)
 
-    def test_a_run_is_played(self) -> None:
-        self.open(small_network())
+    def check_play(self) -> None:
         for key, moments in ('.', [2, 4, 8, 10, 19, 20]), (',', [19]):
             for moment in moments:
                 self.key(key)

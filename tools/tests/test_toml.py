@@ -1,10 +1,9 @@
 """TOML that isn't, in each tool that reads it: deep nesting, long numbers, and plain mistakes are one clear line."""
 import itertools
 import os
-import time
 import unittest
 
-from here import call, Room
+from here import call, Room, work_of
 from motesim.toml import NoToml, pieces, read_toml
 from stub import write_stub
 
@@ -71,10 +70,8 @@ class Reader(unittest.TestCase):
     def test_no_text_takes_long(self) -> None:
         for text in (KEY, HEADER, DEEPEST, '"""\n' * 250_000, "x='" * 250_000, 'x = """' + 'a.b"' * 200_000,
                      '.' * 900_000):
-            begin = time.process_time()
-            with self.subTest(text[:9]), self.assertRaises(NoToml):
-                read_toml(text)
-            self.assertLess(time.process_time() - begin, 10)
+            with self.subTest(text[:9]):
+                self.assertLess(work_of(lambda: self.assertRaises(NoToml, read_toml, text)), 300)
 
 
 class Tools(Room):

@@ -11,7 +11,7 @@ from motesim.notation.reader import find_fault
 from motesim.report import Report
 from motesim.report.run import answer
 from motesim.scenario import Scenario
-from skips import need_program
+from skips import need_built
 
 MOST = 30
 ROWS = rows_of('warnings.tsv')
@@ -72,7 +72,7 @@ class Programs(unittest.TestCase):
 
 class Nets(unittest.TestCase):
     def setUp(self) -> None:
-        need_program(self)
+        need_built()
 
     def check(self, text: str, *wanted: Warned) -> None:
         """The warnings about a net, without the texts of programs."""

@@ -88,7 +88,7 @@ class States(unittest.TestCase):
 
 class Runs(unittest.TestCase):
     def setUp(self) -> None:
-        skips.need_program(self)
+        skips.need_built()
 
     def source(self, text: str) -> Source:
         return Source('test', answer(text.encode()).report, Scenario.parse(text))

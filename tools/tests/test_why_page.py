@@ -91,39 +91,25 @@ class Notes(unittest.TestCase):
 
 
 class Pages(InBrowser):
-    def open(self, run: Run, fragment: str = '') -> None:
+    def test_the_chain_of_a_line_and_its_links(self) -> None:
         path = room_of(self) / 'page.html'
-        write_page(path, 'page', [run])
-        self.browser.open(path, fragment)
-
-    def script(self, text: str) -> object:
-        got = self.browser.run(text)
-        self.assertEqual(self.browser.faults, [])
-        return got
-
-    def ask(self) -> None:
-        self.script("document.getElementById('ask-why').click(); new Promise(done => setTimeout(done, 300))")
-
-    def test_the_chain_of_a_line(self) -> None:
-        self.open(small_run(), '#line=28')
-        self.ask()
-        said = str(self.script("document.getElementById('why-chain').innerText"))
-        self.assertIn('Critical path: 7 moments: 4 waiting for timers; 3 on the way, over 1 hop.', said)
-        shown = self.script("[...document.querySelectorAll('#why-chain li code')].map(it => it.textContent)")
+        write_page(path, 'page', [small_run()])
+        self.browser.open(path, '#line=28')
+        self.press('ask-why')
+        self.wait('document.querySelector("#why-chain li")')
+        self.assertIn('Critical path: 7 moments: 4 waiting for timers; 3 on the way, over 1 hop.',
+                      self.value('by("why-chain").innerText'))
+        shown = self.value('[...document.querySelectorAll("#why-chain li code")].map(it => it.textContent)')
         self.assertEqual(shown, ['7 print h 8', '7 take 0 h', '7 post 0 h packet 8', '7 recv 0 0 8', '4 send 0 8',
                                  '4 take 0 a', '4 post 0 a timer 0', '0 start a', '0 mote 0 talker'])
-
-    def test_each_hop_is_a_link(self) -> None:
-        self.open(small_run(), '#line=28')
-        self.ask()
-        self.script("[...document.querySelectorAll('#why-chain li button')][4].click()")
-        self.assertEqual(self.script('[motesim.chosen.mote, motesim.chosen.line]'), [0, 12])
+        self.value('document.querySelectorAll("#why-chain li button")[4].click()')
+        self.assertEqual(self.value('[m.chosen.mote, m.chosen.line]'), [0, 12])
 
 
 class Runs(unittest.TestCase):
     def test_a_page_of_many_lines_opens(self) -> None:
         """If a page doesn't have the causes of all lines, it says where they are."""
-        skips.need_program(self)
+        skips.need_built()
         data = (TOP / 'examples/trickle.toml').read_bytes()
         run = Run('trickle', Report.parse(answer(data).report), Scenario.parse(data))
         self.assertNotIn('none', causes_of(run))

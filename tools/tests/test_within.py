@@ -1,11 +1,12 @@
 """Runs of tools/explain and tools/expect that reach a limit: the message names the process that prints, pauses or
 posts most."""
 import os
+from unittest import mock
 
-from here import Room, call, scenario_of, text_of
-from motesim.explain.within import answer_within, most_done
+from here import SECONDS, Room, call, scenario_of, text_of
+from motesim.explain.within import TRIED, answer_within, most_done
 from motesim.runner import Limits, ProgramFault
-from skips import need_program
+from skips import need_built
 
 PROGRAM = text_of('loud.mote')
 # (line 6 of the program, which is line 12 of the scenario)
@@ -19,8 +20,9 @@ code p { etimer t; body { send 1; while 1 { yield; send 1; } } }
 
 class Endless(Room):
     def setUp(self) -> None:
-        need_program(self)
+        need_built()
         super().setUp()
+        self.enterContext(mock.patch('motesim.explain.within.TRIED', TRIED._replace(seconds=SECONDS, processor=4)))
         (self.room / 'net.expect.toml').write_text('expect = ["no mote halts"]\n')
 
     def said(self, tool: str, word: str, *words: str) -> str:
