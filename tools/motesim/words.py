@@ -2,10 +2,12 @@
 from __future__ import annotations
 
 import argparse
+from collections.abc import Sequence
 from typing import Any, NoReturn
 
 from motesim.command import version_line
 from motesim.faults import FAILED
+from motesim.text import nearest
 
 
 class Version(argparse.Action):
@@ -28,11 +30,33 @@ class Once(argparse.Action):
         setattr(namespace, self.dest, values)
 
 
-class Words(argparse.ArgumentParser):
+class Reader(argparse.ArgumentParser):
+    """A parser that names an unknown option alone, with the known option that was most likely meant."""
+
+    def parse_args(self, *given: Any, **named: Any) -> Any:
+        return self._without(*self.parse_known_args(*given, **named))
+
+    def parse_intermixed_args(self, *given: Any) -> Any:
+        return self._without(*self.parse_known_intermixed_args(*given))
+
+    def _without(self, found: argparse.Namespace, rest: Sequence[str]) -> argparse.Namespace:
+        if rest:
+            self.refuse(rest)
+        return found
+
+    def refuse(self, rest: Sequence[str]) -> NoReturn:
+        """Refuses arguments that aren't known: an option, if one is among them, or else all of them."""
+        option = next((it.partition('=')[0] for it in rest if it.startswith('-')), '')
+        known = [it[2:] for it in self._option_string_actions if it.startswith('--')]
+        near = nearest(option.lstrip('-'), known)
+        self.error('unrecognized arguments: %s%s' % (option or ' '.join(rest), '; did you mean --%s?' % near if near else ''))
+
+
+class Words(Reader):
     """A parser that reports an error in one line, without all options."""
 
-    def parse_known_args(self, *given: Any) -> Any:
-        found, rest = super().parse_known_args(*given)
+    def parse_known_args(self, *given: Any, **named: Any) -> Any:
+        found, rest = super().parse_known_args(*given, **named)
         for action in self._actions:
             value = getattr(found, action.dest, None)
             if '-o' in action.option_strings and '-' in map(str, value if isinstance(value, list) else [value]):
@@ -51,7 +75,7 @@ def add_limits(words: argparse.ArgumentParser, seconds: float = 120, memory: int
         words.add_argument('--' + name, type=kind, default=default, metavar='N', help='%s (%g)' % (what, default))
 
 
-def words_of(about: str | None, prog: str | None = None) -> argparse.ArgumentParser:
+def words_of(about: str | None, prog: str | None = None) -> Words:
     """The parser of a tool's arguments; its help begins with the docstring of the tool's module."""
     words = Words(prog=prog, description=about, formatter_class=argparse.RawDescriptionHelpFormatter)
     words.add_argument('--version', action=Version, nargs=0, help='print the version, and exit')

@@ -8,7 +8,6 @@ says how to find out why there is no report. With --help the options of ./run ar
 """
 from __future__ import annotations
 
-import argparse
 import contextlib
 import os
 import shutil
@@ -24,6 +23,7 @@ from motesim.runner.programs import (
     IN_NODE, NOT_PROVED, is_compiled, module_program, nothing_runs, program_of_sources, program_path, programs_in,
 )
 from motesim.runner.versions import version_line
+from motesim.words import Reader
 from project.compile import compile_in_background, compile_program
 from project.running import ends_with_parent
 
@@ -54,18 +54,19 @@ class Request(NamedTuple):
         return self.is_unproved or any(it not in ('--', self.file) for it in self.words)
 
 
-class Reader(argparse.ArgumentParser):
+class OfRun(Reader):
     def error(self, message: str) -> NoReturn:
         raise Fault(message)
 
 
 def request_of(given: Sequence[str]) -> Request:
     """Reads the arguments of ./run; none after `--` is an option."""
-    reader = Reader(add_help=False, allow_abbrev=False)
+    reader = OfRun(add_help=False, allow_abbrev=False)
     reader.add_argument('--workers', type=int, choices=range(1, 17))
     reader.add_argument('--cut', choices=['block', 'stripe'])
     reader.add_argument('--sync', choices=['joins', 'marks'])
-    reader.add_argument('--help', '-h', action='store_true')
+    for it in ('--help', '-h'), ('--unproved',):
+        reader.add_argument(*it, action='store_true')
     reader.add_argument('file', nargs='?')
     end = given.index('--') if '--' in given else len(given)
     options = set(given[:end])

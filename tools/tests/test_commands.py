@@ -45,6 +45,8 @@ class Commands(unittest.TestCase):
                             (('sweep', 'a.toml', '--jobs', '0'), '--jobs is 1 or more, and --seconds more than 0'),
                             (('scenario', 'a.plan.toml', '-o', '-'), NO_NAME),
                             (('grade', 'a.toml', 'b.toml', '-o', '-'), NO_NAME),
+                            (('log', 'a.toml', '--motes', '3'), 'unrecognized arguments: --motes; did you mean --mote?'),
+                            (('summary', 'a', 'b', 'c'), 'unrecognized arguments: b c'),
                             (('summary',), 'the following arguments are required: REPORT')):
             done = call(*words)
             line = '%s: %s (--help lists the options)\n' % (words[0], said)

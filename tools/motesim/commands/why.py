@@ -31,7 +31,7 @@ def main() -> int:
                             'their cause')
     asked, more = words.parse_known_intermixed_args()
     if any(it.startswith('-') for it in more):
-        words.error('unrecognized arguments: %s' % ' '.join(more))
+        words.refuse(more)
     if more:
         raise Fault('the question has to be in quotes: tools/why %s' % shlex.join(
             [asked.file, ' '.join(filter(None, [asked.question, *more]))]))
