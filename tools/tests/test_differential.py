@@ -142,6 +142,16 @@ class Command(Room):
         self.assertEqual((done.returncode, done.stderr),
                          (2, 'differential: there is no C compiler: on Debian `apt-get install tcc` installs one\n'))
 
+    def test_a_simulator_that_takes_no_workers_does_not_differ(self) -> None:
+        refusing = self.room / 'motesim'
+        refusing.write_text('#!/bin/sh\n[ $# = 0 ] && exec %s\necho refused >&2\nexit 2\n' % program_path())
+        refusing.chmod(0o755)
+        done = self.tool('differential', '--count', '1', MOTESIM=str(refusing))
+        self.assertEqual((done.returncode, done.stdout), (2, ''))
+        self.assertIn('no answer: motesim --workers 2 --cut block --sync joins: refused (--one-thread', done.stderr)
+        done = self.tool('differential', '--count', '1', '--one-thread', MOTESIM=str(refusing))
+        self.assertEqual(done.stdout.splitlines()[-1], '1 passed, 0 failed')
+
     def test_a_difference_becomes_small(self) -> None:
         """A host that loses packets by their numbers, instead of their numbers plus one."""
         source = self.room / 'source'

@@ -13,7 +13,8 @@ differs, the tool reduces the scenario as long as its reports still differ, and 
 After random scenarios, the last lines list the parts of the notation, the limits and the lines of reports that the
 scenarios have reached, and those that they haven't.
 
-The tool ends with status 0 if all reports agree, 1 if some differ, and 2 if there is no `motesim` or no C compiler.
+The tool ends with status 0 if all reports agree, 1 if some differ, and 2 if a simulator gives no answer: before all
+other scenarios, each has to answer a small one.
 """
 from __future__ import annotations
 
@@ -23,6 +24,7 @@ import tempfile
 import time
 from collections import Counter
 from collections.abc import Iterable, Iterator
+from dataclasses import dataclass
 from itertools import chain
 from pathlib import Path
 from typing import NamedTuple
@@ -43,6 +45,7 @@ GATE_COUNT = 300
 MOST_SHOWN = 3
 WORKERS: tuple[tuple[str, ...], ...] = (('--workers', '2', '--cut', 'block', '--sync', 'joins'),
                                         ('--workers', '3', '--cut', 'stripe', '--sync', 'marks'))
+SMALL = TOP / 'examples/two_motes.toml'
 LIMITS = Limits(seconds=60.0, memory=2 << 30, report=256 << 20)
 
 
@@ -54,10 +57,20 @@ class Item(NamedTuple):
     is_strict: bool = False
 
 
+@dataclass(frozen=True)
+class Failure:
+    """Why the reports of a scenario don't agree: two of them differ, or a simulator has no answer."""
+    is_difference: bool
+    text: str
+
+    def __str__(self) -> str:
+        return '%s: %s' % ('differs' if self.is_difference else 'no answer', self.text)
+
+
 class Compared(NamedTuple):
-    """The result of a comparison: which simulator differs and how, or ''; and the features that the scenario
+    """The result of a comparison: why the reports don't agree, if they don't; and the features that the scenario
     reached."""
-    difference: str
+    failure: Failure | None
     reached: Counter[str]
     bytes: int = 0
 
@@ -80,30 +93,38 @@ class Comparison:
         self.runner = runner
         self.with_workers = with_workers
 
-    def difference(self, scenario: bytes, is_strict: bool = False) -> tuple[str, bytes]:
-        """The simulator that differs from motesim on one thread, and how, or ''; and the report of motesim on one
+    def failure(self, scenario: bytes, is_strict: bool = False) -> tuple[Failure | None, bytes]:
+        """The first simulator that doesn't agree with motesim on one thread, and why; and the report of motesim on one
         thread."""
         answer = self.runner.answer(scenario)
         if answer.status:
-            raise ScenarioFault('motesim refuses it: %s' % answer.fault.decode(errors='replace').strip())
+            raise ScenarioFault('motesim: %s' % answer.why)
         for arguments in WORKERS if self.with_workers else ():
-            other = self.runner.answer(scenario, *arguments)
+            name, other = 'motesim %s' % ' '.join(arguments), self.runner.answer(scenario, *arguments)
+            if other.status:
+                return Failure(False, '%s: %s' % (name, other.why)), answer.report
             if other != answer:
-                return 'motesim %s: %s' % (' '.join(arguments), first_difference(answer.report, other.report) if not
-                                           other.status else other.fault.decode(errors='replace')), answer.report
+                return Failure(True, '%s: %s' % (name, first_difference(answer.report, other.report))), answer.report
         try:
             report = self.host.report(scenario, is_strict)
         except HostFault as fault:
-            return 'the host: %s' % fault, answer.report
-        return ('' if report == answer.report else
-                'motesim and the host: ' + first_difference(answer.report, report)), answer.report
+            return Failure(False, 'the host: %s' % fault), answer.report
+        if report != answer.report:
+            return Failure(True, 'motesim and the host: ' + first_difference(answer.report, report)), answer.report
+        return None, answer.report
+
+    def check(self) -> None:
+        """Has each simulator run a small scenario; raises a `Fault` if one has no answer."""
+        failure = self.failure(SMALL.read_bytes())[0]
+        if failure and not failure.is_difference:
+            raise Fault('%s (--one-thread leaves out the runs with workers)' % failure)
 
     def compare(self, item: Item) -> Compared:
         reached: Counter[str] = Counter()
         scenario = item.scenario or random_scenario(item.seed, reached)
-        difference, report = self.difference(scenario, item.is_strict)
+        failure, report = self.failure(scenario, item.is_strict)
         reached.update(Coverage.of_report(report))
-        return Compared(difference, reached, len(report))
+        return Compared(failure, reached, len(report))
 
     def smallest(self, scenario: bytes, is_strict: bool = False) -> bytes:
         """The smallest scenario that still differs: everything that isn't needed for the difference is removed."""
@@ -126,7 +147,7 @@ class Comparison:
 
     def is_different(self, scenario: bytes, is_strict: bool = False) -> bool:
         try:
-            return bool(self.difference(scenario, is_strict)[0])
+            return self.failure(scenario, is_strict)[0] is not None
         except Fault:
             return False
 
@@ -153,35 +174,37 @@ def commit(top: Path) -> str:
     return done.stdout.strip() or 'none'
 
 
-def compare_all(items: Iterable[Item], work: Comparison, folder: Path, jobs: int | None) -> tuple[int, int, Coverage]:
-    """Compares items; returns how many agree and differ, and the features that were reached."""
-    agreed = differing = size = 0
+def compare_all(items: Iterable[Item], work: Comparison, folder: Path,
+                jobs: int | None) -> tuple[int, list[Failure], Coverage]:
+    """Compares items; returns how many agree, why the others don't, and the features that were reached."""
+    agreed = size = 0
+    failures = list[Failure]()
     coverage = Coverage()
     begin = last = time.monotonic()
     for done in run_each(work.compare, items, workers=jobs, seconds=300.0):
-        difference = done.fault or (done.result.difference if done.result else 'no answer')
+        failure = done.result.failure if done.result else Failure(False, done.fault or 'it was ended')
         if done.result:
             coverage.add(done.result.reached)
             size += done.result.bytes
-        if not difference:
+        if not failure:
             agreed += 1
         else:
-            differing += 1
-            print('%s differs: %s' % (done.item.name, difference), flush=True)
+            failures.append(failure)
+            print('%s: %s' % (done.item.name, failure), flush=True)
             scenario = done.item.scenario or random_scenario(done.item.seed)
-            if differing <= MOST_SHOWN and not done.fault:
+            if len(failures) <= MOST_SHOWN and done.result:
                 scenario = work.smallest(scenario, done.item.is_strict)
-                print('  the smallest that differs: %s' % work.difference(scenario, done.item.is_strict)[0])
-            if differing <= MOST_SHOWN:
-                path = folder / ('differs_%d.toml' % differing)
+                print('  the smallest: %s' % work.failure(scenario, done.item.is_strict)[0])
+            if len(failures) <= MOST_SHOWN:
+                path = folder / ('differs_%d.toml' % len(failures))
                 path.write_bytes(scenario)
                 print('  the scenario is in %s' % path, flush=True)
         now = time.monotonic()
         if now - last > 20:
             last = now
-            print('%d agree, %d differ, %d MB of reports, %d s' % (agreed, differing, size >> 20, now - begin),
+            print('%d agree, %d don\'t, %d MB of reports, %d s' % (agreed, len(failures), size >> 20, now - begin),
                   file=sys.stderr, flush=True)
-    return agreed, differing, coverage
+    return agreed, failures, coverage
 
 
 @command('differential')
@@ -194,8 +217,7 @@ def main() -> int:
     words.add_argument('--jobs', type=int, metavar='N', help='the number of processes (one for each processor)')
     words.add_argument('--one-thread', action='store_true', help='leave out the runs with workers')
     words.add_argument('--strict', action='store_true',
-                       help='a warning of gcc or clang about the C code counts as a difference in random scenarios '
-                            'too')
+                       help='have gcc or clang check the C code of random scenarios too: a warning is an error')
     words.add_argument('--gate', action='store_true', help='compare all examples and cases, and %d random scenarios '
                        'with the commit as seed' % GATE_COUNT)
     words.add_argument('-o', dest='folder', default='.', metavar='FOLDER',
@@ -205,6 +227,7 @@ def main() -> int:
     runner = Runner(program=program_path(), limits=LIMITS)
     with tempfile.TemporaryDirectory(prefix='differential-') as name:
         work = Comparison(HostRuns(Path(name)), runner, not asked.one_thread)
+        work.check()
         if asked.scenario:
             items, is_random = items_of_files(asked.scenario), False
         elif asked.gate:
@@ -213,11 +236,11 @@ def main() -> int:
             items, is_random = chain(fixed_items(TOP), random_items(seed, GATE_COUNT)), True
         else:
             items, is_random = random_items(asked.seed, asked.count, asked.strict), True
-        agreed, differing, coverage = compare_all(items, work, Path(asked.folder), asked.jobs)
+        agreed, failures, coverage = compare_all(items, work, Path(asked.folder), asked.jobs)
     for line in coverage.lines() if is_random else ():
         print(line)
-    print('%d passed, %d failed' % (agreed, differing))
-    return 1 if differing else 0
+    print('%d passed, %d failed' % (agreed, len(failures)))
+    return 1 if any(it.is_difference for it in failures) else 2 if failures else 0
 
 
 def fixed_items(top: Path) -> Iterator[Item]:
