@@ -205,6 +205,15 @@ def grammar() -> Iterator[str]:
     yield '```'
 
 
+def grammar_of_claims() -> Iterator[str]:
+    """The grammar of claims, which the crate that reads them has in its head comment."""
+    text = (TOP / 'crates/claim_text/src/lib.rt').read_text('utf-8')
+    found = re.search(r'^//! ```text\n(?P<rules>//! claim .*?^//! ```$)', text, re.M | re.S)
+    assert found, 'claim_text has no grammar'
+    yield '```'
+    yield from (it[4:] for it in found['rules'].splitlines())
+
+
 def reserved() -> Iterator[str]:
     """The reserved words."""
     words = dict.fromkeys([*program.DECLARING, *program.STATEMENTS, *program.OTHERS, *program.TESTS,
@@ -230,9 +239,10 @@ def syntax_of(text: str) -> str:
 
 PARTS: dict[str, Callable[[], Iterator[str]]] = {
     'definitions': lambda: iter(headline(TOP).splitlines()),
-    'definitions of answers': lambda: iter(further(TOP).splitlines()), 'grammar': grammar, 'limits': limits, 'options': all_options,
-    'plan keys': plan_keys, 'program errors': program_errors, 'reserved words': reserved,
-    'scenario errors': scenario_errors, 'scenario keys': scenario_keys, 'warnings': warnings}
+    'definitions of answers': lambda: iter(further(TOP).splitlines()), 'grammar': grammar,
+    'grammar of claims': grammar_of_claims, 'limits': limits, 'options': all_options, 'plan keys': plan_keys,
+    'program errors': program_errors, 'reserved words': reserved, 'scenario errors': scenario_errors,
+    'scenario keys': scenario_keys, 'warnings': warnings}
 
 
 def page_of(text: str) -> str:

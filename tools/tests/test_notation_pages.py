@@ -91,4 +91,5 @@ class Readme(unittest.TestCase):
         assert shown
         for line in shown[1].splitlines():
             with self.subTest(line):
-                self.assertIn(line.removeprefix('$ ').replace('examples/', '').removesuffix(' ..').strip(), page('TESTING.md'))
+                named = re.sub('examples/|out/', '', line.removeprefix('$ '))
+                self.assertIn(named.removesuffix(' ..').strip(), page('TESTING.md'))

@@ -16,7 +16,8 @@ def main() -> int:
     words.add_argument('--scenario', metavar='FILE',
                        help='if FILE is a report: its scenario, which has the places of the motes')
     words.add_argument('-o', dest='page', metavar='PAGE',
-                       help='the page to write; by default NAME.html, next to FILE')
+                       help='the page to write; by default NAME.html, next to FILE, unless FILE is one of the '
+                            'repository, such as an example: then in the current folder, or in out/')
     words.add_argument('--title', help='the title of the page; by default the name of the file')
     asked = words.parse_args()
     from motesim.files import refuse_inputs

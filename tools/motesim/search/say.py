@@ -39,7 +39,7 @@ NOTES = {
              'expectation by itself: {expectation}',
     'untried': 'left out: {count:,} of {of:,} copies, such as packet {number} of mote {sender} on its way to mote '
                '{receiver}: {why}. Use `--faults links,every`, or let the receiver ignore the packet '
-               '(docs/use/SCENARIO.md, "A lost first packet")',
+               '(docs/use/SCENARIO.md, "The medium")',
     'idle': '{count:,} of the {of:,} faults {have} no effect without other faults, because a mote sends too few '
             'packets; the first: {first}',
     'late': '{count:,} of the {of:,} faults let a mote fail after the last packet, at {last}, so they test no delivery: '
