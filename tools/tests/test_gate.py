@@ -4,11 +4,13 @@ import re
 import shutil
 import subprocess
 import unittest
+from types import SimpleNamespace
+from typing import Any
 from unittest import mock
 
 from here import SECONDS, TOOLS, TOP, Room, call, text_of
 from motesim.faults import Fault
-from project import testing
+from project import counts, testing
 from test_checks import go_on_as
 
 STEPS = ['run_cases', 'check_examples', 'check_tutorial', 'spoil_bytes', 'compare_workers', 'refuse_memory',
@@ -141,6 +143,15 @@ class UnitTests(Room):
             lines, status = self.run_file(text)
             self.assertIn('0 passed, 1 failed, 0 skipped', lines, text)
             self.assertNotEqual(status, 0)
+
+    def test_tests_that_are_given_up_with_their_worker_fail(self) -> None:
+        def of(*names: str) -> list[Any]:
+            return [SimpleNamespace(nodeid=it) for it in names]
+        said, session = list[str](), SimpleNamespace(sched=SimpleNamespace(collection=['a', 'b', 'c', 'd']))
+        config = SimpleNamespace(getoption=lambda name: 0, pluginmanager=SimpleNamespace(getplugin=lambda name: session))
+        counts.pytest_terminal_summary(SimpleNamespace(config=config, write_line=said.append, stats={
+            'passed': of('a', 'b'), 'error': of('b'), 'failed': of('c', 'c')}))
+        self.assertEqual(said, ['not run: d: its worker was killed', '1 passed, 3 failed, 0 skipped'])
 
     def test_without_pytest_it_says_what_to_install(self) -> None:
         with mock.patch.object(testing, 'has', lambda module, python: False):
