@@ -58,18 +58,11 @@ class Page(unittest.TestCase):
         room, page = room_of(self), (TOP / 'docs/use/TESTING.md').read_text('utf-8')
         for name in 'tools', 'examples':
             (room / name).symlink_to(TOP / name)
-        (room / 'crates/motecheck/out').mkdir(parents=True)
-        (room / 'crates/motecheck/out/motecheck').symlink_to(CHECK)
-        (room / 'crates/motecheck/data').symlink_to(TOP / 'crates/motecheck/data')
-        news = (TOP / 'examples/news.toml').read_text('utf-8')
-        (room / 'fixed.toml').write_text(news.replace('(is(packet) && (from < (self + 3)))', 'is(packet)'))
-        blocks = [it for it in re.findall(r'^```\n(\$ .*?)^```$', page, re.S | re.M) if 'motecheck' in it]
-        self.assertEqual(len(blocks), 3)
-        for block in blocks:
-            lines = block.splitlines()
-            commands = [it[2:] for it in lines if it.startswith('$ ')]
-            done = subprocess.run(['bash', '-c', '\n'.join(commands)], cwd=room, capture_output=True, text=True)
-            self.assertEqual(done.stdout.splitlines(), lines[len(commands):], done.stderr)
+        block, = [it for it in re.findall(r'^```\n(\$ .*?)^```$', page, re.S | re.M) if 'motecheck' in it]
+        lines = block.splitlines()
+        commands = [it[2:] for it in lines if it.startswith('$ ')]
+        done = subprocess.run(['bash', '-c', '\n'.join(commands)], cwd=room, capture_output=True, text=True)
+        self.assertEqual(done.stdout.splitlines(), lines[len(commands):], done.stderr)
 
 
 class Verdicts(unittest.TestCase):
