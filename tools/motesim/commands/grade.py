@@ -14,7 +14,7 @@ other nets, but a page of grades doesn't show it.
 
 The tool prints a table of grades, with a row for each entry of the folder. An error in one entry doesn't affect the
 others. Each run has limits (--seconds of processor time, --memory, --report), and several runs are made at once
-(--jobs). On a busy machine, a run may last 10 times its --seconds in real time. Then the solution isn't graded: grade
+(--jobs). On a busy machine, a run may last 30 times its --seconds in real time. Then the solution isn't graded: grade
 it again.
 
 The tool ignores tables `[[change]]` of EXPECTATIONS, because they replace texts of one particular solution. -o writes

@@ -71,7 +71,7 @@ def arguments() -> argparse.ArgumentParser:
     words.add_argument('--most-seconds', type=float, metavar='N',
                        help='begin no more runs after N seconds, also with --shrink')
     words.add_argument('--seconds', type=float, default=SECONDS, metavar='N',
-                       help='the limit of a run, in seconds of real time (10)')
+                       help='the limit of a run, in seconds of processor time (10)')
     words.add_argument('--bytes', type=int, default=BYTES, metavar='N',
                        help='the limit of a report, in bytes (16,000,000)')
     words.add_argument('--jobs', type=int, default=os.cpu_count() or 1, metavar='N',

@@ -62,7 +62,7 @@ def main() -> int:
     words.add_argument('--progress', action='store_true',
                        help='report progress and errors in lines of JSON, on standard error')
     words.add_argument('--seconds', type=float, default=SECONDS, metavar='N',
-                       help='the limit of a run, in seconds of real time (10)')
+                       help='the limit of a run, in seconds of processor time (10)')
     asked = words.parse_intermixed_args()
     # (an exception would be lost if it came during some parts of an import)
     before = signal.signal(signal.SIGINT, end_at_once)

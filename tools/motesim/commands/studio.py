@@ -30,7 +30,7 @@ def main() -> int:
                        help='open the page at the first difference from the run of this scenario')
     words.add_argument('--no-open', action='store_true', help='print the address, and open no browser')
     words.add_argument('--seconds', type=positive, default=SECONDS, metavar='N',
-                       help='the limit of a run, in seconds of real time (%(default)s)')
+                       help='the limit of a run, in seconds of processor time (%(default)s)')
     words.add_argument('--memory', type=positive, default=MEMORY, metavar='N',
                        help="the limit of a run's memory, in megabytes (%(default)s)")
     words.add_argument('--report', type=positive, default=REPORT, metavar='N',

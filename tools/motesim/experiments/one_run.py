@@ -26,8 +26,6 @@ from motesim.runner.process import Limits, Runner
 from motesim.report.run import ProgramFault, Run
 
 DIGITS = 16
-# The time on the clock that a run may last is this many times its limit of processor time.
-BUSY = 30
 LONGEST_FAULT = 400
 
 
@@ -123,7 +121,7 @@ def run_job(work: Work, job: Job) -> Result:
             builder = plan.builder(job.given)
             known, text = builder.with_text()
             made = made._replace(scenario=digest(text.encode()), rejected=builder.rejected)
-        limits = Limits(BUSY * work.seconds, report=work.most_bytes, processor=work.seconds)
+        limits = Limits(work.seconds, report=work.most_bytes)
         got = Runner(work.program.here(), limits).answer(text.encode())
         if got.status:
             raise ProgramFault(got.why)

@@ -4,10 +4,11 @@ from __future__ import annotations
 from collections.abc import Generator, Iterable
 from functools import partial
 
-from motesim.experiments.one_run import BUSY, Job, Result, Work, run_job
+from motesim.experiments.one_run import Job, Result, Work, run_job
 from motesim.runner.interrupt import Break
 from motesim.runner.batch import run_each
 from motesim.runner.cluster import Cluster
+from motesim.runner.process import Limits
 
 # A job has limits of processor time: for the scenario, for the run and for each measure. If it still runs after the
 # time that these limits allow, and these seconds more, its process is ended.
@@ -22,7 +23,7 @@ class Stopped(Exception):
 
 def longest(work: Work) -> float:
     """The limit on the clock, in seconds, of one job."""
-    return BUSY * work.seconds * (2 + len(work.measures)) + SECONDS_MORE
+    return Limits(work.seconds).clock * (2 + len(work.measures)) + SECONDS_MORE
 
 
 def run_here(jobs: Iterable[Job], work: Work, processes: int) -> Generator[Result, None, None]:

@@ -21,9 +21,6 @@ from motesim.scenario import Scenario
 from motesim.scenario.in_programs import place_of_token
 
 MEGABYTE = 1 << 20
-# A run also ends if its time on the clock reaches this many times its limit of processor time.
-PATIENCE = 10
-OPTIONS = {'seconds': '--seconds', 'processor': '--seconds', 'memory': '--memory', 'report': '--report'}
 # The limits of runs of the same scenario that end earlier, and the ends of these runs.
 TRIED = Limits(4.0, 256 * MEGABYTE, 8 * MEGABYTE)
 ENDS = (0, *(4 ** it for it in range(10)))
@@ -36,7 +33,7 @@ def limits_of(asked: argparse.Namespace) -> Limits:
     """The limits that the options of a tool name."""
     if min(asked.seconds, asked.memory, asked.report) <= 0:
         raise Fault('limits are greater than 0')
-    return Limits(asked.seconds * PATIENCE, asked.memory * MEGABYTE, asked.report * MEGABYTE, asked.seconds)
+    return Limits(asked.seconds, asked.memory * MEGABYTE, asked.report * MEGABYTE)
 
 
 def runs_within(name: str, asked: argparse.Namespace) -> Callable[[bytes], Answer]:
@@ -51,7 +48,7 @@ def answer_within(name: str, data: bytes, limits: Limits) -> Answer:
         return Runner(limits=limits).answer(data)
     except LimitMet as met:
         raise ProgramFault('%s: the run was ended: %s.%s A larger %s raises the limit' % (
-            name, met, busiest(data), OPTIONS[met.limit])) from None
+            name, met, busiest(data), met.option)) from None
 
 
 def busiest(data: bytes, file_lines: bool = True, goes_on: Callable[[], bool] = lambda: True) -> str:

@@ -27,8 +27,6 @@ from motesim.runner.programs import CHECKER
 from motesim.terminal import one_line
 
 MEGABYTE = 1 << 20
-# A run that lasts this many times its limit of processor time is ended without a mark: the machine has other work.
-PATIENCE = 10
 # The most names of solutions that an error lists.
 MOST_NAMES = 20
 # The width of the line about the progress.
@@ -41,7 +39,7 @@ SPARE = 60
 
 def grade(entries: Sequence[Entry], task: Task, jobs: int | None = None) -> list[Marks]:
     """The marks of all entries, in their order."""
-    seconds = (task.limits.seconds + SPARE) * max(1, len(task.nets))
+    seconds = (task.limits.clock + SPARE) * max(1, len(task.nets))
     found: dict[int, Marks] = {}
     progress = Progress()
     for done in run_each(task.of, enumerate(entries, 1), workers=jobs, seconds=seconds):
@@ -66,7 +64,7 @@ def task_of(asked: argparse.Namespace, pictures: Path | None) -> Task:
             read_all(part.sentences, Names(None, names_of(net.scenario).motes, fields=part.fields))
     except Fault as fault:
         raise Fault('%s: %s' % (name, fault)) from None
-    limits = Limits(asked.seconds * PATIENCE, asked.memory * MEGABYTE, asked.report * MEGABYTE, asked.seconds)
+    limits = Limits(asked.seconds, asked.memory * MEGABYTE, asked.report * MEGABYTE)
     return Task(part, tuple(nets), limits, pictures, has_nearest=asked.why is not None)
 
 

@@ -135,7 +135,7 @@ class Task:
         try:
             return Runner(limits=self.limits).answer(scenario)
         except LimitMet as fault:
-            if fault.limit == 'seconds':
+            if fault.limit == 'clock':
                 raise
             does = busiest(scenario, False)
             raise Ended('the run was ended: %s%s%s' % (fault, '.' * bool(does), does.rstrip('.'))) from None

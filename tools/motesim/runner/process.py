@@ -10,7 +10,6 @@
 from __future__ import annotations
 
 import contextlib
-import math
 import os
 import select
 import signal
@@ -43,7 +42,9 @@ class Answer(NamedTuple):
         return (self.fault.decode('utf-8', 'backslashreplace').strip() or 'status %d' % self.status) * bool(self.status)
 
 
-LimitName = Literal['seconds', 'memory', 'report', 'processor']
+LimitName = Literal['seconds', 'memory', 'report', 'clock']
+# A run also ends if its time on the clock reaches this many times its limit of processor time.
+PATIENCE = 30
 
 
 def _most_memory() -> int:
@@ -55,14 +56,16 @@ def _most_memory() -> int:
 
 
 class Limits(NamedTuple):
-    """The limits of a run: seconds, bytes of memory and of its report, and seconds of processor time.
-
-    The seconds of a run depend on the machine's other work; its processor time hardly does.
-    """
+    """The limits of a run: seconds of processor time, which hardly depend on the machine's other work, and bytes of
+    memory and of its report."""
     seconds: float = 600.0
     memory: int = _most_memory()
     report: int = 1 << 30
-    processor: float = math.inf
+
+    @property
+    def clock(self) -> float:
+        """The limit of a run in seconds of real time."""
+        return self.seconds * PATIENCE
 
 
 class LimitMet(ProgramFault):
@@ -70,12 +73,13 @@ class LimitMet(ProgramFault):
 
     def __init__(self, limit: LimitName, limits: Limits):
         super().__init__({
-            'seconds': 'no answer in %g seconds' % limits.seconds,
+            'seconds': 'no answer in %g seconds of processor time' % limits.seconds,
             'memory': 'the run needs more than %d megabytes of memory' % (limits.memory // MEGABYTE),
             'report': 'the report is longer than {:,} bytes'.format(limits.report),
-            'processor': 'no answer in %g seconds of processor time' % limits.processor,
+            'clock': 'no answer in %g seconds' % limits.clock,
         }[limit])
         self.limit: LimitName = limit
+        self.option = '--seconds' if limit == 'clock' else '--' + limit
 
 
 class Stopped(ProgramFault):
@@ -130,7 +134,7 @@ class Running:
                  asks_end: Callable[[], bool]):
         self._process, self._limits, self._is_leader, self._asks_end = process, limits, is_leader, asks_end
         self._look = time.monotonic() + TICK
-        self._end = time.monotonic() + limits.seconds
+        self._end = time.monotonic() + limits.clock
         self._report: list[bytes] = []
         self._fault = bytearray()
         self._length = 0
@@ -230,10 +234,10 @@ class Running:
         if now < self._look:
             return
         self._look = now + TICK
-        if processor_seconds_of(self._process.pid) > self._limits.processor:
-            self._end_by(LimitMet('processor', self._limits))
-        elif now > self._end:
+        if processor_seconds_of(self._process.pid) > self._limits.seconds:
             self._end_by(LimitMet('seconds', self._limits))
+        elif now > self._end:
+            self._end_by(LimitMet('clock', self._limits))
         elif memory_of(self._process.pid) > self._limits.memory:
             self._end_by(LimitMet('memory', self._limits))
         elif self._asks_end():

@@ -15,7 +15,7 @@ from motesim.runner import Answer, Limits, Runner, Running
 MEGABYTE = 1 << 20
 # The usual limits.
 LIMITS = Limits(10, 1024 * MEGABYTE, 16 * MEGABYTE)
-RAISE = 'The run was stopped: %s. Start tools/studio with a larger --%s.'
+RAISE = 'The run was stopped: %s. Start tools/studio with a larger %s.'
 
 
 class Superseded(Fault):
@@ -61,7 +61,7 @@ class Runs:
             except runner.Stopped:
                 raise Superseded from None
             except runner.LimitMet as met:
-                raise LimitMet(RAISE % (met, met.limit)) from None
+                raise LimitMet(RAISE % (met, met.option)) from None
             finally:
                 with self.state:
                     self.running = None
