@@ -59,6 +59,7 @@ class Calls(Room):
         self.assertEqual((found.same, found.at), (False, 5))
         self.assertIn('The reports differ.', found.text)
 
+    @mock.patch('motesim.runner.process.PATIENCE', 1)
     def test_limits_and_faults(self) -> None:
         with self.assertRaisesRegex(motesim.Fault, 'no answer in 0.2 seconds'):
             motesim.run(SCENARIO.replace('{ body', '{ // wait\nbody').encode(), limits=motesim.Limits(0.2))

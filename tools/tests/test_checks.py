@@ -52,6 +52,7 @@ class Check(Room):
 
 
 class Cases(Check):
+    @mock.patch('motesim.runner.process.PATIENCE', 1)
     def test_a_program_that_does_not_end_is_reported(self) -> None:
         self.put_motesim(HOLDS)
         with self.assertRaisesRegex(Fault, 'no answer in 0.1 seconds'):

@@ -39,13 +39,14 @@ class Runs(Programs):
         with self.assertRaisesRegex(NoReport, 'status -15'):
             Runner(self.program('kill -15 $$')).report(b'')
 
+    @mock.patch('motesim.runner.process.PATIENCE', 1)
     def test_a_run_ends_at_its_time_with_all_that_it_started(self) -> None:
         # (the shell ends at once by the signal, its child would hold the pipes)
         noted = self.room / 'program.child'
         runner = Runner(self.program('(%s) & echo $! > "$0.child"; wait' % HOLDS), Limits(seconds=0.3))
         with self.assertRaisesRegex(LimitMet, '^no answer in 0.3 seconds$') as met:
             runner.answer(b'')
-        self.assertEqual(met.exception.limit, 'seconds')
+        self.assertEqual(met.exception.limit, 'clock')
         # (a slow machine may not have begun it)
         if noted.exists() and (child := noted.read_text()):
             self.assertTrue(until(lambda: not is_alive(int(child))))

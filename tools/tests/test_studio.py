@@ -161,6 +161,7 @@ class Running(unittest.TestCase):
         got = self.run_text(NET.replace('base = 3', 'base = 0'))
         self.assertEqual((got.status, got.report, got.fault), (1, b'', b'motesim: medium fault 2\n'))
 
+    @mock.patch('motesim.runner.process.PATIENCE', 1)
     def test_each_limit_stops_a_run_and_says_how_to_raise_it(self) -> None:
         for word, limits, limit, option in [
                 ('never_ends', {'seconds': 1}, 'no answer in 1 seconds', '--seconds'),

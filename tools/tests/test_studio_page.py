@@ -119,6 +119,7 @@ class Page(InStudio):
         self.put(NET)
         self.wait('m.panes.length === 1 && by("fault").hidden')
 
+    @mock.patch('motesim.runner.process.PATIENCE', 1)
     def test_a_run_is_stopped_by_a_button_and_at_its_limit(self) -> None:
         self.open()
         self.put('# never_ends\n' + NET)

@@ -171,7 +171,7 @@ class SweepTest(Bed):
 
     def result_of_one(self, vary: str, measure: str, number: int = 0, seconds: float | None = None) -> Result:
         """The result of one of a sweep's runs, which this process makes without the files of the plan."""
-        with mock.patch.dict(os.environ, programs_of(self.stub)), mock.patch('motesim.experiments.one_run.BUSY', 10_000):
+        with mock.patch.dict(os.environ, programs_of(self.stub)), mock.patch('motesim.runner.process.PATIENCE', 10_000):
             plan = Plan.read(self.room / 'net.plan.toml')
             sweeper = Sweeper(sweep_of(plan, [vary], [measure], seconds), self.room / 'a.csv')
             return run_job(sweeper.work()._replace(folder='/nowhere'), next(sweeper.jobs([number])))
