@@ -3,8 +3,8 @@
 Node runs the first module on the scenarios of all cases, on all examples, and on 300 random scenarios. It has to write
 the expected texts of the cases, and for the other scenarios what the built program writes. If its memory has a limit,
 it has to write the report or `motesim: out of memory`. The second module has to give the answers of the built motecheck
-to the claims of all examples, to some that can't be read, and about scenarios that are refused. The files web/NAME.json
-have to name the sources of this tree.
+to the claims of all examples, to some that can't be read, and about scenarios that are refused, and its surveys. The
+files web/NAME.json have to name the sources of this tree.
 
 With --build, the modules are also made again, from the intermediate code of the proved programs if `rt ci` has proved
 the libraries here. If the same kit and version of binaryen made a committed module from the same kind of code, both have
@@ -174,17 +174,39 @@ def claims_of(scenario: Path) -> str:
     return found
 
 
+# For each part of an input before the claims, the options of motecheck that ask for the same.
+OPTIONS = {
+    '': [],
+    '--links --at-most 1 --runs 18446744073709551615': ['--links'],
+    '--silent --at-most 2 --runs 5': ['--silent', '--at-most', '2', '--runs', '5'],
+    '--links --silent --at-most 2 --runs 0': ['--runs', '0', '--at-most', '2', '--silent', '--links'],
+}
+REFUSED_OPTIONS = ['--links', '--links --at-most 1', '--links --at-most 01 --runs 5', '--at-most 1 --runs 5 --links',
+                   '--links --at-most 256 --runs 5', '--links --at-most 1 --runs 18446744073709551616', 'x']
+
+
 def test_the_second_module_has_the_answers_of_motecheck(modules: dict[str, Path], checker: Path, tmp_path: Path) -> None:
-    inputs = [(it, claims_of(it)) for it in sorted(TOP.glob('examples/*.toml'))
+    inputs = [(it, claims_of(it), '') for it in sorted(TOP.glob('examples/*.toml'))
               if it.with_suffix('.expect.toml').is_file() and not it.name.endswith('.expect.toml')]
     refused = sorted(TOP.glob('tests/cases/faults/*.toml'))[:20]
-    inputs += [(it, 'the net: always\n') for it in refused] + [(SMALL, it) for it in ('', 'the net: never', 'x\ny')]
-    texts = {str(place): claims.encode() + b'\0' + it.read_bytes() for place, (it, claims) in enumerate(inputs)}
+    inputs += [(it, 'the net: always\n', '') for it in refused] + [(SMALL, it, '') for it in ('', 'the net: never', 'x\ny')]
+    news = TOP / 'examples/news.toml'
+    inputs += [(it, claims_of(news), options) for it in [news, SMALL, *refused[:2]] for options in OPTIONS]
+    texts = {str(place): b'\0'.join([options.encode(), claims.encode(), it.read_bytes()])
+             for place, (it, claims, options) in enumerate(inputs)}
     found = answers(modules['motecheck'], texts, tmp_path)
-    for place, (scenario, claims) in enumerate(inputs):
+    for place, (scenario, claims, options) in enumerate(inputs):
         (tmp_path / 'claims').write_text(claims, 'utf-8')
-        expected = answer(checker, b'', str(scenario), str(tmp_path / 'claims'))
-        check_answer(scenario.name, expected, found[str(place)])
+        expected = answer(checker, b'', *OPTIONS[options], str(scenario), str(tmp_path / 'claims'))
+        # (motecheck tells the progress of a survey)
+        fault = b''.join(it for it in expected.fault.splitlines(True) if not it.startswith(b'motecheck: sets of '))
+        check_answer(scenario.name, expected._replace(fault=fault), found[str(place)])
+
+
+def test_the_second_module_refuses_other_options(modules: dict[str, Path], tmp_path: Path) -> None:
+    texts = {str(place): it.encode() + b'\0\0' + SMALL.read_bytes() for place, it in enumerate(REFUSED_OPTIONS)}
+    for name, found in answers(modules['motecheck'], texts, tmp_path).items():
+        check_answer(REFUSED_OPTIONS[int(name)], Answer(1, b'', b'motecheck: options fault\n'), found)
 
 
 def test_the_second_script_is_a_program(checker: Path, tmp_path: Path) -> None:
@@ -192,4 +214,7 @@ def test_the_second_script_is_a_program(checker: Path, tmp_path: Path) -> None:
     for words in ([str(SMALL), str(tmp_path / 'claims')], ['/dev/stdin', str(tmp_path / 'claims')],
                   ['/nowhere', str(tmp_path / 'claims')], [str(SMALL), '/nowhere']):
         check_answer('answers', answer(checker, SMALL.read_bytes(), *words), answer(CHECKER, SMALL.read_bytes(), *words))
-    assert answer(CHECKER, b'', '--links', 'one', 'two').status == 2
+    survey = answer(checker, b'', '--links', str(SMALL), str(tmp_path / 'claims'))._replace(fault=b'')
+    check_answer('a survey', survey, answer(CHECKER, b'', str(SMALL), '--links', '--at-most=1', str(tmp_path / 'claims')))
+    for words in ['--at-most', '2'], ['--runs', '5'], ['--workers', '2'], ['--links', '--runs', 'x'], ['three']:
+        assert answer(CHECKER, b'', *words, 'one', 'two').status == 2

@@ -5,6 +5,7 @@ import json
 import os
 import random
 import re
+import shutil
 import subprocess
 import unittest
 from itertools import permutations
@@ -16,6 +17,7 @@ from motesim.judge.claims import Claims, NoClaim
 from motesim.judge.names import names_of
 from motesim.judge.sentences import read_sentence
 from motesim.report.run import program_path
+from motesim.runner.programs import CHECKER, module_program
 from motesim.scenario import Scenario
 from page_judge import PageJudge
 from page_sentences import Sentences, running_net_of
@@ -123,6 +125,18 @@ class Searches(unittest.TestCase):
             (few, *one), (many, *other) = found
             self.assertEqual(one, other)
             self.assertLess(few, many / 2)
+
+    def test_a_search_in_node_runs_only_the_set_that_a_survey_lists(self) -> None:
+        need_program(self)
+        script, room = module_program(CHECKER), room_of(self)
+        if script is None:
+            self.skipTest('node or the module of these sources is missing')
+        for name in 'news.toml', 'news.expect.toml':
+            shutil.copy(TOP / 'examples' / name, room)
+        done = call('search', 'news.toml', '--faults', 'links', '--at-most', '2', cwd=room,
+                    env={**os.environ, 'MOTECHECK': str(script)})
+        self.assertIn('link 1 to 2 loses everything; link 4 to 2 loses everything', done.stdout)
+        self.assertEqual(len((room / 'news.search/tried.txt').read_text().splitlines()), 2)
 
 
 def need_motecheck(case: unittest.TestCase) -> None:

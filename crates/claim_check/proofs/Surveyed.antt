@@ -12,7 +12,7 @@ use Rattle.simulation.specs.declared.error.SimError.{SimError}
 use Rattle.simulation.specs.declared.error.SimError.TheVariants as fault
 use Rattle.simulation.proofs.Printed.{scenario_of}
 use Rattle.claim_check.specs.Names.{AreNames}
-use Rattle.claim_check.specs.NetSurveys.{SurveysNet}
+use Rattle.claim_check.specs.NetSurveys.{RefusesFaults, SurveysNet}
 use Rattle.claim_check.specs.Survey.{AnswersSurvey, HasTooManyFaults, Surveyed, Surveys, faults_in, limits_of}
 use Rattle.claim_check.specs.declared.answers.Answers.{Answers}
 use Rattle.claim_check.specs.declared.error.CheckError.{CheckError}
@@ -31,6 +31,26 @@ too_many_faults f s net is_text tells many = record { from = scenario_of s net i
 many_lines : (names : List (List ℕ)) (cs : List Claim) (c : List ℕ) → map (text_of names) cs ≡ claim_lines c → 2 ^ 16 ≤ length cs → 2 ^ 16 ≤ length (claim_lines c)
 many_lines names cs c read many = subst (λ n. 2 ^ 16 ≤ n) (sym (length-map cs (text_of names)) ∙ ap length read) many
 
+-- a net whose faults are refused has no survey
+module _ (way : Way) (f : Faults) (names : List (List ℕ)) (net : NetModel) (cs : List Claim) where
+  by_memory : (e : SimError) → RefusesFaults f net cs (check.Simulation e) → SurveysNet way f names net cs (Err (check.Simulation e))
+  by_memory fault.Read h = absurd h
+  by_memory fault.TooLong h = absurd h
+  by_memory fault.NotText h = absurd h
+  by_memory (fault.Scenario e) h = absurd h
+  by_memory (fault.Run e) h = absurd h
+  by_memory (fault.Print e) h = absurd h
+  by_memory fault.Memory h = tt
+
+  pub not_tried : (e : CheckError) → RefusesFaults f net cs e → SurveysNet way f names net cs (Err e)
+  not_tried (check.Simulation e) h = by_memory e h
+  not_tried (check.Input e) h = absurd h
+  not_tried (check.Claims e) h = absurd h
+  not_tried check.Options h = absurd h
+  not_tried check.TooManyClaims h = h
+  not_tried check.TooManyFaults h = h
+  not_tried check.Write h = absurd h
+
 -- the survey of a scenario's net is one of the scenario
 module _ (way : Way) (f : Faults) (s c : List ℕ) (names : List (List ℕ)) (net : NetModel) (cs : List Claim) (is_text : IsText s) (tells : TellsNet s net) (named : AreNames net names)
     (read : map (text_of names) cs ≡ claim_lines c) where
@@ -48,6 +68,7 @@ module _ (way : Way) (f : Faults) (s c : List ℕ) (names : List (List ℕ)) (ne
   surveys (Err (check.Simulation e)) h = by_fault e h
   surveys (Err (check.Input e)) h = absurd h
   surveys (Err (check.Claims e)) h = absurd h
+  surveys (Err check.Options) h = absurd h
   surveys (Err check.TooManyClaims) h = (scenario_of s net is_text tells, many_lines names cs c read h)
   surveys (Err check.TooManyFaults) h = too_many_faults f s net is_text tells h
   surveys (Err check.Write) h = absurd h

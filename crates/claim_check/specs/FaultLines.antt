@@ -16,6 +16,7 @@ fault_line (check.Input input.Memory) = memory_line
 fault_line (check.Claims claims.Memory) = memory_line
 fault_line (check.Claims (claims.NotAClaim line column)) =
     codes "claims fault line " ++ decimal line ++ codes " column " ++ decimal column
+fault_line check.Options = codes "options fault"
 fault_line check.TooManyClaims = codes "too many claims for a survey"
 fault_line check.TooManyFaults = codes "too many faults for a survey"
 fault_line check.Write = codes "write fault"

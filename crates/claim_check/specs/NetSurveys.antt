@@ -1,4 +1,4 @@
--- The promise of the function that surveys a net.
+-- The promises of the functions that survey a net.
 use Rattle.std.specs.Prelude.{◌≤◌, ◌^◌, ℕ, List, Result, Ok, Err, length}
 use Rattle.mote_net.specs.Net.{NetModel}
 use Rattle.claims.specs.declared.claim.Claim.{Claim}
@@ -10,12 +10,16 @@ use Rattle.claim_check.specs.declared.error.CheckError.{CheckError}
 use Rattle.claim_check.specs.declared.error.CheckError.TheVariants as check
 use Rattle.claim_check.specs.declared.surveying.Faults.{Faults}
 
+-- a survey of a net with these claims has to try too much, or an allocation failed
+abbrev pub RefusesFaults : Faults → NetModel → List Claim → CheckError → Type 0
+RefusesFaults f net cs check.TooManyClaims = 2 ^ 16 ≤ length cs
+RefusesFaults f net cs check.TooManyFaults = 2 ^ 16 ≤ length (faults_in f net)
+RefusesFaults f net cs (check.Simulation fault.Memory) = Unit {0}
+RefusesFaults f net cs e = ⊥
+
 -- Each result of the survey of a net and its cause. An allocation may fail for any net and claims.
 abbrev pub SurveysNet :
     Way → Faults → (names : List (List ℕ)) → NetModel → List Claim → Result Answers CheckError → Type 0
 SurveysNet way f names net cs (Ok a) = MayRun way × AnswersSurvey names net cs (faults_in f net) (limits_of f) a
 SurveysNet way f names net cs (Err (check.Simulation (fault.Run e))) = RefusesRun way e
-SurveysNet way f names net cs (Err (check.Simulation fault.Memory)) = Unit {0}
-SurveysNet way f names net cs (Err check.TooManyClaims) = 2 ^ 16 ≤ length cs
-SurveysNet way f names net cs (Err check.TooManyFaults) = 2 ^ 16 ≤ length (faults_in f net)
-SurveysNet way f names net cs (Err e) = ⊥
+SurveysNet way f names net cs (Err e) = RefusesFaults f net cs e

@@ -4,7 +4,6 @@ use Rattle.mote_net.specs.Net.{NetModel}
 use Rattle.claims.specs.declared.claim.Claim.{Claim}
 use Rattle.claim_text.specs.ClaimText.{text_of}
 use Rattle.claim_text.specs.ClaimLines.{claim_lines}
-use Rattle.net_survey.specs.Judged.{claim_holds}
 use Rattle.net_survey.specs.Candidates.{candidates_of}
 use Rattle.radio_faults.specs.declared.fault.Fault.{Fault}
 use Rattle.survey.specs.declared.broken.Survey.{Survey}
@@ -27,12 +26,17 @@ limits_of f = record { faults = f.at_most; trials = f.runs; at_a_time = 2048 }
 abbrev pub is_settled : Survey → Bool
 is_settled s = is_none s.stopped_at && (length s.broken.items == 0)
 
+-- the text of this survey
+abbrev pub TellsSurvey :
+    (names : List (List ℕ)) → List Claim → (candidates : List Fault) → Limits → Survey → Answers → Type 0
+TellsSurvey names claims candidates limits s a =
+    (string_bytes a.text ≡ survey_text names claims candidates limits s) × (a.all_hold ≡ is_settled s)
+
 -- the text of a survey of this net
 abbrev pub AnswersSurvey :
     (names : List (List ℕ)) → NetModel → List Claim → (candidates : List Fault) → Limits → Answers → Type 0
 AnswersSurvey names net claims candidates limits a =
-    (s : Survey) × IsSurveyOf net (length claims) (claim_holds claims) candidates limits s
-    × (string_bytes a.text ≡ survey_text names claims candidates limits s) × (a.all_hold ≡ is_settled s)
+    (s : Survey) × IsSurveyOf net claims candidates limits s × TellsSurvey names claims candidates limits s a
 
 -- the faults of these kinds in the net of a scenario
 abbrev pub faults_in : Faults → NetModel → List Fault

@@ -19,6 +19,8 @@ pub enum CheckError {
     Input(InputError),
     /// An error in the claims.
     Claims(ClaimsError),
+    /// A text should be the options of a survey, and isn't.
+    Options,
     /// A survey of so many claims isn't possible.
     TooManyClaims,
     /// A survey of a net that may have so many faults isn't possible.
@@ -97,6 +99,7 @@ impl fmt::Display for CheckError {
             CheckError::Claims(ClaimsError::NotAClaim { line, column }) => {
                 write!(f, "claims fault line {line} column {column}")
             }
+            CheckError::Options => write!(f, "options fault"),
             CheckError::TooManyClaims => write!(f, "too many claims for a survey"),
             CheckError::TooManyFaults => write!(f, "too many faults for a survey"),
             CheckError::Write => write!(f, "write fault"),

@@ -19,4 +19,4 @@ pub use command::{check_asked, run_command, status_of};
 pub use command_line::{Asked, asked_by};
 pub use error::CheckError;
 pub use process::run_process;
-pub use surveying::{Faults, MOST, check_with_faults};
+pub use surveying::{Faults, MOST, check_serial_with_faults, check_with_faults};

@@ -1,12 +1,12 @@
 //! Surveys of the faults that the net of a scenario may have.
-ghost use Rattle.std.specs.Prelude.{◌≡◌, ◌<◌, ◌^◌, length, IfErr, IfOk};
+ghost use Rattle.std.specs.Prelude.{◌≡◌, ◌<◌, ◌^◌, None, length, IfErr, IfOk};
 ghost use Rattle.mote_net.specs.Meaning.{net_of};
 ghost use Rattle.window_workers.specs.declared.sync.SyncKind.TheVariants as sync;
 ghost use Rattle.simulation.specs.Input.{IsText};
 ghost use Rattle.simulation.specs.Simulation.{MayRun, RefusesRun, way_by};
 ghost use Rattle.survey.specs.declared.search.Limits.{Limits as AnyLimits};
-ghost use Rattle.claim_check.specs.NetSurveys.{SurveysNet};
-ghost use Rattle.claim_check.specs.Survey.{AnswersSurvey, Surveys, is_settled, limits_of};
+ghost use Rattle.claim_check.specs.NetSurveys.{RefusesFaults, SurveysNet};
+ghost use Rattle.claim_check.specs.Survey.{Surveys, TellsSurvey, faults_in, is_settled, limits_of};
 
 use crate::answers::Answers;
 use crate::error::CheckError;
@@ -16,7 +16,8 @@ use claims::Claim;
 use mote_net::Net;
 use net_scenario::read_scenario;
 use net_survey::{
-    Claims, Fault, Kinds, Limits, Progress, Survey, candidates_of, survey_net, write_survey,
+    Fault, Kinds, Limits, Progress, Survey, candidates_of, survey_net, survey_net_serial,
+    write_survey,
 };
 use program_tree::Names;
 use simulation::RunError;
@@ -59,34 +60,65 @@ fn is_settled(survey: &Survey) -> bool
     survey.stopped_at.is_none() && survey.broken.is_empty()
 }
 
-/// Surveys a net, and writes what was found.
+/// Returns the faults in a net that a survey of these claims has to try.
+///
+/// # Errors
+/// `TooManyClaims` or `TooManyFaults`, or out of memory.
+fn faults_to_try(
+    alloc: Global,
+    net: &Net,
+    claims: &[Claim],
+    faults: Faults,
+) -> Result<Vec<Fault>, CheckError>
+    ensures few_claims { IfOk result (λ _. length claims.now < 2 ^ 16) }
+    ensures few_faults { IfOk result (λ all. length all.items < 2 ^ 16) }
+    ensures value { IfOk result (λ all. all.items ≡ faults_in faults (net_of net.now)) }
+    ensures refuses { IfErr result (RefusesFaults faults (net_of net.now) claims.now) }
+{
+    if claims.len() > MOST {
+        return Err(CheckError::TooManyClaims);
+    }
+    let all = candidates_of(alloc, net, faults.kinds)?;
+    if all.len() > MOST {
+        return Err(CheckError::TooManyFaults);
+    }
+    Ok(all)
+}
+
+/// Writes what a survey found.
 ///
 /// # Errors
 /// If an allocation failed.
-fn answers_with<T: Threads + Sync, P: Progress + Sync>(
-    rt: &T,
+fn answers_of(
     alloc: Global,
-    net: &Net,
     names: &Names,
     claims: &[Claim],
     candidates: &[Fault],
     limits: Limits,
-    workers: u16,
-    progress: &P,
+    found: &Survey,
 ) -> Result<Answers, AllocError>
-    requires workers { 0 < workers }
-    requires at_a_time { 0 < limits.at_a_time }
-    requires few_claims { length claims.now < 2 ^ 16 }
-    requires few_faults { length candidates.now < 2 ^ 16 }
-    ensures answers { IfOk result (AnswersSurvey names.now (net_of net.now) claims.now candidates.now limits) }
+    ensures tells_survey { IfOk result (TellsSurvey names.now claims.now candidates.now limits found.now) }
 {
-    let judge = Claims::new(claims);
-    let found = survey_net(
-        rt, alloc, net, &judge, candidates, workers, limits, progress,
-    )?;
-    let text = write_survey(alloc, names, claims, candidates, limits, &found)?;
-    let all_hold = is_settled(&found);
+    let text = write_survey(alloc, names, claims, candidates, limits, found)?;
+    let all_hold = is_settled(found);
     Ok(Answers { text, all_hold })
+}
+
+/// Surveys a net with these claims, as `check_serial_with_faults` does.
+fn survey_claims_serial(
+    alloc: Global,
+    net: &Net,
+    names: &Names,
+    claims: &[Claim],
+    faults: Faults,
+) -> Result<Answers, CheckError>
+    ensures surveys { SurveysNet None faults names.now (net_of net.now) claims.now result }
+{
+    let candidates = faults_to_try(alloc, net, claims, faults)?;
+    let listed = candidates.as_slice();
+    let limits = faults.limits();
+    let found = survey_net_serial(alloc, net, claims, listed, limits)?;
+    Ok(answers_of(alloc, names, claims, listed, limits, &found)?)
 }
 
 /// Returns the number of workers that make the runs.
@@ -122,30 +154,38 @@ fn survey_claims<T: Threads + Sync, P: Progress + Sync>(
 ) -> Result<Answers, CheckError>
     ensures surveys { SurveysNet (way_by workers sync.Joins) faults names.now (net_of net.now) claims.now result }
 {
-    if claims.len() > MOST {
-        return Err(CheckError::TooManyClaims);
-    }
-    let candidates = candidates_of(alloc, net, faults.kinds)?;
-    if candidates.len() > MOST {
-        return Err(CheckError::TooManyFaults);
-    }
+    let candidates = faults_to_try(alloc, net, claims, faults)?;
     let workers = workers_of(workers)?;
-    Ok(answers_with(
-        rt,
-        alloc,
-        net,
-        names,
-        claims,
-        candidates.as_slice(),
-        faults.limits(),
-        workers,
-        progress,
-    )?)
+    let listed = candidates.as_slice();
+    let limits = faults.limits();
+    let found = survey_net(rt, alloc, net, claims, listed, workers, limits, progress)?;
+    Ok(answers_of(alloc, names, claims, listed, limits, &found)?)
 }
 
 /// Runs the net of a scenario with each set of at most so many faults, as far as the limit of runs allows, and says for
-/// each claim with which of them it doesn't hold. So many workers share the runs; without a number, one does.
-/// `all_hold` is `true` if no set breaks a claim, and no set was left out.
+/// each claim with which of them it doesn't hold. One thread makes one run after another, and never waits for another
+/// thread. `all_hold` is `true` if no set breaks a claim, and no set was left out.
+///
+/// # Errors
+/// Those of `check_with_faults`, but `Workers`.
+pub fn check_serial_with_faults(
+    alloc: Global,
+    scenario: &str,
+    claims: &str,
+    faults: Faults,
+) -> Result<Answers, CheckError>
+    requires is_text { IsText scenario.now }
+    ensures surveys { Surveys None faults scenario.now claims.now result }
+{
+    let net = read_scenario(alloc, scenario)?;
+    let none = Names::new(alloc);
+    let names = names_of(&net, &none);
+    let claims = read_claims(alloc, names, claims.as_bytes())?;
+    survey_claims_serial(alloc, &net, names, claims.as_slice(), faults)
+}
+
+/// Does the same as `check_serial_with_faults` with so many workers, which share the runs; without a number, there is
+/// one.
 ///
 /// # Errors
 /// `Simulation` with the first error in the scenario; otherwise `Claims` with an error in the claims; otherwise

@@ -4,7 +4,7 @@ use Rattle.std.specs.Option.{IfSome}
 use Rattle.std.specs.declared.alloc.AllocError.{AllocError}
 use Rattle.radio_medium.specs.Medium.{medium_fault}
 use Rattle.mote_net.specs.Net.{NetModel}
-use Rattle.mote_net.specs.Report.{ReportModel, report_of}
+use Rattle.mote_net.specs.Report.{report_of}
 use Rattle.mote_net.specs.declared.report.Report.{Report}
 use Rattle.serial_run.specs.NetRun.{IsReportOf}
 use Rattle.serial_run.proofs.Unique.{report_is_one}
@@ -14,7 +14,9 @@ use Rattle.survey.specs.declared.broken.Survey.{Survey}
 use Rattle.survey.specs.declared.search.Limits.{Limits}
 use Rattle.radio_faults.specs.declared.fault.Fault.{Fault}
 use Rattle.radio_faults.proofs.Valid.{faults_keep_the_medium}
+use Rattle.claims.specs.declared.claim.Claim.{Claim}
 use Rattle.net_survey.specs.Chosen.{holds_with}
+use Rattle.net_survey.specs.Judged.{claim_holds}
 use Rattle.serial_run.specs.NetFaults.{net_with}
 use Rattle.serial_run.proofs.OneReport.{report_with, report_with_is}
 use Rattle.net_survey.specs.NetSurvey.{IsSurveyOf}
@@ -28,19 +30,19 @@ module _ (n : NetModel) (fault : medium_fault n.radio ≡ None) (placed : length
   run_is faults (Ok x) is = report_is_one (net_with faults n) (report_with (net_with faults n)) (report_of x) (report_is faults) is
   run_is faults (Err e) is = tt
 
-  abbrev pub holding : (holds : ReportModel → ℕ → Bool) → List Fault → List ℕ → ℕ → Bool
-  holding holds candidates = holds_with (λ faults. report_with (net_with faults n)) holds candidates
+  abbrev pub holding : List Claim → List Fault → List ℕ → ℕ → Bool
+  holding claims candidates = holds_with (λ faults. report_with (net_with faults n)) (claim_holds claims) candidates
 
-  pub surveyed : (claims : ℕ) (holds : ReportModel → ℕ → Bool) (candidates : List Fault) (limits : Limits) (r : Result Survey AllocError)
-      → IfOk r (λ s. IsComplete (length candidates) (IsCovered limits.faults s.stopped_at) (holding holds candidates) claims (breaks_of s.broken.items))
-      → IfOk r (λ s. IsSound (length candidates) limits.faults (holding holds candidates) claims (breaks_of s.broken.items))
-      → IfOk r (λ s. IsMinimal (length candidates) (holding holds candidates) (breaks_of s.broken.items))
+  pub surveyed : (claims : List Claim) (candidates : List Fault) (limits : Limits) (r : Result Survey AllocError)
+      → IfOk r (λ s. IsComplete (length candidates) (IsCovered limits.faults s.stopped_at) (holding claims candidates) (length claims) (breaks_of s.broken.items))
+      → IfOk r (λ s. IsSound (length candidates) limits.faults (holding claims candidates) (length claims) (breaks_of s.broken.items))
+      → IfOk r (λ s. IsMinimal (length candidates) (holding claims candidates) (breaks_of s.broken.items))
       → IfOk r (λ s. IsListedOnce (breaks_of s.broken.items))
-      → IfOk r (λ s. IsCount (length candidates) (IsCovered limits.faults s.stopped_at) (holding holds candidates) claims s.trials)
+      → IfOk r (λ s. IsCount (length candidates) (IsCovered limits.faults s.stopped_at) (holding claims candidates) (length claims) s.trials)
       → IfOk r (λ s. s.trials ≤ limits.trials)
       → IfOk r (λ s. IfSome s.stopped_at (λ set. (s.trials ≡ limits.trials) × IsSet (length candidates) set.items × (length set.items ≤ limits.faults)))
-      → IfOk r (IsSurveyOf n claims holds candidates limits)
-  surveyed claims holds candidates limits (Ok s) complete sound minimal once count limit stopped = record {
+      → IfOk r (IsSurveyOf n claims candidates limits)
+  surveyed claims candidates limits (Ok s) complete sound minimal once count limit stopped = record {
     report = λ faults. report_with (net_with faults n);
     reports = report_is;
     complete = complete;
@@ -51,4 +53,4 @@ module _ (n : NetModel) (fault : medium_fault n.radio ≡ None) (placed : length
     limit = limit;
     stopped = stopped;
   }
-  surveyed claims holds candidates limits (Err e) complete sound minimal once count limit stopped = tt
+  surveyed claims candidates limits (Err e) complete sound minimal once count limit stopped = tt

@@ -4,27 +4,51 @@ ghost use Rattle.std.specs.Prelude.{◌<◌, ◌^◌, length, IfOk};
 ghost use Rattle.mote_net.specs.Meaning.{net_of};
 ghost use Rattle.net_survey.specs.NetSurvey.{IsSurveyOf};
 
-use crate::judge::Judge;
-use crate::net_runs::{NetRuns, check_medium};
-use crate::report_search::survey_reports;
+use crate::net_trial::{NetTrial, check_medium};
+use claims::Claim;
 use mote_net::Net;
 use radio_faults::Fault;
 use std::alloc::{AllocError, Global};
 use std::thread::Threads;
-use survey::{Limits, Progress, Survey};
+use survey::{Limits, Progress, Survey, survey, survey_in_threads};
 
 /// Finds the minimal sets of these faults with which a claim doesn't hold in the report of the net's run, within the
-/// limits. So many workers, each with a thread of its own, share the runs; no clause speaks of threads. The function
-/// joins the threads, so it may wait.
+/// limits. The runs are made one after another.
 ///
 /// # Errors
 /// `AllocError` if an allocation of the search or of a run fails. A run has no other error: a mote that halts says so in
 /// its trace.
-pub fn survey_net<R: Threads + Sync, J: Judge + Sync, P: Progress + Sync>(
+pub fn survey_net_serial(
+    alloc: Global,
+    net: &Net,
+    claims: &[Claim],
+    candidates: &[Fault],
+    limits: Limits,
+) -> Result<Survey, AllocError>
+    requires at_a_time { 0 < limits.at_a_time }
+    requires few_claims { length claims.now < 2 ^ 16 }
+    requires few_faults { length candidates.now < 2 ^ 16 }
+    ensures is_survey_of { IfOk result (IsSurveyOf (net_of net.now) claims.now candidates.now limits) }
+{
+    check_medium(net);
+    let trial = NetTrial {
+        net,
+        claims,
+        candidates,
+    };
+    survey(alloc, &trial, limits)
+}
+
+/// Does the same with so many workers, each with a thread of its own, which share the runs; no clause speaks of
+/// threads. The function joins the threads, so it may wait.
+///
+/// # Errors
+/// Those of `survey_net_serial`.
+pub fn survey_net<R: Threads + Sync, P: Progress + Sync>(
     rt: &R,
     alloc: Global,
     net: &Net,
-    judge: &J,
+    claims: &[Claim],
     candidates: &[Fault],
     workers: u16,
     limits: Limits,
@@ -32,19 +56,15 @@ pub fn survey_net<R: Threads + Sync, J: Judge + Sync, P: Progress + Sync>(
 ) -> Result<Survey, AllocError>
     requires workers { 0 < workers }
     requires at_a_time { 0 < limits.at_a_time }
-    requires few { length candidates.now < 2 ^ 16 }
-    ensures is_survey_of { IfOk result (IsSurveyOf (net_of net.now) (J.claim_count judge.now) (J.holds judge.now)
-        candidates.now limits) }
+    requires few_claims { length claims.now < 2 ^ 16 }
+    requires few_faults { length candidates.now < 2 ^ 16 }
+    ensures is_survey_of { IfOk result (IsSurveyOf (net_of net.now) claims.now candidates.now limits) }
 {
     check_medium(net);
-    survey_reports(
-        rt,
-        alloc,
-        &NetRuns { net },
-        judge,
+    let trial = NetTrial {
+        net,
+        claims,
         candidates,
-        workers,
-        limits,
-        progress,
-    )
+    };
+    survey_in_threads(rt, alloc, &trial, workers, limits, progress)
 }

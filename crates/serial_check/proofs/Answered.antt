@@ -16,6 +16,7 @@ pub of_error : (input text : List ℕ) (old new : Option (List ℕ)) (e : CheckE
 of_error input text old new (check.Simulation e) same h = subst (λ t. ChecksInput t (Err (check.Simulation e))) same h
 of_error input text old new (check.Input e) same h = tt
 of_error input text old new (check.Claims e) same h = tt
+of_error input text old new check.Options same h = tt
 of_error input text old new check.TooManyClaims same h = tt
 of_error input text old new check.TooManyFaults same h = tt
 of_error input text old new check.Write same h = tt

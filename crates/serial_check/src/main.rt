@@ -1,38 +1,73 @@
-//! A program that answers claims about a scenario on one thread. Its standard input has the claims, a zero byte, and
-//! the scenario. `web/motecheck.wasm` is made from it.
+//! A program that answers claims about a scenario on one thread, or surveys its faults. Its standard input has the
+//! options of a survey or nothing, a zero byte, the claims, a zero byte, and the scenario. `web/motecheck.wasm` is made
+//! from it.
 #![tactic(auto)]
 
-ghost use Rattle.std.specs.Prelude.{IfOk, IfSome, List, ℕ};
+ghost use Rattle.std.specs.Prelude.{◌≡◌, ◌==◌, ◌≤◌, length, IfOk, IfSome, List, ℕ};
+ghost use Rattle.std.specs.List.{after_first, before_first};
 ghost use Rattle.simulation.specs.Command.{streams};
 ghost use Rattle.simulation.specs.Input.{IsText};
-ghost use Rattle.serial_check.specs.Answering.{AnswersInput, AnswersStreams, ChecksInput, WritesAnswers};
+ghost use Rattle.serial_check.specs.Answering.{AnswersInput, AnswersParts, AnswersStreams, ChecksInput, WritesAnswers};
 
-use claim_check::{Answers, CheckError, check_serial, status_of};
+mod options;
+
+use crate::options::read_options;
+use claim_check::{Answers, CheckError, check_serial, check_serial_with_faults, status_of};
 use simulation::read_text;
 use std::alloc::Global;
 use std::io::{Read, Write};
 use std::process::ExitCode;
 
-/// Answers the claims before the first zero byte of a text about the scenario behind it. Without a zero byte, the
-/// scenario is empty.
+/// Returns the parts of a text before and behind its first zero byte. Without a zero byte, nothing is behind it.
+fn parts(text: &str) -> (&str, &str)
+    ensures before { result.0.now ≡ before_first (λ byte. byte == 0) text.now }
+    ensures behind { result.1.now ≡ after_first (λ byte. byte == 0) text.now }
+    ensures shorter { length result.1.now ≤ length text.now }
+{
+    match text.split_once('\0') {
+        Some(parts) => parts,
+        None => (text, ""),
+    }
+}
+
+/// Answers claims about a scenario; with options, surveys it.
 ///
 /// # Errors
-/// Those of `check_serial`.
+/// Those of `check_serial`; with options, those of `check_serial_with_faults` and `read_options`.
+fn answer_parts(
+    alloc: Global,
+    options: &str,
+    claims: &str,
+    scenario: &str,
+) -> Result<Answers, CheckError>
+    requires is_text { IsText scenario.now }
+    ensures answers { AnswersParts options.now claims.now scenario.now result }
+{
+    if options.is_empty() {
+        return check_serial(alloc, scenario, claims);
+    }
+    let faults = read_options(alloc, options)?;
+    check_serial_with_faults(alloc, scenario, claims, faults)
+}
+
+/// Answers a text of three parts, as `answer_parts` does.
+///
+/// # Errors
+/// Those of `answer_parts`.
 fn answer_text(alloc: Global, text: &str) -> Result<Answers, CheckError>
     requires is_text { IsText text.now }
     ensures checks { ChecksInput text.now result }
 {
-    match text.split_once('\0') {
-        Some((claims, scenario)) => check_serial(alloc, scenario, claims),
-        None => check_serial(alloc, "", text),
-    }
+    let (options, rest) = parts(text);
+    let (claims, scenario) = parts(rest);
+    answer_parts(alloc, options, claims, scenario)
 }
 
-/// Writes the answers to the claims in `input` about the scenario behind them, and returns whether all claims hold.
+/// Writes the answers to the claims in `input` about the scenario in it, or a survey, and returns whether all claims hold.
 ///
 /// # Errors
-/// Those of `check_serial`, and `Input` if the input, claims and scenario together, isn't a text of at most 1 MiB;
-/// `Write` if the answers couldn't all be written.
+/// Those of `answer_parts`, and `Input` if the whole input isn't a text of at most 1 MiB; `Write` if the answers couldn't
+/// all be written.
 fn answer_input<R: Read, W: Write>(
     alloc: Global,
     input: &mut R,
@@ -51,8 +86,8 @@ fn answer_input<R: Read, W: Write>(
     }
 }
 
-/// Writes the answers as `answer_input` does, and returns the exit status: 0 if all claims hold, 3 if not, and 1 after
-/// an error, whose line goes to `errors`. The clause doesn't say what is written to `errors`.
+/// Writes the answers as `answer_input` does, and returns the exit status: 0 if all claims hold, 3 if not, or if a survey
+/// left sets out, and 1 after an error, whose line goes to `errors`. The clause doesn't say what is written to `errors`.
 fn run_checks<R: Read, W: Write, E: Write>(
     alloc: Global,
     input: &mut R,

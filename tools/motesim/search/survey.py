@@ -1,4 +1,4 @@
-"""Surveys of broken links and silent motes, which the proved program `motecheck` makes for a search, where it is compiled.
+"""Surveys of broken links and silent motes, which the proved program `motecheck` makes for a search.
 
 A survey runs the scenario with all sets of at most so many of these faults, in one process, and lists those that break
 a claim. A search then runs only the listed sets, for their reports. But a survey has the same claims for all sets: if
@@ -70,18 +70,19 @@ class Survey:
 
 def survey_of(base: Base, faults: Sequence[FaultyPart], sentences: Mapping[int, Sentence], at_most: int, workers: int,
               limits: Limits, asks_end: Callable[[], bool]) -> Survey | None:
-    """The survey of a search's faults, if `motecheck` is built and can make it: of links in one direction that lose
-    everything, and of silent motes, for sentences that have claims."""
+    """The survey of a search's faults, if `motecheck` can make it: of links in one direction that lose everything, and
+    of silent motes, for sentences that have claims."""
     kinds = {str(it.effect[0]) for it in faults}
     is_lossy = any(it.effect[0] == 'lose' and it.effect[3] != 1 for it in faults)
-    if is_module(program_path(CHECKER)) or at_most < 1 or not kinds or not kinds <= set(OPTIONS) or is_lossy:
+    if at_most < 1 or not kinds or not kinds <= set(OPTIONS) or is_lossy:
         return None
     claims = Claims(base.scenario_itself)
+    # (a module has one thread)
+    shared = () if is_module(program_path(CHECKER)) else ('--workers', str(min(workers, MOST_WORKERS)))
     try:
         rows = [(number, claim.text) for number, it in sentences.items() for claim in claims.of(it)]
         lines = answers(base.source.encode(), [row for _, row in rows], *(OPTIONS[it] for it in kinds),
-                        '--at-most', str(at_most), '--workers', str(min(workers, MOST_WORKERS)), limits=limits,
-                        asks_end=asks_end)
+                        '--at-most', str(at_most), *shared, limits=limits, asks_end=asks_end)
     except (NoClaim, ProgramFault):
         return None
     # (its faults differ if, for example, a mote that no other one hears can be silent)

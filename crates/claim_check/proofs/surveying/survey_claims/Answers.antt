@@ -1,8 +1,17 @@
 use Rattle.std.proofs.Common.{◌≡◌, ◌∙◌, subst, rules}
 use Rattle.std.proofs.lemmas.Result.{err_from_is_err_and}
 use Rattle.mote_net.specs.Meaning.{net_of}
+use Rattle.window_workers.specs.declared.sync.SyncKind.TheVariants as sync
+use Rattle.simulation.specs.Simulation.{way_by}
 use Rattle.claim_check.specs.Survey.{AnswersSurvey, faults_in}
+use Rattle.claim_check.proofs.Surveyed.{not_tried}
 use Rattle.claim_check.proofs.surveying.survey_claims.Goals as goal
+
+pub returns-in_err-candidates : goal.returns-in_err-candidates
+returns-in_err-candidates g c =
+    let p = err_from_is_err_and c.from_residual.result c.from_residual.ensures.1 in
+    let a = c.args in
+    record { surveys = rw (p.1, p.2) (not_tried (way_by c.args.workers sync.Joins) a.faults a.names.now (net_of a.net.now) a.claims.now c.in_err-candidates.field-0.0 c.in_err-candidates.ensures.refuses) }
 
 pub returns-in_err-workers : goal.returns-in_err-workers
 returns-in_err-workers g c =
@@ -14,10 +23,12 @@ returns g c = record {
   surveys =
       let a = c.args in
       let net = net_of a.net.now in
-      let answers = c.in_ok-answers_with.field-0 in
-      let sliced : c.as_slice.result.now ≡ c.in_ok-candidates.candidates.items = search rules in
-      let found = subst (λ fs. AnswersSurvey a.names.now net a.claims.now fs c.limits.result answers) (sliced ∙ c.in_ok-candidates.ensures.value) c.in_ok-answers_with.ensures.answers in (
+      let answers = c.in_ok-answers_of.field-0 in
+      let sliced : c.as_slice-listed.result.now ≡ c.in_ok-candidates.candidates.items = search rules in
+      let told : AnswersSurvey a.names.now net a.claims.now c.as_slice-listed.result.now c.limits-limits.result answers =
+      (c.in_ok-found.found, c.in_ok-found.ensures.is_survey_of, c.in_ok-answers_of.ensures.tells_survey) in (
         c.in_ok-workers.ensures.may_run,
-        subst (λ l. AnswersSurvey a.names.now net a.claims.now (faults_in a.faults net) l answers) c.limits.ensures.value found,
+        subst (λ l. AnswersSurvey a.names.now net a.claims.now (faults_in a.faults net) l answers) c.limits-limits.ensures.value
+            (subst (λ fs. AnswersSurvey a.names.now net a.claims.now fs c.limits-limits.result answers) (sliced ∙ c.in_ok-candidates.ensures.value) told),
       );
 }

@@ -3,7 +3,7 @@ use Rattle.std.proofs.lemmas.List.{map-append, take_more}
 use Rattle.radio_faults.specs.declared.fault.Fault.TheVariants.{Silent}
 use Rattle.net_survey.specs.Chosen.{faults_at}
 use Rattle.net_survey.proofs.Members.{below_count}
-use Rattle.net_survey.proofs.report_trial.chosen.Goals as goal
+use Rattle.net_survey.proofs.net_trial.chosen.Goals as goal
 
 pub fault_at-requires : goal.fault_at-requires
 fault_at-requires c = record {

@@ -1,0 +1,28 @@
+use Rattle.std.proofs.Common.{None, ◌≡◌, ◌∙◌, [], ap, subst, rules}
+use Rattle.claim_text.specs.ClaimLines.{claim_lines}
+use Rattle.std.proofs.lemmas.Result.{err_from_is_err_and}
+use Rattle.mote_net.specs.Meaning.{net_of}
+use Rattle.claim_check.specs.NetSurveys.{SurveysNet}
+use Rattle.simulation.proofs.Printed.{scenario_of, refused}
+use Rattle.claim_check.proofs.Surveyed.{surveys}
+use Rattle.claim_check.proofs.surveying.check_serial_with_faults.Goals as goal
+
+pub returns-in_err-net : goal.returns-in_err-net
+returns-in_err-net c =
+    let p = err_from_is_err_and c.from_residual.result c.from_residual.ensures.1 in
+    record { surveys = rw (p.1, p.2) (refused c.args.scenario.now c.in_err-net.field-0.0 c.in_err-net.ensures.answers) }
+
+pub returns-in_err-claims : goal.returns-in_err-claims
+returns-in_err-claims c =
+    let p = err_from_is_err_and c.from_residual-in_err-claims.result c.from_residual-in_err-claims.ensures.1 in
+    record { surveys = rw (p.1, p.2) (scenario_of c.args.scenario.now (net_of c.in_ok-net.net) c.requires.is_text c.in_ok-net.ensures.answers) }
+
+pub returns : goal.returns
+returns c = record {
+  surveys =
+      let same : c.as_bytes.result.now ≡ c.args.claims.now = search rules in
+      let sliced : c.as_slice.result.now ≡ c.in_ok-claims.claims.items = search rules in
+      let by_net = subst (λ cs. SurveysNet None c.args.faults c.names_of-names.result.now (net_of c.in_ok-net.net) cs c.survey_claims_serial.result) sliced c.survey_claims_serial.ensures.surveys in
+      surveys None c.args.faults c.args.scenario.now c.args.claims.now c.names_of-names.result.now (net_of c.in_ok-net.net) c.in_ok-claims.claims.items c.requires.is_text
+      c.in_ok-net.ensures.answers c.names_of-names.ensures.named (c.in_ok-claims.ensures.texts ∙ ap (claim_lines []) same) c.survey_claims_serial.result by_net;
+}
