@@ -10,7 +10,9 @@ use Rattle.survey.specs.declared.broken.Survey.{Survey}
 use Rattle.survey.specs.declared.search.Limits.{Limits}
 use Rattle.net_survey.specs.NetSurvey.{IsSurveyOf}
 use Rattle.net_survey.specs.SurveyText.{survey_text}
-use Rattle.simulation.specs.Simulation.{IsScenario, MayRun, RefusesRun, RefusesText, Way}
+use Rattle.serial_run.specs.declared.error.RunError.{RunError}
+use Rattle.serial_run.specs.declared.error.RunError.TheVariants as run
+use Rattle.simulation.specs.Simulation.{IsScenario, MayRun, RefusesText, Way}
 use Rattle.simulation.specs.declared.error.SimError.TheVariants as fault
 use Rattle.claim_check.specs.Names.{AreNames}
 use Rattle.claim_check.specs.declared.answers.Answers.{Answers}
@@ -51,6 +53,10 @@ pub record Surveyed (faults : Faults) (scenario claims : List ℕ) (a : Answers)
   pub read : map (text_of names) asked ≡ claim_lines claims
   pub survey : AnswersSurvey names from.net asked (faults_in faults from.net) (limits_of faults) a
 
+-- the only error of the workers: their number isn't allowed
+abbrev pub RefusesWorkers : Way → RunError → Type 0
+RefusesWorkers way e = (e ≡ run.Workers) × (¬ MayRun way)
+
 -- the scenario's net may have too many faults
 pub record HasTooManyFaults (faults : Faults) (scenario : List ℕ) : Type 0 where
   pub from : IsScenario scenario
@@ -60,7 +66,7 @@ pub record HasTooManyFaults (faults : Faults) (scenario : List ℕ) : Type 0 whe
 abbrev pub Surveys : Way → Faults → (scenario claims : List ℕ) → Result Answers CheckError → Type 0
 Surveys way f s c (Ok a) = MayRun way × Surveyed f s c a
 Surveys way f s c (Err (check.Simulation (fault.Scenario e))) = RefusesText s e
-Surveys way f s c (Err (check.Simulation (fault.Run e))) = IsScenario s × RefusesRun way e
+Surveys way f s c (Err (check.Simulation (fault.Run e))) = IsScenario s × RefusesWorkers way e
 Surveys way f s c (Err (check.Simulation fault.Memory)) = Unit {0}
 Surveys way f s c (Err (check.Claims e)) = IsScenario s
 Surveys way f s c (Err check.TooManyClaims) = IsScenario s × (2 ^ 16 ≤ length (claim_lines c))

@@ -3,10 +3,10 @@ ghost use Rattle.std.specs.Prelude.{◌≡◌, ◌<◌, ◌^◌, None, length, I
 ghost use Rattle.mote_net.specs.Meaning.{net_of};
 ghost use Rattle.window_workers.specs.declared.sync.SyncKind.TheVariants as sync;
 ghost use Rattle.simulation.specs.Input.{IsText};
-ghost use Rattle.simulation.specs.Simulation.{MayRun, RefusesRun, way_by};
+ghost use Rattle.simulation.specs.Simulation.{MayRun, way_by};
 ghost use Rattle.survey.specs.declared.search.Limits.{Limits as AnyLimits};
 ghost use Rattle.claim_check.specs.NetSurveys.{RefusesFaults, SurveysNet};
-ghost use Rattle.claim_check.specs.Survey.{Surveys, TellsSurvey, faults_in, is_settled, limits_of};
+ghost use Rattle.claim_check.specs.Survey.{RefusesWorkers, Surveys, TellsSurvey, faults_in, is_settled, limits_of};
 
 use crate::answers::Answers;
 use crate::error::CheckError;
@@ -128,7 +128,7 @@ fn survey_claims_serial(
 fn workers_of(workers: Option<u16>) -> Result<u16, RunError>
     ensures some { IfOk result (λ number. 0 < number) }
     ensures may_run { IfOk result (λ _. MayRun (way_by workers sync.Joins)) }
-    ensures refuses { IfErr result (RefusesRun (way_by workers sync.Joins)) }
+    ensures refuses { IfErr result (RefusesWorkers (way_by workers sync.Joins)) }
 {
     match workers {
         None => Ok(1),

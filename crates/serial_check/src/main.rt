@@ -7,7 +7,7 @@ ghost use Rattle.std.specs.Prelude.{◌≡◌, ◌==◌, ◌≤◌, length, IfOk
 ghost use Rattle.std.specs.List.{after_first, before_first};
 ghost use Rattle.simulation.specs.Command.{streams};
 ghost use Rattle.simulation.specs.Input.{IsText};
-ghost use Rattle.serial_check.specs.Answering.{AnswersInput, AnswersParts, AnswersStreams, ChecksInput, WritesAnswers};
+ghost use Rattle.serial_check.specs.Answering.{AnswersInput, AnswersParts, AnswersStreams, ChecksInput, SurveysInput, WritesAnswers};
 
 mod options;
 
@@ -30,10 +30,29 @@ fn parts(text: &str) -> (&str, &str)
     }
 }
 
+/// Surveys a scenario with these options.
+///
+/// # Errors
+/// Those of `read_options` and `check_serial_with_faults`.
+fn survey_parts(
+    alloc: Global,
+    options: &str,
+    claims: &str,
+    scenario: &str,
+) -> Result<Answers, CheckError>
+    requires is_text { IsText scenario.now }
+    ensures surveys { SurveysInput options.now claims.now scenario.now result }
+{
+    match read_options(alloc, options) {
+        Ok(faults) => check_serial_with_faults(alloc, scenario, claims, faults),
+        Err(error) => Err(error),
+    }
+}
+
 /// Answers claims about a scenario; with options, surveys it.
 ///
 /// # Errors
-/// Those of `check_serial`; with options, those of `check_serial_with_faults` and `read_options`.
+/// Those of `check_serial`; with options, those of `survey_parts`.
 fn answer_parts(
     alloc: Global,
     options: &str,
@@ -43,11 +62,10 @@ fn answer_parts(
     requires is_text { IsText scenario.now }
     ensures answers { AnswersParts options.now claims.now scenario.now result }
 {
-    if options.is_empty() {
-        return check_serial(alloc, scenario, claims);
+    match options.as_bytes() {
+        [] => check_serial(alloc, scenario, claims),
+        [_, ..] => survey_parts(alloc, options, claims, scenario),
     }
-    let faults = read_options(alloc, options)?;
-    check_serial_with_faults(alloc, scenario, claims, faults)
 }
 
 /// Answers a text of three parts, as `answer_parts` does.
