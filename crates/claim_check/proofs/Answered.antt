@@ -20,7 +20,7 @@ use Rattle.claim_check.specs.declared.answers.Answers.{Answers}
 use Rattle.claim_check.specs.declared.command_line.Asked.{Asked}
 
 pub answered : (s c text : List ℕ) (all_hold : Bool) (net : NetModel) (r : ReportModel) (names : List (List ℕ)) (cs : List Claim) → IsText s → TellsNet s net → AreNames net names
-    → map (text_of names) cs ≡ claim_lines [] c → IsReportOf net r → AreAnswers names r cs text → all_hold ≡ list_all (λ k. holds_in k r) cs → Answered s c text all_hold
+    → map (text_of names) cs ≡ claim_lines c → IsReportOf net r → AreAnswers names r cs text → all_hold ≡ list_all (λ k. holds_in k r) cs → Answered s c text all_hold
 answered s c text all_hold net r names cs is_text tells named read run answers verdict =
     record { from = scenario_of s net is_text tells; report = r; run = run; names = names; named = named; asked = cs; read = read; answers = answers; verdict = verdict }
 

@@ -1,5 +1,5 @@
 -- Results of a survey.
-use Rattle.std.proofs.Common.{◌≡◌, ◌≤◌, ◌^◌, ℕ, List, [], Result, Ok, Err, length, map, ◌∙◌, ap, subst, sym}
+use Rattle.std.proofs.Common.{◌≡◌, ◌≤◌, ◌^◌, ℕ, List, Result, Ok, Err, length, map, ◌∙◌, ap, subst, sym}
 use Rattle.std.proofs.lemmas.List.{length-map}
 use Rattle.mote_net.specs.Net.{NetModel}
 use Rattle.claims.specs.declared.claim.Claim.{Claim}
@@ -20,7 +20,7 @@ use Rattle.claim_check.specs.declared.error.CheckError.TheVariants as check
 use Rattle.claim_check.specs.declared.surveying.Faults.{Faults}
 
 pub surveyed : (f : Faults) (s c : List ℕ) (a : Answers) (net : NetModel) (names : List (List ℕ)) (cs : List Claim) → IsText s → TellsNet s net → AreNames net names
-    → map (text_of names) cs ≡ claim_lines [] c → AnswersSurvey names net cs (faults_in f net) (limits_of f) a → Surveyed f s c a
+    → map (text_of names) cs ≡ claim_lines c → AnswersSurvey names net cs (faults_in f net) (limits_of f) a → Surveyed f s c a
 surveyed f s c a net names cs is_text tells named read survey =
     record { from = scenario_of s net is_text tells; names = names; named = named; asked = cs; read = read; survey = survey }
 
@@ -28,12 +28,12 @@ pub too_many_faults : (f : Faults) (s : List ℕ) (net : NetModel) → IsText s 
 too_many_faults f s net is_text tells many = record { from = scenario_of s net is_text tells; many = many }
 
 -- so many claims were read from so many lines
-many_lines : (names : List (List ℕ)) (cs : List Claim) (c : List ℕ) → map (text_of names) cs ≡ claim_lines [] c → 2 ^ 16 ≤ length cs → 2 ^ 16 ≤ length (claim_lines [] c)
+many_lines : (names : List (List ℕ)) (cs : List Claim) (c : List ℕ) → map (text_of names) cs ≡ claim_lines c → 2 ^ 16 ≤ length cs → 2 ^ 16 ≤ length (claim_lines c)
 many_lines names cs c read many = subst (λ n. 2 ^ 16 ≤ n) (sym (length-map cs (text_of names)) ∙ ap length read) many
 
 -- the survey of a scenario's net is one of the scenario
 module _ (way : Way) (f : Faults) (s c : List ℕ) (names : List (List ℕ)) (net : NetModel) (cs : List Claim) (is_text : IsText s) (tells : TellsNet s net) (named : AreNames net names)
-    (read : map (text_of names) cs ≡ claim_lines [] c) where
+    (read : map (text_of names) cs ≡ claim_lines c) where
   by_fault : (e : SimError) → SurveysNet way f names net cs (Err (check.Simulation e)) → Surveys way f s c (Err (check.Simulation e))
   by_fault fault.Read h = absurd h
   by_fault fault.TooLong h = absurd h

@@ -42,7 +42,7 @@ pub record Answered (scenario claims text : List ℕ) (all_hold : Bool) : Type 0
   pub names : List (List ℕ)
   pub named : AreNames from.net names
   pub asked : List Claim
-  pub read : map (text_of names) asked ≡ claim_lines [] claims
+  pub read : map (text_of names) asked ≡ claim_lines claims
   pub answers : AreAnswers names report asked text
   pub verdict : all_hold ≡ list_all (λ c. holds_in c report) asked
 

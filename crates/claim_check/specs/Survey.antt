@@ -1,5 +1,5 @@
 -- The survey of the faults that the net of a scenario may have.
-use Rattle.std.specs.Prelude.{◌≡◌, ◌≤◌, ◌^◌, ◌==◌, ◌&&◌, ℕ, Bool, List, [], Result, Ok, Err, is_none, length, map, string_bytes}
+use Rattle.std.specs.Prelude.{◌≡◌, ◌≤◌, ◌^◌, ◌==◌, ◌&&◌, ℕ, Bool, List, Result, Ok, Err, is_none, length, map, string_bytes}
 use Rattle.mote_net.specs.Net.{NetModel}
 use Rattle.claims.specs.declared.claim.Claim.{Claim}
 use Rattle.claim_text.specs.ClaimText.{text_of}
@@ -44,7 +44,7 @@ pub record Surveyed (faults : Faults) (scenario claims : List ℕ) (a : Answers)
   pub names : List (List ℕ)
   pub named : AreNames from.net names
   pub asked : List Claim
-  pub read : map (text_of names) asked ≡ claim_lines [] claims
+  pub read : map (text_of names) asked ≡ claim_lines claims
   pub survey : AnswersSurvey names from.net asked (faults_in faults from.net) (limits_of faults) a
 
 -- the scenario's net may have too many faults
@@ -59,6 +59,6 @@ Surveys way f s c (Err (check.Simulation (fault.Scenario e))) = RefusesText s e
 Surveys way f s c (Err (check.Simulation (fault.Run e))) = IsScenario s × RefusesRun way e
 Surveys way f s c (Err (check.Simulation fault.Memory)) = Unit {0}
 Surveys way f s c (Err (check.Claims e)) = IsScenario s
-Surveys way f s c (Err check.TooManyClaims) = IsScenario s × (2 ^ 16 ≤ length (claim_lines [] c))
+Surveys way f s c (Err check.TooManyClaims) = IsScenario s × (2 ^ 16 ≤ length (claim_lines c))
 Surveys way f s c (Err check.TooManyFaults) = HasTooManyFaults f s
 Surveys way f s c (Err e) = ⊥

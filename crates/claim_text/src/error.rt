@@ -1,4 +1,6 @@
 //! The errors of texts of claims.
+ghost use Rattle.std.specs.Prelude.{◌≡◌};
+ghost use Rattle.claim_text.specs.declared.error.ClaimsError.TheVariants.{Memory};
 
 use std::alloc::{AllocError, AllocFailed};
 
@@ -12,24 +14,39 @@ pub enum ClaimsError {
     NotAClaim { line: usize, column: usize },
 }
 
-impl ClaimsError {
-    /// The error at a line, behind so many bytes that fit.
-    pub fn not_a_claim(line: usize, before: usize) -> ClaimsError {
-        ClaimsError::NotAClaim {
-            line,
-            column: before.saturating_add(1),
-        }
-    }
+/// The reason why a part of a line isn't read.
+#[derive(Clone, Copy)]
+pub enum Unread {
+    /// An allocation failed.
+    Memory,
+    /// The line doesn't go on like a claim.
+    Unexpected,
 }
 
 impl From<AllocError> for ClaimsError {
+    ghost from_gives = { λ _ e. e ≡ Memory };
+
     fn from(_error: AllocError) -> Self {
         ClaimsError::Memory
     }
 }
 
 impl<T: Drop> From<AllocFailed<T>> for ClaimsError {
+    ghost from_gives = { λ _ e. e ≡ Memory };
+
     fn from(_error: AllocFailed<T>) -> Self {
         ClaimsError::Memory
+    }
+}
+
+impl From<AllocError> for Unread {
+    fn from(_error: AllocError) -> Self {
+        Unread::Memory
+    }
+}
+
+impl<T: Drop> From<AllocFailed<T>> for Unread {
+    fn from(_error: AllocFailed<T>) -> Self {
+        Unread::Memory
     }
 }

@@ -39,8 +39,9 @@
 //! of all moments is left out. So is the mote of a case: the only mote whose lines its first test is about; of a
 //! ratio, that of the greater side.
 //!
-//! Each text that `read_claims` accepts is that of the claims that it returns. It isn't proved that it accepts the
-//! text of each claim; the tests write random claims, and read them again.
+//! Each text that `read_claims` accepts is that of the claims that it returns. An error is at a line that should be a
+//! claim, behind lines that are the texts of claims. It isn't proved that `read_claims` accepts the text of each claim;
+//! the tests write random claims, and read them again.
 #![tactic(auto)]
 
 mod broken;

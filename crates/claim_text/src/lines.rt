@@ -1,16 +1,22 @@
 //! Reads a text of claims, line by line.
-ghost use Rattle.std.specs.Prelude.{◌≡◌, ◌++◌, [], map, IsTrue, IfOk, OnOk};
+ghost use Rattle.std.specs.Prelude.{◌≡◌, ◌≤◌, [], ◌∷◌, ◌++◌, true, filter, map, length, IsTrue, IfErr, IfOk, OnOk};
 ghost use Rattle.claim_text.specs.ClaimText.{text_of};
-ghost use Rattle.claim_text.specs.ClaimLines.{is_claim_line, line_if_claim, claim_lines};
+ghost use Rattle.claim_text.specs.ClaimLines.{lines_of, is_claim_line, claim_lines, IsAt, Refuses};
 
-use crate::error::ClaimsError;
+use crate::error::{ClaimsError, Unread};
 use crate::read::exactly;
 use crate::reader::Reader;
 use crate::scope::Scope;
 use crate::write::write_claim;
 use claims::Claim;
 use program_tree::Names;
-use std::alloc::Global;
+use std::alloc::{AllocError, Global};
+
+fn lines_of(alloc: Global, text: &[u8]) -> Result<Vec<&[u8]>, AllocError>
+    ensures lines { IfOk result (λ lines. map (λ line. line.now) lines.items ≡ lines_of text.now) }
+{
+    text.split(|byte| *byte == b'\n').collect(alloc)
+}
 
 fn is_claim_line(line: &[u8]) -> bool
     ensures value { result ≡ is_claim_line line.now }
@@ -22,7 +28,9 @@ fn is_claim_line(line: &[u8]) -> bool
 }
 
 /// The number of bytes at which two texts begin alike.
-fn common(a: &[u8], b: &[u8]) -> usize {
+fn common(a: &[u8], b: &[u8]) -> usize
+    ensures within { result ≤ length b.now }
+{
     a.iter().zip(b).take_while(|(a, b)| a == b).count()
 }
 
@@ -33,8 +41,22 @@ fn is_text(text: &str, line: &[u8]) -> bool
     text.as_bytes() == line
 }
 
+/// The error at a line with this number, behind so many bytes that fit.
+fn not_a_claim(line: &[u8], number: usize, before: usize) -> ClaimsError
+    requires should_be { is_claim_line line.now ≡ true }
+    requires before { before ≤ length line.now }
+    ensures at { IsAt number line.now result }
+{
+    ClaimsError::NotAClaim {
+        line: number,
+        column: before.saturating_add(1),
+    }
+}
+
 fn read_line(alloc: Global, names: &Names, line: &[u8], number: usize) -> Result<Claim, ClaimsError>
+    requires should_be { is_claim_line line.now ≡ true }
     ensures text { IfOk result (λ c. text_of names.now c ≡ line.now) }
+    ensures at { IfErr result (IsAt number line.now) }
 {
     let mut claim = Claim {
         limits: exactly(0),
@@ -42,17 +64,21 @@ fn read_line(alloc: Global, names: &Names, line: &[u8], number: usize) -> Result
     };
     let mut reader = Reader {
         alloc,
-        line: number,
-        length: line.len(),
         rest: line,
         scope: Scope { names, own: None },
     };
-    reader.fill_claim(&mut claim)?;
+    match reader.fill_claim(&mut claim) {
+        Ok(()) => {}
+        Err(Unread::Memory) => return Err(ClaimsError::Memory),
+        Err(Unread::Unexpected) => {
+            return Err(not_a_claim(line, number, line.len().saturating_sub(reader.rest.len())));
+        }
+    }
     let text = write_claim(alloc, names, &claim)?;
     if is_text(text.as_str(), line) {
         Ok(claim)
     } else {
-        Err(ClaimsError::not_a_claim(number, common(text.as_bytes(), line)))
+        Err(not_a_claim(line, number, common(text.as_bytes(), line)))
     }
 }
 
@@ -64,7 +90,8 @@ fn add_line(
     number: usize,
 ) -> Result<(), ClaimsError>
     ensures added { OnOk result (map (text_of names.now) claims.new.items
-        ≡ map (text_of names.now) claims.old.items ++ line_if_claim line.now) }
+        ≡ map (text_of names.now) claims.old.items ++ filter is_claim_line (line.now ∷ [])) }
+    ensures at { IfErr result (IsAt number line.now) }
 {
     if is_claim_line(line) {
         let claim = read_line(alloc, names, line, number)?;
@@ -77,23 +104,17 @@ fn add_line(
 /// other lines.
 ///
 /// # Errors
-/// `NotAClaim` for the first line that isn't read, and `Memory` if an allocation fails. No clause says when a text is
-/// refused, nor what the cause of an error is.
+/// `NotAClaim` for the first line that isn't read, and `Memory` if an allocation fails. No clause says which lines are
+/// read.
 pub fn read_claims(alloc: Global, names: &Names, text: &[u8]) -> Result<Vec<Claim>, ClaimsError>
-    ensures texts { IfOk result (λ cs. map (text_of names.now) cs.items ≡ claim_lines [] text.now) }
+    ensures texts { IfOk result (λ cs. map (text_of names.now) cs.items ≡ claim_lines text.now) }
+    ensures refused { IfErr result (Refuses names.now text.now) }
 {
     let mut claims = Vec::new(alloc);
-    let mut line = Vec::new(alloc);
-    let mut number: usize = 1;
-    for byte in text {
-        if *byte == b'\n' {
-            add_line(alloc, names, &mut claims, line.as_slice(), number)?;
-            line.clear();
-            number = number.saturating_add(1);
-        } else {
-            line.push(*byte)?;
-        }
+    let lines = lines_of(alloc, text)?;
+    for (index, line) in lines.iter().enumerate() {
+        let number = index + 1;
+        add_line(alloc, names, &mut claims, line, number)?;
     }
-    add_line(alloc, names, &mut claims, line.as_slice(), number)?;
     Ok(claims)
 }

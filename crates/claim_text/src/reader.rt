@@ -1,24 +1,20 @@
 //! The rest of a line that is yet to be read.
 
-use crate::error::ClaimsError;
+use crate::error::Unread;
 use crate::scope::Scope;
 use std::alloc::Global;
 
-/// A line, and the place in it up to which it has been read.
+/// What is left of a line, and what its text means there.
 #[derive(Clone, Copy)]
 pub struct Reader<'a> {
     pub alloc: Global,
-    /// The number of the line in its text, from 1.
-    pub line: usize,
-    /// The number of the line's bytes.
-    pub length: usize,
     pub rest: &'a [u8],
     pub scope: Scope<'a>,
 }
 
-/// What a method of the reader returns that reads something: `NotAClaim` if the line doesn't go on with it, and
-/// `Memory` if an allocation fails.
-pub type Read<T> = Result<T, ClaimsError>;
+/// What a method of the reader returns that reads something: `Unexpected` if the line doesn't go on with it, and
+/// `Memory` if an allocation fails. After an error, the rest is what wasn't read.
+pub type Read<T> = Result<T, Unread>;
 
 /// What a list has.
 pub trait Item: Sized {
@@ -27,12 +23,6 @@ pub trait Item: Sized {
 }
 
 impl Reader<'_> {
-    /// The error that the line isn't a claim, at this place.
-    pub fn unexpected(&self) -> ClaimsError {
-        let before = self.length.saturating_sub(self.rest.len());
-        ClaimsError::not_a_claim(self.line, before)
-    }
-
     /// Takes a word, if the rest begins with it.
     pub fn take(&mut self, word: &str) -> bool {
         match self.rest.strip_prefix(word.as_bytes()) {
@@ -54,7 +44,7 @@ impl Reader<'_> {
         if self.take(word) {
             Ok(())
         } else {
-            Err(self.unexpected())
+            Err(Unread::Unexpected)
         }
     }
 
@@ -65,7 +55,7 @@ impl Reader<'_> {
         } else if self.take(second) {
             Ok(false)
         } else {
-            Err(self.unexpected())
+            Err(Unread::Unexpected)
         }
     }
 
@@ -77,7 +67,7 @@ impl Reader<'_> {
                 return Ok(());
             }
         }
-        Err(self.unexpected())
+        Err(Unread::Unexpected)
     }
 
     /// Reads a list behind a word, or the word for no items.

@@ -1,5 +1,6 @@
 //! Reads what is counted.
 
+use crate::error::Unread;
 use crate::reader::{Read, Reader};
 use claims::{Arrival, Copies, Count, Lines, Packets, Set};
 
@@ -52,7 +53,7 @@ impl Reader<'_> {
         } else if self.take("copy") || self.take("copies") {
             self.copies()
         } else {
-            Err(self.unexpected())
+            Err(Unread::Unexpected)
         }
     }
 }

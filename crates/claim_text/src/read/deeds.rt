@@ -1,5 +1,6 @@
 //! Reads deeds and orders.
 
+use crate::error::Unread;
 use crate::reader::{Item, Read, Reader};
 use claims::{Deed, Order, Relation, Watch};
 
@@ -57,7 +58,7 @@ impl Reader<'_> {
             return self.list(" and of ", watches);
         }
         let Some(mote) = self.scope.own else {
-            return Err(self.unexpected());
+            return Err(Unread::Unexpected);
         };
         let when = self.period()?;
         watches.push(Watch { mote, when })?;

@@ -1,5 +1,6 @@
 //! Reads kinds of lines.
 
+use crate::error::Unread;
 use crate::reader::{Read, Reader};
 use claims::Kinds;
 
@@ -36,7 +37,7 @@ impl Reader<'_> {
                 return Ok(());
             }
         }
-        Err(self.unexpected())
+        Err(Unread::Unexpected)
     }
 
     /// Reads the kinds of a pattern.
@@ -51,6 +52,6 @@ impl Reader<'_> {
                 return Ok(kinds);
             }
         }
-        Err(self.unexpected())
+        Err(Unread::Unexpected)
     }
 }

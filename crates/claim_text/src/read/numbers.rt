@@ -1,6 +1,7 @@
 //! Reads numbers, sets of numbers, periods and limits.
 ghost use Rattle.std.specs.Prelude.{◌≤◌, IfOk};
 
+use crate::error::Unread;
 use crate::reader::{Item, Read, Reader};
 use claims::{Limits, Set, Span};
 
@@ -50,7 +51,7 @@ impl Reader<'_> {
     /// Reads a number that fits in 64 bits.
     pub fn number(&mut self) -> Read<u64> {
         let Some(mut number) = self.digit() else {
-            return Err(self.unexpected());
+            return Err(Unread::Unexpected);
         };
         for _ in 0..self.rest.len() {
             let Some(digit) = self.digit() else { break };
@@ -58,7 +59,7 @@ impl Reader<'_> {
                 .checked_mul(10)
                 .and_then(|tens| tens.checked_add(digit))
             {
-                None => return Err(self.unexpected()),
+                None => return Err(Unread::Unexpected),
                 Some(next) => number = next,
             }
         }
@@ -73,7 +74,7 @@ impl Reader<'_> {
         if number <= most {
             Ok(number)
         } else {
-            Err(self.unexpected())
+            Err(Unread::Unexpected)
         }
     }
 

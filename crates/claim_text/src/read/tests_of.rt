@@ -1,5 +1,6 @@
 //! Reads tests.
 
+use crate::error::Unread;
 use crate::read::exactly;
 use crate::reader::{Item, Read, Reader};
 use claims::{Count, Lines, Ratio, Test};
@@ -16,7 +17,7 @@ impl Reader<'_> {
         let deed = self.deed()?;
         self.expect(" is")?;
         match self.order(true)? {
-            None => Err(self.unexpected()),
+            None => Err(Unread::Unexpected),
             order => Ok(Test::Count(Count::Lines(Lines { deed, order }), exactly(0))),
         }
     }

@@ -1,4 +1,4 @@
-use Rattle.std.proofs.Common.{◌≡◌, ◌∙◌, [], ap, subst, rules, string_bytes}
+use Rattle.std.proofs.Common.{◌≡◌, ◌∙◌, ap, subst, rules, string_bytes}
 use Rattle.claim_text.specs.ClaimLines.{claim_lines}
 use Rattle.std.proofs.lemmas.Result.{err_from_is_err_and}
 use Rattle.mote_net.specs.Meaning.{net_of}
@@ -31,7 +31,7 @@ returns c = record {
       let all = subst (λ cs. AnswersAll c.names_of-names.result.now (report_of c.in_ok-report.report) cs c.in_ok-answers_to.field-0) sliced c.in_ok-answers_to.ensures.answers_all in (
         tt,
         answered c.args.scenario.now c.args.claims.now (string_bytes c.in_ok-answers_to.field-0.text) c.in_ok-answers_to.field-0.all_hold (net_of c.in_ok-net.net) (report_of c.in_ok-report.report)
-            c.names_of-names.result.now c.in_ok-claims.claims.items c.requires.is_text c.in_ok-net.ensures.answers c.names_of-names.ensures.named (c.in_ok-claims.ensures.texts ∙ ap (claim_lines []) same)
+            c.names_of-names.result.now c.in_ok-claims.claims.items c.requires.is_text c.in_ok-net.ensures.answers c.names_of-names.ensures.named (c.in_ok-claims.ensures.texts ∙ ap claim_lines same)
             c.in_ok-report.ensures.report all.0 all.1,
       );
 }

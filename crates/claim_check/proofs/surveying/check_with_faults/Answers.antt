@@ -1,4 +1,4 @@
-use Rattle.std.proofs.Common.{◌≡◌, ◌∙◌, [], ap, subst, rules}
+use Rattle.std.proofs.Common.{◌≡◌, ◌∙◌, ap, subst, rules}
 use Rattle.claim_text.specs.ClaimLines.{claim_lines}
 use Rattle.std.proofs.lemmas.Result.{err_from_is_err_and}
 use Rattle.mote_net.specs.Meaning.{net_of}
@@ -27,5 +27,5 @@ returns g c = record {
       let way = way_by c.args.workers sync.Joins in
       let by_net = subst (λ cs. SurveysNet way c.args.faults c.names_of-names.result.now (net_of c.in_ok-net.net) cs c.survey_claims.result) sliced c.survey_claims.ensures.surveys in
       surveys way c.args.faults c.args.scenario.now c.args.claims.now c.names_of-names.result.now (net_of c.in_ok-net.net) c.in_ok-claims.claims.items c.requires.is_text
-      c.in_ok-net.ensures.answers c.names_of-names.ensures.named (c.in_ok-claims.ensures.texts ∙ ap (claim_lines []) same) c.survey_claims.result by_net;
+      c.in_ok-net.ensures.answers c.names_of-names.ensures.named (c.in_ok-claims.ensures.texts ∙ ap claim_lines same) c.survey_claims.result by_net;
 }

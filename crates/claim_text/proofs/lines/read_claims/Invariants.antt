@@ -1,10 +1,9 @@
-use Rattle.std.proofs.Common.{◌≡◌, ◌++◌, [], drop, map}
+use Rattle.std.proofs.Common.{◌≡◌, take, map, filter}
 use Rattle.claim_text.specs.ClaimText.{text_of}
-use Rattle.claim_text.specs.ClaimLines.{claim_lines}
+use Rattle.claim_text.specs.ClaimLines.{is_claim_line, lines_of}
 use Rattle.claim_text.proofs.lines.read_claims.Given as goal
 
--- the claims so far, and those of the rest of the text, are the claims of the text
-abbrev pub invariant-loop-byte : goal.invariant-loop-byte
-invariant-loop-byte l =
-    map (text_of l.names) l.claims.items ++ claim_lines l.line.items (drop l.byte-index l.text)
-    ≡ claim_lines [] l.text
+-- the claims so far have the texts of the lines so far
+abbrev pub invariant-loop-index : goal.invariant-loop-index
+invariant-loop-index l =
+    map (text_of l.names) l.claims.items ≡ filter is_claim_line (take l.index (lines_of l.text))
