@@ -1,1 +1,6 @@
 mod LineLaws
+mod ReadNumbers
+mod ReadLists
+mod ReadSets
+mod ReadPeriods
+mod ReadMotes
