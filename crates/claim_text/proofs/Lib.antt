@@ -1,4 +1,5 @@
 mod LineLaws
+mod TakeLaws
 mod ReadNumbers
 mod ReadLists
 mod ReadSets

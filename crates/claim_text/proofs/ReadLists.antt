@@ -1,13 +1,8 @@
 -- The reader of lists, as a definition; and what it reads of the text of a list, whatever follows.
 use Rattle.std.proofs.Common.{◌≡◌, ◌∙◌, ℕ, zero, suc, ◌<◌, nat_eq, if◌then◌else◌, true, Option, Some, None, List, [], ◌∷◌, ◌++◌, length, refl, ap, append_assoc, arith}
 use Rattle.std.specs.List.{AllByRecursion as Each, flat_map}
-use Rattle.std.proofs.lemmas.Bool.Decides.{nat_tests}
-
--- the text behind a word
-abbrev pub strip : (word : List ℕ) → List ℕ → Option (List ℕ)
-strip [] bs = Some bs
-strip (c ∷ cs) [] = None
-strip (c ∷ cs) (b ∷ bs) = if nat_eq b c then strip cs bs else None
+use Rattle.claim_text.specs.Reading.{strip}
+use Rattle.claim_text.proofs.TakeLaws.{strip_self}
 
 -- what a reader reads next
 abbrev pub next : {A B : Type 0} → Option (A × List ℕ) → (A → List ℕ → Option B) → Option B
@@ -24,13 +19,6 @@ abbrev pub read_list : {A : Type 0} → (List ℕ → Option (A × List ℕ)) �
 read_list p between zero bs = None
 read_list p between (suc k) bs =
     next (p bs) (λ x rest. choose (strip between rest) (Some (x ∷ [], rest)) (λ more. next (read_list p between k more) (λ xs end. Some (x ∷ xs, end))))
-
-same : (c : ℕ) → nat_eq c c ≡ true
-same c = grind (arith, nat_tests)
-
-pub strip_self : (word rest : List ℕ) → strip word (word ++ rest) ≡ Some rest
-strip_self [] rest = refl
-strip_self (c ∷ cs) rest = rw same (strip_self cs rest)
 
 module _ {A : Type 0} (p : List ℕ → Option (A × List ℕ)) (between : List ℕ) (t : A → List ℕ) (Fits : A → Type 0) (Stops : List ℕ → Type 0)
     (again : (x : A) (tail : List ℕ) → Fits x → Stops tail → p (t x ++ tail) ≡ Some (x, tail)) (goes_on : (rest : List ℕ) → Stops (between ++ rest))

@@ -5,7 +5,8 @@ use Rattle.std.specs.List.{AllByRecursion as Each}
 use Rattle.std.proofs.lemmas.Bool.Decides.{nat_tests}
 use Rattle.claim_text.specs.Motes.{is_next, mote_item}
 use Rattle.claim_text.proofs.ReadNumbers.{begins_digit, read_number, number_again}
-use Rattle.claim_text.proofs.ReadLists.{strip, next, choose}
+use Rattle.claim_text.specs.Reading.{strip}
+use Rattle.claim_text.proofs.ReadLists.{next, choose}
 
 abbrev pub read_mote : List ℕ → Option (ℕ × List ℕ)
 read_mote bs = next (read_number bs) (λ n rest. if nat_le n 65535 then Some (n, rest) else None)

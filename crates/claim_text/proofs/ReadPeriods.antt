@@ -9,7 +9,9 @@ use Rattle.claims.specs.declared.limits.Limits.{Limits}
 use Rattle.claim_text.specs.Numbers.{period_text, part_text, set_text}
 use Rattle.claim_text.specs.LimitsText.{limits_text}
 use Rattle.claim_text.proofs.ReadNumbers.{begins_digit, read_number, number_again}
-use Rattle.claim_text.proofs.ReadLists.{strip, strip_self, next, choose}
+use Rattle.claim_text.specs.Reading.{strip}
+use Rattle.claim_text.proofs.TakeLaws.{strip_self}
+use Rattle.claim_text.proofs.ReadLists.{next, choose}
 use Rattle.claim_text.proofs.ReadSets.{read_set, set_again, FitsSpan, StopsSet}
 
 -- ` at 60`, ` from 0 to 60`, ` from 61 on`, or nothing

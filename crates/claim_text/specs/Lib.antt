@@ -15,3 +15,4 @@ pub mod EntryView
 pub mod ClaimText
 pub mod ClaimLines
 pub mod BreakText
+pub mod Reading

@@ -1,4 +1,5 @@
 //! The rest of a line that is yet to be read.
+ghost use Rattle.claim_text.specs.Reading.{Took};
 
 use crate::error::Unread;
 use crate::scope::Scope;
@@ -24,7 +25,9 @@ pub trait Item: Sized {
 
 impl Reader<'_> {
     /// Takes a word, if the rest begins with it.
-    pub fn take(&mut self, word: &str) -> bool {
+    pub fn take(&mut self, word: &str) -> bool
+        ensures took { Took result word.now self.old.rest.now self.new.rest.now }
+    {
         match self.rest.strip_prefix(word.as_bytes()) {
             Some(rest) => {
                 self.rest = rest;
