@@ -1,18 +1,8 @@
 -- The reader of lists, as a definition; and what it reads of the text of a list, whatever follows.
 use Rattle.std.proofs.Common.{◌≡◌, ◌∙◌, ℕ, zero, suc, ◌<◌, nat_eq, if◌then◌else◌, true, Option, Some, None, List, [], ◌∷◌, ◌++◌, length, refl, ap, append_assoc, arith}
 use Rattle.std.specs.List.{AllByRecursion as Each, flat_map}
-use Rattle.claim_text.specs.Reading.{strip}
+use Rattle.claim_text.specs.Reading.{strip, next, choose}
 use Rattle.claim_text.proofs.TakeLaws.{strip_self}
-
--- what a reader reads next
-abbrev pub next : {A B : Type 0} → Option (A × List ℕ) → (A → List ℕ → Option B) → Option B
-next None f = None
-next (Some x) f = f x.0 x.1
-
--- behind a word, or without it
-abbrev pub choose : {B : Type 0} → Option (List ℕ) → (without : Option B) → (behind : List ℕ → Option B) → Option B
-choose None without behind = without
-choose (Some rest) without behind = behind rest
 
 -- items with a word between them, at most so many
 abbrev pub read_list : {A : Type 0} → (List ℕ → Option (A × List ℕ)) → (between : List ℕ) → (most : ℕ) → List ℕ → Option (List A × List ℕ)

@@ -4,9 +4,8 @@ use Rattle.std.specs.Fmt.{decimal}
 use Rattle.std.specs.List.{AllByRecursion as Each}
 use Rattle.std.proofs.lemmas.Bool.Decides.{nat_tests}
 use Rattle.claim_text.specs.Motes.{is_next, mote_item}
-use Rattle.claim_text.proofs.ReadNumbers.{begins_digit, read_number, number_again}
-use Rattle.claim_text.specs.Reading.{strip}
-use Rattle.claim_text.proofs.ReadLists.{next, choose}
+use Rattle.claim_text.proofs.ReadNumbers.{number_again}
+use Rattle.claim_text.specs.Reading.{strip, next, choose, begins_digit, read_number}
 
 abbrev pub read_mote : List ℕ → Option (ℕ × List ℕ)
 read_mote bs = next (read_number bs) (λ n rest. if nat_le n 65535 then Some (n, rest) else None)

@@ -2,22 +2,9 @@
 use Rattle.std.proofs.Common.{◌≡◌, ◌∙◌, ℕ, ◌+◌, ◌-◌, ◌*◌, ◌/◌, ◌%◌, ◌^◌, ◌<◌, ◌≤◌, Bool, true, false, nat_lt, if◌then◌else◌, Option, Some, None, List, [], ◌∷◌, ◌++◌, refl, ap, append_assoc, arith}
 use Rattle.std.specs.Char.{is_ascii_digit}
 use Rattle.std.specs.Fmt.{decimal}
+use Rattle.claim_text.specs.Reading.{begins_digit, read_on, read_number}
 use Rattle.std.proofs.lemmas.Bool.Decides.{nat_tests}
 use Rattle.std.proofs.lemmas.Fmt.{decimal_by_steps}
-
-abbrev pub begins_digit : List ℕ → Bool
-begins_digit [] = false
-begins_digit (b ∷ bs) = is_ascii_digit b
-
--- the digits at the front continue the number n, as long as it fits
-abbrev pub read_on : ℕ → List ℕ → Option (ℕ × List ℕ)
-read_on n [] = Some (n, [])
-read_on n (b ∷ bs) =
-    if is_ascii_digit b then (if nat_lt (n * 10 + (b - 48)) 18446744073709551616 then read_on (n * 10 + (b - 48)) bs else None)
-    else Some (n, b ∷ bs)
-
-abbrev pub read_number : List ℕ → Option (ℕ × List ℕ)
-read_number bs = if begins_digit bs then read_on 0 bs else None
 
 digit : (d : ℕ) → d < 10 → is_ascii_digit (48 + d) ≡ true
 digit d h = grind (arith, nat_tests)

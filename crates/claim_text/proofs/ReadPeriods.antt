@@ -8,21 +8,10 @@ use Rattle.claims.specs.declared.set.Set.{Set}
 use Rattle.claims.specs.declared.limits.Limits.{Limits}
 use Rattle.claim_text.specs.Numbers.{period_text, part_text, set_text}
 use Rattle.claim_text.specs.LimitsText.{limits_text}
-use Rattle.claim_text.proofs.ReadNumbers.{begins_digit, read_number, number_again}
-use Rattle.claim_text.specs.Reading.{strip}
+use Rattle.claim_text.proofs.ReadNumbers.{number_again}
+use Rattle.claim_text.specs.Reading.{strip, next, choose, begins_digit, read_number, read_period}
 use Rattle.claim_text.proofs.TakeLaws.{strip_self}
-use Rattle.claim_text.proofs.ReadLists.{next, choose}
 use Rattle.claim_text.proofs.ReadSets.{read_set, set_again, FitsSpan, StopsSet}
-
--- ` at 60`, ` from 0 to 60`, ` from 61 on`, or nothing
-abbrev pub read_period : List ℕ → Option (Span × List ℕ)
-read_period bs =
-    choose (strip (codes " at ") bs)
-    (choose (strip (codes " from ") bs) (Some (record { from = 0; to = 18446744073709551615 }, bs))
-    (λ more. next (read_number more) (λ from rest. choose (strip (codes " on") rest)
-    (choose (strip (codes " to ") rest) None (λ last. next (read_number last) (λ to end. Some (record { from = from; to = to }, end))))
-    (λ end. Some (record { from = from; to = 18446744073709551615 }, end)))))
-    (λ more. next (read_number more) (λ at rest. Some (record { from = at; to = at }, rest)))
 
 -- what may follow a period
 abbrev pub StopsPeriod : List ℕ → Type 0

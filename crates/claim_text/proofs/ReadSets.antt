@@ -7,9 +7,9 @@ use Rattle.std.proofs.lemmas.List.{length-append}
 use Rattle.std.proofs.lemmas.Bool.Decides.{nat_tests}
 use Rattle.claims.specs.declared.set.Span.{Span}
 use Rattle.claim_text.specs.Numbers.{span_text, next_span, set_text}
-use Rattle.claim_text.proofs.ReadNumbers.{begins, begins_digit, read_number, number_again}
-use Rattle.claim_text.specs.Reading.{strip}
-use Rattle.claim_text.proofs.ReadLists.{next, choose, read_list, list_again}
+use Rattle.claim_text.proofs.ReadNumbers.{begins, number_again}
+use Rattle.claim_text.specs.Reading.{strip, next, choose, begins_digit, read_number}
+use Rattle.claim_text.proofs.ReadLists.{read_list, list_again}
 
 abbrev pub read_span : List ℕ → Option (Span × List ℕ)
 read_span bs =

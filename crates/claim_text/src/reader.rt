@@ -1,5 +1,5 @@
 //! The rest of a line that is yet to be read.
-ghost use Rattle.claim_text.specs.Reading.{Took};
+ghost use Rattle.claim_text.specs.Reading.{Took, Reads, read_either};
 
 use crate::error::Unread;
 use crate::scope::Scope;
@@ -52,7 +52,9 @@ impl Reader<'_> {
     }
 
     /// Takes one of two words, and returns whether it is the first one.
-    pub fn take_either(&mut self, first: &str, second: &str) -> Read<bool> {
+    pub fn take_either(&mut self, first: &str, second: &str) -> Read<bool>
+        ensures reads { Reads (read_either first.now second.now self.old.rest.now) self.new.rest.now result }
+    {
         if self.take(first) {
             Ok(true)
         } else if self.take(second) {

@@ -1,5 +1,6 @@
 //! Reads numbers, sets of numbers, periods and limits.
 ghost use Rattle.std.specs.Prelude.{◌≤◌, IfOk};
+ghost use Rattle.claim_text.specs.Reading.{Reads, read_digit, read_number, read_period};
 
 use crate::error::Unread;
 use crate::reader::{Item, Read, Reader};
@@ -33,7 +34,9 @@ impl Item for Set {
 }
 
 impl Reader<'_> {
-    fn digit(&mut self) -> Option<u64> {
+    fn digit(&mut self) -> Option<u64>
+        ensures reads { read_digit self.old.rest.now self.new.rest.now result }
+    {
         match self.rest {
             [byte, rest @ ..] if byte.is_ascii_digit() => {
                 self.rest = rest;
@@ -49,7 +52,9 @@ impl Reader<'_> {
     }
 
     /// Reads a number that fits in 64 bits.
-    pub fn number(&mut self) -> Read<u64> {
+    pub fn number(&mut self) -> Read<u64>
+        ensures reads { Reads (read_number self.old.rest.now) self.new.rest.now result }
+    {
         let Some(mut number) = self.digit() else {
             return Err(Unread::Unexpected);
         };
@@ -97,7 +102,9 @@ impl Reader<'_> {
     }
 
     /// Reads a period. Nothing stands for all moments.
-    pub fn period(&mut self) -> Read<Span> {
+    pub fn period(&mut self) -> Read<Span>
+        ensures reads { Reads (read_period self.old.rest.now) self.new.rest.now result }
+    {
         if self.take(" at ") {
             let at = self.number()?;
             return Ok(Span { from: at, to: at });

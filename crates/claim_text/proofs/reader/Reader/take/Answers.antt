@@ -16,7 +16,7 @@ pub returns-in-None : goal.returns-in-None
 returns-in-None c = record {
   took = (
     strip_none c.args.word.now c.args.self.now.rest.now
-    (λ rest e. strip_prefix_is Decides-eqb c.args.self.now.rest.now c.as_bytes.result.now None c.in-None.ensures.cases rest (e ∙ ap (λ w. w ++ rest) (sym c.as_bytes.ensures.value))),
+        (λ rest e. strip_prefix_is Decides-eqb c.args.self.now.rest.now c.as_bytes.result.now None c.in-None.ensures.cases rest (e ∙ ap (λ w. w ++ rest) (sym c.as_bytes.ensures.value))),
     refl,
   );
 }
