@@ -34,8 +34,9 @@ def pytest(together: str) -> list[str]:
     python = next((it for it in (sys.executable, SYSTEM) if has('pytest', it)), None)
     if python is None:
         raise Fault(NO_PYTEST)
-    jobs = os.environ.get('TEST_JOBS') or str(os.cpu_count())
-    parallel = ['-n', jobs, '--dist', 'load' + together] if has('xdist', python) else []
+    jobs = int(os.environ.get('TEST_JOBS') or os.cpu_count() or 1)
+    # (with one process, pytest-xdist hangs if a test kills it)
+    parallel = ['-n', str(jobs), '--dist', 'load' + together] if jobs > 1 and has('xdist', python) else []
     return [python, '-m', 'pytest', *FLAGS, *parallel]
 
 
