@@ -44,7 +44,7 @@ class ProgressOfSearch(Progress):
         if self.as_json:
             return self.show_json(search, size)
         rate = (tally.done - self.done) / max(now - self.begun, 0.001)
-        self.show('%s: %s of %s, %d runs per second, %s left, %d found' % (
+        self.show('%s: %s of %s, %.1f runs per second, %s left, %d found' % (
             'sample' if is_sample else 'sets of %d' % size, '{:,}'.format(tally.done), '{:,}'.format(tally.sets),
             search.runs / max(search.seconds, 0.001), clock((tally.sets - tally.done) / max(rate, 0.001)),
             search.found))
@@ -58,7 +58,7 @@ class ProgressOfSearch(Progress):
 
     def end_search(self, search: Search) -> None:
         """Removes the line; on a terminal, a line with the duration of the search replaces it."""
-        self.end('%.1f seconds, %d runs per second\n' % (search.seconds, search.runs / max(search.seconds, 0.001)))
+        self.end('%.1f seconds, %.1f runs per second\n' % (search.seconds, search.runs / max(search.seconds, 0.001)))
 
     def show_shrinking(self, name: str, steps: int, runs: int, limit: str) -> None:
         """The progress of making a counter-example small: the steps that were taken, and the runs that were made, with
