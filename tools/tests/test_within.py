@@ -1,10 +1,9 @@
 """Runs of tools/explain and tools/expect that reach a limit: the message names the process that prints, pauses or
 posts most."""
 import os
-from unittest import mock
 
-from here import SECONDS, Room, call, scenario_of, text_of
-from motesim.explain.within import TRIED, answer_within, most_done
+from here import Room, call, scenario_of, text_of
+from motesim.explain.within import answer_within, most_done
 from motesim.runner import Limits, ProgramFault
 from skips import need_built
 
@@ -22,7 +21,6 @@ class Endless(Room):
     def setUp(self) -> None:
         need_built()
         super().setUp()
-        self.enterContext(mock.patch('motesim.explain.within.TRIED', TRIED._replace(seconds=SECONDS, processor=4)))
         (self.room / 'net.expect.toml').write_text('expect = ["no mote halts"]\n')
 
     def said(self, tool: str, word: str, *words: str) -> str:
