@@ -165,8 +165,7 @@ where
 }
 
 /// Answers the claims in a file about the scenario in another one, as the arguments ask, and returns whether all claims
-/// hold, and a survey left no set out. The clause doesn't say what the files contain: the answers are those to some
-/// claims about some scenario.
+/// hold. The clause doesn't say what the files contain: the answers are those to some claims about some scenario.
 ///
 /// # Errors
 /// The errors of `check` or `check_with_faults`, and those of reading the two files, and then nothing has been written;

@@ -9,8 +9,8 @@ use std::alloc::{AllocError, AllocFailed};
 pub enum ClaimsError {
     /// An allocation failed.
     Memory,
-    /// A line that isn't the text of a claim, as tests show: its number among all lines, from 1, and the number of its
-    /// first byte that doesn't fit, from 1.
+    /// A line that isn't the text of a claim: its number among all lines, from 1, and the number of its first byte
+    /// that doesn't fit, from 1.
     NotAClaim { line: usize, column: usize },
 }
 

@@ -21,7 +21,7 @@
 //!
 //! `link 1 to 3` is the direction in which mote 3 hears mote 1. The sets are in the order in which the survey tries
 //! them, as a test shows: those of fewer faults first, and those of one size by their first fault, then by their second.
-//! After a limit of runs, the last line names the set before which the survey stopped; the sets before it are covered.
+//! After a limit of runs, the last line names the first set that wasn't tried; the sets before it are covered.
 
 ghost use Rattle.std.specs.Prelude.{◌≡◌, ◌++◌, option_map, string_bytes, IfOk, OnOk};
 ghost use Rattle.net_survey.specs.SurveyText.{runs_text, survey_text};
