@@ -127,7 +127,7 @@ class Searches(unittest.TestCase):
             self.assertLess(few, many / 2)
 
     def test_a_search_in_node_runs_only_the_set_that_a_survey_lists(self) -> None:
-        need_program(self)
+        need_built()
         script, room = module_program(CHECKER), room_of(self)
         if script is None:
             self.skipTest('node or the module of these sources is missing')
