@@ -1,5 +1,5 @@
 use Rattle.std.proofs.Common.{◌≤◌, length, rules}
-use Rattle.serial_check.proofs.Parts.{with_options}
+use Rattle.serial_check.proofs.WithOptions.{with_options}
 use Rattle.serial_check.proofs.answer_parts.Goals as goal
 
 pub returns-in-len1-up : goal.returns-in-len1-up
