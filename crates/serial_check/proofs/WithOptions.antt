@@ -1,5 +1,5 @@
 -- The answers to the parts of an input.
-use Rattle.std.proofs.Common.{◌≤◌, ℕ, List, [], ◌∷◌, Result, length}
+use Rattle.std.proofs.Common.{◌≤◌, ℕ, List, [], ◌∷◌, Result, arith, length}
 use Rattle.serial_check.specs.Answering.{AnswersParts, SurveysInput}
 use Rattle.claim_check.specs.declared.answers.Answers.{Answers}
 use Rattle.claim_check.specs.declared.error.CheckError.{CheckError}
