@@ -1,10 +1,11 @@
-"""Ends the runs of this process when a signal ends it.
+"""Ends the runs of this process when a signal or an exception ends it.
 
 A run is the leader of its own process group, so a signal that ends a tool doesn't reach it. Without this module the
 run would continue, and no process would watch its limits.
 """
 from __future__ import annotations
 
+import atexit
 import contextlib
 import os
 import signal
@@ -85,9 +86,18 @@ def _kill(leader: int) -> None:
         os.killpg(leader, signal.SIGKILL)
 
 
-def _end(number: int, frame: FrameType | None) -> None:
-    """Ends all runs, and then this process, by the same signal."""
+def _end_all() -> None:
     for leader in list(_Runs.leaders):
         _kill(leader)
+
+
+def _end(number: int, frame: FrameType | None) -> None:
+    """Ends all runs, and then this process, by the same signal."""
+    _end_all()
     signal.signal(number, signal.SIG_DFL)
     os.kill(os.getpid(), number)
+
+
+# (Ctrl-C may come before anything waits for a run that has begun; a forked process has no runs yet)
+atexit.register(_end_all)
+os.register_at_fork(after_in_child=_Runs.leaders.clear)
