@@ -6,7 +6,7 @@ from collections.abc import Iterator
 from itertools import product
 from pathlib import Path
 
-from motesim import packages
+from motesim import output, packages
 from motesim.plan.values import values_of
 from motesim.runner.interrupt import Break
 from motesim.faults import INTERRUPTED, Fault
@@ -193,8 +193,8 @@ def carried_out(words: argparse.Namespace) -> int:
     if words.dask:
         packages.need('distributed')
     base = base_of(Path(words.scenario))
-    folder = Path(words.output) if words.output else Path(
-        Path(words.scenario).name.removesuffix('.toml').removesuffix('.plan') + '.search')
+    folder = Path(words.output) if words.output else output.beside(
+        words.scenario, Path(words.scenario).name.removesuffix('.toml').removesuffix('.plan') + '.search')
     if words.repeat:
         return repeated(words, base, folder)
     asking = asking_of(words, base)
