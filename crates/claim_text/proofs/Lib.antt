@@ -1,1 +1,3 @@
 mod LineLaws
+mod TakeLaws
+mod ReadNumbers

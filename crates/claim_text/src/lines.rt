@@ -4,9 +4,7 @@ ghost use Rattle.claim_text.specs.ClaimText.{text_of};
 ghost use Rattle.claim_text.specs.ClaimLines.{lines_of, is_claim_line, claim_lines, IsAt, Refuses};
 
 use crate::error::{ClaimsError, Unread};
-use crate::read::exactly;
 use crate::reader::Reader;
-use crate::scope::Scope;
 use crate::write::write_claim;
 use claims::Claim;
 use program_tree::Names;
@@ -58,22 +56,14 @@ fn read_line(alloc: Global, names: &Names, line: &[u8], number: usize) -> Result
     ensures text { IfOk result (λ c. text_of names.now c ≡ line.now) }
     ensures at { IfErr result (IsAt number line.now) }
 {
-    let mut claim = Claim {
-        limits: exactly(0),
-        cases: Vec::new(alloc),
-    };
-    let mut reader = Reader {
-        alloc,
-        rest: line,
-        scope: Scope { names, own: None },
-    };
-    match reader.fill_claim(&mut claim) {
-        Ok(()) => {}
+    let mut reader = Reader { alloc, rest: line };
+    let claim = match reader.claim(names) {
+        Ok(claim) => claim,
         Err(Unread::Memory) => return Err(ClaimsError::Memory),
         Err(Unread::Unexpected) => {
             return Err(not_a_claim(line, number, line.len().saturating_sub(reader.rest.len())));
         }
-    }
+    };
     let text = write_claim(alloc, names, &claim)?;
     if is_text(text.as_str(), line) {
         Ok(claim)

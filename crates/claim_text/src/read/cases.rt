@@ -1,41 +1,52 @@
 //! Reads cases and claims.
+ghost use Rattle.std.specs.Prelude.{List};
+ghost use Rattle.claim_text.specs.Views.{TestView, case_view, claim_view};
+ghost use Rattle.claim_text.specs.Reading.{Reads, ReadsAs};
+ghost use Rattle.claim_text.specs.ReadClaims.{read_cases, read_case, read_quantity, read_claim};
 
 use crate::read::exactly;
 use crate::reader::{Item, Read, Reader};
+use crate::scope::Scope;
 use claims::{Case, Claim, Limits};
+use program_tree::Names;
 
 impl Item for Case {
+    ghost View = { List TestView };
+
+    ghost view = { case_view };
+
+    ghost item = { λ names _. read_cases names };
+
     /// Reads a group of cases: the tests are read again for each of its motes.
-    fn read(reader: &mut Reader<'_>, items: &mut Vec<Case>) -> Read<()> {
+    fn read(reader: &mut Reader<'_>, scope: Scope<'_>, items: &mut Vec<Case>) -> Read<()> {
         if reader.take("the net: ") {
-            return reader.case(None, items);
+            items.push(reader.case(scope.names, None)?)?;
+            return Ok(());
         }
         reader.take_either("motes ", "mote ")?;
-        let mut motes = Vec::new(reader.alloc);
-        reader.list::<u16>(", ", &mut motes)?;
+        let motes = reader.list::<u16>(scope, ", ")?;
         reader.expect(": ")?;
         let start = reader.rest;
         for mote in &motes {
             reader.rest = start;
-            reader.case(Some(*mote), items)?;
+            items.push(reader.case(scope.names, Some(*mote))?)?;
         }
         Ok(())
     }
 }
 
 impl Reader<'_> {
-    fn case(&mut self, own: Option<u16>, cases: &mut Vec<Case>) -> Read<()> {
-        self.scope.own = own;
-        let mut case = Case {
-            tests: Vec::new(self.alloc),
-        };
-        self.list_or("always", "", " and ", &mut case.tests)?;
-        cases.push(case)?;
-        Ok(())
+    fn case(&mut self, names: &Names, own: Option<u16>) -> Read<Case>
+        ensures reads { ReadsAs (case_view names.now) (read_case names.now own self.old.rest.now) self.new.rest.now result }
+    {
+        let tests = self.list_or(Scope { names, own }, "always", "", " and ")?;
+        Ok(Case { tests })
     }
 
     /// Reads how many of the cases have to hold; `None` stands for all of them.
-    fn quantity(&mut self) -> Read<Option<Limits>> {
+    fn quantity(&mut self) -> Read<Option<Limits>>
+        ensures reads { Reads (read_quantity self.old.rest.now) self.new.rest.now result }
+    {
         if self.take("each of ") || !self.starts("exactly ") && !self.starts("at ") {
             return Ok(None);
         }
@@ -45,14 +56,16 @@ impl Reader<'_> {
     }
 
     /// Reads a claim, which may have another text.
-    pub fn fill_claim(&mut self, claim: &mut Claim) -> Read<()> {
+    pub fn claim(&mut self, names: &Names) -> Read<Claim>
+        ensures reads { ReadsAs (claim_view names.now) (read_claim names.now self.old.rest.now) self.new.rest.now result }
+    {
         let quantity = self.quantity()?;
         let _ = self.take("these: ");
-        self.list_or("no cases", "", "; ", &mut claim.cases)?;
-        claim.limits = match quantity {
-            None => exactly(claim.cases.len() as u64),
+        let cases = self.list_or::<Case>(Scope { names, own: None }, "no cases", "", "; ")?;
+        let limits = match quantity {
+            None => exactly(cases.len() as u64),
             Some(limits) => limits,
         };
-        Ok(())
+        Ok(Claim { limits, cases })
     }
 }

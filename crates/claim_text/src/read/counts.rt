@@ -1,31 +1,45 @@
 //! Reads what is counted.
+ghost use Rattle.claim_text.specs.Views.{part_view, count_view};
+ghost use Rattle.claim_text.specs.Reading.{Reads, ReadsAs};
+ghost use Rattle.claim_text.specs.ReadTests.{read_lines, read_motes_part, read_packets, read_arrival, read_copies, read_count};
 
 use crate::error::Unread;
 use crate::reader::{Read, Reader};
+use crate::scope::Scope;
 use claims::{Arrival, Copies, Count, Lines, Packets, Set};
 
 impl Reader<'_> {
-    fn lines(&mut self) -> Read<Count> {
-        let deed = self.deed()?;
-        let order = self.order(false)?;
+    fn lines(&mut self, scope: Scope<'_>) -> Read<Count>
+        ensures reads { ReadsAs (count_view scope.entry.names.now) (read_lines scope.entry.names.now scope.entry.own self.old.rest.now) self.new.rest.now result }
+    {
+        let deed = self.deed(scope)?;
+        let order = self.order(scope, false)?;
         Ok(Count::Lines(Lines { deed, order }))
     }
 
-    fn motes(&mut self, one: &str, many: &str) -> Read<Option<Set>> {
-        if self.take(one) || self.take(many) {
-            Ok(Some(self.set()?))
+    /// Reads a set of motes behind a word, if the rest begins with the word.
+    fn motes(&mut self, scope: Scope<'_>, word: &str) -> Read<Option<Set>>
+        ensures reads { ReadsAs part_view (read_motes_part word.now self.old.rest.now) self.new.rest.now result }
+    {
+        if self.take(word) {
+            self.take_either(" motes ", " mote ")?;
+            Ok(Some(self.set(scope)?))
         } else {
             Ok(None)
         }
     }
 
-    fn packets(&mut self) -> Read<Count> {
-        let sender = self.motes(" by mote ", " by motes ")?;
+    fn packets(&mut self, scope: Scope<'_>) -> Read<Count>
+        ensures reads { ReadsAs (count_view scope.entry.names.now) (read_packets self.old.rest.now) self.new.rest.now result }
+    {
+        let sender = self.motes(scope, " by")?;
         let when = self.period()?;
         Ok(Count::Packets(Packets { sender, when }))
     }
 
-    fn arrival(&mut self) -> Read<Arrival> {
+    fn arrival(&mut self) -> Read<Arrival>
+        ensures reads { Reads (read_arrival self.old.rest.now) self.new.rest.now result }
+    {
         if self.take_either(" lost by the medium or due by ", " sent")? {
             return Ok(Arrival::Due(self.number()?));
         }
@@ -34,24 +48,28 @@ impl Reader<'_> {
         Ok(Arrival::Lost(when))
     }
 
-    fn copies(&mut self) -> Read<Count> {
-        let to = self.motes(" to mote ", " to motes ")?;
+    fn copies(&mut self, scope: Scope<'_>) -> Read<Count>
+        ensures reads { ReadsAs (count_view scope.entry.names.now) (read_copies self.old.rest.now) self.new.rest.now result }
+    {
+        let to = self.motes(scope, " to")?;
         let arrival = self.arrival()?;
         Ok(Count::Copies(Copies { to, arrival }))
     }
 
     /// Reads what is counted.
-    pub fn count(&mut self) -> Read<Count> {
+    pub fn count(&mut self, scope: Scope<'_>) -> Read<Count>
+        ensures reads { ReadsAs (count_view scope.entry.names.now) (read_count scope.entry.names.now scope.entry.own self.old.rest.now) self.new.rest.now result }
+    {
         if self.take("line in the report") || self.take("lines in the report") {
             Ok(Count::Rows)
         } else if self.take("copy left at the end") || self.take("copies left at the end") {
             Ok(Count::Left)
         } else if self.take("line ") || self.take("lines ") {
-            self.lines()
+            self.lines(scope)
         } else if self.take("packet sent") || self.take("packets sent") {
-            self.packets()
+            self.packets(scope)
         } else if self.take("copy") || self.take("copies") {
-            self.copies()
+            self.copies(scope)
         } else {
             Err(Unread::Unexpected)
         }

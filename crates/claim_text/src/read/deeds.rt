@@ -1,12 +1,25 @@
 //! Reads deeds and orders.
+ghost use Rattle.std.specs.Prelude.{ℕ};
+ghost use Rattle.claims.specs.declared.trace.Watch.{Watch};
+ghost use Rattle.claim_text.specs.Views.{deed_view, order_view};
+ghost use Rattle.claim_text.specs.Reading.{Reads, ReadsAs};
+ghost use Rattle.claim_text.specs.ReadDeeds.{read_mote_span, read_group, read_mote, read_watches, read_deed, meant};
+ghost use Rattle.claim_text.specs.ReadDeeds.{some_or_no, read_moments, read_relation, read_order};
 
 use crate::error::Unread;
 use crate::reader::{Item, Read, Reader};
+use crate::scope::Scope;
 use claims::{Deed, Order, Relation, Watch};
 
 impl Item for u16 {
+    ghost View = { ℕ };
+
+    ghost view = { λ _ m. m };
+
+    ghost item = { λ _ _. read_mote_span };
+
     /// Reads a mote, or a span of motes.
-    fn read(reader: &mut Reader<'_>, items: &mut Vec<u16>) -> Read<()> {
+    fn read(reader: &mut Reader<'_>, _scope: Scope<'_>, items: &mut Vec<u16>) -> Read<()> {
         let from = reader.mote()?;
         let to = if reader.take(" to ") {
             reader.mote()?
@@ -22,11 +35,16 @@ impl Item for u16 {
 }
 
 impl Item for Watch {
+    ghost View = { Watch };
+
+    ghost view = { λ _ w. w };
+
+    ghost item = { λ _ _. read_group };
+
     /// Reads motes with one period.
-    fn read(reader: &mut Reader<'_>, items: &mut Vec<Watch>) -> Read<()> {
+    fn read(reader: &mut Reader<'_>, scope: Scope<'_>, items: &mut Vec<Watch>) -> Read<()> {
         let is_one = reader.take_either("mote ", "motes ")?;
-        let mut motes = Vec::new(reader.alloc);
-        reader.list::<u16>(", ", &mut motes)?;
+        let motes = reader.list::<u16>(scope, ", ")?;
         if !is_one {
             reader.expect(" together")?;
         }
@@ -46,46 +64,49 @@ struct Ordering {
 }
 
 impl Reader<'_> {
-    fn mote(&mut self) -> Read<u16> {
+    fn mote(&mut self) -> Read<u16>
+        ensures reads { Reads (read_mote self.old.rest.now) self.new.rest.now result }
+    {
         Ok(self.number_up_to(65535)? as u16)
     }
 
-    fn watches(&mut self, watches: &mut Vec<Watch>) -> Read<()> {
+    fn watches(&mut self, scope: Scope<'_>) -> Read<Vec<Watch>>
+        ensures reads { ReadsAs (λ v. v.items) (read_watches scope.entry.own self.old.rest.now) self.new.rest.now result }
+    {
         if self.take(" of no mote") {
-            return Ok(());
+            return Ok(Vec::new(self.alloc));
         }
         if self.take(" of ") {
-            return self.list(" and of ", watches);
+            return self.list(scope, " and of ");
         }
-        let Some(mote) = self.scope.own else {
+        let Some(mote) = scope.own else {
             return Err(Unread::Unexpected);
         };
         let when = self.period()?;
+        let mut watches = Vec::new(self.alloc);
         watches.push(Watch { mote, when })?;
-        Ok(())
-    }
-
-    fn fill_deed(&mut self, deed: &mut Deed) -> Read<()> {
-        self.list_or("of no kind", "", " or ", &mut deed.patterns)?;
-        self.watches(&mut deed.watches)
+        Ok(watches)
     }
 
     /// Reads a deed.
-    pub fn deed(&mut self) -> Read<Deed> {
-        let mut deed = Deed {
-            watches: Vec::new(self.alloc),
-            patterns: Vec::new(self.alloc),
-        };
-        self.fill_deed(&mut deed)?;
-        Ok(deed)
+    pub fn deed(&mut self, scope: Scope<'_>) -> Read<Deed>
+        ensures reads { ReadsAs (deed_view scope.entry.names.now) (read_deed scope.entry.names.now scope.entry.own self.old.rest.now) self.new.rest.now result }
+    {
+        let patterns = self.list_or(scope, "of no kind", "", " or ")?;
+        let watches = self.watches(scope)?;
+        Ok(Deed { watches, patterns })
     }
 
-    fn some_or_no(&mut self, relation: Relation) -> Read<Option<Ordering>> {
+    fn some_or_no(&mut self, relation: Relation) -> Read<Option<Ordering>>
+        ensures reads { ReadsAs meant (some_or_no relation self.old.rest.now) self.new.rest.now result }
+    {
         let is_so = self.take_either("some line ", "no line ")?;
         Ok(Some(Ordering { relation, is_so }))
     }
 
-    fn moments(&mut self) -> Read<Option<Ordering>> {
+    fn moments(&mut self) -> Read<Option<Ordering>>
+        ensures reads { ReadsAs meant (read_moments self.old.rest.now) self.new.rest.now result }
+    {
         let moments = self.number()?;
         self.take_either(" moments", " moment")?;
         if self.take_either(" after ", " before ")? {
@@ -96,7 +117,9 @@ impl Reader<'_> {
     }
 
     /// Reads the words of a relation, if there is one.
-    fn relation(&mut self) -> Read<Option<Ordering>> {
+    fn relation(&mut self) -> Read<Option<Ordering>>
+        ensures reads { ReadsAs meant (read_relation self.old.rest.now) self.new.rest.now result }
+    {
         if self.take(" after ") {
             return self.some_or_no(Relation::After);
         }
@@ -112,11 +135,13 @@ impl Reader<'_> {
     }
 
     /// Reads an order, if there is one. It is denied if it is turned round.
-    pub fn order(&mut self, is_turned: bool) -> Read<Option<Order>> {
+    pub fn order(&mut self, scope: Scope<'_>, is_turned: bool) -> Read<Option<Order>>
+        ensures reads { ReadsAs (order_view scope.entry.names.now) (read_order scope.entry.names.now scope.entry.own is_turned self.old.rest.now) self.new.rest.now result }
+    {
         let Some(Ordering { relation, is_so }) = self.relation()? else {
             return Ok(None);
         };
-        let event = self.deed()?;
+        let event = self.deed(scope)?;
         Ok(Some(Order {
             event,
             relation,

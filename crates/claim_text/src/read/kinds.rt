@@ -1,4 +1,6 @@
 //! Reads kinds of lines.
+ghost use Rattle.claim_text.specs.Reading.{Reads};
+ghost use Rattle.claim_text.specs.ReadKinds.{read_kinds};
 
 use crate::error::Unread;
 use crate::reader::{Read, Reader};
@@ -41,7 +43,9 @@ impl Reader<'_> {
     }
 
     /// Reads the kinds of a pattern.
-    pub fn kinds(&mut self) -> Read<Kinds> {
+    pub fn kinds(&mut self) -> Read<Kinds>
+        ensures reads { Reads (read_kinds self.old.rest.now) self.new.rest.now result }
+    {
         let mut kinds = Kinds::default();
         if self.take("nothing") {
             return Ok(kinds);

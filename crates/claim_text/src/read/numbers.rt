@@ -1,19 +1,39 @@
 //! Reads numbers, sets of numbers, periods and limits.
-ghost use Rattle.std.specs.Prelude.{◌≤◌, IfOk};
+ghost use Rattle.std.specs.Prelude.{◌≡◌, ◌≤◌, ℕ, List, Some, IfOk};
+ghost use Rattle.claims.specs.declared.set.Span.{Span};
+ghost use Rattle.claims.specs.declared.limits.Limits.{Limits};
+ghost use Rattle.claim_text.specs.Numbers.{part_text};
+ghost use Rattle.claim_text.specs.Views.{set_view};
+ghost use Rattle.claim_text.specs.Reading.{Reads, ReadsAs, ReadsDigit, begins_digit, read_number, read_number_up_to};
+ghost use Rattle.claim_text.specs.ReadNumbers.{read_spans, read_number_item, read_set_item, read_set, read_part, read_period};
+ghost use Rattle.claim_text.specs.ReadNumbers.{read_limits};
 
 use crate::error::Unread;
 use crate::reader::{Item, Read, Reader};
+use crate::scope::Scope;
 use claims::{Limits, Set, Span};
 
 impl Item for u64 {
-    fn read(reader: &mut Reader<'_>, items: &mut Vec<u64>) -> Read<()> {
+    ghost View = { ℕ };
+
+    ghost view = { λ _ n. n };
+
+    ghost item = { λ _ _. read_number_item };
+
+    fn read(reader: &mut Reader<'_>, _scope: Scope<'_>, items: &mut Vec<u64>) -> Read<()> {
         items.push(reader.number()?)?;
         Ok(())
     }
 }
 
 impl Item for Span {
-    fn read(reader: &mut Reader<'_>, items: &mut Vec<Span>) -> Read<()> {
+    ghost View = { Span };
+
+    ghost view = { λ _ s. s };
+
+    ghost item = { λ _ _. read_spans };
+
+    fn read(reader: &mut Reader<'_>, _scope: Scope<'_>, items: &mut Vec<Span>) -> Read<()> {
         let from = reader.number()?;
         let to = if reader.take(" to ") {
             reader.number()?
@@ -26,14 +46,22 @@ impl Item for Span {
 }
 
 impl Item for Set {
-    fn read(reader: &mut Reader<'_>, items: &mut Vec<Set>) -> Read<()> {
-        items.push(reader.set()?)?;
+    ghost View = { List Span };
+
+    ghost view = { λ _. set_view };
+
+    ghost item = { λ _ _. read_set_item };
+
+    fn read(reader: &mut Reader<'_>, scope: Scope<'_>, items: &mut Vec<Set>) -> Read<()> {
+        items.push(reader.set(scope)?)?;
         Ok(())
     }
 }
 
 impl Reader<'_> {
-    fn digit(&mut self) -> Option<u64> {
+    fn digit(&mut self) -> Option<u64>
+        ensures reads { ReadsDigit self.old.rest.now self.new.rest.now result }
+    {
         match self.rest {
             [byte, rest @ ..] if byte.is_ascii_digit() => {
                 self.rest = rest;
@@ -44,12 +72,16 @@ impl Reader<'_> {
     }
 
     /// Returns whether the rest begins with a digit.
-    pub fn has_number(&self) -> bool {
+    pub fn has_number(&self) -> bool
+        ensures value { result ≡ begins_digit self.now.rest.now }
+    {
         matches!(self.rest, [byte, ..] if byte.is_ascii_digit())
     }
 
     /// Reads a number that fits in 64 bits.
-    pub fn number(&mut self) -> Read<u64> {
+    pub fn number(&mut self) -> Read<u64>
+        ensures reads { Reads (read_number self.old.rest.now) self.new.rest.now result }
+    {
         let Some(mut number) = self.digit() else {
             return Err(Unread::Unexpected);
         };
@@ -69,6 +101,7 @@ impl Reader<'_> {
     /// Reads a number that is at most this great.
     pub fn number_up_to(&mut self, most: u64) -> Read<u64>
         ensures within { IfOk result (λ n. n ≤ most) }
+        ensures reads { Reads (read_number_up_to most self.old.rest.now) self.new.rest.now result }
     {
         let number = self.number()?;
         if number <= most {
@@ -79,25 +112,28 @@ impl Reader<'_> {
     }
 
     /// Reads a set of numbers.
-    pub fn set(&mut self) -> Read<Set> {
-        let mut set = Set {
-            spans: Vec::new(self.alloc),
-        };
-        self.list_or("none", "", " or ", &mut set.spans)?;
-        Ok(set)
+    pub fn set(&mut self, scope: Scope<'_>) -> Read<Set>
+        ensures reads { ReadsAs set_view (read_set self.old.rest.now) self.new.rest.now result }
+    {
+        let spans = self.list_or(scope, "none", "", " or ")?;
+        Ok(Set { spans })
     }
 
     /// Reads a set of numbers behind its label, if the rest begins with the label.
-    pub fn part(&mut self, label: &str) -> Read<Option<Set>> {
+    pub fn part(&mut self, scope: Scope<'_>, label: &str) -> Read<Option<Set>>
+        ensures reads { ReadsAs (part_text label.now) (read_part label.now self.old.rest.now) self.new.rest.now result }
+    {
         if self.take(label) {
-            Ok(Some(self.set()?))
+            Ok(Some(self.set(scope)?))
         } else {
             Ok(None)
         }
     }
 
     /// Reads a period. Nothing stands for all moments.
-    pub fn period(&mut self) -> Read<Span> {
+    pub fn period(&mut self) -> Read<Span>
+        ensures reads { Reads (read_period self.old.rest.now) self.new.rest.now result }
+    {
         if self.take(" at ") {
             let at = self.number()?;
             return Ok(Span { from: at, to: at });
@@ -117,7 +153,9 @@ impl Reader<'_> {
     }
 
     /// Reads limits.
-    pub fn limits(&mut self) -> Read<Limits> {
+    pub fn limits(&mut self) -> Read<Limits>
+        ensures reads { Reads (read_limits self.old.rest.now) self.new.rest.now result }
+    {
         if self.take("exactly ") {
             let number = self.number()?;
             return Ok(exactly(number));
@@ -137,7 +175,9 @@ impl Reader<'_> {
 }
 
 /// Limits that admit one number.
-pub fn exactly(number: u64) -> Limits {
+pub fn exactly(number: u64) -> Limits
+    ensures value { result ≡ (record { least = number; most = Some number }) }
+{
     Limits {
         least: number,
         most: Some(number),

@@ -1,33 +1,35 @@
 //! Reads patterns.
+ghost use Rattle.std.specs.Prelude.{ℕ, List};
+ghost use Rattle.claim_text.specs.PatternText.{target_text, target_part, pattern_text};
+ghost use Rattle.claim_text.specs.Reading.{ReadsAs};
+ghost use Rattle.claim_text.specs.ReadPatterns.{ReadsName, read_target, read_target_part, read_pattern, read_pattern_item};
 
 use crate::reader::{Item, Read, Reader};
-use claims::{Kinds, Pattern};
-use program_tree::{Proc, Target};
+use crate::scope::Scope;
+use claims::Pattern;
+use program_tree::{Names, Proc, Target};
 
 impl Item for Pattern {
-    fn read(reader: &mut Reader<'_>, items: &mut Vec<Pattern>) -> Read<()> {
-        let mut pattern = Pattern {
-            kinds: Kinds::default(),
-            target: None,
-            serial: None,
-            event: None,
-            sender: None,
-            packet: None,
-            value: None,
-        };
-        reader.fill_pattern(&mut pattern)?;
-        items.push(pattern)?;
+    ghost View = { List ℕ };
+
+    ghost view = { pattern_text };
+
+    ghost item = { λ names _. read_pattern_item names };
+
+    fn read(reader: &mut Reader<'_>, scope: Scope<'_>, items: &mut Vec<Pattern>) -> Read<()> {
+        items.push(reader.pattern(scope)?)?;
         Ok(())
     }
 }
 
 impl Reader<'_> {
     /// Takes the name of a process, if the word in front of a space or a quotation mark is one.
-    fn name(&mut self) -> Option<u8> {
+    fn name(&mut self, names: &Names) -> Option<u8>
+        ensures reads { ReadsName names.now self.old.rest.now self.new.rest.now result }
+    {
         let rest = self.rest;
         let end = rest.iter().position(|byte| *byte == b' ' || *byte == b'"')?;
         let word = &rest[..end];
-        let names = self.scope.names;
         for place in 0..names.len().min(256) {
             if names.get(place).as_bytes() == word {
                 self.rest = &rest[end..];
@@ -37,8 +39,10 @@ impl Reader<'_> {
         None
     }
 
-    fn target(&mut self) -> Read<Target> {
-        let process = if let Some(place) = self.name() {
+    fn target(&mut self, names: &Names) -> Read<Target>
+        ensures reads { ReadsAs (target_text names.now) (read_target names.now self.old.rest.now) self.new.rest.now result }
+    {
+        let process = if let Some(place) = self.name(names) {
             Proc::Own(place)
         } else if self.take("etimer") {
             Proc::Etimer
@@ -54,17 +58,36 @@ impl Reader<'_> {
         Ok(Target::One(process))
     }
 
-    fn fill_pattern(&mut self, pattern: &mut Pattern) -> Read<()> {
-        self.expect("\"")?;
-        pattern.kinds = self.kinds()?;
+    fn target_part(&mut self, names: &Names) -> Read<Option<Target>>
+        ensures reads { ReadsAs (target_part names.now) (read_target_part names.now self.old.rest.now) self.new.rest.now result }
+    {
         if self.take(" process ") {
-            pattern.target = Some(self.target()?);
+            Ok(Some(self.target(names)?))
+        } else {
+            Ok(None)
         }
-        pattern.serial = self.part(" serial ")?;
-        pattern.event = self.part(" event ")?;
-        pattern.sender = self.part(" sender ")?;
-        pattern.packet = self.part(" packet ")?;
-        pattern.value = self.part(" value ")?;
-        self.expect("\"")
+    }
+
+    fn pattern(&mut self, scope: Scope<'_>) -> Read<Pattern>
+        ensures reads { ReadsAs (pattern_text scope.entry.names.now) (read_pattern scope.entry.names.now self.old.rest.now) self.new.rest.now result }
+    {
+        self.expect("\"")?;
+        let kinds = self.kinds()?;
+        let target = self.target_part(scope.names)?;
+        let serial = self.part(scope, " serial ")?;
+        let event = self.part(scope, " event ")?;
+        let sender = self.part(scope, " sender ")?;
+        let packet = self.part(scope, " packet ")?;
+        let value = self.part(scope, " value ")?;
+        self.expect("\"")?;
+        Ok(Pattern {
+            kinds,
+            target,
+            serial,
+            event,
+            sender,
+            packet,
+            value,
+        })
     }
 }

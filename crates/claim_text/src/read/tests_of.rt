@@ -1,45 +1,65 @@
 //! Reads tests.
+ghost use Rattle.std.specs.Prelude.{map};
+ghost use Rattle.claim_text.specs.Views.{TestView, test_view};
+ghost use Rattle.claim_text.specs.Reading.{Reads, ReadsAs};
+ghost use Rattle.claim_text.specs.ReadTests.{read_test_item, read_each, read_limited, read_times, read_ratio, read_values};
+ghost use Rattle.claim_text.specs.ReadTests.{read_listed, read_last, read_test};
 
 use crate::error::Unread;
 use crate::read::exactly;
 use crate::reader::{Item, Read, Reader};
+use crate::scope::Scope;
 use claims::{Count, Lines, Ratio, Test};
 
 impl Item for Test {
-    fn read(reader: &mut Reader<'_>, items: &mut Vec<Test>) -> Read<()> {
-        items.push(reader.test()?)?;
+    ghost View = { TestView };
+
+    ghost view = { test_view };
+
+    ghost item = { read_test_item };
+
+    fn read(reader: &mut Reader<'_>, scope: Scope<'_>, items: &mut Vec<Test>) -> Read<()> {
+        items.push(reader.test(scope)?)?;
         Ok(())
     }
 }
 
 impl Reader<'_> {
-    fn each(&mut self) -> Read<Test> {
-        let deed = self.deed()?;
+    fn each(&mut self, scope: Scope<'_>) -> Read<Test>
+        ensures reads { ReadsAs (test_view scope.entry.names.now) (read_each scope.entry.names.now scope.entry.own self.old.rest.now) self.new.rest.now result }
+    {
+        let deed = self.deed(scope)?;
         self.expect(" is")?;
-        match self.order(true)? {
+        match self.order(scope, true)? {
             None => Err(Unread::Unexpected),
             order => Ok(Test::Count(Count::Lines(Lines { deed, order }), exactly(0))),
         }
     }
 
-    fn limited(&mut self) -> Read<Test> {
+    fn limited(&mut self, scope: Scope<'_>) -> Read<Test>
+        ensures reads { ReadsAs (test_view scope.entry.names.now) (read_limited scope.entry.names.now scope.entry.own self.old.rest.now) self.new.rest.now result }
+    {
         let limits = self.limits()?;
         self.expect(" ")?;
-        Ok(Test::Count(self.count()?, limits))
+        Ok(Test::Count(self.count(scope)?, limits))
     }
 
-    fn times(&mut self) -> Read<u32> {
+    fn times(&mut self) -> Read<u32>
+        ensures reads { Reads (read_times self.old.rest.now) self.new.rest.now result }
+    {
         let factor = self.number_up_to(u64::from(u32::MAX))? as u32;
         self.expect(" times the number of ")?;
         Ok(factor)
     }
 
-    fn ratio(&mut self) -> Read<Test> {
+    fn ratio(&mut self, scope: Scope<'_>) -> Read<Test>
+        ensures reads { ReadsAs (test_view scope.entry.names.now) (read_ratio scope.entry.names.now scope.entry.own self.old.rest.now) self.new.rest.now result }
+    {
         let low_times = self.times()?;
-        let low = self.count()?;
+        let low = self.count(scope)?;
         let is_strict = self.take_either(" is less than ", " is at most ")?;
         let high_times = self.times()?;
-        let high = self.count()?;
+        let high = self.count(scope)?;
         Ok(Test::Ratio(Ratio {
             low,
             low_times,
@@ -49,41 +69,47 @@ impl Reader<'_> {
         }))
     }
 
-    fn values<T: Item + Drop>(&mut self) -> Read<Vec<T>> {
-        let mut values = Vec::new(self.alloc);
-        self.list_or("no values", "the values ", ", ", &mut values)?;
-        Ok(values)
+    fn values<T: Item + Drop>(&mut self, scope: Scope<'_>) -> Read<Vec<T>>
+        ensures reads { ReadsAs (λ v. map (T.view scope.entry.names.now) v.items) (read_values (T.item scope.entry.names.now scope.entry.own) self.old.rest.now) self.new.rest.now result }
+    {
+        self.list_or(scope, "no values", "the values ", ", ")
     }
 
-    fn listed(&mut self) -> Read<Test> {
-        let deed = self.deed()?;
+    fn listed(&mut self, scope: Scope<'_>) -> Read<Test>
+        ensures reads { ReadsAs (test_view scope.entry.names.now) (read_listed scope.entry.names.now scope.entry.own self.old.rest.now) self.new.rest.now result }
+    {
+        let deed = self.deed(scope)?;
         if self.take_either(
             " have in order of time exactly ",
             " have in any order exactly ",
         )? {
-            Ok(Test::Values(deed, self.values()?))
+            Ok(Test::Values(deed, self.values(scope)?))
         } else {
-            Ok(Test::AnyOrder(deed, self.values()?))
+            Ok(Test::AnyOrder(deed, self.values(scope)?))
         }
     }
 
-    fn last(&mut self) -> Read<Test> {
-        let deed = self.deed()?;
+    fn last(&mut self, scope: Scope<'_>) -> Read<Test>
+        ensures reads { ReadsAs (test_view scope.entry.names.now) (read_last scope.entry.names.now scope.entry.own self.old.rest.now) self.new.rest.now result }
+    {
+        let deed = self.deed(scope)?;
         self.expect(" has the value ")?;
-        Ok(Test::Last(deed, self.set()?))
+        Ok(Test::Last(deed, self.set(scope)?))
     }
 
-    fn test(&mut self) -> Read<Test> {
+    fn test(&mut self, scope: Scope<'_>) -> Read<Test>
+        ensures reads { ReadsAs (test_view scope.entry.names.now) (read_test scope.entry.names.now scope.entry.own self.old.rest.now) self.new.rest.now result }
+    {
         if self.take("every line ") {
-            self.each()
+            self.each(scope)
         } else if self.take("the lines ") {
-            self.listed()
+            self.listed(scope)
         } else if self.take("the last line ") {
-            self.last()
+            self.last(scope)
         } else if self.has_number() {
-            self.ratio()
+            self.ratio(scope)
         } else {
-            self.limited()
+            self.limited(scope)
         }
     }
 }
