@@ -1,3 +1,14 @@
 mod LineLaws
 mod TakeLaws
-mod ReadNumbers
+mod NumbersAgain
+mod Ends
+mod ListsAgain
+mod SetsAgain
+mod PeriodsAgain
+mod MotesAgain
+mod PatternsAgain
+mod DeedsAgain
+mod CountsAgain
+mod TestsAgain
+mod ClaimsAgain
+mod SameText
