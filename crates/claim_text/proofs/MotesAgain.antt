@@ -7,7 +7,7 @@ use Rattle.std.proofs.lemmas.List.{length-append}
 use Rattle.std.proofs.lemmas.Bool.Decides.{nat_tests}
 use Rattle.claim_text.proofs.Ends.{EndsMotes}
 use Rattle.claim_text.proofs.NumbersAgain.{number_again}
-use Rattle.claim_text.specs.Reading.{ReadOf, next, strip, choose, begins_digit, read_number, append_read, read_list}
+use Rattle.claim_text.specs.Reading.{ReadOf, next, strip, choose, begins_digit, append_read, read_list}
 use Rattle.claim_text.specs.Motes.{is_next, mote_item}
 use Rattle.claim_text.specs.ReadDeeds.{run, motes_in, read_mote, read_mote_span, read_motes}
 

@@ -1,10 +1,10 @@
 -- What is read of the texts of periods and limits, whatever follows.
-use Rattle.std.proofs.Common.{◌≡◌, ℕ, ◌<◌, ◌^◌, nat_eq, nat_lt, Bool, true, false, Option, Some, None, List, [], ◌∷◌, ◌++◌, codes, refl, sym, ap, ap₂, append_assoc, arith}
+use Rattle.std.proofs.Common.{◌≡◌, ℕ, nat_eq, nat_lt, Bool, true, false, Option, Some, None, List, ◌++◌, codes, refl, sym, ap, ap₂, append_assoc, arith}
 use Rattle.std.specs.Fmt.{decimal}
 use Rattle.std.proofs.lemmas.Bool.Decides.{nat_tests}
 use Rattle.claim_text.proofs.Ends.{EndsNumber, EndsPeriod}
 use Rattle.claim_text.specs.Fits.{FitsNumber, FitsSpan, FitsLimits}
-use Rattle.claim_text.specs.Reading.{strip, read_number}
+use Rattle.claim_text.specs.Reading.{strip}
 use Rattle.claims.specs.declared.set.Span.{Span}
 use Rattle.claims.specs.declared.limits.Limits.{Limits}
 use Rattle.claim_text.specs.Numbers.{period_text}

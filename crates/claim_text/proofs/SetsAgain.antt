@@ -1,5 +1,5 @@
 -- What is read of the texts of sets and of lists of values, whatever follows.
-use Rattle.std.proofs.Common.{◌≡◌, ◌∙◌, ℕ, ◌<◌, nat_eq, Bool, true, false, Option, Some, None, List, [], ◌∷◌, ◌++◌, length, map, codes, refl, ap, append-nil, append_assoc, arith}
+use Rattle.std.proofs.Common.{◌≡◌, ◌∙◌, ℕ, ◌<◌, nat_eq, Bool, true, false, Option, Some, None, List, [], ◌∷◌, ◌++◌, length, map, codes, refl, ap, append_assoc, arith}
 use Rattle.std.specs.Char.{is_ascii_digit}
 use Rattle.std.specs.List.{AllByRecursion as Each, flat_map}
 use Rattle.std.specs.Fmt.{decimal}
@@ -13,7 +13,7 @@ use Rattle.claims.specs.declared.set.Span.{Span}
 use Rattle.claims.specs.declared.set.Set.{Set}
 use Rattle.claim_text.specs.Views.{set_view}
 use Rattle.claim_text.specs.Numbers.{span_text, next_span, set_text, part_text}
-use Rattle.claim_text.specs.TestText.{next_set, sets_text, next_value, values_text}
+use Rattle.claim_text.specs.TestText.{sets_text, values_text}
 use Rattle.claim_text.specs.ReadNumbers.{read_span, read_set, read_part, read_set_item, read_number_item}
 use Rattle.claim_text.specs.ReadTests.{read_values}
 use Rattle.claim_text.proofs.TakeLaws.{strip_self}
