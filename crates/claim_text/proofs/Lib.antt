@@ -7,6 +7,7 @@ mod SetsAgain
 mod PeriodsAgain
 mod MotesAgain
 mod PatternsAgain
+mod WatchesAgain
 mod DeedsAgain
 mod CountsAgain
 mod TestsAgain
