@@ -9,6 +9,7 @@ mod MotesAgain
 mod PatternsAgain
 mod WatchesAgain
 mod DeedsAgain
+mod OrdersAgain
 mod CountsAgain
 mod TestsAgain
 mod ClaimsAgain
