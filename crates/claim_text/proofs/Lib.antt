@@ -14,3 +14,4 @@ mod CountsAgain
 mod TestsAgain
 mod ClaimsAgain
 mod SameText
+mod ListTurns

@@ -1,6 +1,7 @@
 //! The errors of texts of claims.
 ghost use Rattle.std.specs.Prelude.{◌≡◌};
 ghost use Rattle.claim_text.specs.declared.error.ClaimsError.TheVariants.{Memory};
+ghost use Rattle.claim_text.specs.declared.error.Unread.TheVariants.{Memory as NoMemory};
 
 use std::alloc::{AllocError, AllocFailed};
 
@@ -40,12 +41,16 @@ impl<T: Drop> From<AllocFailed<T>> for ClaimsError {
 }
 
 impl From<AllocError> for Unread {
+    ghost from_gives = { λ _ e. e ≡ NoMemory };
+
     fn from(_error: AllocError) -> Self {
         Unread::Memory
     }
 }
 
 impl<T: Drop> From<AllocFailed<T>> for Unread {
+    ghost from_gives = { λ _ e. e ≡ NoMemory };
+
     fn from(_error: AllocFailed<T>) -> Self {
         Unread::Memory
     }
