@@ -12,6 +12,7 @@ mod DeedsAgain
 mod OrdersAgain
 mod CountsAgain
 mod TestsAgain
+mod CasesAgain
 mod ClaimsAgain
 mod SameText
 mod ListTurns
