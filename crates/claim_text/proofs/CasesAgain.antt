@@ -46,6 +46,7 @@ word_again None rest = (refl, refl)
 word_again (Some m) rest = (refl, refl)
 
 module _ (names : List (List ℕ)) where
+  -- the motes of a group and its tests
   abbrev pub group_text : Group → List ℕ
   group_text (Net k) = codes "the net: " ++ tests_text names None k.tests.items
   group_text (Motes m k more) =
@@ -116,6 +117,7 @@ pub record Split (names : List (List ℕ)) (k : Case) (ks : List Case) : Type 0 
   pub same : Each (HasBody names (body_of names k)) more
   pub fit : Each (FitsGroup names) others
 
+-- the values of equal options
 some_same : {A : Type 0} {x y : A} → Some x ≡ Some y → x ≡ y
 some_same same = cc
 
@@ -162,7 +164,7 @@ mote_fits k fits = go k.tests.items fits
 
 module _ (names : List (List ℕ)) where
   -- the text of the first case, and of what is behind it
-  pub whole : (own : Option ℕ) (k : Case) (more : List (ℕ × Case)) (after : Option ℕ) (text rest : List ℕ) → (own ≡ None → more ≡ [])
+  whole : (own : Option ℕ) (k : Case) (more : List (ℕ × Case)) (after : Option ℕ) (text rest : List ℕ) → (own ≡ None → more ≡ [])
       → after ≡ first_of (motes_of more)
       → body_text (tests_text names own k.tests.items) after ++ text
       ≡ motes_behind own (motes_of more) ++ (codes ": " ++ (tests_text names own k.tests.items ++ rest))
@@ -183,6 +185,7 @@ module _ (names : List (List ℕ)) where
         append_assoc (decimal m) behind (codes ": " ++ (body ++ rest)),
       ) refl
 
+  -- the group of a case fits, and the views of its cases are theirs
   fits_group : (own : Option ℕ) (k : Case) (more : List (ℕ × Case)) → IfThere FitsMote own → FitsCase k
       → Each (HasBody names (tests_text names own k.tests.items)) more → FitsGroup names (group_of own k more)
   fits_group None k more mote fits same = fits
@@ -199,6 +202,7 @@ module _ (names : List (List ℕ)) where
   all_views k ks s =
       ap (λ vs. vs ++ flat_map (group_view names) s.others) (group_views (own_of k) k s.more s.alone) ∙ ap (λ vs. case_view names k ∷ vs) s.views
 
+  -- the text of the cases is the text of the groups
   pub all_text : (k : Case) (ks : List Case) (s : Split names k ks)
       → entries_text true None (entries_of names (k ∷ ks)) ≡ group_text names (group_of (own_of k) k s.more) ++ others_text names s.others
   all_text k ks s =
@@ -221,6 +225,7 @@ module _ (names : List (List ℕ)) where
       ∙ (sym (append_assoc (mote_item (Some b) y (first_of ms)) (motes_behind (Some y) ms) rest)
       ∙ ap (λ z. motes_behind (Some b) (z ∷ ms) ++ rest) (some_same is_own))))
 
+  -- from the last case to the first
   pub split : (k : Case) (ks : List Case) → Each FitsCase (k ∷ ks) → Split names k ks
   split k [] fits = record { more = []; others = []; alone = λ e. refl; after = refl; text = refl; views = refl; same = tt; fit = tt }
   split k (c ∷ cs) fits = go (mote_after (entry_of names k) (entries_of names (c ∷ cs))) refl (split c cs fits.1)

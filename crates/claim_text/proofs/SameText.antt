@@ -28,6 +28,7 @@ use Rattle.claim_text.specs.TestText.{next_set, sets_text, values_text, test_tex
 use Rattle.claim_text.specs.Groups.{entry_of}
 use Rattle.claim_text.specs.ClaimText.{quantity_text, these_text, cases_text, text_of}
 
+-- the values of equal options
 some_same : {A : Type 0} {x y : A} → Some x ≡ Some y → x ≡ y
 some_same same = cc
 
