@@ -6,6 +6,7 @@ mod ListsAgain
 mod SetsAgain
 mod PeriodsAgain
 mod MotesAgain
+mod KindsAgain
 mod PatternsAgain
 mod WatchesAgain
 mod DeedsAgain

@@ -7,14 +7,11 @@ use Rattle.claim_text.specs.Fits.{IfThere, IsWord, FitsNumber, FitsSpan, FitsSet
 use Rattle.claim_text.specs.Reading.{ReadOf, next, strip, choose, behind, begins_digit, read_number, single, read_list, read_all, read_list_or}
 use Rattle.claims.specs.declared.what.Kinds.{Kinds}
 use Rattle.claims.specs.declared.pattern.Pattern.{Pattern}
-use Rattle.claim_text.specs.KindsText.{kinds_text}
+use Rattle.claim_text.proofs.KindsAgain.{kinds_again}
 use Rattle.claim_text.specs.PatternText.{pattern_text, patterns_text}
 use Rattle.claim_text.specs.ReadKinds.{read_kinds}
 use Rattle.claim_text.specs.ReadPatterns.{read_pattern}
 use Rattle.claim_text.specs.ReadDeeds.{read_patterns}
-
-pub kinds_again : (k : Kinds) (tail : List ℕ) → strip (codes " or ") tail ≡ None → read_kinds (kinds_text k ++ tail) ≡ Some (k, tail)
-kinds_again k tail ends = ?
 
 pub pattern_again : (names : List (List ℕ)) (p : Pattern) (tail : List ℕ) → Each IsWord names → FitsPattern p
     → read_pattern names (pattern_text names p ++ tail) ≡ Some (pattern_text names p, tail)

@@ -67,12 +67,15 @@ marked (suc place) (m ∷ ms) = m ∷ marked place ms
 abbrev pub with_kind : (place : ℕ) → Kinds → Kinds
 with_kind place k = kinds_of (marked place (marks_of k))
 
+-- one kind, beside these
+abbrev pub read_one_kind : Kinds → List ℕ → ReadOf Kinds
+read_one_kind k bs = next (read_kind kind_words bs) (λ place rest. Some (with_kind place k, rest))
+
 -- at most so many kinds, beside these
 abbrev pub read_more_kinds : (most : ℕ) → Kinds → List ℕ → ReadOf Kinds
 read_more_kinds zero k bs = None
 read_more_kinds (suc most) k bs =
-    next (read_kind kind_words bs) (λ place rest. choose (strip (codes " or ") rest) (Some (with_kind place k, rest))
-    (read_more_kinds most (with_kind place k)))
+    next (read_one_kind k bs) (λ l rest. choose (strip (codes " or ") rest) (Some (l, rest)) (read_more_kinds most l))
 
 abbrev pub read_kinds : List ℕ → ReadOf Kinds
 read_kinds bs =

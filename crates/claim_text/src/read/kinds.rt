@@ -1,43 +1,99 @@
 //! Reads kinds of lines.
 ghost use Rattle.claim_text.specs.Reading.{Reads};
-ghost use Rattle.claim_text.specs.ReadKinds.{read_kinds};
+ghost use Rattle.claim_text.specs.ReadKinds.{read_one_kind, read_kinds};
 
 use crate::error::Unread;
 use crate::reader::{Read, Reader};
 use claims::Kinds;
 
-static WORDS: [&str; 14] = [
-    "start", "leave", "post", "full", "take", "drop", "print", "busy", "halt", "send", "recv",
-    "lost", "deaf", "collide",
-];
-
-/// Chooses the kind with this place among the words.
-fn choose(kinds: &mut Kinds, place: usize) {
-    match place {
-        0 => kinds.start = true,
-        1 => kinds.leave = true,
-        2 => kinds.post = true,
-        3 => kinds.full = true,
-        4 => kinds.take = true,
-        5 => kinds.drop = true,
-        6 => kinds.print = true,
-        7 => kinds.busy = true,
-        8 => kinds.halt = true,
-        9 => kinds.send = true,
-        10 => kinds.recv = true,
-        11 => kinds.lost = true,
-        12 => kinds.deaf = true,
-        _ => kinds.collide = true,
-    }
-}
-
 impl Reader<'_> {
-    fn kind(&mut self, kinds: &mut Kinds) -> Read<()> {
-        for (place, word) in WORDS.as_slice().iter().enumerate() {
-            if self.take(word) {
-                choose(kinds, place);
-                return Ok(());
-            }
+    /// Reads one kind, beside these.
+    fn kind(&mut self, kinds: Kinds) -> Read<Kinds>
+        ensures reads { Reads (read_one_kind kinds self.old.rest.now) self.new.rest.now result }
+    {
+        if self.take("start") {
+            return Ok(Kinds {
+                start: true,
+                ..kinds
+            });
+        }
+        if self.take("leave") {
+            return Ok(Kinds {
+                leave: true,
+                ..kinds
+            });
+        }
+        if self.take("post") {
+            return Ok(Kinds {
+                post: true,
+                ..kinds
+            });
+        }
+        if self.take("full") {
+            return Ok(Kinds {
+                full: true,
+                ..kinds
+            });
+        }
+        if self.take("take") {
+            return Ok(Kinds {
+                take: true,
+                ..kinds
+            });
+        }
+        if self.take("drop") {
+            return Ok(Kinds {
+                drop: true,
+                ..kinds
+            });
+        }
+        if self.take("print") {
+            return Ok(Kinds {
+                print: true,
+                ..kinds
+            });
+        }
+        if self.take("busy") {
+            return Ok(Kinds {
+                busy: true,
+                ..kinds
+            });
+        }
+        if self.take("halt") {
+            return Ok(Kinds {
+                halt: true,
+                ..kinds
+            });
+        }
+        if self.take("send") {
+            return Ok(Kinds {
+                send: true,
+                ..kinds
+            });
+        }
+        if self.take("recv") {
+            return Ok(Kinds {
+                recv: true,
+                ..kinds
+            });
+        }
+        if self.take("lost") {
+            return Ok(Kinds {
+                lost: true,
+                ..kinds
+            });
+        }
+        if self.take("deaf") {
+            return Ok(Kinds {
+                deaf: true,
+                ..kinds
+            });
+        }
+        if self.take("collide") {
+            return Ok(Kinds {
+                collide: true,
+                ..kinds
+            });
         }
         Err(Unread::Unexpected)
     }
@@ -51,7 +107,7 @@ impl Reader<'_> {
             return Ok(kinds);
         }
         for _ in 0..self.rest.len() {
-            self.kind(&mut kinds)?;
+            kinds = self.kind(kinds)?;
             if !self.take(" or ") {
                 return Ok(kinds);
             }

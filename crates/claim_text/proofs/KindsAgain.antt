@@ -1,0 +1,140 @@
+-- What is read of the texts of kinds, whatever follows.
+use Rattle.std.proofs.Common.{◌≡◌, ◌∙◌, ℕ, ◌+◌, ◌<◌, ◌≤◌, zero, suc, nat_lt, nat_eq, Bool, true, false, Option, Some, None, List, [], ◌∷◌, ◌++◌, length, map, codes, refl, sym, ap, append_assoc, append-nil, arith, length-append}
+use Rattle.std.specs.List.{flat_map}
+use Rattle.claims.specs.declared.what.Kinds.{Kinds}
+use Rattle.claim_text.specs.Reading.{ReadOf, next, strip, choose}
+use Rattle.claim_text.specs.KindsText.{kind_added, kinds_added, kinds_or_nothing, kinds_text}
+use Rattle.claim_text.specs.ReadKinds.{read_kind, kind_words, marks_of, no_kinds, kinds_of, marked, with_kind, read_more_kinds, read_kinds}
+use Rattle.std.proofs.lemmas.Bool.Decides.{nat_tests}
+
+-- the words whose kinds are chosen
+abbrev pub chosen : (marks : List Bool) → (words : List (List ℕ)) → List (List ℕ)
+chosen [] ws = []
+chosen (m ∷ ms) [] = []
+chosen (true ∷ ms) (w ∷ ws) = w ∷ chosen ms ws
+chosen (false ∷ ms) (w ∷ ws) = chosen ms ws
+
+abbrev pub or_word : List ℕ → List ℕ
+or_word w = codes " or " ++ w
+
+-- words, with `or` between them
+abbrev pub words_text : List (List ℕ) → List ℕ
+words_text [] = codes "nothing"
+words_text (w ∷ ws) = w ++ flat_map or_word ws
+
+-- Each word is at its place, and no word is the beginning of another one.
+abbrev IsWordOf : (place : ℕ) → List ℕ → Type 0
+IsWordOf place w =
+    (nat_lt 0 (length w) ≡ true) × ((rest : List ℕ) → read_kind kind_words (w ++ rest) ≡ Some (place, rest))
+    × ((rest : List ℕ) → strip (codes "nothing") (w ++ rest) ≡ None)
+    × ((k : Kinds) → marks_of (with_kind place k) ≡ marked place (marks_of k))
+
+abbrev AreWords : (place : ℕ) → List (List ℕ) → Type 0
+AreWords place [] = Unit {0}
+AreWords place (w ∷ ws) = IsWordOf place w × AreWords (suc place) ws
+
+words : AreWords 0 kind_words
+words = assumption
+
+-- the kinds, with those that are chosen from this place on
+abbrev with_kinds : (place : ℕ) → (marks : List Bool) → Kinds → Kinds
+with_kinds place [] k = k
+with_kinds place (true ∷ ms) k = with_kinds (suc place) ms (with_kind place k)
+with_kinds place (false ∷ ms) k = with_kinds (suc place) ms k
+
+abbrev all_marked : (place : ℕ) → (marks : List Bool) → List Bool → List Bool
+all_marked place [] ms = ms
+all_marked place (true ∷ bs) ms = all_marked (suc place) bs (marked place ms)
+all_marked place (false ∷ bs) ms = all_marked (suc place) bs ms
+
+shifted : (place : ℕ) (bs : List Bool) (m : Bool) (ms : List Bool) → all_marked (suc place) bs (m ∷ ms) ≡ m ∷ all_marked place bs ms
+shifted place [] m ms = refl
+shifted place (true ∷ bs) m ms = shifted (suc place) bs m (marked place ms)
+shifted place (false ∷ bs) m ms = shifted (suc place) bs m ms
+
+marked_again : (bs : List Bool) → all_marked 0 bs (map (λ b. false) bs) ≡ bs
+marked_again [] = refl
+marked_again (true ∷ bs) = shifted 0 bs true (map (λ b. false) bs) ∙ ap (λ ms. true ∷ ms) (marked_again bs)
+marked_again (false ∷ bs) = shifted 0 bs false (map (λ b. false) bs) ∙ ap (λ ms. false ∷ ms) (marked_again bs)
+
+marks_again : (place : ℕ) (bs : List Bool) (ws : List (List ℕ)) (k : Kinds) → AreWords place ws → length bs ≡ length ws
+    → marks_of (with_kinds place bs k) ≡ all_marked place bs (marks_of k)
+marks_again place [] ws k all same = refl
+marks_again place (b ∷ bs) [] k all same = absurd (omega arith)
+marks_again place (true ∷ bs) (w ∷ ws) k all same =
+    marks_again (suc place) bs ws (with_kind place k) all.1 (omega arith) ∙ ap (all_marked (suc place) bs) (all.0.3 k)
+marks_again place (false ∷ bs) (w ∷ ws) k all same = marks_again (suc place) bs ws k all.1 (omega arith)
+
+kinds_chosen : (k : Kinds) → with_kinds 0 (marks_of k) no_kinds ≡ k
+kinds_chosen k = ap kinds_of (marks_again 0 (marks_of k) kind_words no_kinds words refl ∙ marked_again (marks_of k))
+
+some : (w : List ℕ) → nat_lt 0 (length w) ≡ true → 0 < length w
+some [] h = absurd cc
+some (c ∷ cs) h = omega arith
+
+-- a kind is read, and then what follows it
+one_more : (place : ℕ) (w rest : List ℕ) (k : Kinds) (most : ℕ) (expected : ReadOf Kinds) → IsWordOf place w
+    → ((left : ℕ) → length rest ≤ left → choose (strip (codes " or ") rest) (Some (with_kind place k, rest)) (read_more_kinds left (with_kind place k)) ≡ expected)
+    → length (w ++ rest) ≤ most → read_more_kinds most k (w ++ rest) ≡ expected
+one_more place w rest k zero expected is after enough = absurd (omega (arith, some w is.0, length-append w rest, enough))
+one_more place w rest k (suc most) expected is after enough =
+    rw is.1 (after most (omega (arith, some w is.0, length-append w rest, enough)))
+
+module _ (tail : List ℕ) (ends : strip (codes " or ") tail ≡ None) where
+  -- behind a kind
+  others : (place : ℕ) (bs : List Bool) (ws : List (List ℕ)) (k : Kinds) (most : ℕ) → AreWords place ws → length bs ≡ length ws
+      → length (flat_map or_word (chosen bs ws) ++ tail) ≤ most
+      → choose (strip (codes " or ") (flat_map or_word (chosen bs ws) ++ tail)) (Some (k, flat_map or_word (chosen bs ws) ++ tail)) (read_more_kinds most k)
+      ≡ Some (with_kinds place bs k, tail)
+  others place [] ws k most all same enough = rw ends refl
+  others place (b ∷ bs) [] k most all same enough = absurd (omega arith)
+  others place (false ∷ bs) (w ∷ ws) k most all same enough = others (suc place) bs ws k most all.1 (omega arith) enough
+  others place (true ∷ bs) (w ∷ ws) k most all same enough =
+      let rest = flat_map or_word (chosen bs ws) ++ tail in
+      rw (append_assoc w (flat_map or_word (chosen bs ws)) tail)
+      (one_more place w rest k most (Some (with_kinds (suc place) bs (with_kind place k), tail)) all.0
+      (λ left room. others (suc place) bs ws (with_kind place k) left all.1 (omega arith) room)
+      (omega (arith, enough, ap length (append_assoc w (flat_map or_word (chosen bs ws)) tail))))
+
+  all_read : (place : ℕ) (bs : List Bool) (ws : List (List ℕ)) (k : Kinds) → AreWords place ws → length bs ≡ length ws
+      → choose (strip (codes "nothing") (words_text (chosen bs ws) ++ tail)) (read_more_kinds (length (words_text (chosen bs ws) ++ tail)) k (words_text (chosen bs ws) ++ tail)) (λ rest. Some (k, rest))
+      ≡ Some (with_kinds place bs k, tail)
+  all_read place [] ws k all same = refl
+  all_read place (b ∷ bs) [] k all same = absurd (omega arith)
+  all_read place (false ∷ bs) (w ∷ ws) k all same = all_read (suc place) bs ws k all.1 (omega arith)
+  all_read place (true ∷ bs) (w ∷ ws) k all same =
+      let rest = flat_map or_word (chosen bs ws) ++ tail in
+      rw (append_assoc w (flat_map or_word (chosen bs ws)) tail, all.0.2 rest)
+      (one_more place w rest k (length (w ++ rest)) (Some (with_kinds (suc place) bs (with_kind place k), tail)) all.0
+      (λ left room. others (suc place) bs ws (with_kind place k) left all.1 (omega arith) room) (omega arith))
+
+not_empty : {A : Type 0} (x : A) (xs : List A) → nat_eq (length (x ∷ xs)) 0 ≡ false
+not_empty x xs = grind (arith, nat_tests)
+
+-- The printer's text of kinds is made of their words.
+abbrev added : List Bool → List (List ℕ) → List ℕ → List ℕ
+added [] ws text = text
+added (m ∷ ms) [] text = text
+added (m ∷ ms) (w ∷ ws) text = added ms ws (kind_added m w text)
+
+more_added : (bs : List Bool) (ws : List (List ℕ)) (c : ℕ) (text : List ℕ) → added bs ws (c ∷ text) ≡ (c ∷ text) ++ flat_map or_word (chosen bs ws)
+more_added [] ws c text = sym (append-nil (c ∷ text))
+more_added (b ∷ bs) [] c text = sym (append-nil (c ∷ text))
+more_added (true ∷ bs) (w ∷ ws) c text =
+    rw (not_empty c text) (more_added bs ws c (text ++ or_word w) ∙ append_assoc (c ∷ text) (or_word w) (flat_map or_word (chosen bs ws)))
+more_added (false ∷ bs) (w ∷ ws) c text = more_added bs ws c text
+
+all_added : (place : ℕ) (bs : List Bool) (ws : List (List ℕ)) → AreWords place ws → kinds_or_nothing (added bs ws []) ≡ words_text (chosen bs ws)
+all_added place [] ws all = refl
+all_added place (b ∷ bs) [] all = refl
+all_added place (true ∷ bs) ([] ∷ ws) all = absurd (cc (all.0.0))
+all_added place (true ∷ bs) ((c ∷ cs) ∷ ws) all =
+    ap kinds_or_nothing (more_added bs ws c cs) ∙ rw (not_empty c (cs ++ flat_map or_word (chosen bs ws))) refl
+all_added place (false ∷ bs) (w ∷ ws) all = all_added (suc place) bs ws all.1
+
+pub kinds_text_is : (k : Kinds) → kinds_text k ≡ words_text (chosen (marks_of k) kind_words)
+unfolding kinds_added
+kinds_text_is k = all_added 0 (marks_of k) kind_words words
+
+pub kinds_again : (k : Kinds) (tail : List ℕ) → strip (codes " or ") tail ≡ None → read_kinds (kinds_text k ++ tail) ≡ Some (k, tail)
+kinds_again k tail ends = rw kinds_text_is (all_read tail ends 0 (marks_of k) kind_words no_kinds words refl ∙ ap (λ l. Some (l, tail)) (kinds_chosen k))
