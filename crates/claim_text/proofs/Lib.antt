@@ -7,6 +7,7 @@ mod SetsAgain
 mod PeriodsAgain
 mod MotesAgain
 mod KindsAgain
+mod NameLaws
 mod PatternsAgain
 mod WatchesAgain
 mod DeedsAgain

@@ -11,15 +11,23 @@ use Rattle.claim_text.specs.ReadKinds.{read_kinds_text}
 abbrev pub longer : (byte : ℕ) → ReadOf (List ℕ) → ReadOf (List ℕ)
 longer byte read = next read (λ word rest. Some (byte ∷ word, rest))
 
+abbrev pub ends_word : (byte : ℕ) → Bool
+ends_word byte = nat_eq byte 32 || nat_eq byte 34
+
 -- the text in front of the first space or quotation mark
 abbrev pub read_word : List ℕ → ReadOf (List ℕ)
 read_word [] = None
-read_word (b ∷ bs) = if nat_eq b 32 || nat_eq b 34 then Some ([], b ∷ bs) else longer b (read_word bs)
+read_word (b ∷ bs) = if ends_word b then Some ([], b ∷ bs) else longer b (read_word bs)
 
 -- a word that is one of the first 256 names
 abbrev pub read_name : (names : List (List ℕ)) → List ℕ → ReadOf (List ℕ)
 read_name names bs =
     next (read_word bs) (λ word rest. if list_any (bytes_eq word) (take 256 names) then Some (word, rest) else None)
+
+-- the place of a word among the first 256 names, if it is one of them
+abbrev pub IsPlace : (names : List (List ℕ)) → (word : List ℕ) → Option ℕ → Type 0
+IsPlace names word None = list_any (bytes_eq word) (take 256 names) ≡ false
+IsPlace names word (Some p) = (list_any (bytes_eq word) (take 256 names) ≡ true) × (slice_get names p ≡ Some word)
 
 -- the place of the name that was taken, if there is one
 abbrev pub ReadsName : (names : List (List ℕ)) → (before after : List ℕ) → Option ℕ → Type 0

@@ -2,7 +2,7 @@
 ghost use Rattle.std.specs.Prelude.{ℕ, List};
 ghost use Rattle.claim_text.specs.PatternText.{target_text, target_part, pattern_text};
 ghost use Rattle.claim_text.specs.Reading.{ReadsAs};
-ghost use Rattle.claim_text.specs.ReadPatterns.{ReadsName, read_target, read_target_part, read_pattern, read_pattern_item};
+ghost use Rattle.claim_text.specs.ReadPatterns.{IsPlace, ReadsName, read_target, read_target_part, read_pattern, read_pattern_item};
 
 use crate::reader::{Item, Read, Reader};
 use crate::scope::Scope;
@@ -22,6 +22,18 @@ impl Item for Pattern {
     }
 }
 
+/// The place of a word among the first 256 names.
+fn place_of(names: &Names, word: &[u8]) -> Option<u8>
+    ensures place { IsPlace names.now word.now result }
+{
+    for place in 0..names.len().min(256) {
+        if names.get(place).as_bytes() == word {
+            return Some(place as u8);
+        }
+    }
+    None
+}
+
 impl Reader<'_> {
     /// Takes the name of a process, if the word in front of a space or a quotation mark is one.
     fn name(&mut self, names: &Names) -> Option<u8>
@@ -29,14 +41,9 @@ impl Reader<'_> {
     {
         let rest = self.rest;
         let end = rest.iter().position(|byte| *byte == b' ' || *byte == b'"')?;
-        let word = &rest[..end];
-        for place in 0..names.len().min(256) {
-            if names.get(place).as_bytes() == word {
-                self.rest = &rest[end..];
-                return Some(place as u8);
-            }
-        }
-        None
+        let place = place_of(names, &rest[..end])?;
+        self.rest = &rest[end..];
+        Some(place)
     }
 
     fn target(&mut self, names: &Names) -> Read<Target>
