@@ -1,9 +1,10 @@
 //! Reads deeds and orders.
-ghost use Rattle.std.specs.Prelude.{ℕ};
+ghost use Rattle.std.specs.Prelude.{◌≡◌, ◌++◌, ℕ, OnOk, IfErr};
+ghost use Rattle.claim_text.specs.declared.error.Unread.TheVariants.{Memory};
 ghost use Rattle.claims.specs.declared.trace.Watch.{Watch};
 ghost use Rattle.claim_text.specs.Views.{deed_view, order_view};
 ghost use Rattle.claim_text.specs.Reading.{Reads, ReadsAs};
-ghost use Rattle.claim_text.specs.ReadDeeds.{read_mote_span, read_group, read_mote, read_watches, read_deed, meant};
+ghost use Rattle.claim_text.specs.ReadDeeds.{read_mote_span, read_group, read_mote, read_watches, read_deed, meant, motes_in};
 ghost use Rattle.claim_text.specs.ReadDeeds.{some_or_no, read_moments, read_relation, read_order};
 
 use crate::error::Unread;
@@ -26,12 +27,20 @@ impl Item for u16 {
         } else {
             from
         };
-        for mote in from..to {
-            items.push(mote)?;
-        }
-        items.push(to)?;
-        Ok(())
+        put_span(items, from, to)
     }
+}
+
+/// Appends the motes of a span; the last one alone, if the first one comes behind it.
+fn put_span(motes: &mut Vec<u16>, from: u16, to: u16) -> Read<()>
+    ensures motes { OnOk result (motes.new.items ≡ motes.old.items ++ motes_in from to) }
+    ensures memory { IfErr result (λ e. e ≡ Memory) }
+{
+    for mote in from..to {
+        motes.push(mote)?;
+    }
+    motes.push(to)?;
+    Ok(())
 }
 
 impl Item for Watch {
