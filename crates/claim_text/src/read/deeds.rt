@@ -1,16 +1,17 @@
 //! Reads deeds and orders.
-ghost use Rattle.std.specs.Prelude.{◌≡◌, ◌++◌, ℕ, OnOk, IfErr};
+ghost use Rattle.std.specs.Prelude.{◌≡◌, ◌++◌, map, ℕ, OnOk, IfErr};
 ghost use Rattle.claim_text.specs.declared.error.Unread.TheVariants.{Memory};
 ghost use Rattle.claims.specs.declared.trace.Watch.{Watch};
 ghost use Rattle.claim_text.specs.Views.{deed_view, order_view};
 ghost use Rattle.claim_text.specs.Reading.{Reads, ReadsAs};
-ghost use Rattle.claim_text.specs.ReadDeeds.{read_mote_span, read_group, read_mote, read_watches, read_deed, meant, motes_in};
+ghost use Rattle.claim_text.specs.ReadDeeds.{read_mote_span, read_group, read_mote, read_watches, read_deed, meant};
+ghost use Rattle.claim_text.specs.ReadDeeds.{motes_in, watch_at};
 ghost use Rattle.claim_text.specs.ReadDeeds.{some_or_no, read_moments, read_relation, read_order};
 
 use crate::error::Unread;
 use crate::reader::{Item, Read, Reader};
 use crate::scope::Scope;
-use claims::{Deed, Order, Relation, Watch};
+use claims::{Deed, Order, Relation, Span, Watch};
 
 impl Item for u16 {
     ghost View = { ℕ };
@@ -58,11 +59,19 @@ impl Item for Watch {
             reader.expect(" together")?;
         }
         let when = reader.period()?;
-        for mote in &motes {
-            items.push(Watch { mote: *mote, when })?;
-        }
-        Ok(())
+        put_watches(items, motes.as_slice(), when)
     }
+}
+
+/// Appends these motes with one period.
+fn put_watches(watches: &mut Vec<Watch>, motes: &[u16], when: Span) -> Read<()>
+    ensures watches { OnOk result (watches.new.items ≡ watches.old.items ++ map (watch_at when) motes.now) }
+    ensures memory { IfErr result (λ e. e ≡ Memory) }
+{
+    for mote in motes {
+        watches.push(Watch { mote: *mote, when })?;
+    }
+    Ok(())
 }
 
 /// A relation, and whether it is meant or denied.
