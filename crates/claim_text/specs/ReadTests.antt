@@ -5,15 +5,15 @@ use Rattle.claims.specs.declared.limits.Limits.{Limits}
 use Rattle.claims.specs.declared.medium.Arrival.{Arrival}
 use Rattle.claims.specs.declared.medium.Arrival.TheVariants.{Lost, Due}
 use Rattle.claim_text.specs.Views.{DeedView, OrderView, CountView, LinesView, PacketsView, CopiesView, LeftView, RowsView, RatioView, TestView, CountsView, RatiosView, ValuesView, AnyOrderView, LastView}
-use Rattle.claim_text.specs.Reading.{ReadOf, next, strip, choose, behind, read_either, read_number, read_number_up_to, begins_digit, single}
+use Rattle.claim_text.specs.Reading.{ReadOf, next, strip, strip_noun, choose, behind, read_either, read_number, read_number_up_to, begins_digit, single}
 use Rattle.claim_text.specs.Reading.{read_list_or}
 use Rattle.claim_text.specs.ReadNumbers.{read_set, read_set_item, read_number_item, read_period, read_limits}
 use Rattle.claim_text.specs.ReadDeeds.{read_deed, read_order}
 
--- a word that may be in the singular
+-- what is read behind a noun in the singular or in the plural, or without it
 abbrev pub choose_noun : {B : Type 0} → (one many : List ℕ) → List ℕ → (without : Option B) → (behind : List ℕ → Option B)
     → Option B
-choose_noun one many bs without behind = choose (strip one bs) (choose (strip many bs) without behind) behind
+choose_noun one many bs without behind = choose (strip_noun one many bs) without behind
 
 -- motes behind a word, if the word is there
 abbrev pub read_motes_part : (word : List ℕ) → List ℕ → ReadOf (Option (List Span))

@@ -52,6 +52,15 @@ choose (Some rest) without behind = behind rest
 abbrev pub behind : {B : Type 0} → (word : List ℕ) → List ℕ → (List ℕ → Option B) → Option B
 behind word bs f = choose (strip word bs) None f
 
+-- the text behind a noun in the singular or in the plural, if the text begins with it
+abbrev pub strip_noun : (one many : List ℕ) → List ℕ → Option (List ℕ)
+strip_noun one many bs = choose (strip one bs) (strip many bs) (λ rest. Some rest)
+
+-- whether a noun was taken, and what is left
+abbrev pub TookNoun : Bool → (one many before after : List ℕ) → Type 0
+TookNoun true one many before after = strip_noun one many before ≡ Some after
+TookNoun false one many before after = (strip_noun one many before ≡ None) × (after ≡ before)
+
 -- which of two words is there
 abbrev pub read_either : (first second : List ℕ) → List ℕ → ReadOf Bool
 read_either first second bs =

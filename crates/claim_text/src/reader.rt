@@ -1,6 +1,6 @@
 //! The rest of a line that is yet to be read.
 ghost use Rattle.std.specs.Prelude.{◌≡◌, map};
-ghost use Rattle.claim_text.specs.Reading.{Took, begins, Expects, Reads, ReadsAs, read_either, read_all, read_list_or};
+ghost use Rattle.claim_text.specs.Reading.{Took, TookNoun, begins, Expects, Reads, ReadsAs, read_either, read_all, read_list_or};
 
 use crate::error::Unread;
 use crate::scope::Scope;
@@ -46,6 +46,13 @@ impl Reader<'_> {
             }
             None => false,
         }
+    }
+
+    /// Takes a noun in the singular or in the plural, if the rest begins with it.
+    pub fn take_noun(&mut self, one: &str, many: &str) -> bool
+        ensures took { TookNoun result one.now many.now self.old.rest.now self.new.rest.now }
+    {
+        self.take(one) || self.take(many)
     }
 
     /// Returns whether the rest begins with a word.

@@ -60,15 +60,15 @@ impl Reader<'_> {
     pub fn count(&mut self, scope: Scope<'_>) -> Read<Count>
         ensures reads { ReadsAs (count_view scope.entry.names.now) (read_count scope.entry.names.now scope.entry.own self.old.rest.now) self.new.rest.now result }
     {
-        if self.take("line in the report") || self.take("lines in the report") {
+        if self.take_noun("line in the report", "lines in the report") {
             Ok(Count::Rows)
-        } else if self.take("copy left at the end") || self.take("copies left at the end") {
+        } else if self.take_noun("copy left at the end", "copies left at the end") {
             Ok(Count::Left)
-        } else if self.take("line ") || self.take("lines ") {
+        } else if self.take_noun("line ", "lines ") {
             self.lines(scope)
-        } else if self.take("packet sent") || self.take("packets sent") {
+        } else if self.take_noun("packet sent", "packets sent") {
             self.packets(scope)
-        } else if self.take("copy") || self.take("copies") {
+        } else if self.take_noun("copy", "copies") {
             self.copies(scope)
         } else {
             Err(Unread::Unexpected)
