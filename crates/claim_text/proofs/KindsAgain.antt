@@ -1,8 +1,8 @@
 -- What is read of the texts of kinds, whatever follows.
-use Rattle.std.proofs.Common.{◌≡◌, ◌∙◌, ℕ, ◌+◌, ◌<◌, ◌≤◌, zero, suc, nat_lt, nat_eq, Bool, true, false, Option, Some, None, List, [], ◌∷◌, ◌++◌, length, map, codes, refl, sym, ap, append_assoc, append-nil, arith, length-append}
+use Rattle.std.proofs.Common.{◌≡◌, ◌∙◌, ℕ, ◌<◌, ◌≤◌, zero, suc, nat_lt, nat_eq, Bool, true, false, Some, None, List, [], ◌∷◌, ◌++◌, length, map, codes, refl, sym, ap, append_assoc, append-nil, arith, length-append}
 use Rattle.std.specs.List.{flat_map}
 use Rattle.claims.specs.declared.what.Kinds.{Kinds}
-use Rattle.claim_text.specs.Reading.{ReadOf, next, strip, choose}
+use Rattle.claim_text.specs.Reading.{ReadOf, strip, choose}
 use Rattle.claim_text.specs.KindsText.{kind_added, kinds_added, kinds_or_nothing, kinds_text}
 use Rattle.claim_text.specs.ReadKinds.{read_kind, kind_words, marks_of, no_kinds, kinds_of, marked, with_kind, read_more_kinds, read_kinds}
 use Rattle.std.proofs.lemmas.Bool.Decides.{nat_tests}

@@ -1,5 +1,5 @@
 -- What a reader makes of kinds.
-use Rattle.std.specs.Prelude.{ℕ, zero, suc, ◌+◌, Bool, true, false, Option, Some, None, List, [], ◌∷◌, length, codes}
+use Rattle.std.specs.Prelude.{ℕ, zero, suc, ◌+◌, Bool, true, false, Some, None, List, [], ◌∷◌, length, codes}
 use Rattle.claims.specs.declared.what.Kinds.{Kinds}
 use Rattle.claim_text.specs.KindsText.{kinds_text}
 use Rattle.claim_text.specs.Reading.{ReadOf, next, strip, choose}
