@@ -18,3 +18,4 @@ mod CasesAgain
 mod ClaimsAgain
 mod SameText
 mod ListTurns
+mod CaseTurns
