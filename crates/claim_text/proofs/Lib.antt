@@ -19,3 +19,4 @@ mod ClaimsAgain
 mod SameText
 mod ListTurns
 mod CaseTurns
+mod Complete

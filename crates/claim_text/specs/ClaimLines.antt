@@ -1,10 +1,11 @@
 -- The lines of a text that are claims, and the line that isn't read.
-use Rattle.std.specs.Prelude.{◌≡◌, ◌≤◌, ◌+◌, ℕ, Bool, true, false, ◌==◌, not, List, [], ◌∷◌, ◌++◌, length, map, filter}
+use Rattle.std.specs.Prelude.{◌≡◌, ◌≢◌, ◌≤◌, ◌+◌, ℕ, Bool, true, false, ◌==◌, not, List, [], ◌∷◌, ◌++◌, length, map, filter}
 use Rattle.std.specs.List.{slice_split}
 use Rattle.claims.specs.declared.claim.Claim.{Claim}
 use Rattle.claim_text.specs.declared.error.ClaimsError.{ClaimsError}
 use Rattle.claim_text.specs.declared.error.ClaimsError.TheVariants.{Memory, NotAClaim}
 use Rattle.claim_text.specs.ClaimText.{text_of}
+use Rattle.claim_text.specs.Fits.{AreWords, FitsClaim}
 
 -- the lines of a text, without their line feeds
 abbrev pub lines_of : (text : List ℕ) → List (List ℕ)
@@ -25,7 +26,12 @@ IsAt number line Memory = Unit {0}
 IsAt number line (NotAClaim n column) =
     (is_claim_line line ≡ true) × (n ≡ number) × (1 ≤ column) × (column ≤ length line + 1)
 
--- the error is at a line of the text, and those before it that should be claims are the texts of some claims
+-- the line isn't the text of a claim whose numbers fit in their types, if the names are words
+abbrev pub IsNoText : (names : List (List ℕ)) → (line : List ℕ) → ClaimsError → Type 0
+IsNoText names line Memory = Unit {0}
+IsNoText names line (NotAClaim n column) = AreWords names → (c : Claim) → FitsClaim c → text_of names c ≢ line
+
+-- the error is at the first line of the text that should be the text of a claim and isn't
 pub record IsRefused (names : List (List ℕ)) (text : List ℕ) (error : ClaimsError) : Type 0 where
   pub before : List (List ℕ)
   pub line : List ℕ
@@ -34,6 +40,7 @@ pub record IsRefused (names : List (List ℕ)) (text : List ℕ) (error : Claims
   pub claims : List Claim
   pub read : map (text_of names) claims ≡ filter is_claim_line before
   pub at : IsAt (length before + 1) line error
+  pub other : IsNoText names line error
 
 -- an error and its cause; an allocation may fail for any text
 abbrev pub Refuses : (names : List (List ℕ)) → (text : List ℕ) → ClaimsError → Type 0

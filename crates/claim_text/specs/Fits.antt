@@ -97,3 +97,6 @@ FitsClaim c = FitsLimits c.limits × Each FitsCase c.cases.items
 -- no byte of a word is a space or a quotation mark
 abbrev pub IsWord : List ℕ → Type 0
 IsWord = Each (λ byte. (byte ≢ 32) × (byte ≢ 34))
+
+abbrev pub AreWords : (names : List (List ℕ)) → Type 0
+AreWords names = Each IsWord names

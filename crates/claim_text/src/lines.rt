@@ -1,7 +1,7 @@
 //! Reads a text of claims, line by line.
-ghost use Rattle.std.specs.Prelude.{◌≡◌, ◌≤◌, [], ◌∷◌, ◌++◌, true, filter, map, length, IsTrue, IfErr, IfOk, OnOk};
+ghost use Rattle.std.specs.Prelude.{◌≡◌, ◌≤◌, [], ◌∷◌, ◌++◌, true, filter, map, length, IsTrue, ◌↔◌, IfErr, IfOk, OnOk};
 ghost use Rattle.claim_text.specs.ClaimText.{text_of};
-ghost use Rattle.claim_text.specs.ClaimLines.{lines_of, is_claim_line, claim_lines, IsAt, Refuses};
+ghost use Rattle.claim_text.specs.ClaimLines.{lines_of, is_claim_line, claim_lines, IsAt, IsNoText, Refuses};
 
 use crate::error::{ClaimsError, Unread};
 use crate::reader::Reader;
@@ -34,7 +34,7 @@ fn common(a: &[u8], b: &[u8]) -> usize
 
 /// Returns whether a line is this text.
 fn is_text(text: &str, line: &[u8]) -> bool
-    ensures same { IsTrue result → text.now ≡ line.now }
+    ensures same { IsTrue result ↔ text.now ≡ line.now }
 {
     text.as_bytes() == line
 }
@@ -55,6 +55,7 @@ fn read_line(alloc: Global, names: &Names, line: &[u8], number: usize) -> Result
     requires should_be { is_claim_line line.now ≡ true }
     ensures text { IfOk result (λ c. text_of names.now c ≡ line.now) }
     ensures at { IfErr result (IsAt number line.now) }
+    ensures no_text { IfErr result (IsNoText names.now line.now) }
 {
     let mut reader = Reader { alloc, rest: line };
     let claim = match reader.claim(names) {
@@ -82,6 +83,7 @@ fn add_line(
     ensures added { OnOk result (map (text_of names.now) claims.new.items
         ≡ map (text_of names.now) claims.old.items ++ filter is_claim_line (line.now ∷ [])) }
     ensures at { IfErr result (IsAt number line.now) }
+    ensures no_text { IfErr result (IsNoText names.now line.now) }
 {
     if is_claim_line(line) {
         let claim = read_line(alloc, names, line, number)?;
