@@ -1,26 +1,10 @@
 -- What is read of the texts of kinds, whatever follows.
-use Rattle.std.proofs.Common.{◌≡◌, ◌∙◌, ℕ, ◌<◌, ◌≤◌, zero, suc, nat_lt, nat_eq, Bool, true, false, Some, None, List, [], ◌∷◌, ◌++◌, length, map, codes, refl, sym, ap, append_assoc, append-nil, arith, length-append}
+use Rattle.std.proofs.Common.{◌≡◌, ◌∙◌, ℕ, ◌<◌, ◌≤◌, zero, suc, nat_lt, Bool, true, false, Some, None, List, [], ◌∷◌, ◌++◌, length, map, codes, refl, ap, append_assoc, arith, length-append}
 use Rattle.std.specs.List.{flat_map}
 use Rattle.claims.specs.declared.what.Kinds.{Kinds}
 use Rattle.claim_text.specs.Reading.{ReadOf, strip, choose}
-use Rattle.claim_text.specs.KindsText.{kind_added, kinds_added, kinds_or_nothing, kinds_text}
-use Rattle.claim_text.specs.ReadKinds.{read_kind, kind_words, marks_of, no_kinds, kinds_of, marked, with_kind, read_more_kinds, read_kinds}
-use Rattle.std.proofs.lemmas.Bool.Decides.{nat_tests}
-
--- the words whose kinds are chosen
-abbrev pub chosen : (marks : List Bool) → (words : List (List ℕ)) → List (List ℕ)
-chosen [] ws = []
-chosen (m ∷ ms) [] = []
-chosen (true ∷ ms) (w ∷ ws) = w ∷ chosen ms ws
-chosen (false ∷ ms) (w ∷ ws) = chosen ms ws
-
-abbrev pub or_word : List ℕ → List ℕ
-or_word w = codes " or " ++ w
-
--- words, with `or` between them
-abbrev pub words_text : List (List ℕ) → List ℕ
-words_text [] = codes "nothing"
-words_text (w ∷ ws) = w ++ flat_map or_word ws
+use Rattle.claim_text.specs.KindsText.{kind_words, marks_of, chosen, or_word, words_text, kinds_text}
+use Rattle.claim_text.specs.ReadKinds.{read_kind, no_kinds, kinds_of, marked, with_kind, read_more_kinds, read_kinds}
 
 -- Each word is at its place, and no word is the beginning of another one.
 abbrev IsWordOf : (place : ℕ) → List ℕ → Type 0
@@ -108,33 +92,6 @@ module _ (tail : List ℕ) (ends : strip (codes " or ") tail ≡ None) where
       (one_more place w rest k (length (w ++ rest)) (Some (with_kinds (suc place) bs (with_kind place k), tail)) all.0
       (λ left room. others (suc place) bs ws (with_kind place k) left all.1 (omega arith) room) (omega arith))
 
-not_empty : {A : Type 0} (x : A) (xs : List A) → nat_eq (length (x ∷ xs)) 0 ≡ false
-not_empty x xs = grind (arith, nat_tests)
-
--- The printer's text of kinds is made of their words.
-abbrev added : List Bool → List (List ℕ) → List ℕ → List ℕ
-added [] ws text = text
-added (m ∷ ms) [] text = text
-added (m ∷ ms) (w ∷ ws) text = added ms ws (kind_added m w text)
-
-more_added : (bs : List Bool) (ws : List (List ℕ)) (c : ℕ) (text : List ℕ) → added bs ws (c ∷ text) ≡ (c ∷ text) ++ flat_map or_word (chosen bs ws)
-more_added [] ws c text = sym (append-nil (c ∷ text))
-more_added (b ∷ bs) [] c text = sym (append-nil (c ∷ text))
-more_added (true ∷ bs) (w ∷ ws) c text =
-    rw (not_empty c text) (more_added bs ws c (text ++ or_word w) ∙ append_assoc (c ∷ text) (or_word w) (flat_map or_word (chosen bs ws)))
-more_added (false ∷ bs) (w ∷ ws) c text = more_added bs ws c text
-
-all_added : (place : ℕ) (bs : List Bool) (ws : List (List ℕ)) → AreWords place ws → kinds_or_nothing (added bs ws []) ≡ words_text (chosen bs ws)
-all_added place [] ws all = refl
-all_added place (b ∷ bs) [] all = refl
-all_added place (true ∷ bs) ([] ∷ ws) all = absurd (cc (all.0.0))
-all_added place (true ∷ bs) ((c ∷ cs) ∷ ws) all =
-    ap kinds_or_nothing (more_added bs ws c cs) ∙ rw (not_empty c (cs ++ flat_map or_word (chosen bs ws))) refl
-all_added place (false ∷ bs) (w ∷ ws) all = all_added (suc place) bs ws all.1
-
-pub kinds_text_is : (k : Kinds) → kinds_text k ≡ words_text (chosen (marks_of k) kind_words)
-unfolding kinds_added
-kinds_text_is k = all_added 0 (marks_of k) kind_words words
-
 pub kinds_again : (k : Kinds) (tail : List ℕ) → strip (codes " or ") tail ≡ None → read_kinds (kinds_text k ++ tail) ≡ Some (k, tail)
-kinds_again k tail ends = rw kinds_text_is (all_read tail ends 0 (marks_of k) kind_words no_kinds words refl ∙ ap (λ l. Some (l, tail)) (kinds_chosen k))
+unfolding kinds_text
+kinds_again k tail ends = all_read tail ends 0 (marks_of k) kind_words no_kinds words refl ∙ ap (λ l. Some (l, tail)) (kinds_chosen k)

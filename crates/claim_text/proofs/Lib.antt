@@ -6,6 +6,7 @@ mod ListsAgain
 mod SetsAgain
 mod PeriodsAgain
 mod MotesAgain
+mod WordsAdded
 mod KindsAgain
 mod NameLaws
 mod PatternsAgain

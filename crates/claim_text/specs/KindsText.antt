@@ -1,23 +1,48 @@
 -- The text of kinds of lines.
-use Rattle.std.specs.Prelude.{ℕ, Bool, ◌==◌, length, if◌then◌else◌, List, [], ◌++◌, codes}
+use Rattle.std.specs.Prelude.{ℕ, Bool, true, false, ◌==◌, length, if◌then◌else◌, List, [], ◌∷◌, ◌++◌, codes}
+use Rattle.std.specs.List.{flat_map}
 use Rattle.claims.specs.declared.what.Kinds.{Kinds}
 
--- the words, with one more word behind ` or ` if its kind is chosen
+abbrev pub kind_words : List (List ℕ)
+kind_words =
+    codes "start" ∷ codes "leave" ∷ codes "post" ∷ codes "full" ∷ codes "take" ∷ codes "drop" ∷ codes "print"
+    ∷ codes "busy" ∷ codes "halt" ∷ codes "send" ∷ codes "recv" ∷ codes "lost" ∷ codes "deaf" ∷ codes "collide" ∷ []
+
+-- which kinds are chosen, in the order of their words
+abbrev pub marks_of : Kinds → List Bool
+marks_of k =
+    k.start ∷ k.leave ∷ k.post ∷ k.full ∷ k.take ∷ k.drop ∷ k.print ∷ k.busy ∷ k.halt ∷ k.send ∷ k.recv ∷ k.lost
+    ∷ k.deaf ∷ k.collide ∷ []
+
+-- the words whose marks are true
+abbrev pub chosen : (marks : List Bool) → (words : List (List ℕ)) → List (List ℕ)
+chosen [] ws = []
+chosen (m ∷ ms) [] = []
+chosen (true ∷ ms) (w ∷ ws) = w ∷ chosen ms ws
+chosen (false ∷ ms) (w ∷ ws) = chosen ms ws
+
+abbrev pub or_word : List ℕ → List ℕ
+or_word word = codes " or " ++ word
+
+-- words with `or` between them, or `nothing`
+abbrev pub words_text : List (List ℕ) → List ℕ
+words_text [] = codes "nothing"
+words_text (w ∷ ws) = w ++ flat_map or_word ws
+
+-- the words of the kinds that are chosen
+unfoldable pub kinds_text : Kinds → List ℕ
+kinds_text k = words_text (chosen (marks_of k) kind_words)
+
+-- these words, with one more word behind ` or ` if its kind is chosen
 abbrev pub kind_added : (is_chosen : Bool) → (word : List ℕ) → (words : List ℕ) → List ℕ
 kind_added is_chosen word words =
-    if is_chosen then (if length words == 0 then word else words ++ (codes " or " ++ word)) else words
+    if is_chosen then (if length words == 0 then word else words ++ or_word word) else words
 
+abbrev pub words_added : (marks : List Bool) → (words : List (List ℕ)) → List ℕ → List ℕ
+words_added [] ws text = text
+words_added (m ∷ ms) [] text = text
+words_added (m ∷ ms) (w ∷ ws) text = words_added ms ws (kind_added m w text)
+
+-- these words, with the words of the kinds that are chosen
 unfoldable pub kinds_added : Kinds → List ℕ → List ℕ
-kinds_added k words =
-    kind_added k.collide (codes "collide") (kind_added k.deaf (codes "deaf") (kind_added k.lost (codes "lost")
-    (kind_added k.recv (codes "recv") (kind_added k.send (codes "send") (kind_added k.halt (codes "halt")
-    (kind_added k.busy (codes "busy") (kind_added k.print (codes "print") (kind_added k.drop (codes "drop")
-    (kind_added k.take (codes "take") (kind_added k.full (codes "full") (kind_added k.post (codes "post")
-    (kind_added k.leave (codes "leave") (kind_added k.start (codes "start") words)))))))))))))
-
-abbrev pub kinds_or_nothing : (words : List ℕ) → List ℕ
-kinds_or_nothing words = if length words == 0 then codes "nothing" else words
-
--- the words of the kinds that are chosen, with `or` between them
-abbrev pub kinds_text : Kinds → List ℕ
-kinds_text k = kinds_or_nothing (kinds_added k [])
+kinds_added k words = words_added (marks_of k) kind_words words

@@ -1,7 +1,7 @@
 -- What a reader makes of kinds.
 use Rattle.std.specs.Prelude.{ℕ, zero, suc, ◌+◌, Bool, true, false, Some, None, List, [], ◌∷◌, length, codes}
 use Rattle.claims.specs.declared.what.Kinds.{Kinds}
-use Rattle.claim_text.specs.KindsText.{kinds_text}
+use Rattle.claim_text.specs.KindsText.{kind_words, marks_of, kinds_text}
 use Rattle.claim_text.specs.Reading.{ReadOf, next, strip, choose}
 
 -- the place of the first of these words that is there
@@ -9,17 +9,6 @@ abbrev pub read_kind : (words : List (List ℕ)) → List ℕ → ReadOf ℕ
 read_kind [] bs = None
 read_kind (w ∷ ws) bs =
     choose (strip w bs) (next (read_kind ws bs) (λ place rest. Some (place + 1, rest))) (λ rest. Some (0, rest))
-
-abbrev pub kind_words : List (List ℕ)
-kind_words =
-    codes "start" ∷ codes "leave" ∷ codes "post" ∷ codes "full" ∷ codes "take" ∷ codes "drop" ∷ codes "print"
-    ∷ codes "busy" ∷ codes "halt" ∷ codes "send" ∷ codes "recv" ∷ codes "lost" ∷ codes "deaf" ∷ codes "collide" ∷ []
-
--- which kinds are chosen, in the order of their words
-abbrev pub marks_of : Kinds → List Bool
-marks_of k =
-    k.start ∷ k.leave ∷ k.post ∷ k.full ∷ k.take ∷ k.drop ∷ k.print ∷ k.busy ∷ k.halt ∷ k.send ∷ k.recv ∷ k.lost
-    ∷ k.deaf ∷ k.collide ∷ []
 
 abbrev pub no_kinds : Kinds
 no_kinds = record {

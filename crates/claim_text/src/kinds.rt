@@ -41,6 +41,7 @@ fn add_kinds(words: &mut String, kinds: &Kinds) -> Written
 }
 
 /// Appends kinds: their words in the order of the documentation, or `nothing` if no kind is chosen.
+#[tactic(auto, using(crate::proofs::WordsAdded::kinds_printed))]
 pub fn put_kinds(text: &mut String, kinds: &Kinds) -> Written
     ensures appends { Appends result text.old text.new (kinds_text kinds.now) }
 {
