@@ -1,13 +1,13 @@
 -- Words that are names of processes.
-use Rattle.std.proofs.Common.{◌≡◌, ◌∙◌, ◌<◌, ◌≤◌, ◌+◌, ◌-◌, suc, min, not, ℕ, List, [], ◌∷◌, length, Bool, true, false, Option, Some, None, take, drop, cond, nat_le, nat_lt, get_or, bytes_eq, refl, sym, ap, arith}
-use Rattle.std.specs.List.{list_any, slice_get, position, position_or_len, prefix_len}
+use Rattle.std.proofs.Common.{◌≡◌, ◌∙◌, ◌<◌, ◌≤◌, ◌+◌, ◌-◌, suc, min, ℕ, List, [], ◌∷◌, length, Bool, true, false, Option, Some, None, take, drop, nat_le, nat_lt, get_or, bytes_eq, refl, sym, ap, arith}
+use Rattle.std.specs.List.{list_any, slice_get, position, position_or_len}
 use Rattle.std.proofs.lemmas.Bool.Decides.{nat_tests}
 use Rattle.std.proofs.lemmas.List.{take_all, get_or-take, length-take, take_rest}
 use Rattle.std.proofs.lemmas.List.Folds.{list_any_more, list_any_at}
 use Rattle.std.proofs.lemmas.Option.{slice_get-get_or}
 use Rattle.std.proofs.lemmas.Slice.Eq.{bytes_eq-Decides}
 use Rattle.claim_text.specs.PatternText.{name_or_number}
-use Rattle.claim_text.specs.ReadPatterns.{ends_word, read_word, read_name, IsPlace, ReadsName}
+use Rattle.claim_text.specs.ReadPatterns.{ends_word, read_word, read_name, IsPlace}
 
 pub name_at : (names : List (List ℕ)) (word name : List ℕ) (place end : ℕ) → end ≡ min (length names) 256 → place < end → name ≡ get_or names place []
     → true ≡ bytes_eq name word → IsPlace names word (Some place)

@@ -1,4 +1,4 @@
-use Rattle.std.proofs.Common.{◌≡◌, ◌∙◌, ◌<◌, ◌≤◌, ap, length, min, refl, arith}
+use Rattle.std.proofs.Common.{◌≡◌, ◌∙◌, ap, length, min, arith}
 use Rattle.claim_text.proofs.NameLaws.{name_at, not_yet, no_name}
 use Rattle.claim_text.proofs.read.patterns.place_of.Goals as goal
 

@@ -1,4 +1,4 @@
-use Rattle.std.proofs.Common.{◌≡◌, ◌≤◌, false, take, bytes_eq}
+use Rattle.std.proofs.Common.{◌≡◌, false, take, bytes_eq}
 use Rattle.std.specs.List.{list_any}
 use Rattle.claim_text.proofs.read.patterns.place_of.Given as goal
 

@@ -1,4 +1,4 @@
-use Rattle.std.proofs.Common.{◌≡◌, ◌∙◌, ℕ, ◌+◌, ◌-◌, suc, zero, length, List, Result, Ok, Err, Some, None, refl, ap, arith, rules, codes}
+use Rattle.std.proofs.Common.{◌≡◌, ◌∙◌, ℕ, ◌+◌, ◌-◌, suc, zero, length, List, Err, None, refl, ap, arith, rules, codes}
 use Rattle.claims.specs.declared.what.Kinds.{Kinds}
 use Rattle.claim_text.specs.declared.error.Unread.{Unread}
 use Rattle.claim_text.specs.declared.error.Unread.TheVariants.{Memory, Unexpected}

@@ -1,9 +1,9 @@
-use Rattle.std.proofs.Common.{◌≡◌, ◌∙◌, Option, ℕ, List, Some, None, rules, tests, refl, arith}
+use Rattle.std.proofs.Common.{◌≡◌, rules, tests, refl}
 use Rattle.std.specs.List.{position}
 use Rattle.std.proofs.lemmas.Iterator.{YieldsList-from_slice}
 use Rattle.std.proofs.lemmas.Iterator.Search.{position_from_yields_List}
-use Rattle.claim_text.specs.ReadPatterns.{ends_word, ReadsName}
-use Rattle.claim_text.proofs.NameLaws.{WordAt, word_at, name_read, no_word_read, no_name_read}
+use Rattle.claim_text.specs.ReadPatterns.{ends_word}
+use Rattle.claim_text.proofs.NameLaws.{word_at, name_read, no_word_read, no_name_read}
 use Rattle.claim_text.proofs.reader.Reader.name.Goals as goal
 
 pub returns-in_err-end : goal.returns-in_err-end
