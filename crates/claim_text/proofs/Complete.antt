@@ -1,10 +1,10 @@
 -- A line that isn't read isn't the text of a claim.
-use Rattle.std.proofs.Common.{◌≡◌, ◌≢◌, ◌∙◌, ℕ, Option, Some, None, List, [], sym, ap}
+use Rattle.std.proofs.Common.{◌≡◌, ◌≢◌, ◌∙◌, ℕ, Some, None, List, [], sym, ap}
 use Rattle.claims.specs.declared.claim.Claim.{Claim}
 use Rattle.claim_text.specs.declared.error.ClaimsError.{ClaimsError}
 use Rattle.claim_text.specs.declared.error.ClaimsError.TheVariants.{Memory, NotAClaim}
 use Rattle.claim_text.specs.Fits.{AreWords, FitsClaim}
-use Rattle.claim_text.specs.Views.{ClaimView, claim_view}
+use Rattle.claim_text.specs.Views.{claim_view}
 use Rattle.claim_text.specs.ClaimText.{text_of}
 use Rattle.claim_text.specs.ClaimLines.{IsNoText}
 use Rattle.claim_text.specs.ReadClaims.{read_claim}

@@ -1,5 +1,5 @@
 -- What may follow a form: a text that the form wouldn't go on with.
-use Rattle.std.proofs.Common.{◌≡◌, ℕ, Bool, false, None, List, [], ◌∷◌, codes}
+use Rattle.std.proofs.Common.{◌≡◌, ℕ, false, None, List, [], ◌∷◌, codes}
 use Rattle.std.specs.List.{AllByRecursion as Each}
 use Rattle.claim_text.specs.Reading.{strip, begins_digit}
 

@@ -1,5 +1,5 @@
 -- The turns of the loop that reads a list.
-use Rattle.std.proofs.Common.{◌≡◌, ◌∙◌, ℕ, suc, ◌+◌, ◌-◌, ◌<◌, Option, Some, None, Err, List, [], ◌∷◌, ◌++◌, refl, sym, ap, append_assoc, arith}
+use Rattle.std.proofs.Common.{◌≡◌, ◌∙◌, ℕ, suc, Option, Some, None, Err, List, [], ◌++◌, refl, sym, ap, append_assoc}
 use Rattle.claim_text.specs.declared.error.Unread.{Unread}
 use Rattle.claim_text.specs.declared.error.Unread.TheVariants.{Memory, Unexpected}
 use Rattle.claim_text.specs.Reading.{ReadOf, ReadsAs, ReadsItems, strip, append_read, read_list}

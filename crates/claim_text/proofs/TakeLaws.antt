@@ -1,5 +1,5 @@
 -- Words at the front of a text.
-use Rattle.std.proofs.Common.{◌≡◌, ◌≢◌, ◌∙◌, ℕ, nat_eq, Bool, true, false, Option, Some, None, List, [], ◌∷◌, ◌++◌, length, drop, is_some, refl, ap, sym, arith}
+use Rattle.std.proofs.Common.{◌≡◌, ◌≢◌, ◌∙◌, ℕ, nat_eq, Bool, true, false, Some, None, List, [], ◌∷◌, ◌++◌, length, drop, is_some, refl, ap, sym, arith}
 use Rattle.std.proofs.lemmas.Bool.Decides.{nat_tests}
 use Rattle.claim_text.specs.Reading.{strip, begins}
 

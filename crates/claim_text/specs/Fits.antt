@@ -1,5 +1,5 @@
 -- Claims whose numbers fit in their types, and names that are words.
-use Rattle.std.specs.Prelude.{◌≡◌, ◌≢◌, ◌<◌, ◌^◌, ℕ, Option, Some, None, List}
+use Rattle.std.specs.Prelude.{◌≢◌, ◌<◌, ◌^◌, ℕ, Option, Some, None, List}
 use Rattle.std.specs.List.{AllByRecursion as Each}
 use Rattle.program_tree.specs.declared.event.Proc.{Proc}
 use Rattle.program_tree.specs.declared.event.Proc.TheVariants.{Own, Etimer, Ctimer, Radio}

@@ -1,5 +1,5 @@
 -- What a reader makes of cases and claims.
-use Rattle.std.specs.Prelude.{ℕ, Bool, true, false, ◌||◌, not, if◌then◌else◌, Option, Some, None, List, [], ◌∷◌, ◌++◌, length, codes}
+use Rattle.std.specs.Prelude.{ℕ, ◌||◌, if◌then◌else◌, Option, Some, None, List, [], ◌∷◌, length, codes}
 use Rattle.claims.specs.declared.limits.Limits.{Limits}
 use Rattle.claim_text.specs.Views.{TestView, ClaimView}
 use Rattle.claim_text.specs.Reading.{ReadOf, next, strip, begins, choose, behind, read_either, single, read_list_or}

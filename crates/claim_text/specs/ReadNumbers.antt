@@ -1,5 +1,5 @@
 -- What a reader makes of sets of numbers, periods and limits.
-use Rattle.std.specs.Prelude.{ℕ, Bool, if◌then◌else◌, Option, Some, None, List, [], ◌++◌, codes}
+use Rattle.std.specs.Prelude.{ℕ, Bool, if◌then◌else◌, Some, None, List, [], ◌++◌, codes}
 use Rattle.claims.specs.declared.set.Span.{Span}
 use Rattle.claims.specs.declared.limits.Limits.{Limits}
 use Rattle.claim_text.specs.Numbers.{set_text}

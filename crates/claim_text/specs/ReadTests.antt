@@ -1,10 +1,9 @@
 -- What a reader makes of counts and tests.
-use Rattle.std.specs.Prelude.{ℕ, Bool, true, false, nat_eq, if◌then◌else◌, Option, Some, None, List, [], ◌∷◌, ◌++◌, codes}
+use Rattle.std.specs.Prelude.{ℕ, Bool, true, false, if◌then◌else◌, Option, Some, None, List, codes}
 use Rattle.claims.specs.declared.set.Span.{Span}
-use Rattle.claims.specs.declared.limits.Limits.{Limits}
 use Rattle.claims.specs.declared.medium.Arrival.{Arrival}
 use Rattle.claims.specs.declared.medium.Arrival.TheVariants.{Lost, Due}
-use Rattle.claim_text.specs.Views.{DeedView, OrderView, CountView, LinesView, PacketsView, CopiesView, LeftView, RowsView, RatioView, TestView, CountsView, RatiosView, ValuesView, AnyOrderView, LastView}
+use Rattle.claim_text.specs.Views.{DeedView, OrderView, CountView, LinesView, PacketsView, CopiesView, LeftView, RowsView, TestView, CountsView, RatiosView, ValuesView, AnyOrderView, LastView}
 use Rattle.claim_text.specs.Reading.{ReadOf, next, strip, strip_noun, choose, behind, read_either, read_number, read_number_up_to, begins_digit, single}
 use Rattle.claim_text.specs.Reading.{read_list_or}
 use Rattle.claim_text.specs.ReadNumbers.{read_set, read_set_item, read_number_item, read_period, read_limits}

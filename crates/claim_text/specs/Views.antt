@@ -7,9 +7,6 @@ use Rattle.claims.specs.declared.trace.Deed.{Deed}
 use Rattle.claims.specs.declared.limits.Limits.{Limits}
 use Rattle.claims.specs.declared.order.Order.{Order}
 use Rattle.claims.specs.declared.order.Relation.{Relation}
-use Rattle.claims.specs.declared.lines.Lines.{Lines as LinesOfCode}
-use Rattle.claims.specs.declared.medium.Packets.{Packets as PacketsOfCode}
-use Rattle.claims.specs.declared.medium.Copies.{Copies as CopiesOfCode}
 use Rattle.claims.specs.declared.medium.Arrival.{Arrival}
 use Rattle.claims.specs.declared.count.Count.{Count as CountOfCode}
 use Rattle.claims.specs.declared.count.Count.TheVariants.{Lines, Packets, Copies, Left, Rows}

@@ -1,4 +1,4 @@
-use Rattle.std.proofs.Common.{◌≡◌, ◌≢◌, ◌∙◌, sym}
+use Rattle.std.proofs.Common.{◌≡◌, ◌∙◌}
 use Rattle.claim_text.specs.ClaimText.{text_of}
 use Rattle.claim_text.proofs.Complete.{unread, other_text}
 use Rattle.claim_text.proofs.lines.read_line.Goals as goal

@@ -1,5 +1,5 @@
-use Rattle.std.proofs.Common.{◌≡◌, ◌∙◌, ℕ, suc, ◌+◌, ◌-◌, ◌<◌, List, [], ◌∷◌, ◌++◌, refl, sym, ap, append_assoc, arith}
-use Rattle.claim_text.specs.ReadDeeds.{run, motes_in}
+use Rattle.std.proofs.Common.{◌≡◌, ◌∙◌, ℕ, suc, ◌+◌, ◌-◌, ◌<◌, [], ◌∷◌, ◌++◌, refl, sym, ap, append_assoc, arith}
+use Rattle.claim_text.specs.ReadDeeds.{run}
 use Rattle.claim_text.proofs.read.deeds.put_span.Goals as goal
 
 -- one mote fewer is left

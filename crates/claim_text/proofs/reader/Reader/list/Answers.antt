@@ -1,7 +1,4 @@
-use Rattle.std.proofs.Common.{◌≡◌, ◌∙◌, map, ℕ, ◌-◌, ◌+◌, ◌<◌, ◌≤◌, suc, zero, Some, None, Result, Ok, Err, List, Vec, Global, sym, ap, refl, arith}
-use Rattle.claim_text.specs.declared.error.Unread.{Unread}
-use Rattle.claim_text.specs.declared.error.Unread.TheVariants.{Memory, Unexpected}
-use Rattle.claim_text.specs.Reading.{read_list, append_read}
+use Rattle.std.proofs.Common.{◌≡◌, ◌∙◌, map, ℕ, ◌-◌, ◌+◌, ◌<◌, ◌≤◌, suc, List, Vec, Global, sym, refl, arith}
 use Rattle.std.proofs.lemmas.Result.{err_from_is_err_and}
 use Rattle.claim_text.proofs.ListTurns.{append_nothing, no_list, last, one_more}
 use Rattle.claim_text.proofs.reader.Reader.list.Goals as goal

@@ -1,7 +1,5 @@
-use Rattle.std.proofs.Common.{◌≡◌, sym, ap, length, drop, ◌++◌, ◌∙◌}
 use Rattle.std.proofs.lemmas.Bool.Decides.{Decides-eqb}
 use Rattle.std.proofs.lemmas.Slice.Eq.{starts_is}
-use Rattle.claim_text.specs.Reading.{begins}
 use Rattle.claim_text.proofs.TakeLaws.{begins_is}
 use Rattle.claim_text.proofs.reader.Reader.starts.Goals as goal
 
