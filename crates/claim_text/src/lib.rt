@@ -39,9 +39,9 @@
 //! of all moments is left out. So is the mote of a case: the only mote whose lines its first test is about; of a
 //! ratio, that of the greater side.
 //!
-//! Each text that `read_claims` accepts is that of the claims that it returns. An error is at a line that should be a
-//! claim, behind lines that are the texts of claims. It isn't proved that `read_claims` accepts the text of each claim;
-//! the tests write random claims, and read them again.
+//! `read_claims` accepts the text of each claim and no other text, and returns claims with this text; its error is at
+//! the first line that isn't the text of a claim. (The proof is about claims whose numbers fit in their types, and about
+//! names of processes without spaces and quotation marks.)
 #![tactic(auto)]
 
 mod broken;

@@ -96,8 +96,7 @@ fn add_line(
 /// other lines.
 ///
 /// # Errors
-/// `NotAClaim` for the first line that isn't read, and `Memory` if an allocation fails. No clause says which lines are
-/// read.
+/// `NotAClaim` for the first of these lines that isn't the text of a claim, and `Memory` if an allocation fails.
 pub fn read_claims(alloc: Global, names: &Names, text: &[u8]) -> Result<Vec<Claim>, ClaimsError>
     ensures texts { IfOk result (λ cs. map (text_of names.now) cs.items ≡ claim_lines text.now) }
     ensures refused { IfErr result (Refuses names.now text.now) }
