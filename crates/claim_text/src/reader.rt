@@ -22,10 +22,12 @@ pub trait Item: Sized {
     ghost use Rattle.std.specs.Prelude.{ℕ, Option, List, map};
     ghost use Rattle.claim_text.specs.Reading.{ReadOf, ReadsItems};
 
+    /// What contracts see of an item.
     ghost View: { Type 0 };
 
     ghost view: { (names : List (List ℕ)) → Self → View };
 
+    /// What is read at the front of a text.
     ghost item: { (names : List (List ℕ)) → (own : Option ℕ) → List ℕ → ReadOf (List View) };
 
     /// Reads one item of a list, or several that are written as one.
