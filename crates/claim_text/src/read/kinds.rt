@@ -8,94 +8,41 @@ use claims::Kinds;
 
 impl Reader<'_> {
     /// Reads one kind, beside these.
-    fn kind(&mut self, kinds: Kinds) -> Read<Kinds>
+    fn kind(&mut self, mut kinds: Kinds) -> Read<Kinds>
         ensures reads { Reads (read_one_kind kinds self.old.rest.now) self.new.rest.now result }
     {
         if self.take("start") {
-            return Ok(Kinds {
-                start: true,
-                ..kinds
-            });
+            kinds.start = true;
+        } else if self.take("leave") {
+            kinds.leave = true;
+        } else if self.take("post") {
+            kinds.post = true;
+        } else if self.take("full") {
+            kinds.full = true;
+        } else if self.take("take") {
+            kinds.take = true;
+        } else if self.take("drop") {
+            kinds.drop = true;
+        } else if self.take("print") {
+            kinds.print = true;
+        } else if self.take("busy") {
+            kinds.busy = true;
+        } else if self.take("halt") {
+            kinds.halt = true;
+        } else if self.take("send") {
+            kinds.send = true;
+        } else if self.take("recv") {
+            kinds.recv = true;
+        } else if self.take("lost") {
+            kinds.lost = true;
+        } else if self.take("deaf") {
+            kinds.deaf = true;
+        } else if self.take("collide") {
+            kinds.collide = true;
+        } else {
+            return Err(Unread::Unexpected);
         }
-        if self.take("leave") {
-            return Ok(Kinds {
-                leave: true,
-                ..kinds
-            });
-        }
-        if self.take("post") {
-            return Ok(Kinds {
-                post: true,
-                ..kinds
-            });
-        }
-        if self.take("full") {
-            return Ok(Kinds {
-                full: true,
-                ..kinds
-            });
-        }
-        if self.take("take") {
-            return Ok(Kinds {
-                take: true,
-                ..kinds
-            });
-        }
-        if self.take("drop") {
-            return Ok(Kinds {
-                drop: true,
-                ..kinds
-            });
-        }
-        if self.take("print") {
-            return Ok(Kinds {
-                print: true,
-                ..kinds
-            });
-        }
-        if self.take("busy") {
-            return Ok(Kinds {
-                busy: true,
-                ..kinds
-            });
-        }
-        if self.take("halt") {
-            return Ok(Kinds {
-                halt: true,
-                ..kinds
-            });
-        }
-        if self.take("send") {
-            return Ok(Kinds {
-                send: true,
-                ..kinds
-            });
-        }
-        if self.take("recv") {
-            return Ok(Kinds {
-                recv: true,
-                ..kinds
-            });
-        }
-        if self.take("lost") {
-            return Ok(Kinds {
-                lost: true,
-                ..kinds
-            });
-        }
-        if self.take("deaf") {
-            return Ok(Kinds {
-                deaf: true,
-                ..kinds
-            });
-        }
-        if self.take("collide") {
-            return Ok(Kinds {
-                collide: true,
-                ..kinds
-            });
-        }
-        Err(Unread::Unexpected)
+        Ok(kinds)
     }
 
     /// Reads the kinds of a pattern.
