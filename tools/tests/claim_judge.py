@@ -24,6 +24,8 @@ LAST = 1 << 62
 PARTS = {'number': 'packet', 'word': 'value'}
 PART = re.compile(r'(process|serial|event|sender|packet|value) (.+?)(?= (?:serial|event|sender|packet|value) |$)')
 NUMBERS = r'((?:none|\d+(?: to \d+)?)(?:(?:, | or )(?:none|\d+(?: to \d+)?))*)'
+VALUE = r'(?:none|\d+|any of \d+(?: to \d+)?(?: or \d+(?: to \d+)?)*)'
+VALUES = '(%s(?:, %s)*)' % (VALUE, VALUE)
 LIMITS = r'at least (\d+)(?: and at most (\d+))?|at most (\d+)|exactly (\d+)'
 
 
@@ -199,8 +201,8 @@ class Reader:
         return self.least <= self.number() <= self.most
 
     def values(self, lines: Lines) -> bool:
-        order, listed = self.need(' have in (any order|order of time) exactly the values ' + NUMBERS).groups()
-        sets = [numbers_in(it) for it in listed.split(', ')]
+        order, listed = self.need(' have in (any order|order of time) exactly the values ' + VALUES).groups()
+        sets = [numbers_in(it.removeprefix('any of ')) for it in listed.split(', ')]
         found = [it.value for it in lines]
         if order == 'any order':
             return Counter(found) == Counter(it for its in sets for it in its)

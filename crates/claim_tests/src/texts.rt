@@ -45,7 +45,7 @@ the net: 1 times the number of copies left at the end is less than 4294967295 ti
 # values\n\
 mote 3: the lines \"send\" have in any order exactly the values 1, 18446744073709551615\n\
 mote 3: the lines \"send\" have in any order exactly no values and the lines \"send\" have in order of time exactly no values\n\
-the net: the lines \"send\" of motes 1 to 3 together have in order of time exactly the values 1 or 3, none, 4 to 9\n\
+the net: the lines \"send\" of motes 1 to 3 together have in order of time exactly the values any of 1 or 3, none, 7, any of 4 to 9\n\
 # limits of cases\n\
 at least 1 of these: no cases\n\
 each of these: no cases\n\
@@ -55,10 +55,12 @@ at least 0 of mote 3: exactly 0 lines \"halt\"\n\
 exactly 1 of these: the net: always; the net: always; mote 3: exactly 0 lines \"halt\"; motes 3 to 4: exactly 1 line \"halt\"";
 
 /// Lines that aren't claims, each with the column at which it is refused.
-static REFUSED: [&str; 3] = [
+static REFUSED: [&str; 5] = [
     "mote 03: always",
     "mote 3: at least 1 lines \"halt\"",
     "motes 1 to 3: exactly 0 lines \"halt\"",
+    "mote 3: the lines \"send\" have in order of time exactly the values 1 to 6, 3",
+    "mote 3: the lines \"send\" have in order of time exactly the values any of 3",
 ];
 
 fn named(alloc: Global) -> Result<Names, AllocError> {
@@ -104,6 +106,7 @@ fn refuses_other_texts(rt: HostRuntime) -> Result<(), Fail> {
     }
     same_text(
         text.as_str(),
-        "NotAClaim { line: 1, column: 1 }|NotAClaim { line: 1, column: 24 }|NotAClaim { line: 1, column: 1 }|",
+        "NotAClaim { line: 1, column: 1 }|NotAClaim { line: 1, column: 24 }|NotAClaim { line: 1, column: 1 }|\
+         NotAClaim { line: 1, column: 67 }|NotAClaim { line: 1, column: 67 }|",
     )
 }

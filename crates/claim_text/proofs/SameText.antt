@@ -16,7 +16,7 @@ use Rattle.claims.specs.declared.claim.Test.TheVariants.{Count, Ratio, Values, A
 use Rattle.claims.specs.declared.claim.Case.{Case}
 use Rattle.claims.specs.declared.claim.Claim.{Claim}
 use Rattle.claim_text.specs.Views.{set_view, part_view, deed_view, order_view, count_view, ratio_view, test_view, case_view, claim_view}
-use Rattle.claim_text.specs.Numbers.{noun, set_text, mote_or_motes, motes_text, period_text}
+use Rattle.claim_text.specs.Numbers.{noun, set_text, item_text, mote_or_motes, motes_text, period_text}
 use Rattle.claim_text.specs.LimitsText.{limits_text, shown_number}
 use Rattle.claim_text.specs.PatternText.{pattern_text, next_pattern, patterns_text}
 use Rattle.claim_text.specs.DeedText.{watched_text, deed_text}
@@ -53,8 +53,8 @@ same_sets [] (t ∷ ts) same = absurd (cc)
 same_sets (s ∷ ss) [] same = absurd (cc)
 same_sets (s ∷ ss) (t ∷ ts) same =
     let first : s.spans.items ≡ t.spans.items = cc in
-    ap₂ (λ a b. codes "the values " ++ (set_text a ++ b)) first
-    (same_joined set_view next_set (λ x y e. ap (λ a. codes ", " ++ set_text a) e) ss ts cc)
+    ap₂ (λ a b. codes "the values " ++ (item_text a ++ b)) first
+    (same_joined set_view next_set (λ x y e. ap (λ a. codes ", " ++ item_text a) e) ss ts cc)
 
 same_part : (word : List ℕ) (o p : Option Set) → part_view o ≡ part_view p → motes_text word o ≡ motes_text word p
 same_part word None None same = refl

@@ -1,5 +1,5 @@
 -- What is read of the texts of sets and of lists of values, whatever follows.
-use Rattle.std.proofs.Common.{◌≡◌, ◌∙◌, ℕ, ◌<◌, nat_eq, Bool, true, false, Option, Some, None, List, [], ◌∷◌, ◌++◌, length, map, codes, refl, ap, append_assoc, arith}
+use Rattle.std.proofs.Common.{◌≡◌, ◌∙◌, ℕ, ◌<◌, nat_eq, Bool, true, false, if◌then◌else◌, Option, Some, None, List, [], ◌∷◌, ◌++◌, length, map, codes, refl, ap, append_assoc, arith}
 use Rattle.std.specs.Char.{is_ascii_digit}
 use Rattle.std.specs.List.{AllByRecursion as Each, flat_map}
 use Rattle.std.specs.Fmt.{decimal}
@@ -12,9 +12,9 @@ use Rattle.claim_text.specs.Reading.{strip, begins_digit, read_number}
 use Rattle.claims.specs.declared.set.Span.{Span}
 use Rattle.claims.specs.declared.set.Set.{Set}
 use Rattle.claim_text.specs.Views.{set_view}
-use Rattle.claim_text.specs.Numbers.{span_text, next_span, set_text, part_text}
+use Rattle.claim_text.specs.Numbers.{span_text, next_span, set_text, any_of, item_text, part_text}
 use Rattle.claim_text.specs.TestText.{sets_text, values_text}
-use Rattle.claim_text.specs.ReadNumbers.{read_span, read_set, read_part, read_set_item, read_number_item}
+use Rattle.claim_text.specs.ReadNumbers.{read_span, read_set, read_item, read_part, read_set_item, read_number_item}
 use Rattle.claim_text.specs.ReadTests.{read_values}
 use Rattle.claim_text.proofs.TakeLaws.{strip_self}
 use Rattle.claim_text.proofs.NumbersAgain.{begins, number_again}
@@ -87,19 +87,45 @@ part_again label (Some s) tail fits ends other =
       set_again s.spans.items tail fits ends,
     ) refl
 
-some_set : (s : Set) → FitsSet s → 0 < length (set_text s.spans.items)
-some_set s fits = go s.spans.items fits
+some_set : (ss : List Span) → Each FitsSpan ss → 0 < length (set_text ss)
+some_set [] fits = omega arith
+some_set (s ∷ ss) fits = omega (arith, some_span s fits.0, length-append (span_text s) (flat_map next_span ss))
+
+some_item : (s : Set) → FitsSet s → 0 < length (item_text s.spans.items)
+some_item s fits =
+    let ss = s.spans.items in
+    omega (arith, some_set ss fits, length-append (any_of ss) (set_text ss))
+
+-- the text of a set doesn't begin with `any of`
+no_any : (ss : List Span) (tail : List ℕ) → Each FitsSpan ss → strip (codes "any of ") (set_text ss ++ tail) ≡ None
+no_any [] tail fits = refl
+no_any (s ∷ ss) tail fits =
+    no_word 97 (codes "ny of ") (set_text (s ∷ ss) ++ tail) refl
+    (rw (append_assoc (span_text s) (flat_map next_span ss) tail) (span_begins s (flat_map next_span ss ++ tail) fits.0))
+
+-- an item is read, with `any of` in front or without it
+module _ (ss : List Span) (tail : List ℕ) (fits : Each FitsSpan ss) (ends : EndsSet tail) where
+  with_any : read_item ((codes "any of " ++ set_text ss) ++ tail) ≡ Some (ss, tail)
+  with_any = set_again ss tail fits ends
+
+  without_any : read_item (set_text ss ++ tail) ≡ Some (ss, tail)
+  without_any = rw (no_any ss tail fits) (set_again ss tail fits ends)
+
+item_again : (ss : List Span) (tail : List ℕ) → Each FitsSpan ss → EndsSet tail → read_item (item_text ss ++ tail) ≡ Some (ss, tail)
+item_again [] tail fits ends = without_any [] tail fits ends
+item_again (s ∷ []) tail fits ends = go (nat_eq s.from s.to)
   where
-    go : (ss : List Span) → Each FitsSpan ss → 0 < length (set_text ss)
-    go [] fits = omega arith
-    go (s ∷ ss) fits = omega (arith, some_span s fits.0, length-append (span_text s) (flat_map next_span ss))
+    go : (is_one : Bool) → read_item (((if is_one then [] else codes "any of ") ++ set_text (s ∷ [])) ++ tail) ≡ Some (s ∷ [], tail)
+    go true = without_any (s ∷ []) tail fits ends
+    go false = with_any (s ∷ []) tail fits ends
+item_again (s ∷ t ∷ ss) tail fits ends = with_any (s ∷ t ∷ ss) tail fits ends
 
 pub sets_again : (ss : List Set) (tail : List ℕ) → Each FitsSet ss → EndsSet tail → strip (codes ", ") tail ≡ None
     → read_values read_set_item (sets_text ss ++ tail) ≡ Some (map set_view ss, tail)
 sets_again [] tail fits ends other = refl
 sets_again (s ∷ ss) tail fits ends other =
-    items_again read_set (codes ", ") (λ s. set_text s.spans.items) set_view FitsSet EndsSet (λ s. set_again s.spans.items)
-    (λ x rest fits. (refl, (refl, (refl, tt)))) some_set s ss tail fits ends other
+    items_again read_item (codes ", ") (λ s. item_text s.spans.items) set_view FitsSet EndsSet (λ s. item_again s.spans.items)
+    (λ x rest fits. (refl, (refl, (refl, tt)))) some_item s ss tail fits ends other
 
 pub values_again : (vs : List ℕ) (tail : List ℕ) → Each FitsNumber vs → EndsNumber tail → strip (codes ", ") tail ≡ None
     → read_values read_number_item (values_text vs ++ tail) ≡ Some (vs, tail)

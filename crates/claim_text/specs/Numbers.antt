@@ -21,6 +21,16 @@ abbrev pub set_text : List Span → List ℕ
 set_text [] = codes "none"
 set_text (s ∷ ss) = span_text s ++ flat_map next_span ss
 
+-- the words in front of more than one number
+abbrev pub any_of : List Span → List ℕ
+any_of [] = []
+any_of (s ∷ []) = if s.from == s.to then [] else codes "any of "
+any_of (s ∷ t ∷ ss) = codes "any of "
+
+-- an item of a list: `3`, `any of 1 or 4`, `any of 1 to 6`, or `none`
+abbrev pub item_text : List Span → List ℕ
+item_text ss = any_of ss ++ set_text ss
+
 abbrev pub mote_or_motes : List Span → List ℕ
 mote_or_motes [] = codes " motes "
 mote_or_motes (s ∷ []) = if s.from == s.to then codes " mote " else codes " motes "

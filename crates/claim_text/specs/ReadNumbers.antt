@@ -16,8 +16,12 @@ read_spans bs = single (read_span bs)
 abbrev pub read_set : List ℕ → ReadOf (List Span)
 read_set bs = read_list_or read_spans (codes "none") [] (codes " or ") bs
 
+-- a set as an item of a list, with `any of` in front or without it
+abbrev pub read_item : List ℕ → ReadOf (List Span)
+read_item bs = choose (strip (codes "any of ") bs) (read_set bs) read_set
+
 abbrev pub read_set_item : List ℕ → ReadOf (List (List Span))
-read_set_item bs = single (read_set bs)
+read_set_item bs = single (read_item bs)
 
 abbrev pub read_number_item : List ℕ → ReadOf (List ℕ)
 read_number_item bs = single (read_number bs)

@@ -11,7 +11,7 @@ use Rattle.claims.specs.declared.count.Count.TheVariants.{Lines, Packets, Copies
 use Rattle.claims.specs.declared.ratio.Ratio.{Ratio as RatioOfCode}
 use Rattle.claims.specs.declared.claim.Test.{Test}
 use Rattle.claims.specs.declared.claim.Test.TheVariants.{Count, Ratio, Values, AnyOrder, Last}
-use Rattle.claim_text.specs.Numbers.{set_text}
+use Rattle.claim_text.specs.Numbers.{set_text, item_text}
 use Rattle.claim_text.specs.LimitsText.{limits_text, shown_number}
 use Rattle.claim_text.specs.DeedText.{deed_text}
 use Rattle.claim_text.specs.OrderText.{is_plain, order_text}
@@ -60,11 +60,11 @@ ratio_text names own q =
     ++ (relation_word q.is_strict ++ times_text names own q.high_times q.high)
 
 abbrev pub next_set : Set → List ℕ
-next_set s = codes ", " ++ set_text s.spans.items
+next_set s = codes ", " ++ item_text s.spans.items
 
 abbrev pub sets_text : List Set → List ℕ
 sets_text [] = codes "no values"
-sets_text (s ∷ ss) = codes "the values " ++ (set_text s.spans.items ++ flat_map next_set ss)
+sets_text (s ∷ ss) = codes "the values " ++ (item_text s.spans.items ++ flat_map next_set ss)
 
 abbrev pub next_value : ℕ → List ℕ
 next_value v = codes ", " ++ decimal v

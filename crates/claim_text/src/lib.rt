@@ -16,7 +16,7 @@
 //! LIMITS  = "exactly " N | "at most " N | "at least " N [" and at most " N]
 //! TEST    = LIMITS " " COUNT | "every line " DEED " is" ORDER
 //!         | N " times the number of " COUNT (" is at most " | " is less than ") N " times the number of " COUNT
-//!         | "the lines " DEED " have in order of time exactly " ("the values " SET {", " SET} | "no values")
+//!         | "the lines " DEED " have in order of time exactly " ("the values " ITEM {", " ITEM} | "no values")
 //!         | "the lines " DEED " have in any order exactly " ("the values " N {", " N} | "no values")
 //!         | "the last line " DEED " has the value " SET
 //! COUNT   = "lines " DEED [ORDER] | "packets sent" [" by" TO] [PERIOD] | "copies" [" to" TO] ARRIVAL
@@ -29,6 +29,7 @@
 //! PERIOD  = " at " N | " from " N " to " N | " from " N " on"
 //! PATTERN = '"' (KIND {" or " KIND} | "nothing") [" process " NAME] [" serial " SET] [" event " SET]
 //!           [" sender " SET] [" packet " SET] [" value " SET] '"'
+//! ITEM    = N | "any of " SET | "none"                                         `any of` for more than one number
 //! SET     = N [" to " N] {" or " N [" to " N]} | "none"
 //! TO      = " mote " N | " motes " SET
 //! ```

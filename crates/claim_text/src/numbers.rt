@@ -1,7 +1,7 @@
 //! The text of numbers, and of sets of numbers.
 ghost use Rattle.claim_text.specs.Appends.{Appends};
-ghost use Rattle.claim_text.specs.Numbers.{noun, span_text, set_text, mote_or_motes, motes_text, part_text};
-ghost use Rattle.claim_text.specs.Numbers.{period_text};
+ghost use Rattle.claim_text.specs.Numbers.{noun, span_text, set_text, any_of, item_text, mote_or_motes};
+ghost use Rattle.claim_text.specs.Numbers.{motes_text, part_text, period_text};
 ghost use Rattle.std.specs.Prelude.{◌≡◌};
 
 use claims::{Set, Span};
@@ -41,6 +41,24 @@ pub fn put_set(text: &mut String, set: &Set) -> Written
         put_span(text, *span)?;
     }
     Ok(())
+}
+
+fn any_of(spans: &[Span]) -> &'static str
+    ensures value { result.now ≡ any_of spans.now }
+{
+    match spans {
+        [] => "",
+        [span] if span.from == span.to => "",
+        _ => "any of ",
+    }
+}
+
+/// Appends an item of a list: a set of numbers, with `any of` in front of more than one number.
+pub fn put_item(text: &mut String, set: &Set) -> Written
+    ensures appends { Appends result text.old text.new (item_text set.now.spans.items) }
+{
+    text.push_str(any_of(set.spans.as_slice()))?;
+    put_set(text, set)
 }
 
 fn mote_or_motes(spans: &[Span]) -> &'static str

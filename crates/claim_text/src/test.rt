@@ -8,7 +8,7 @@ ghost use Rattle.claim_text.specs.TestText.{framed_values, test_text, tests_text
 use crate::counted::put_count;
 use crate::deed::put_deed;
 use crate::limits::{put_limits, shown_number};
-use crate::numbers::{Written, put_set};
+use crate::numbers::{Written, put_item, put_set};
 use crate::order::{is_plain, put_order};
 use crate::scope::Scope;
 use claims::{Count, Deed, Limits, Lines, Order, Ratio, Set, Test};
@@ -87,10 +87,10 @@ fn put_sets(text: &mut String, sets: &[Set]) -> Written
         return text.push_str("no values");
     };
     text.push_str("the values ")?;
-    put_set(text, first)?;
+    put_item(text, first)?;
     for set in more {
         text.push_str(", ")?;
-        put_set(text, set)?;
+        put_item(text, set)?;
     }
     Ok(())
 }

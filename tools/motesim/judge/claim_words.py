@@ -52,6 +52,11 @@ def set_text(numbers: Iterable[int]) -> str:
     return ' or '.join(runs_of(sorted(numbers))) or 'none'
 
 
+def item_text(numbers: Set[int]) -> str:
+    """An item of a list: a set, with `any of` in front of more than one number."""
+    return 'any of ' * (len(numbers) > 1) + set_text(numbers)
+
+
 def motes_text(motes: Sequence[int]) -> str:
     return of_number(len(motes), 'mote ', 'motes ') + ', '.join(runs_of(motes))
 
@@ -204,7 +209,8 @@ def every_line(deed: Deed, order: str, event: Deed) -> Test:
 
 def with_values(kind: str, deed: Deed, values: Sequence[Set[int]]) -> Test:
     """The lines have these values in their order, or in any order; or the last line has the value."""
+    text_of = set_text if kind == 'last' else item_text
     form = {'values': 'the lines %%s have in order of time exactly the values %s',
             'set': 'the lines %%s have in any order exactly the values %s',
-            'last': 'the last line %%s has the value %s'}[kind] % ', '.join(map(set_text, values))
+            'last': 'the last line %%s has the value %s'}[kind] % ', '.join(map(text_of, values))
     return Test(kind, form, (deed,), deed.mote, (lines_of(deed),), values=tuple(values))

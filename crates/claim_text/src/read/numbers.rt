@@ -5,8 +5,8 @@ ghost use Rattle.claims.specs.declared.limits.Limits.{Limits};
 ghost use Rattle.claim_text.specs.Numbers.{part_text};
 ghost use Rattle.claim_text.specs.Views.{set_view};
 ghost use Rattle.claim_text.specs.Reading.{Reads, ReadsAs, ReadsDigit, begins_digit, read_number, read_number_up_to};
-ghost use Rattle.claim_text.specs.ReadNumbers.{read_spans, read_number_item, read_set_item, read_set, read_part, read_period};
-ghost use Rattle.claim_text.specs.ReadNumbers.{read_limits};
+ghost use Rattle.claim_text.specs.ReadNumbers.{read_spans, read_number_item, read_set_item, read_set, read_item, read_part};
+ghost use Rattle.claim_text.specs.ReadNumbers.{read_period, read_limits};
 
 use crate::error::Unread;
 use crate::reader::{Item, Read, Reader};
@@ -53,7 +53,7 @@ impl Item for Set {
     ghost item = { λ _ _. read_set_item };
 
     fn read(reader: &mut Reader<'_>, scope: Scope<'_>, items: &mut Vec<Set>) -> Read<()> {
-        items.push(reader.set(scope)?)?;
+        items.push(reader.item(scope)?)?;
         Ok(())
     }
 }
@@ -117,6 +117,14 @@ impl Reader<'_> {
     {
         let spans = self.list_or(scope, "none", "", " or ")?;
         Ok(Set { spans })
+    }
+
+    /// Reads an item of a list: a set of numbers, with `any of` in front or without it.
+    fn item(&mut self, scope: Scope<'_>) -> Read<Set>
+        ensures reads { ReadsAs set_view (read_item self.old.rest.now) self.new.rest.now result }
+    {
+        let _is_any = self.take("any of ");
+        self.set(scope)
     }
 
     /// Reads a set of numbers behind its label, if the rest begins with the label.
