@@ -32,7 +32,12 @@
 //! ITEM    = N | "any of " SET | "none"                                         `any of` for more than one number
 //! SET     = N [" to " N] {" or " N [" to " N]} | "none"
 //! TO      = " mote " N | " motes " SET
+//! NAME    = the name of a process, or its number if it has no name | "etimer" | "ctimer" | "radio" | "all"
+//! KIND    = "start" | "leave" | "post" | "full" | "take" | "drop" | "print" | "busy" | "halt" | "send" | "recv" | "lost"
+//!         | "deaf" | "collide"
 //! ```
+//!
+//! `N` is a number without leading zeros. Directly behind the number 1, `moments` is in the singular too.
 //!
 //! Of the texts that the grammar allows for a claim, one is its text: neighbouring cases that differ in their mote
 //! alone are one group, neighbouring motes with one period too, and motes with consecutive numbers are a span. A claim
@@ -40,9 +45,10 @@
 //! of all moments is left out. So is the mote of a case: the only mote whose lines its first test is about; of a
 //! ratio, that of the greater side.
 //!
-//! `read_claims` accepts the text of each claim and no other text, and returns claims with this text; its error is at
-//! the first line that isn't the text of a claim. (The proof is about claims whose numbers fit in their types, and about
-//! names of processes without spaces and quotation marks.)
+//! Unless an allocation fails, `read_claims` accepts a text exactly if each of its lines that isn't empty and doesn't
+//! begin with `#` is the text of a claim, and it returns claims with these texts. Otherwise its error is at a line that
+//! isn't the text of a claim whose numbers fit in their types, and the lines before it are the texts of claims. (This is
+//! proved for names of processes without spaces and quotation marks. The notation has no other names.)
 #![tactic(auto)]
 
 mod broken;

@@ -96,7 +96,8 @@ fn add_line(
 /// other lines.
 ///
 /// # Errors
-/// `NotAClaim` for the first of these lines that isn't the text of a claim, and `Memory` if an allocation fails.
+/// `NotAClaim` at a line that isn't the text of a claim, behind lines that are; `Memory` if an allocation fails. A line
+/// ends with a line feed alone: a carriage return belongs to its line, which then isn't the text of a claim.
 pub fn read_claims(alloc: Global, names: &Names, text: &[u8]) -> Result<Vec<Claim>, ClaimsError>
     ensures texts { IfOk result (λ cs. map (text_of names.now) cs.items ≡ claim_lines text.now) }
     ensures refused { IfErr result (Refuses names.now text.now) }
