@@ -33,8 +33,7 @@
 //! SET     = N [" to " N] {" or " N [" to " N]} | "none"
 //! TO      = " mote " N | " motes " SET
 //! NAME    = the name of a process, or its number if it has no name | "etimer" | "ctimer" | "radio" | "all"
-//! KIND    = "start" | "leave" | "post" | "full" | "take" | "drop" | "print" | "busy" | "halt" | "send" | "recv" | "lost"
-//!         | "deaf" | "collide"
+//! KIND    = the kind of a line in a trace or in the log of the medium, such as "print" or "lost"
 //! ```
 //!
 //! `N` is a number without leading zeros. Directly behind the number 1, `moments` is in the singular too.
