@@ -1,5 +1,5 @@
 -- What is read of the text of a group of cases, whatever follows; and the cases of a claim in groups.
-use Rattle.std.proofs.Common.{◌≡◌, ◌∙◌, ℕ, Bool, true, false, Option, Some, None, List, [], ◌∷◌, ◌++◌, map, codes, refl, sym, ap, subst, append_assoc}
+use Rattle.std.proofs.Common.{◌≡◌, ◌∙◌, ℕ, Bool, true, false, Option, Some, None, IfSome, List, [], ◌∷◌, ◌++◌, map, codes, refl, sym, ap, subst, append_assoc}
 use Rattle.std.specs.List.{AllByRecursion as Each, flat_map}
 use Rattle.std.specs.Fmt.{decimal}
 use Rattle.std.specs.Str.{bytes_eq}
@@ -13,8 +13,9 @@ use Rattle.claims.specs.declared.claim.Test.TheVariants.{Count, Ratio, Values, A
 use Rattle.claims.specs.declared.claim.Case.{Case}
 use Rattle.claim_text.proofs.Ends.{EndsCase}
 use Rattle.claim_text.proofs.MotesAgain.{FitsMote, first_of, motes_behind, motes_again}
+use Rattle.claim_text.proofs.ListTurns.{some_same}
 use Rattle.claim_text.proofs.TestsAgain.{tests_again}
-use Rattle.claim_text.specs.Fits.{IfThere, IsWord, FitsWatch, FitsCount, FitsTest, FitsCase}
+use Rattle.claim_text.specs.Fits.{IsWord, FitsWatch, FitsCount, FitsTest, FitsCase}
 use Rattle.claim_text.specs.Motes.{mote_word, mote_item}
 use Rattle.claim_text.specs.Subject.{only_mote, mote_of_count, first_of_two, mote_of_test, mote_of_tests}
 use Rattle.claim_text.specs.TestText.{tests_text}
@@ -117,10 +118,6 @@ pub record Split (names : List (List ℕ)) (k : Case) (ks : List Case) : Type 0 
   pub same : Each (HasBody names (body_of names k)) more
   pub fit : Each (FitsGroup names) others
 
--- the values of equal options
-some_same : {A : Type 0} {x y : A} → Some x ≡ Some y → x ≡ y
-some_same same = cc
-
 -- neighbours that differ in their mote alone
 joined : (e f : Entry) (fs : List Entry) (x : ℕ) → mote_after e (f ∷ fs) ≡ Some x
     → (f.mote ≡ Some x) × (is_some e.mote ≡ true) × (e.body ≡ f.body)
@@ -131,23 +128,23 @@ joined e f fs x is = go (is_some e.mote) (bytes_eq e.body f.body) refl refl
     go true false a b = absurd (cc (rw (a, b) at is))
     go false same a b = absurd (cc (rw a at is))
 
-only_fits : (ws : List Watch) → Each FitsWatch ws → IfThere FitsMote (only_mote ws)
+only_fits : (ws : List Watch) → Each FitsWatch ws → IfSome (only_mote ws) FitsMote
 only_fits [] fits = tt
 only_fits (w ∷ []) fits = fits.0.0
 only_fits (w ∷ v ∷ ws) fits = tt
 
-count_fits : (c : CountOfCode) → FitsCount c → IfThere FitsMote (mote_of_count c)
+count_fits : (c : CountOfCode) → FitsCount c → IfSome (mote_of_count c) FitsMote
 count_fits (Lines l) fits = only_fits l.deed.watches.items fits.0.1
 count_fits (Packets p) fits = tt
 count_fits (Copies c) fits = tt
 count_fits Left fits = tt
 count_fits Rows fits = tt
 
-first_fits : (m other : Option ℕ) → IfThere FitsMote m → IfThere FitsMote other → IfThere FitsMote (first_of_two m other)
+first_fits : (m other : Option ℕ) → IfSome m FitsMote → IfSome other FitsMote → IfSome (first_of_two m other) FitsMote
 first_fits None other fits more = more
 first_fits (Some m) other fits more = fits
 
-test_fits : (t : Test) → FitsTest t → IfThere FitsMote (mote_of_test t)
+test_fits : (t : Test) → FitsTest t → IfSome (mote_of_test t) FitsMote
 test_fits (Count c l) fits = count_fits c fits.0
 test_fits (Ratio q) fits = first_fits (mote_of_count q.high) (mote_of_count q.low) (count_fits q.high fits.2) (count_fits q.low fits.0)
 test_fits (Values d ss) fits = only_fits d.watches.items fits.0.1
@@ -155,10 +152,10 @@ test_fits (AnyOrder d vs) fits = only_fits d.watches.items fits.0.1
 test_fits (Last d s) fits = only_fits d.watches.items fits.0.1
 
 -- the mote of a case is a mote
-mote_fits : (k : Case) → FitsCase k → IfThere FitsMote (own_of k)
+mote_fits : (k : Case) → FitsCase k → IfSome (own_of k) FitsMote
 mote_fits k fits = go k.tests.items fits
   where
-    go : (ts : List Test) → Each FitsTest ts → IfThere FitsMote (mote_of_tests ts)
+    go : (ts : List Test) → Each FitsTest ts → IfSome (mote_of_tests ts) FitsMote
     go [] fits = tt
     go (t ∷ ts) fits = test_fits t fits.0
 
@@ -186,7 +183,7 @@ module _ (names : List (List ℕ)) where
       ) refl
 
   -- the group of a case fits, and the views of its cases are theirs
-  fits_group : (own : Option ℕ) (k : Case) (more : List (ℕ × Case)) → IfThere FitsMote own → FitsCase k
+  fits_group : (own : Option ℕ) (k : Case) (more : List (ℕ × Case)) → IfSome own FitsMote → FitsCase k
       → Each (HasBody names (tests_text names own k.tests.items)) more → FitsGroup names (group_of own k more)
   fits_group None k more mote fits same = fits
   fits_group (Some m) k more mote fits same = (mote, fits, same)

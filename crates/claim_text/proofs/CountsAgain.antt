@@ -1,5 +1,5 @@
 -- What is read of the texts of counts, whatever follows.
-use Rattle.std.proofs.Common.{◌≡◌, ◌∙◌, ℕ, Bool, true, false, nat_lt, if◌then◌else◌, Option, Some, None, List, [], ◌∷◌, ◌++◌, codes, refl, append_assoc}
+use Rattle.std.proofs.Common.{◌≡◌, ◌∙◌, ℕ, Bool, true, false, nat_lt, if◌then◌else◌, Option, Some, None, IfSome, List, [], ◌∷◌, ◌++◌, codes, refl, append_assoc}
 use Rattle.std.specs.Prelude.{◌==◌}
 use Rattle.std.specs.List.{AllByRecursion as Each}
 use Rattle.std.specs.Fmt.{decimal}
@@ -17,7 +17,7 @@ use Rattle.claims.specs.declared.medium.Arrival.TheVariants.{Lost, Due}
 use Rattle.claims.specs.declared.count.Count.{Count}
 use Rattle.claims.specs.declared.count.Count.TheVariants.{Lines, Packets, Copies, Left, Rows}
 use Rattle.claim_text.specs.Numbers.{set_text, mote_or_motes, motes_text, period_text}
-use Rattle.claim_text.specs.Fits.{IfThere, IsWord, FitsSpan, FitsSet, FitsArrival, FitsCount}
+use Rattle.claim_text.specs.Fits.{IsWord, FitsSpan, FitsSet, FitsArrival, FitsCount}
 use Rattle.claim_text.specs.Reading.{ReadOf, next, strip, read_either}
 use Rattle.claim_text.specs.Views.{part_view, CountView, PacketsView, CopiesView, LeftView, RowsView, count_view}
 use Rattle.claim_text.specs.PatternText.{patterns_text}
@@ -83,7 +83,7 @@ read_motes_set bs =
 abbrev SetAgain : (ss : List Span) (tail word : List ℕ) → Type 0
 SetAgain ss tail word = read_motes_set ((word ++ set_text ss) ++ tail) ≡ Some (Some ss, tail)
 
-motes_part_again : (word : List ℕ) (s : Option Set) (tail : List ℕ) → IfThere FitsSet s → EndsSet tail → strip word tail ≡ None
+motes_part_again : (word : List ℕ) (s : Option Set) (tail : List ℕ) → IfSome s FitsSet → EndsSet tail → strip word tail ≡ None
     → read_motes_part word (motes_text word s ++ tail) ≡ Some (part_view s, tail)
 motes_part_again word None tail fits ends other = rw other refl
 motes_part_again word (Some s) tail fits ends other =
@@ -103,7 +103,7 @@ lines_again names own l tail words fits ends =
       order_again names own l.order tail words fits.1 ends,
     ) refl
 
-packets_again : (p : PacketsOfCode) (tail : List ℕ) → IfThere FitsSet p.sender × FitsSpan p.when → EndsTest tail
+packets_again : (p : PacketsOfCode) (tail : List ℕ) → IfSome p.sender FitsSet × FitsSpan p.when → EndsTest tail
     → read_packets ((motes_text (codes " by") p.sender ++ period_text p.when) ++ tail) ≡ Some (PacketsView (part_view p.sender) p.when, tail)
 packets_again p tail fits ends =
     let no_more : EndsSet (period_text p.when ++ tail) =
@@ -129,7 +129,7 @@ arrival_again (Lost when) tail fits ends =
     rw (append_assoc (period_text when) behind tail, period_again when (behind ++ tail) fits stops) refl
 arrival_again (Due end) tail fits ends = rw (number_again end tail fits ends.0.0) refl
 
-copies_again : (c : CopiesOfCode) (tail : List ℕ) → IfThere FitsSet c.to × FitsArrival c.arrival → EndsTest tail
+copies_again : (c : CopiesOfCode) (tail : List ℕ) → IfSome c.to FitsSet × FitsArrival c.arrival → EndsTest tail
     → read_copies ((motes_text (codes " to") c.to ++ arrival_text c.arrival) ++ tail) ≡ Some (CopiesView (part_view c.to) c.arrival, tail)
 copies_again c tail fits ends =
     let no_more : EndsSet (arrival_text c.arrival ++ tail) =

@@ -8,6 +8,10 @@ abbrev got : {A : Type 0} → A → Option A → A
 got other None = other
 got other (Some x) = x
 
+-- the values of equal options
+pub some_same : {A : Type 0} {x y : A} → Some x ≡ Some y → x ≡ y
+some_same same = cc
+
 pub same_read : {A : Type 0} (x y : A) (rest end : List ℕ) → ◌≡◌ {A = ReadOf A} (Some (x, rest)) (Some (y, end)) → (x ≡ y) × (rest ≡ end)
 same_read {A = A} x y rest end e =
     let other : A × List ℕ = (x, rest) in

@@ -1,6 +1,6 @@
 -- What is read of the text of a list of motes, whatever follows.
 use Rattle.std.proofs.Common.{◌≡◌, ◌∙◌, ◌⊎◌, inl, inr, ℕ, zero, suc, ◌+◌, ◌-◌, ◌<◌, ◌≤◌, ◌^◌, Bool, true, false, nat_eq, nat_le, Option, Some, None, List, [], ◌∷◌, ◌++◌, length, codes, refl, append-nil, sym, ap, subst, append_assoc, arith}
-use Rattle.std.specs.List.{AllByRecursion as Each}
+use Rattle.std.specs.List.{AllByRecursion as Each, range_with_len}
 use Rattle.std.specs.Fmt.{decimal}
 use Rattle.std.proofs.lemmas.Fmt.{decimal_nonempty}
 use Rattle.std.proofs.lemmas.List.{length-append}
@@ -9,7 +9,7 @@ use Rattle.claim_text.proofs.Ends.{EndsMotes}
 use Rattle.claim_text.proofs.NumbersAgain.{number_again}
 use Rattle.claim_text.specs.Reading.{ReadOf, next, strip, choose, begins_digit, append_read, read_list}
 use Rattle.claim_text.specs.Motes.{is_next, mote_item}
-use Rattle.claim_text.specs.ReadDeeds.{run, motes_in, read_mote, read_mote_span, read_motes}
+use Rattle.claim_text.specs.ReadDeeds.{motes_in, read_mote, read_mote_span, read_motes}
 
 abbrev pub FitsMote : ℕ → Type 0
 FitsMote m = m < 2 ^ 16
@@ -36,24 +36,24 @@ equal a b h = grind (arith, nat_tests)
 
 -- a span of one mote
 one_mote : (m : ℕ) → motes_in m m ≡ m ∷ []
-one_mote m = let none : m - m ≡ 0 = omega arith in ap (λ n. run m n ++ m ∷ []) none
+one_mote m = let none : m - m ≡ 0 = omega arith in ap (λ n. range_with_len m n ++ m ∷ []) none
 
-run_more : (from count : ℕ) (ms : List ℕ) → run from (suc count) ++ ms ≡ run from count ++ (from + count) ∷ ms
-run_more from zero ms = ap (λ n. n ∷ ms) (omega arith)
-run_more from (suc count) ms =
+range_more : (from count : ℕ) (ms : List ℕ) → range_with_len from (suc count) ++ ms ≡ range_with_len from count ++ (from + count) ∷ ms
+range_more from zero ms = ap (λ n. n ∷ ms) (omega arith)
+range_more from (suc count) ms =
     let same : from + 1 + count ≡ from + suc count = omega arith in
-    ap (λ t. from ∷ t) (run_more (from + 1) count ms ∙ ap (λ n. run (from + 1) count ++ n ∷ ms) same)
+    ap (λ t. from ∷ t) (range_more (from + 1) count ms ∙ ap (λ n. range_with_len (from + 1) count ++ n ∷ ms) same)
 
 -- a span that is longer by one mote
 mote_more : (from last x : ℕ) (ms : List ℕ) → from ≤ last → x ≡ last + 1 → motes_in from x ++ ms ≡ motes_in from last ++ x ∷ ms
 mote_more from last x ms h e =
     let many : x - from ≡ suc (last - from) = omega (arith, h, e) in
     let end : from + (last - from) ≡ last = omega (arith, h) in
-    append_assoc (run from (x - from)) (x ∷ []) ms
-    ∙ ap (λ n. run from n ++ x ∷ ms) many
-    ∙ run_more from (last - from) (x ∷ ms)
-    ∙ ap (λ n. run from (last - from) ++ n ∷ x ∷ ms) end
-    ∙ sym (append_assoc (run from (last - from)) (last ∷ []) (x ∷ ms))
+    append_assoc (range_with_len from (x - from)) (x ∷ []) ms
+    ∙ ap (λ n. range_with_len from n ++ x ∷ ms) many
+    ∙ range_more from (last - from) (x ∷ ms)
+    ∙ ap (λ n. range_with_len from (last - from) ++ n ∷ x ∷ ms) end
+    ∙ sym (append_assoc (range_with_len from (last - from)) (last ∷ []) (x ∷ ms))
 
 -- what is read behind the first mote of a span
 abbrev span_behind : (from : ℕ) → List ℕ → ReadOf (List ℕ)

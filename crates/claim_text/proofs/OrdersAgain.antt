@@ -1,5 +1,5 @@
 -- What is read of the texts of orders, whatever follows.
-use Rattle.std.proofs.Common.{◌≡◌, ℕ, Bool, true, false, not, if◌then◌else◌, Option, Some, None, List, ◌++◌, codes, refl, sym, ap, append_assoc}
+use Rattle.std.proofs.Common.{◌≡◌, ℕ, Bool, true, false, not, if◌then◌else◌, Option, Some, None, IfSome, List, ◌++◌, codes, refl, sym, ap, append_assoc}
 use Rattle.std.specs.Prelude.{◌==◌}
 use Rattle.std.specs.List.{AllByRecursion as Each}
 use Rattle.std.specs.Fmt.{decimal}
@@ -7,12 +7,12 @@ use Rattle.claims.specs.declared.order.Order.{Order}
 use Rattle.claims.specs.declared.order.Relation.{Relation}
 use Rattle.claims.specs.declared.order.Relation.TheVariants.{After, NotBefore, Within, Followed}
 use Rattle.claim_text.specs.Numbers.{noun}
-use Rattle.claim_text.specs.Fits.{IfThere, IsWord, FitsNumber, FitsRelation, FitsOrder}
+use Rattle.claim_text.specs.Fits.{IsWord, FitsNumber, FitsRelation, FitsOrder}
 use Rattle.claim_text.specs.Views.{deed_view, order_view}
 use Rattle.claim_text.specs.DeedText.{deed_text}
 use Rattle.claim_text.specs.OrderText.{is_plain, is_plain_relation, some_or_no, moments_text, relation_text, order_text}
 use Rattle.claim_text.specs.CountText.{if_order_text}
-use Rattle.claim_text.specs.ReadDeeds.{turned, some_or_no as read_some, read_relation, read_order}
+use Rattle.claim_text.specs.ReadDeeds.{meant, turned, some_or_no as read_some, read_relation, read_order}
 use Rattle.claim_text.proofs.Ends.{EndsTest}
 use Rattle.claim_text.proofs.NumbersAgain.{number_again}
 use Rattle.claim_text.proofs.DeedsAgain.{deed_again}
@@ -32,18 +32,18 @@ told NotBefore is_plain = not is_plain
 told (Within k) is_plain = is_plain
 told (Followed k) is_plain = is_plain
 
-some_again : (r : Relation) (is_plain : Bool) (rest : List ℕ) → read_some r (some_or_no is_plain ++ rest) ≡ Some (Some (r, is_plain), rest)
+some_again : (r : Relation) (is_plain : Bool) (rest : List ℕ) → read_some r (some_or_no is_plain ++ rest) ≡ Some (Some (meant r is_plain), rest)
 some_again r true rest = refl
 some_again r false rest = refl
 
 -- what is read of the moments of a relation, with this word for moments
 abbrev Again : (k : ℕ) (relation : List ℕ) (r : Relation) (is_plain : Bool) (rest word : List ℕ) → Type 0
 Again k relation r is_plain rest word =
-    read_relation ((codes " within " ++ (decimal k ++ (word ++ (relation ++ some_or_no is_plain)))) ++ rest) ≡ Some (Some (r, is_plain), rest)
+    read_relation ((codes " within " ++ (decimal k ++ (word ++ (relation ++ some_or_no is_plain)))) ++ rest) ≡ Some (Some (meant r is_plain), rest)
 
 moments_again : (k : ℕ) (relation : List ℕ) (r : Relation) (is_plain : Bool) (rest : List ℕ)
     → Again k relation r is_plain rest (codes " moment") → Again k relation r is_plain rest (codes " moments")
-    → read_relation (moments_text k relation is_plain ++ rest) ≡ Some (Some (r, is_plain), rest)
+    → read_relation (moments_text k relation is_plain ++ rest) ≡ Some (Some (meant r is_plain), rest)
 moments_again k relation r is_plain rest one many =
     either_noun (Again k relation r is_plain rest) k (codes " moment") (codes " moments") one many
 
@@ -73,7 +73,7 @@ module _ (k : ℕ) (is_plain : Bool) (rest : List ℕ) (fits : FitsNumber k) whe
   ) (some_again (Followed k) is_plain rest)
 
 relation_again : (r : Relation) (is_plain : Bool) (rest : List ℕ) → FitsRelation r
-    → read_relation (relation_text r is_plain ++ rest) ≡ Some (Some (r, told r is_plain), rest)
+    → read_relation (relation_text r is_plain ++ rest) ≡ Some (Some (meant r (told r is_plain)), rest)
 relation_again After true rest fits = refl
 relation_again After false rest fits = refl
 relation_again NotBefore true rest fits = refl
@@ -107,7 +107,7 @@ turned_round NotBefore false plain = plain
 turned_round (Within k) is_so plain = sym plain
 turned_round (Followed k) is_so plain = sym plain
 
-pub order_again : (names : List (List ℕ)) (own : Option ℕ) (o : Option Order) (tail : List ℕ) → Each IsWord names → IfThere FitsOrder o
+pub order_again : (names : List (List ℕ)) (own : Option ℕ) (o : Option Order) (tail : List ℕ) → Each IsWord names → IfSome o FitsOrder
     → EndsTest tail → read_order names own false (if_order_text names own o ++ tail) ≡ Some (order_view names o, tail)
 order_again names own None tail words fits ends = rw (ends.1.0, ends.1.1.0, ends.1.1.1.0, ends.1.1.1.1.0) refl
 order_again names own (Some o) tail words fits ends = order_with names own o (is_plain o) false tail words fits ends (told_again o.relation o.is_so)

@@ -1,6 +1,7 @@
 -- What is read of the texts of patterns, whatever follows.
-use Rattle.std.proofs.Common.{◌≡◌, ◌≢◌, ◌∙◌, ℕ, ◌+◌, ◌<◌, ◌^◌, ◌%◌, nat_le, nat_eq, zero, suc, Bool, true, false, Option, Some, None, List, [], ◌∷◌, ◌++◌, length, take, map, codes, bytes_eq, refl, ap, append_assoc, arith}
+use Rattle.std.proofs.Common.{◌≡◌, ◌≢◌, ◌∙◌, ℕ, ◌+◌, ◌<◌, ◌^◌, ◌%◌, nat_le, nat_eq, zero, suc, Bool, true, false, Option, Some, None, IfSome, List, [], ◌∷◌, ◌++◌, length, take, map, codes, bytes_eq, refl, ap, append_assoc, arith}
 use Rattle.std.specs.List.{AllByRecursion as Each, list_any, slice_get}
+use Rattle.std.specs.Option.{option_or}
 use Rattle.std.specs.Fmt.{decimal}
 use Rattle.std.specs.Char.{is_ascii_digit}
 use Rattle.std.proofs.lemmas.Bool.Decides.{nat_tests}
@@ -16,12 +17,12 @@ use Rattle.program_tree.specs.declared.event.Target.TheVariants.{One, All}
 use Rattle.claims.specs.declared.set.Set.{Set}
 use Rattle.claims.specs.declared.pattern.Pattern.{Pattern}
 use Rattle.claim_text.proofs.Ends.{EndsSet}
-use Rattle.claim_text.specs.Fits.{IfThere, IsWord, FitsProc, FitsTarget, FitsPattern}
+use Rattle.claim_text.specs.Fits.{IsWord, FitsProc, FitsTarget, FitsPattern}
 use Rattle.claim_text.specs.Numbers.{set_text, part_text}
 use Rattle.claim_text.specs.KindsText.{kinds_text}
 use Rattle.claim_text.specs.PatternText.{process_text, target_text, target_part, parts_text, pattern_text, patterns_text}
 use Rattle.claim_text.specs.Reading.{strip, begins_digit}
-use Rattle.claim_text.specs.ReadPatterns.{ends_word, read_word, read_name, or_else, read_this, read_place, read_target, read_target_part, read_parts, read_pattern}
+use Rattle.claim_text.specs.ReadPatterns.{ends_word, read_word, read_name, read_this, read_place, read_target, read_target_part, read_parts, read_pattern}
 use Rattle.claims.specs.declared.what.Kinds.{Kinds}
 use Rattle.claim_text.specs.ReadKinds.{read_kinds_text}
 use Rattle.claim_text.specs.ReadDeeds.{read_patterns}
@@ -58,8 +59,8 @@ other_word names w tail is end other = rw (word_again w tail is end, other) refl
 -- A target is read as its text, if that text is read behind the names or is a name.
 target_or_name : (names : List (List ℕ)) (w tail : List ℕ) → IsWord w → ends tail ≡ true
     → (list_any (bytes_eq w) (take 256 names) ≡ false
-    → or_else (read_this (codes "etimer") (w ++ tail)) (or_else (read_this (codes "ctimer") (w ++ tail))
-    (or_else (read_this (codes "radio") (w ++ tail)) (or_else (read_this (codes "all") (w ++ tail)) (read_place names (w ++ tail)))))
+    → option_or (read_this (codes "etimer") (w ++ tail)) (option_or (read_this (codes "ctimer") (w ++ tail))
+    (option_or (read_this (codes "radio") (w ++ tail)) (option_or (read_this (codes "all") (w ++ tail)) (read_place names (w ++ tail)))))
     ≡ Some (w, tail))
     → read_target names (w ++ tail) ≡ Some (w, tail)
 target_or_name names w tail is end behind = go (list_any (bytes_eq w) (take 256 names)) refl
@@ -142,7 +143,7 @@ target_again names All tail words fits end = target_or_name names (codes "all") 
 abbrev EndsTarget : List ℕ → Type 0
 EndsTarget tail = (ends tail ≡ true) × (strip (codes " process ") tail ≡ None)
 
-target_part_again : (names : List (List ℕ)) (o : Option Target) (tail : List ℕ) → Each IsWord names → IfThere FitsTarget o → EndsTarget tail
+target_part_again : (names : List (List ℕ)) (o : Option Target) (tail : List ℕ) → Each IsWord names → IfSome o FitsTarget → EndsTarget tail
     → read_target_part names (target_part names o ++ tail) ≡ Some (target_part names o, tail)
 target_part_again names None tail words fits end = rw end.1 refl
 target_part_again names (Some t) tail words fits end = rw (target_again names t tail words fits end.0) refl

@@ -27,10 +27,7 @@ use Rattle.claim_text.specs.TestText.{is_none, is_each, each_text, limited_text,
 use Rattle.claim_text.specs.TestText.{next_set, sets_text, values_text, test_text, next_test, tests_text}
 use Rattle.claim_text.specs.Groups.{entry_of}
 use Rattle.claim_text.specs.ClaimText.{quantity_text, these_text, cases_text, text_of}
-
--- the values of equal options
-some_same : {A : Type 0} {x y : A} → Some x ≡ Some y → x ≡ y
-some_same same = cc
+use Rattle.claim_text.proofs.ListTurns.{some_same}
 
 -- a function of views is the same for two lists with the same views
 same_map : {A V B : Type 0} (view : A → V) (f : A → B) → ((x y : A) → view x ≡ view y → f x ≡ f y) → (xs ys : List A)

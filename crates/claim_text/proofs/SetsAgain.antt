@@ -1,5 +1,5 @@
 -- What is read of the texts of sets and of lists of values, whatever follows.
-use Rattle.std.proofs.Common.{◌≡◌, ◌∙◌, ℕ, ◌<◌, nat_eq, Bool, true, false, if◌then◌else◌, Option, Some, None, List, [], ◌∷◌, ◌++◌, length, map, codes, refl, ap, append_assoc, arith}
+use Rattle.std.proofs.Common.{◌≡◌, ◌∙◌, ℕ, ◌<◌, nat_eq, Bool, true, false, if◌then◌else◌, Option, Some, None, IfSome, List, [], ◌∷◌, ◌++◌, length, map, codes, refl, ap, append_assoc, arith}
 use Rattle.std.specs.Char.{is_ascii_digit}
 use Rattle.std.specs.List.{AllByRecursion as Each, flat_map}
 use Rattle.std.specs.Fmt.{decimal}
@@ -7,7 +7,7 @@ use Rattle.std.proofs.lemmas.List.{length-append, map-id}
 use Rattle.std.proofs.lemmas.Fmt.{decimal_nonempty}
 use Rattle.std.proofs.lemmas.Bool.Decides.{nat_tests}
 use Rattle.claim_text.proofs.Ends.{EndsNumber, EndsSet}
-use Rattle.claim_text.specs.Fits.{IfThere, FitsNumber, FitsSpan, FitsSet}
+use Rattle.claim_text.specs.Fits.{FitsNumber, FitsSpan, FitsSet}
 use Rattle.claim_text.specs.Reading.{strip, begins_digit, read_number}
 use Rattle.claims.specs.declared.set.Span.{Span}
 use Rattle.claims.specs.declared.set.Set.{Set}
@@ -77,7 +77,7 @@ set_again (s ∷ ss) tail fits ends =
     s ss tail fits (ends.0, ends.1.0) ends.1.1.0
     ∙ ap (λ xs. Some (xs, tail)) (map-id (s ∷ ss)))
 
-pub part_again : (label : List ℕ) (o : Option Set) (tail : List ℕ) → IfThere FitsSet o → EndsSet tail → strip label tail ≡ None
+pub part_again : (label : List ℕ) (o : Option Set) (tail : List ℕ) → IfSome o FitsSet → EndsSet tail → strip label tail ≡ None
     → read_part label (part_text label o ++ tail) ≡ Some (part_text label o, tail)
 part_again label None tail fits ends other = rw other refl
 part_again label (Some s) tail fits ends other =

@@ -2,7 +2,6 @@
 use Rattle.std.proofs.Common.{◌≡◌, ◌∙◌, ℕ, ◌<◌, ◌^◌, Bool, true, false, not, nat_le, nat_eq, if◌then◌else◌, Option, Some, None, List, [], ◌∷◌, ◌++◌, length, map, codes, refl, sym, ap, append_assoc, arith}
 use Rattle.std.specs.Prelude.{◌==◌, ◌&&◌}
 use Rattle.std.specs.List.{AllByRecursion as Each, flat_map}
-use Rattle.std.specs.Char.{is_ascii_digit}
 use Rattle.std.specs.Fmt.{decimal}
 use Rattle.std.proofs.lemmas.List.{length-append}
 use Rattle.std.proofs.lemmas.Bool.Decides.{nat_tests}
@@ -29,7 +28,7 @@ use Rattle.claim_text.specs.ReadClaims.{read_case}
 use Rattle.claim_text.proofs.Ends.{EndsDeed, EndsTest, EndsCase}
 use Rattle.claim_text.proofs.NumbersAgain.{number_again, begins}
 use Rattle.claim_text.proofs.ListsAgain.{items_again}
-use Rattle.claim_text.proofs.SetsAgain.{set_again, sets_again, values_again}
+use Rattle.claim_text.proofs.SetsAgain.{no_word, set_again, sets_again, values_again}
 use Rattle.claim_text.proofs.PeriodsAgain.{limits_again}
 use Rattle.claim_text.proofs.DeedsAgain.{deed_again}
 use Rattle.claim_text.proofs.OrdersAgain.{either_noun, turned_again}
@@ -138,20 +137,12 @@ counted_again names own (Copies c) l tail words fits_count fits ends = limited_a
 counted_again names own Left l tail words fits_count fits ends = limited_again names own Left l tail words fits_count fits ends
 counted_again names own Rows l tail words fits_count fits ends = limited_again names own Rows l tail words fits_count fits ends
 
-no_letter : (letter b : ℕ) → 57 < letter → is_ascii_digit b ≡ true → nat_eq b letter ≡ false
-no_letter letter b above digit = grind (arith, nat_tests)
-
--- a text that begins with a digit doesn't begin with a word
-no_word : (letter : ℕ) (word bs : List ℕ) → 57 < letter → begins_digit bs ≡ true → strip (letter ∷ word) bs ≡ None
-no_word letter word [] above digit = refl
-no_word letter word (b ∷ bs) above digit = rw (no_letter letter b above digit) refl
-
--- and is read as a ratio
+-- a text that begins with a digit is read as a ratio
 ratio_first : (names : List (List ℕ)) (own : Option ℕ) (bs : List ℕ) → begins_digit bs ≡ true → read_test names own bs ≡ read_ratio names own bs
 ratio_first names own bs digit =
-    let every : strip (codes "every line ") bs ≡ None = no_word 101 (codes "very line ") bs (omega arith) digit in
-    let lines : strip (codes "the lines ") bs ≡ None = no_word 116 (codes "he lines ") bs (omega arith) digit in
-    let last : strip (codes "the last line ") bs ≡ None = no_word 116 (codes "he last line ") bs (omega arith) digit in
+    let every : strip (codes "every line ") bs ≡ None = no_word 101 (codes "very line ") bs refl digit in
+    let lines : strip (codes "the lines ") bs ≡ None = no_word 116 (codes "he lines ") bs refl digit in
+    let last : strip (codes "the last line ") bs ≡ None = no_word 116 (codes "he last line ") bs refl digit in
     rw (every, lines, last, digit) refl
 
 times_again : (n : ℕ) (tail : List ℕ) → n < 2 ^ 32 → read_times (decimal n ++ (codes " times the number of " ++ tail)) ≡ Some (n, tail)
@@ -306,7 +297,7 @@ some_bytes (b ∷ bs) digit = omega arith
 
 always_none : (names : List (List ℕ)) (own : Option ℕ) (t : Test) (tail : List ℕ) → FitsTest t → strip (codes "always") (test_text names own t ++ tail) ≡ None
 always_none names own = before_test (λ bs. strip (codes "always") bs ≡ None) (λ rest. refl) (λ rest. refl) (λ rest. refl)
-    (λ bs digit. no_word 97 (codes "lways") bs (omega arith) digit) names own
+    (λ bs digit. no_word 97 (codes "lways") bs refl digit) names own
 
 -- `and` goes on with a deed only if `of` is behind it
 ends_and : (bs : List ℕ) → strip (codes "of ") bs ≡ None → EndsTest (codes " and " ++ bs)
@@ -317,7 +308,7 @@ goes_on : (names : List (List ℕ)) (own : Option ℕ) (t : Test) (rest : List �
 goes_on names own t rest fits =
     ends_and (test_text names own t ++ rest)
     (before_test (λ bs. strip (codes "of ") bs ≡ None) (λ rest. refl) (λ rest. refl) (λ rest. refl)
-    (λ bs digit. no_word 111 (codes "f ") bs (omega arith) digit) names own t rest fits)
+    (λ bs digit. no_word 111 (codes "f ") bs refl digit) names own t rest fits)
 
 some_text : (names : List (List ℕ)) (own : Option ℕ) (t : Test) → FitsTest t → 0 < length (test_text names own t)
 some_text names own t fits =

@@ -1,5 +1,5 @@
 -- Claims whose numbers fit in their types, and names that are words.
-use Rattle.std.specs.Prelude.{◌≢◌, ◌<◌, ◌^◌, ℕ, Option, Some, None, List}
+use Rattle.std.specs.Prelude.{◌≢◌, ◌<◌, ◌^◌, ℕ, IfSome, List}
 use Rattle.std.specs.List.{AllByRecursion as Each}
 use Rattle.program_tree.specs.declared.event.Proc.{Proc}
 use Rattle.program_tree.specs.declared.event.Proc.TheVariants.{Own, Etimer, Ctimer, Radio}
@@ -23,10 +23,6 @@ use Rattle.claims.specs.declared.claim.Test.TheVariants.{Count, Ratio, Values, A
 use Rattle.claims.specs.declared.claim.Case.{Case}
 use Rattle.claims.specs.declared.claim.Claim.{Claim}
 
-abbrev pub IfThere : {A : Type 0} → (A → Type 0) → Option A → Type 0
-IfThere Fits None = Unit {0}
-IfThere Fits (Some x) = Fits x
-
 abbrev pub FitsNumber : ℕ → Type 0
 FitsNumber n = n < 2 ^ 64
 
@@ -48,8 +44,8 @@ FitsTarget All = Unit {0}
 
 abbrev pub FitsPattern : Pattern → Type 0
 FitsPattern p =
-    IfThere FitsTarget p.target × IfThere FitsSet p.serial × IfThere FitsSet p.event × IfThere FitsSet p.sender
-    × IfThere FitsSet p.packet × IfThere FitsSet p.value
+    IfSome p.target FitsTarget × IfSome p.serial FitsSet × IfSome p.event FitsSet × IfSome p.sender FitsSet
+    × IfSome p.packet FitsSet × IfSome p.value FitsSet
 
 abbrev pub FitsWatch : Watch → Type 0
 FitsWatch w = (w.mote < 2 ^ 16) × FitsSpan w.when
@@ -71,14 +67,14 @@ FitsArrival (Lost when) = FitsSpan when
 FitsArrival (Due end) = FitsNumber end
 
 abbrev pub FitsCount : CountOfCode → Type 0
-FitsCount (Lines l) = FitsDeed l.deed × IfThere FitsOrder l.order
-FitsCount (Packets p) = IfThere FitsSet p.sender × FitsSpan p.when
-FitsCount (Copies c) = IfThere FitsSet c.to × FitsArrival c.arrival
+FitsCount (Lines l) = FitsDeed l.deed × IfSome l.order FitsOrder
+FitsCount (Packets p) = IfSome p.sender FitsSet × FitsSpan p.when
+FitsCount (Copies c) = IfSome c.to FitsSet × FitsArrival c.arrival
 FitsCount Left = Unit {0}
 FitsCount Rows = Unit {0}
 
 abbrev pub FitsLimits : Limits → Type 0
-FitsLimits l = FitsNumber l.least × IfThere FitsNumber l.most
+FitsLimits l = FitsNumber l.least × IfSome l.most FitsNumber
 
 abbrev pub FitsTest : Test → Type 0
 FitsTest (Count c l) = FitsCount c × FitsLimits l

@@ -1,4 +1,4 @@
--- What a reader makes of cases and claims.
+-- Parsers of cases and claims.
 use Rattle.std.specs.Prelude.{ℕ, ◌||◌, if◌then◌else◌, Option, Some, None, List, [], ◌∷◌, length, codes}
 use Rattle.claims.specs.declared.limits.Limits.{Limits}
 use Rattle.claim_text.specs.Views.{TestView, ClaimView}

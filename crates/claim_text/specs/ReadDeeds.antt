@@ -1,25 +1,21 @@
--- What a reader makes of motes, deeds and orders.
-use Rattle.std.specs.Prelude.{ℕ, zero, suc, ◌+◌, ◌-◌, Bool, true, false, not, if◌then◌else◌, Option, Some, None}
+-- Parsers of motes, deeds and orders.
+use Rattle.std.specs.Prelude.{ℕ, ◌-◌, Bool, true, false, not, if◌then◌else◌, Option, Some, None}
 use Rattle.std.specs.Prelude.{List, [], ◌∷◌, ◌++◌, map, codes}
+use Rattle.std.specs.List.{range_with_len}
 use Rattle.claims.specs.declared.set.Span.{Span}
 use Rattle.claims.specs.declared.trace.Watch.{Watch}
 use Rattle.claims.specs.declared.order.Relation.{Relation}
 use Rattle.claims.specs.declared.order.Relation.TheVariants.{After, NotBefore, Within, Followed}
-use Rattle.claim_text.specs.declared.read.deeds.Ordering.{Ordering}
+use Rattle.claim_text.specs.declared.read.deeds.Meant.{Meant}
 use Rattle.claim_text.specs.Views.{DeedView, OrderView}
 use Rattle.claim_text.specs.Reading.{ReadOf, next, strip, choose, behind, read_either, read_number, read_number_up_to}
 use Rattle.claim_text.specs.Reading.{read_list_or, read_all}
 use Rattle.claim_text.specs.ReadNumbers.{read_period}
 use Rattle.claim_text.specs.ReadPatterns.{read_pattern_item}
 
--- so many numbers from this one on
-abbrev pub run : (from count : ℕ) → List ℕ
-run from zero = []
-run from (suc count) = from ∷ run (from + 1) count
-
 -- the motes of a span; the last one, if the span has none
 abbrev pub motes_in : (from to : ℕ) → List ℕ
-motes_in from to = run from (to - from) ++ to ∷ []
+motes_in from to = range_with_len from (to - from) ++ to ∷ []
 
 abbrev pub read_mote : List ℕ → ReadOf ℕ
 read_mote bs = read_number_up_to 65535 bs
@@ -67,17 +63,12 @@ read_deed names own bs =
     next (read_patterns names bs) (λ ps rest. next (read_watches own rest)
     (λ ws end. Some (record { patterns = ps; watches = ws }, end)))
 
--- a relation, and whether it is meant or denied
-abbrev pub Meant : Type 0
-Meant = Relation × Bool
-
-abbrev pub meant : Option Ordering → Option Meant
-meant None = None
-meant (Some o) = Some (o.relation, o.is_so)
+abbrev pub meant : Relation → (is_so : Bool) → Meant
+meant relation is_so = record { relation = relation; is_so = is_so }
 
 abbrev pub some_or_no : Relation → List ℕ → ReadOf (Option Meant)
 some_or_no r bs =
-    next (read_either (codes "some line ") (codes "no line ") bs) (λ is_so rest. Some (Some (r, is_so), rest))
+    next (read_either (codes "some line ") (codes "no line ") bs) (λ is_so rest. Some (Some (meant r is_so), rest))
 
 abbrev pub after_or_before : (moments : ℕ) → (is_after : Bool) → List ℕ → ReadOf (Option Meant)
 after_or_before k is_after bs = if is_after then some_or_no (Within k) bs else some_or_no (Followed k) bs
@@ -92,8 +83,8 @@ abbrev pub read_relation : List ℕ → ReadOf (Option Meant)
 read_relation bs =
     choose (strip (codes " after ") bs) (choose (strip (codes " within ") bs)
     (choose (strip (codes " not before every line ") bs) (choose (strip (codes " before every line ") bs)
-    (Some (None, bs)) (λ rest. Some (Some (NotBefore, false), rest)))
-    (λ rest. Some (Some (NotBefore, true), rest)))
+    (Some (None, bs)) (λ rest. Some (Some (meant NotBefore false), rest)))
+    (λ rest. Some (Some (meant NotBefore true), rest)))
     read_moments)
     (some_or_no After)
 
@@ -106,7 +97,7 @@ abbrev pub read_event : (names : List (List ℕ)) → (own : Option ℕ) → (is
 read_event names own is_turned None bs = Some (None, bs)
 read_event names own is_turned (Some m) bs =
     next (read_deed names own bs) (λ d rest.
-    Some (Some (record { relation = m.0; is_so = turned is_turned m.1; event = d }), rest))
+    Some (Some (record { relation = m.relation; is_so = turned is_turned m.is_so; event = d }), rest))
 
 -- an order, if there is one
 abbrev pub read_order : (names : List (List ℕ)) → (own : Option ℕ) → (is_turned : Bool) → List ℕ → ReadOf (Option OrderView)

@@ -1,4 +1,4 @@
--- What a reader makes of kinds.
+-- Parsers of kinds.
 use Rattle.std.specs.Prelude.{ℕ, zero, suc, ◌+◌, Bool, true, false, Some, None, List, [], ◌∷◌, length, codes}
 use Rattle.claims.specs.declared.what.Kinds.{Kinds}
 use Rattle.claim_text.specs.KindsText.{kind_words, marks_of, kinds_text}

@@ -1,4 +1,4 @@
--- What a reader makes of sets of numbers, periods and limits.
+-- Parsers of sets of numbers, periods and limits.
 use Rattle.std.specs.Prelude.{ℕ, Bool, if◌then◌else◌, Some, None, List, [], ◌++◌, codes}
 use Rattle.claims.specs.declared.set.Span.{Span}
 use Rattle.claims.specs.declared.limits.Limits.{Limits}

@@ -1,7 +1,8 @@
--- What a reader makes of patterns: their texts.
+-- Parsers of patterns: their values are texts.
 use Rattle.std.specs.Prelude.{◌≡◌, ℕ, Bool, true, false, nat_eq, ◌||◌, if◌then◌else◌, Option, Some, None, List, [], ◌∷◌, ◌++◌}
 use Rattle.std.specs.Prelude.{codes, bytes_eq, slice_get, take}
 use Rattle.std.specs.List.{list_any}
+use Rattle.std.specs.Option.{option_or}
 use Rattle.claim_text.specs.PatternText.{name_or_number}
 use Rattle.claim_text.specs.Reading.{ReadOf, next, strip, choose, behind, read_number_up_to, single}
 use Rattle.claim_text.specs.ReadNumbers.{read_part}
@@ -34,11 +35,6 @@ abbrev pub ReadsName : (names : List (List ℕ)) → (before after : List ℕ) �
 ReadsName names before after None = (read_name names before ≡ None) × (after ≡ before)
 ReadsName names before after (Some p) = read_name names before ≡ Some (name_or_number (slice_get names p) p, after)
 
--- the first one that is read
-abbrev pub or_else : {A : Type 0} → ReadOf A → (other : ReadOf A) → ReadOf A
-or_else None other = other
-or_else (Some x) other = Some x
-
 -- a word, and the text of what it stands for
 abbrev pub read_this : (word : List ℕ) → List ℕ → ReadOf (List ℕ)
 read_this word bs = behind word bs (λ rest. Some (word, rest))
@@ -48,8 +44,8 @@ read_place names bs = next (read_number_up_to 255 bs) (λ p rest. Some (name_or_
 
 abbrev pub read_target : (names : List (List ℕ)) → List ℕ → ReadOf (List ℕ)
 read_target names bs =
-    or_else (read_name names bs) (or_else (read_this (codes "etimer") bs) (or_else (read_this (codes "ctimer") bs)
-    (or_else (read_this (codes "radio") bs) (or_else (read_this (codes "all") bs) (read_place names bs)))))
+    option_or (read_name names bs) (option_or (read_this (codes "etimer") bs) (option_or (read_this (codes "ctimer") bs)
+    (option_or (read_this (codes "radio") bs) (option_or (read_this (codes "all") bs) (read_place names bs)))))
 
 abbrev pub read_target_part : (names : List (List ℕ)) → List ℕ → ReadOf (List ℕ)
 read_target_part names bs =

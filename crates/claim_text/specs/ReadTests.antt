@@ -1,4 +1,4 @@
--- What a reader makes of counts and tests.
+-- Parsers of counts and tests.
 use Rattle.std.specs.Prelude.{ℕ, Bool, true, false, if◌then◌else◌, Option, Some, None, List, codes}
 use Rattle.claims.specs.declared.set.Span.{Span}
 use Rattle.claims.specs.declared.medium.Arrival.{Arrival}

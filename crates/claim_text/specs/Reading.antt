@@ -1,11 +1,11 @@
--- What a reader makes of the front of a text: words, numbers and lists.
+-- Parsers as functions: from a text to a value and the text behind it, or to nothing.
 use Rattle.std.specs.Prelude.{◌≡◌, ℕ, zero, suc, ◌+◌, ◌-◌, ◌*◌, Bool, true, false, nat_le, nat_lt, nat_eq, if◌then◌else◌}
 use Rattle.std.specs.Prelude.{Option, Some, None, List, [], ◌∷◌, ◌++◌, length, is_some, Result, Ok, Err}
 use Rattle.std.specs.Char.{is_ascii_digit}
 use Rattle.claim_text.specs.declared.error.Unread.{Unread}
 use Rattle.claim_text.specs.declared.error.Unread.TheVariants.{Memory, Unexpected}
 
--- what is read of a text, if it begins so, and the text behind it
+-- the result of a parser
 abbrev pub ReadOf : Type 0 → Type 0
 ReadOf A = Option (A × List ℕ)
 

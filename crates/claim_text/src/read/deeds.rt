@@ -4,7 +4,7 @@ ghost use Rattle.claim_text.specs.declared.error.Unread.TheVariants.{Memory};
 ghost use Rattle.claims.specs.declared.trace.Watch.{Watch};
 ghost use Rattle.claim_text.specs.Views.{deed_view, order_view};
 ghost use Rattle.claim_text.specs.Reading.{Reads, ReadsAs};
-ghost use Rattle.claim_text.specs.ReadDeeds.{read_mote_span, read_group, read_mote, read_watches, read_deed, meant};
+ghost use Rattle.claim_text.specs.ReadDeeds.{read_mote_span, read_group, read_mote, read_watches, read_deed};
 ghost use Rattle.claim_text.specs.ReadDeeds.{motes_in, watch_at};
 ghost use Rattle.claim_text.specs.ReadDeeds.{some_or_no, read_moments, read_relation, read_order};
 
@@ -76,7 +76,7 @@ fn put_watches(watches: &mut Vec<Watch>, motes: &[u16], when: Span) -> Read<()>
 
 /// A relation, and whether it is meant or denied.
 #[derive(Clone, Copy)]
-struct Ordering {
+struct Meant {
     relation: Relation,
     is_so: bool,
 }
@@ -115,15 +115,15 @@ impl Reader<'_> {
         Ok(Deed { watches, patterns })
     }
 
-    fn some_or_no(&mut self, relation: Relation) -> Read<Option<Ordering>>
-        ensures reads { ReadsAs meant (some_or_no relation self.old.rest.now) self.new.rest.now result }
+    fn some_or_no(&mut self, relation: Relation) -> Read<Option<Meant>>
+        ensures reads { Reads (some_or_no relation self.old.rest.now) self.new.rest.now result }
     {
         let is_so = self.take_either("some line ", "no line ")?;
-        Ok(Some(Ordering { relation, is_so }))
+        Ok(Some(Meant { relation, is_so }))
     }
 
-    fn moments(&mut self) -> Read<Option<Ordering>>
-        ensures reads { ReadsAs meant (read_moments self.old.rest.now) self.new.rest.now result }
+    fn moments(&mut self) -> Read<Option<Meant>>
+        ensures reads { Reads (read_moments self.old.rest.now) self.new.rest.now result }
     {
         let moments = self.number()?;
         self.take_either(" moments", " moment")?;
@@ -135,8 +135,8 @@ impl Reader<'_> {
     }
 
     /// Reads the words of a relation, if there is one.
-    fn relation(&mut self) -> Read<Option<Ordering>>
-        ensures reads { ReadsAs meant (read_relation self.old.rest.now) self.new.rest.now result }
+    fn relation(&mut self) -> Read<Option<Meant>>
+        ensures reads { Reads (read_relation self.old.rest.now) self.new.rest.now result }
     {
         if self.take(" after ") {
             return self.some_or_no(Relation::After);
@@ -147,7 +147,7 @@ impl Reader<'_> {
         let is_so = self.take(" not before every line ");
         if is_so || self.take(" before every line ") {
             let relation = Relation::NotBefore;
-            return Ok(Some(Ordering { relation, is_so }));
+            return Ok(Some(Meant { relation, is_so }));
         }
         Ok(None)
     }
@@ -156,7 +156,7 @@ impl Reader<'_> {
     pub fn order(&mut self, scope: Scope<'_>, is_turned: bool) -> Read<Option<Order>>
         ensures reads { ReadsAs (order_view scope.entry.names.now) (read_order scope.entry.names.now scope.entry.own is_turned self.old.rest.now) self.new.rest.now result }
     {
-        let Some(Ordering { relation, is_so }) = self.relation()? else {
+        let Some(Meant { relation, is_so }) = self.relation()? else {
             return Ok(None);
         };
         let event = self.deed(scope)?;
