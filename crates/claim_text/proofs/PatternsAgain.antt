@@ -203,6 +203,7 @@ parts_in_front : (p : Pattern) (rest : List ℕ) → parts_text p ++ rest ≡ pa
 parts_in_front p rest = simp append_assoc
 
 kinds_text_again : (k : Kinds) (tail : List ℕ) → strip (codes " or ") tail ≡ None → read_kinds_text (kinds_text k ++ tail) ≡ Some (kinds_text k, tail)
+unfolding kinds_text
 kinds_text_again k tail end = rw (kinds_again k tail end) refl
 
 pub pattern_again : (names : List (List ℕ)) (p : Pattern) (tail : List ℕ) → Each IsWord names → FitsPattern p

@@ -3,7 +3,7 @@ use Rattle.std.proofs.Common.{◌≡◌, ◌∙◌, ℕ, ◌==◌, nat_lt, nat_e
 use Rattle.std.specs.List.{AllByRecursion as Each, flat_map}
 use Rattle.std.proofs.lemmas.Bool.Decides.{nat_tests}
 use Rattle.claims.specs.declared.what.Kinds.{Kinds}
-use Rattle.claim_text.specs.KindsText.{kind_words, marks_of, chosen, or_word, words_text, kinds_text, words_added, kinds_added}
+use Rattle.claim_text.specs.KindsText.{kind_words, marks_of, chosen, or_word, words_text, marks_text, kinds_text, words_added, kinds_added}
 
 not_empty : {A : Type 0} (x : A) (xs : List A) → nat_eq (length (x ∷ xs)) 0 ≡ false
 not_empty x xs = grind (arith, nat_tests)
@@ -35,5 +35,5 @@ all_some : Each IsSome kind_words
 all_some = assumption
 
 pub kinds_printed : (k : Kinds) → kinds_text k ≡ (if length (kinds_added k []) == 0 then codes "nothing" else kinds_added k [])
-unfolding kinds_added kinds_text
+unfolding kinds_added kinds_text marks_text
 kinds_printed k = sym (all_added (marks_of k) kind_words all_some)

@@ -29,9 +29,12 @@ abbrev pub words_text : List (List ℕ) → List ℕ
 words_text [] = codes "nothing"
 words_text (w ∷ ws) = w ++ flat_map or_word ws
 
--- the words of the kinds that are chosen
+-- the words of the kinds whose marks are true
+unfoldable pub marks_text : (marks : List Bool) → List ℕ
+marks_text marks = words_text (chosen marks kind_words)
+
 unfoldable pub kinds_text : Kinds → List ℕ
-kinds_text k = words_text (chosen (marks_of k) kind_words)
+kinds_text k = marks_text (marks_of k)
 
 -- these words, with one more word behind ` or ` if its kind is chosen
 abbrev pub kind_added : (is_chosen : Bool) → (word : List ℕ) → (words : List ℕ) → List ℕ

@@ -1,5 +1,6 @@
 //! Reads kinds of lines.
-ghost use Rattle.claim_text.specs.Reading.{Reads};
+ghost use Rattle.claim_text.specs.KindsText.{marks_of};
+ghost use Rattle.claim_text.specs.Reading.{ReadsAs};
 ghost use Rattle.claim_text.specs.ReadKinds.{read_one_kind, read_kinds};
 
 use crate::error::Unread;
@@ -9,7 +10,7 @@ use claims::Kinds;
 impl Reader<'_> {
     /// Reads one kind, beside these.
     fn kind(&mut self, mut kinds: Kinds) -> Read<Kinds>
-        ensures reads { Reads (read_one_kind kinds self.old.rest.now) self.new.rest.now result }
+        ensures reads { ReadsAs marks_of (read_one_kind (marks_of kinds) self.old.rest.now) self.new.rest.now result }
     {
         if self.take("start") {
             kinds.start = true;
@@ -47,7 +48,7 @@ impl Reader<'_> {
 
     /// Reads the kinds of a pattern.
     pub fn kinds(&mut self) -> Read<Kinds>
-        ensures reads { Reads (read_kinds self.old.rest.now) self.new.rest.now result }
+        ensures reads { ReadsAs marks_of (read_kinds self.old.rest.now) self.new.rest.now result }
     {
         let mut kinds = Kinds::default();
         if self.take("nothing") {

@@ -75,6 +75,7 @@ impl Reader<'_> {
         }
     }
 
+    #[tactic(auto, unfolding(crate::specs::KindsText::kinds_text))]
     fn pattern(&mut self, scope: Scope<'_>) -> Read<Pattern>
         ensures reads { ReadsAs (pattern_text scope.entry.names.now) (read_pattern scope.entry.names.now self.old.rest.now) self.new.rest.now result }
     {

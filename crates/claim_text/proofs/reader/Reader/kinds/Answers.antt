@@ -1,18 +1,20 @@
-use Rattle.std.proofs.Common.{◌≡◌, ◌∙◌, ℕ, ◌+◌, ◌-◌, suc, zero, length, List, Err, None, refl, ap, arith, rules, codes}
+use Rattle.std.proofs.Common.{◌≡◌, ◌∙◌, ℕ, ◌+◌, ◌-◌, suc, zero, length, List, Err, None, Bool, refl, ap, arith, rules, codes}
 use Rattle.claims.specs.declared.what.Kinds.{Kinds}
+use Rattle.claim_text.specs.KindsText.{marks_of}
 use Rattle.claim_text.specs.declared.error.Unread.{Unread}
 use Rattle.claim_text.specs.declared.error.Unread.TheVariants.{Memory, Unexpected}
-use Rattle.claim_text.specs.Reading.{ReadOf, Reads, strip}
-use Rattle.claim_text.specs.ReadKinds.{read_one_kind, read_kinds, read_more_kinds, no_kinds}
+use Rattle.claim_text.specs.Reading.{ReadOf, ReadsAs, strip}
+use Rattle.claim_text.specs.ReadKinds.{read_one_kind, read_kinds, read_more_kinds, no_marks}
 use Rattle.claim_text.proofs.reader.Reader.kinds.Goals as goal
 
-began : (bs after : List ℕ) (k : Kinds) (left : ℕ) → k ≡ no_kinds → strip (codes "nothing") bs ≡ None → after ≡ bs → 0 + left ≡ length after
-    → read_kinds bs ≡ read_more_kinds left k after
+began : (bs after : List ℕ) (k : Kinds) (left : ℕ) → marks_of k ≡ no_marks → strip (codes "nothing") bs ≡ None → after ≡ bs → 0 + left ≡ length after
+    → read_kinds bs ≡ read_more_kinds left (marks_of k) after
 began bs after k left none other same all =
     let turns : length bs ≡ left = omega (arith, all, ap length same) in
     rw (other, none, same, turns) refl
 
-failed : (whole part : ReadOf Kinds) (rest : List ℕ) (e : Unread) → Reads part rest (Err e) → (part ≡ None → whole ≡ None) → Reads whole rest (Err e)
+failed : (whole part : ReadOf (List Bool)) (rest : List ℕ) (e : Unread) → ReadsAs marks_of part rest (Err e) → (part ≡ None → whole ≡ None)
+    → ReadsAs marks_of whole rest (Err e)
 failed whole part rest Memory h f = tt
 failed whole part rest Unexpected h f = f h
 
@@ -25,7 +27,7 @@ returns-in_err-kinds c =
     let turn = c.loop.invariant (suc left) (omega (arith, c.loop-test.true)) in
     let r : c.from_residual.result ≡ Err c.in_err-kinds.field-0.0 = search rules in
     record {
-      reads = rw r (failed _ (read_one_kind c.loop.kinds c.loop.self.rest.now) c.kind.new.self.rest.now _ c.in_err-kinds.ensures.reads (λ none. turn ∙ rw none refl));
+      reads = rw r (failed _ (read_one_kind (marks_of c.loop.kinds) c.loop.self.rest.now) c.kind.new.self.rest.now _ c.in_err-kinds.ensures.reads (λ none. turn ∙ rw none refl));
     }
 
 pub returns-then-not-take : goal.returns-then-not-take
