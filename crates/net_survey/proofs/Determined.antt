@@ -1,6 +1,5 @@
 -- A survey of the one report of a net with each list of faults.
-use Rattle.std.proofs.Common.{◌≡◌, ℕ, ◌≤◌, Bool, List, length, None, Result, Ok, Err, IfOk}
-use Rattle.std.specs.Option.{IfSome}
+use Rattle.std.proofs.Common.{◌≡◌, ℕ, Bool, List, length, None, Result, Ok, Err, IfOk}
 use Rattle.std.specs.declared.alloc.AllocError.{AllocError}
 use Rattle.radio_medium.specs.Medium.{medium_fault}
 use Rattle.mote_net.specs.Net.{NetModel}
@@ -8,8 +7,7 @@ use Rattle.mote_net.specs.Report.{report_of}
 use Rattle.mote_net.specs.declared.report.Report.{Report}
 use Rattle.serial_run.specs.NetRun.{IsReportOf}
 use Rattle.serial_run.proofs.Unique.{report_is_one}
-use Rattle.survey.specs.FaultSet.{IsSet}
-use Rattle.survey.specs.Breaks.{breaks_of, IsCovered, IsComplete, IsSound, IsMinimal, IsListedOnce, IsCount}
+use Rattle.survey.specs.Survey.{IsSurvey}
 use Rattle.survey.specs.declared.broken.Survey.{Survey}
 use Rattle.survey.specs.declared.search.Limits.{Limits}
 use Rattle.radio_faults.specs.declared.fault.Fault.{Fault}
@@ -34,23 +32,6 @@ module _ (n : NetModel) (fault : medium_fault n.radio ≡ None) (placed : length
   holding claims candidates = holds_with (λ faults. report_with (net_with faults n)) (claim_holds claims) candidates
 
   pub surveyed : (claims : List Claim) (candidates : List Fault) (limits : Limits) (r : Result Survey AllocError)
-      → IfOk r (λ s. IsComplete (length candidates) (IsCovered limits.faults s.stopped_at) (holding claims candidates) (length claims) (breaks_of s.broken.items))
-      → IfOk r (λ s. IsSound (length candidates) limits.faults (holding claims candidates) (length claims) (breaks_of s.broken.items))
-      → IfOk r (λ s. IsMinimal (length candidates) (holding claims candidates) (breaks_of s.broken.items))
-      → IfOk r (λ s. IsListedOnce (breaks_of s.broken.items))
-      → IfOk r (λ s. IsCount (length candidates) (IsCovered limits.faults s.stopped_at) (holding claims candidates) (length claims) s.trials)
-      → IfOk r (λ s. s.trials ≤ limits.trials)
-      → IfOk r (λ s. IfSome s.stopped_at (λ set. (s.trials ≡ limits.trials) × IsSet (length candidates) set.items × (length set.items ≤ limits.faults)))
-      → IfOk r (IsSurveyOf n claims candidates limits)
-  surveyed claims candidates limits (Ok s) complete sound minimal once count limit stopped = record {
-    report = λ faults. report_with (net_with faults n);
-    reports = report_is;
-    complete = complete;
-    sound = sound;
-    minimal = minimal;
-    once = once;
-    count = count;
-    limit = limit;
-    stopped = stopped;
-  }
-  surveyed claims candidates limits (Err e) complete sound minimal once count limit stopped = tt
+      → IfOk r (IsSurvey (length candidates) (holding claims candidates) (length claims) limits) → IfOk r (IsSurveyOf n claims candidates limits)
+  surveyed claims candidates limits (Ok s) is = record { report = λ faults. report_with (net_with faults n); reports = report_is; survey = is }
+  surveyed claims candidates limits (Err e) is = tt

@@ -14,7 +14,8 @@ use Rattle.survey.proofs.Gather.{never_before_itself, once_append}
 abbrev Breaks : Type 0
 Breaks = List (List ℕ × ℕ)
 
-unpruned_worth : (n : ℕ) (holds : List ℕ → ℕ → Bool) (claims : ℕ) (breaks : Breaks) (start F : List ℕ) → IsComplete n (λ G. IsTriedBefore G start) holds claims breaks
+-- a set that isn't pruned after all smaller sets is worth a run
+pub unpruned_worth : (n : ℕ) (holds : List ℕ → ℕ → Bool) (claims : ℕ) (breaks : Breaks) (start F : List ℕ) → IsComplete n (λ G. IsTriedBefore G start) holds claims breaks
     → IsSet n F → length F ≡ length start → IsUnpruned claims breaks F → IsWorthRun n holds claims F
 unpruned_worth n holds claims breaks start F before h len free = (
   free.0,

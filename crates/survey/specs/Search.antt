@@ -59,14 +59,14 @@ IsSeen claims breaks start sets F = ComesBefore F start ⊎ (IsPruned claims bre
 abbrev pub AreSeen : ℕ → (List ℕ → Type 0) → List ℕ → (List ℕ → Type 0) → Type 0
 AreSeen n Before start Seen = (F : List ℕ) → IsSet n F → length F ≡ length start → Before F → Seen F
 
--- F was pruned, or is now the last of the sets; or, where the answer is no, there was no room for it
+-- F was pruned, or is now the last of the sets; or, where the answer is no, it isn't pruned, and there was no room for it
 abbrev pub TakesSet : ℕ → List (List ℕ × ℕ) → List ℕ → ℕ → List (Vec ℕ Global) → List (Vec ℕ Global) → Bool → Type 0
 TakesSet claims breaks F room sets more taken =
     MatchBool taken
     ((IsPruned claims breaks F × (more ≡ sets)) ⊎
     ((length sets < room) × IsUnpruned claims breaks F ×
     ((v : Vec ℕ Global) × (v.items ≡ F) × (more ≡ sets ++ v ∷ []))))
-    ((more ≡ sets) × (room ≤ length sets))
+    ((more ≡ sets) × (room ≤ length sets) × IsUnpruned claims breaks F)
 
 -- some sets of candidates may be tried
 abbrev pub MayTry : ℕ → (Bor (List (Vec ℕ Global)) → Type 0) → Type 0

@@ -1,6 +1,6 @@
 //! The sets that are tried next.
 
-ghost use Rattle.std.specs.Prelude.{◌≡◌, ℕ, ◌<◌, ◌≤◌, ◌⊎◌, length, true, List, IfOk};
+ghost use Rattle.std.specs.Prelude.{◌≡◌, ℕ, ◌<◌, ◌≤◌, length, true, List, IfOk};
 ghost use Rattle.std.specs.List.{All, Contains};
 ghost use Rattle.survey.specs.FaultSet.{IsSet, ComesBefore};
 ghost use Rattle.survey.specs.Breaks.{breaks_of, IsOnce};
@@ -36,9 +36,8 @@ pub fn gather(
     ensures sets { IfOk result (λ b. All
         (λ s. IsSet candidates s.items × (length s.items ≡ length set.old)) b.sets.items) }
     ensures room { IfOk result (λ b. length b.sets.items ≤ room) }
-    ensures more { IfOk result (λ b. b.more ≡ true → IsSet candidates set.new) }
+    ensures left { IfOk result (λ b. b.more ≡ true → IsFresh candidates claims (breaks_of found.now) set.old set.new) }
     ensures moved { IfOk result (λ b. b.more ≡ true → 0 < room → ComesBefore set.old set.new) }
-    ensures onward { IfOk result (λ b. b.more ≡ true → (set.new ≡ set.old) ⊎ ComesBefore set.old set.new) }
     ensures seen { IfOk result (λ b. AreSeen candidates (λ F. b.more ≡ true → ComesBefore F set.new) set.old
         (IsSeen claims (breaks_of found.now) set.old b.sets.items)) }
     ensures fresh { IfOk result (λ b. (F : List ℕ) → Contains (items_of b.sets.items) F → IsFresh candidates claims

@@ -4,8 +4,9 @@ ghost use Rattle.std.specs.Prelude.{◌≡◌, ℕ, ◌+◌, ◌<◌, ◌≤◌,
 ghost use Rattle.std.specs.Bool.{MatchBool};
 ghost use Rattle.std.specs.Option.{IfSome};
 ghost use Rattle.survey.specs.FaultSet.{IsSet, ComesBefore, IsTriedBefore};
-ghost use Rattle.survey.specs.Breaks.{breaks_of, IsCovered, IsComplete, IsSound, IsMinimal, IsListedOnce, IsCount};
+ghost use Rattle.survey.specs.Breaks.{breaks_of, IsCovered, IsComplete, IsWorthRun};
 ghost use Rattle.survey.specs.Search.{IsKept, MayTry, GivesAnswers, IsCounted};
+ghost use Rattle.survey.specs.Survey.{IsSurvey};
 
 use crate::batch::gather;
 use crate::broken::{Broken, Survey};
@@ -68,6 +69,8 @@ fn try_batch<T: Trial, F: Fn(&[Vec<u16>]) -> Result<Vec<Vec<bool>>, AllocError>>
     ensures room { IfOk result (λ step. step.trials ≤ room) }
     ensures set { IfOk result (λ step. step.more ≡ true → IsSet (T.candidate_count trial.now) set.new) }
     ensures moved { IfOk result (λ step. step.more ≡ true → 0 < room → ComesBefore set.old set.new) }
+    ensures worth { IfOk result (λ step. step.more ≡ true → IsWorthRun (T.candidate_count trial.now)
+        (T.holds trial.now) (T.claim_count trial.now) set.new) }
 {
     let size = set.len();
     let batch = gather(alloc, found, trial.candidates(), trial.claims(), set, room)?;
@@ -136,6 +139,8 @@ fn search_size<T: Trial, F: Fn(&[Vec<u16>]) -> Result<Vec<Vec<bool>>, AllocError
     ensures stopped { IfOk result (λ end. IfSome end.stopped_at
         (λ set. (end.trials ≡ limits.trials) × IsSet (T.candidate_count trial.now) set.items ×
         (length set.items ≡ size))) }
+    ensures worth { IfOk result (λ end. IfSome end.stopped_at (λ set. IsWorthRun (T.candidate_count trial.now)
+        (T.holds trial.now) (T.claim_count trial.now) set.items)) }
 {
     let mut set = first_set(alloc, size)?;
     let mut made = made;
@@ -171,20 +176,8 @@ fn search_size<T: Trial, F: Fn(&[Vec<u16>]) -> Result<Vec<Vec<bool>>, AllocError
 /// `AllocError` if an allocation fails.
 pub fn survey<T: Trial>(alloc: Global, trial: &T, limits: Limits) -> Result<Survey, AllocError>
     requires batch_not_empty { 0 < limits.at_a_time }
-    ensures complete { IfOk result (λ s. IsComplete (T.candidate_count trial.now) (IsCovered limits.faults
-        s.stopped_at)
-        (T.holds trial.now) (T.claim_count trial.now) (breaks_of s.broken.items)) }
-    ensures sound { IfOk result (λ s. IsSound (T.candidate_count trial.now) limits.faults (T.holds trial.now)
-        (T.claim_count trial.now) (breaks_of s.broken.items)) }
-    ensures minimal { IfOk result (λ s. IsMinimal (T.candidate_count trial.now) (T.holds trial.now)
-        (breaks_of s.broken.items)) }
-    ensures once { IfOk result (λ s. IsListedOnce (breaks_of s.broken.items)) }
-    ensures count { IfOk result (λ s. IsCount (T.candidate_count trial.now) (IsCovered limits.faults s.stopped_at)
-        (T.holds trial.now) (T.claim_count trial.now) s.trials) }
-    ensures limit { IfOk result (λ s. s.trials ≤ limits.trials) }
-    ensures stopped { IfOk result (λ s. IfSome s.stopped_at
-        (λ set. (s.trials ≡ limits.trials) × IsSet (T.candidate_count trial.now) set.items ×
-        (length set.items ≤ limits.faults))) }
+    ensures is_survey { IfOk result (IsSurvey (T.candidate_count trial.now) (T.holds trial.now)
+        (T.claim_count trial.now) limits) }
 {
     survey_with(
         alloc,
@@ -209,20 +202,8 @@ pub fn survey_with<T: Trial, F: Fn(&[Vec<u16>]) -> Result<Vec<Vec<bool>>, AllocE
     requires may_try { MayTry (T.candidate_count trial.now) (F.pre try_all.now) }
     requires answers { GivesAnswers (T.candidate_count trial.now) (T.holds trial.now) (T.claim_count trial.now)
         (F.post try_all.now) }
-    ensures complete { IfOk result (λ s. IsComplete (T.candidate_count trial.now) (IsCovered limits.faults
-        s.stopped_at)
-        (T.holds trial.now) (T.claim_count trial.now) (breaks_of s.broken.items)) }
-    ensures sound { IfOk result (λ s. IsSound (T.candidate_count trial.now) limits.faults (T.holds trial.now)
-        (T.claim_count trial.now) (breaks_of s.broken.items)) }
-    ensures minimal { IfOk result (λ s. IsMinimal (T.candidate_count trial.now) (T.holds trial.now)
-        (breaks_of s.broken.items)) }
-    ensures once { IfOk result (λ s. IsListedOnce (breaks_of s.broken.items)) }
-    ensures count { IfOk result (λ s. IsCount (T.candidate_count trial.now) (IsCovered limits.faults s.stopped_at)
-        (T.holds trial.now) (T.claim_count trial.now) s.trials) }
-    ensures limit { IfOk result (λ s. s.trials ≤ limits.trials) }
-    ensures stopped { IfOk result (λ s. IfSome s.stopped_at
-        (λ set. (s.trials ≡ limits.trials) × IsSet (T.candidate_count trial.now) set.items ×
-        (length set.items ≤ limits.faults))) }
+    ensures is_survey { IfOk result (IsSurvey (T.candidate_count trial.now) (T.holds trial.now)
+        (T.claim_count trial.now) limits) }
 {
     let mut broken = Vec::new(alloc);
     let mut made = 0;

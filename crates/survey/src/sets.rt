@@ -41,11 +41,13 @@ pub fn first_set(alloc: Global, size: u16) -> Result<Vec<u16>, AllocError>
     Ok(set)
 }
 
-/// Turns a set into the next one of its size. Returns `false` if the set is the last of its size.
+/// Turns a set into the next one of its size. Returns `false` if the set is the last of its size, and then keeps it.
 pub fn advance(set: &mut [u16], candidates: u16) -> bool
     requires is_set { IsSet candidates set.old }
     ensures next { OnTrue result (IsNext candidates set.old set.new) }
     ensures last { OnFalse result (IsLast candidates set.old) }
+    ensures kept { OnFalse result (set.new ≡ set.old) }
+    ensures size { length set.new ≡ length set.old }
 {
     let size = set.len();
     for place in (0..size).rev() {

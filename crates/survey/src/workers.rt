@@ -1,13 +1,12 @@
 //! Surveys whose runs are made in threads.
 
-ghost use Rattle.std.specs.Prelude.{◌≡◌, ℕ, ◌<◌, ◌≤◌, length, List, IfOk};
+ghost use Rattle.std.specs.Prelude.{◌<◌, IfOk};
 ghost use Rattle.std.specs.List.{All};
-ghost use Rattle.std.specs.Option.{IfSome};
 ghost use Rattle.std.specs.Thread.{IsSync};
 ghost use Rattle.survey.specs.FaultSet.{IsSet};
 ghost use Rattle.survey.specs.Answers.{AreAnswersOf};
-ghost use Rattle.survey.specs.Breaks.{breaks_of, IsCovered, IsComplete, IsSound, IsMinimal, IsListedOnce, IsCount};
 ghost use Rattle.survey.specs.Joins.{Joins};
+ghost use Rattle.survey.specs.Survey.{IsSurvey};
 
 use crate::broken::Survey;
 use crate::progress::Progress;
@@ -32,20 +31,8 @@ pub fn survey_in_threads<R: Threads + Sync, T: Trial + Sync, P: Progress>(
 ) -> Result<Survey, AllocError>
     requires workers { 0 < workers }
     requires at_a_time { 0 < limits.at_a_time }
-    ensures complete { IfOk result (λ s. IsComplete (T.candidate_count trial.now) (IsCovered limits.faults
-        s.stopped_at)
-        (T.holds trial.now) (T.claim_count trial.now) (breaks_of s.broken.items)) }
-    ensures sound { IfOk result (λ s. IsSound (T.candidate_count trial.now) limits.faults (T.holds trial.now)
-        (T.claim_count trial.now) (breaks_of s.broken.items)) }
-    ensures minimal { IfOk result (λ s. IsMinimal (T.candidate_count trial.now) (T.holds trial.now)
-        (breaks_of s.broken.items)) }
-    ensures once { IfOk result (λ s. IsListedOnce (breaks_of s.broken.items)) }
-    ensures count { IfOk result (λ s. IsCount (T.candidate_count trial.now) (IsCovered limits.faults s.stopped_at)
-        (T.holds trial.now) (T.claim_count trial.now) s.trials) }
-    ensures limit { IfOk result (λ s. s.trials ≤ limits.trials) }
-    ensures stopped { IfOk result (λ s. IfSome s.stopped_at
-        (λ set. (s.trials ≡ limits.trials) × IsSet (T.candidate_count trial.now) set.items ×
-        (length set.items ≤ limits.faults))) }
+    ensures is_survey { IfOk result (IsSurvey (T.candidate_count trial.now) (T.holds trial.now)
+        (T.claim_count trial.now) limits) }
 {
     survey_with(
         alloc,

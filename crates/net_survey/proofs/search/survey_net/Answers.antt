@@ -7,11 +7,8 @@ use Rattle.net_survey.proofs.search.survey_net.Goals as goal
 pub returns : goal.returns
 returns g c =
     let medium = c.check_medium.ensures in
-    let made = c.survey_in_threads.ensures in
     record {
-      is_survey_of =
-          surveyed (net_of c.args.net.now) medium.no_fault medium.placed c.args.claims.now c.args.candidates.now c.args.limits c.survey_in_threads.result made.complete made.sound made.minimal made.once
-          made.count made.limit made.stopped;
+      is_survey_of = surveyed (net_of c.args.net.now) medium.no_fault medium.placed c.args.claims.now c.args.candidates.now c.args.limits c.survey_in_threads.result c.survey_in_threads.ensures.is_survey;
     }
 
 -- the lifetime is that of the net; its name in a type doesn't matter for sharing

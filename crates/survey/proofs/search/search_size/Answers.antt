@@ -2,7 +2,7 @@ use Rattle.std.proofs.Common.{rules, ◌≤◌, ◌+◌, Some, None, Bool, ◌�
 use Rattle.std.proofs.lemmas.List.{with_items_is}
 use Rattle.survey.proofs.Rank.{value, left_falls}
 use Rattle.survey.specs.FaultSet.{IsSet, ComesBefore, IsTriedBefore}
-use Rattle.survey.specs.Breaks.{breaks_of, IsCovered, IsComplete}
+use Rattle.survey.specs.Breaks.{breaks_of, IsCovered, IsComplete, IsWorthRun}
 use Rattle.survey.specs.Search.{IsCounted}
 use Rattle.std.specs.Bool.{MatchBool}
 use Rattle.std.specs.Vec.{with_items}
@@ -77,6 +77,14 @@ returns-then-room-eq0-clause-counted g c =
     let Q : List ℕ → Type 0 = λ t. IsCounted n (λ F. IsTriedBefore F t) holds claims more count in
     let stood : Q (with_items old new).items = subst Q (sym (with_items_is old new (same ∙ sym old.ok.0))) next in
     recount n (λ F. IsTriedBefore F (with_items old new).items) (IsCovered c.args.size (Some (with_items old new))) holds claims more count (λ F h cov. cov) (λ F h cov. cov) stood
+
+pub returns-then-room-eq0-clause-worth : goal.returns-then-room-eq0-clause-worth
+returns-then-room-eq0-clause-worth g c =
+    let old = c.loop-set.set in
+    let new = c.try_batch.new.set in
+    let same : length new ≡ length old.items = c.try_batch.auto.set ∙ ap length c.as_mut_slice.ensures.value in
+    let W : List ℕ → Type 0 = λ t. IsWorthRun (g.T.Trial.candidate_count c.args.trial.now) (g.T.Trial.holds c.args.trial.now) (g.T.Trial.claim_count c.args.trial.now) t in
+    subst W (sym (with_items_is old new (same ∙ sym old.ok.0))) (c.in_ok-step.ensures.worth (true_from_not c.in_ok-step.step.more c.if-not-step.false))
 
 pub loop-set-preserved : goal.loop-set-preserved
 loop-set-preserved g c =
