@@ -9,11 +9,12 @@ use Rattle.serial_run.specs.NetRun.{IsReportOf}
 use Rattle.claims.specs.declared.claim.Claim.{Claim}
 use Rattle.claims.specs.Claims.{holds_in}
 use Rattle.claim_text.specs.ClaimText.{text_of}
-use Rattle.claim_text.specs.ClaimLines.{claim_lines}
+use Rattle.claim_text.specs.ClaimLines.{claim_lines, Refuses}
+use Rattle.claim_text.specs.declared.error.ClaimsError.{ClaimsError}
 use Rattle.net_scenario.specs.Reading.{TellsNet}
 use Rattle.simulation.specs.Input.{IsText}
 use Rattle.simulation.proofs.Printed.{scenario_of}
-use Rattle.claim_check.specs.Check.{Answered, AreAnswers, IsAnswer}
+use Rattle.claim_check.specs.Check.{Answered, AreAnswers, IsAnswer, RefusesClaims}
 use Rattle.claim_check.specs.Command.{AnswersAsked, SomeAnswered}
 use Rattle.claim_check.specs.Names.{AreNames}
 use Rattle.claim_check.specs.declared.answers.Answers.{Answers}
@@ -23,6 +24,12 @@ pub answered : (s c text : List ℕ) (all_hold : Bool) (net : NetModel) (r : Rep
     → map (text_of names) cs ≡ claim_lines c → IsReportOf net r → AreAnswers names r cs text → all_hold ≡ list_all (λ k. holds_in k r) cs → Answered s c text all_hold
 answered s c text all_hold net r names cs is_text tells named read run answers verdict =
     record { from = scenario_of s net is_text tells; report = r; run = run; names = names; named = named; asked = cs; read = read; answers = answers; verdict = verdict }
+
+-- claims that are refused
+pub refuses_claims : (s c text : List ℕ) (net : NetModel) (names : List (List ℕ)) (e : ClaimsError) → IsText s → TellsNet s net → AreNames net names → text ≡ c → Refuses names text e
+    → RefusesClaims s c e
+refuses_claims s c text net names e is_text tells named same refused =
+    record { from = scenario_of s net is_text tells; names = names; named = named; refused = subst (λ t. Refuses names t e) same refused }
 
 -- one more answer
 pub one_more : (names : List (List ℕ)) (r : ReportModel) (cs : List Claim) (text : List ℕ) (c : Claim) (line : List ℕ) → AreAnswers names r cs text → IsAnswer names r c line

@@ -9,7 +9,8 @@ use Rattle.claim_witness.specs.declared.witness.Break.{Break}
 use Rattle.claim_witness.specs.Shows.{Shows}
 use Rattle.claim_text.specs.BreakText.{break_text}
 use Rattle.claim_text.specs.ClaimText.{text_of}
-use Rattle.claim_text.specs.ClaimLines.{claim_lines}
+use Rattle.claim_text.specs.ClaimLines.{claim_lines, Refuses}
+use Rattle.claim_text.specs.declared.error.ClaimsError.{ClaimsError}
 use Rattle.simulation.specs.Simulation.{IsScenario, MayRun, RefusesRun, RefusesText, Way}
 use Rattle.simulation.specs.declared.error.SimError.TheVariants as fault
 use Rattle.claim_check.specs.Names.{AreNames}
@@ -46,6 +47,13 @@ pub record Answered (scenario claims text : List ℕ) (all_hold : Bool) : Type 0
   pub answers : AreAnswers names report asked text
   pub verdict : all_hold ≡ list_all (λ c. holds_in c report) asked
 
+-- the claims, with the names of the scenario's net, have this error
+pub record RefusesClaims (scenario claims : List ℕ) (e : ClaimsError) : Type 0 where
+  pub from : IsScenario scenario
+  pub names : List (List ℕ)
+  pub named : AreNames from.net names
+  pub refused : Refuses names claims e
+
 -- Each result of a check and its cause, on one thread or with workers. An allocation or a thread may fail for any
 -- scenario and claims.
 abbrev pub Checks : Way → (scenario claims : List ℕ) → Result Answers CheckError → Type 0
@@ -53,5 +61,5 @@ Checks way s c (Ok a) = MayRun way × Answered s c (string_bytes a.text) a.all_h
 Checks way s c (Err (check.Simulation (fault.Scenario e))) = RefusesText s e
 Checks way s c (Err (check.Simulation (fault.Run e))) = IsScenario s × RefusesRun way e
 Checks way s c (Err (check.Simulation fault.Memory)) = Unit {0}
-Checks way s c (Err (check.Claims e)) = IsScenario s
+Checks way s c (Err (check.Claims e)) = RefusesClaims s c e
 Checks way s c (Err e) = ⊥

@@ -14,6 +14,7 @@ use Rattle.serial_run.specs.declared.error.RunError.{RunError}
 use Rattle.serial_run.specs.declared.error.RunError.TheVariants as run
 use Rattle.simulation.specs.Simulation.{IsScenario, MayRun, RefusesText, Way}
 use Rattle.simulation.specs.declared.error.SimError.TheVariants as fault
+use Rattle.claim_check.specs.Check.{RefusesClaims}
 use Rattle.claim_check.specs.Names.{AreNames}
 use Rattle.claim_check.specs.declared.answers.Answers.{Answers}
 use Rattle.claim_check.specs.declared.error.CheckError.{CheckError}
@@ -68,7 +69,7 @@ Surveys way f s c (Ok a) = MayRun way × Surveyed f s c a
 Surveys way f s c (Err (check.Simulation (fault.Scenario e))) = RefusesText s e
 Surveys way f s c (Err (check.Simulation (fault.Run e))) = IsScenario s × RefusesWorkers way e
 Surveys way f s c (Err (check.Simulation fault.Memory)) = Unit {0}
-Surveys way f s c (Err (check.Claims e)) = IsScenario s
+Surveys way f s c (Err (check.Claims e)) = RefusesClaims s c e
 Surveys way f s c (Err check.TooManyClaims) = IsScenario s × (2 ^ 16 ≤ length (claim_lines c))
 Surveys way f s c (Err check.TooManyFaults) = HasTooManyFaults f s
 Surveys way f s c (Err e) = ⊥

@@ -25,8 +25,8 @@ use window_workers::{Cut, Gate, MOST_WORKERS, RunError, SyncKind, run_workers};
 /// proof also shows that it returns.
 ///
 /// # Errors
-/// `Simulation` with the first error in the scenario; otherwise `Claims` with an error in the claims. The error can also
-/// be out of memory. No clause says that an allocation failed in that case, nor that the claims have an error.
+/// `Simulation` with the first error in the scenario; otherwise `Claims` with the first error in the claims. The error can
+/// also be out of memory. No clause says that an allocation failed in that case.
 pub fn check_serial(alloc: Global, scenario: &str, claims: &str) -> Result<Answers, CheckError>
     requires is_text { IsText scenario.now }
     ensures checks { Checks None scenario.now claims.now result }

@@ -5,7 +5,7 @@ use Rattle.mote_net.specs.Meaning.{net_of}
 use Rattle.mote_net.specs.Report.{report_of}
 use Rattle.simulation.proofs.Printed.{scenario_of, refused}
 use Rattle.claim_check.specs.Promises.{AnswersAll}
-use Rattle.claim_check.proofs.Answered.{answered}
+use Rattle.claim_check.proofs.Answered.{answered, refuses_claims}
 use Rattle.claim_check.proofs.checking.check_by.Goals as goal
 
 pub returns-in_err-net : goal.returns-in_err-net
@@ -16,7 +16,13 @@ returns-in_err-net g c =
 pub returns-in_err-claims : goal.returns-in_err-claims
 returns-in_err-claims g c =
     let p = err_from_is_err_and c.from_residual-in_err-claims.result c.from_residual-in_err-claims.ensures.1 in
-    record { checks = rw (p.1, p.2) (scenario_of c.args.scenario.now (net_of c.in_ok-net.net) c.requires.is_text c.in_ok-net.ensures.answers) }
+    let same : c.as_bytes.result.now ≡ c.args.claims.now = search rules in
+    record {
+      checks = rw (p.1, p.2) (
+        refuses_claims c.args.scenario.now c.args.claims.now c.as_bytes.result.now (net_of c.in_ok-net.net) c.names_of-names.result.now c.in_err-claims.field-0.0 c.requires.is_text
+            c.in_ok-net.ensures.answers c.names_of-names.ensures.named same c.in_err-claims.ensures.refused
+      );
+    }
 
 pub returns-in_err-report : goal.returns-in_err-report
 returns-in_err-report g c =

@@ -5,7 +5,8 @@ use Rattle.mote_net.specs.Meaning.{net_of}
 use Rattle.window_workers.specs.declared.sync.SyncKind.TheVariants as sync
 use Rattle.simulation.specs.Simulation.{way_by}
 use Rattle.claim_check.specs.NetSurveys.{SurveysNet}
-use Rattle.simulation.proofs.Printed.{scenario_of, refused}
+use Rattle.simulation.proofs.Printed.{refused}
+use Rattle.claim_check.proofs.Answered.{refuses_claims}
 use Rattle.claim_check.proofs.Surveyed.{surveys}
 use Rattle.claim_check.proofs.surveying.check_with_faults.Goals as goal
 
@@ -17,7 +18,13 @@ returns-in_err-net g c =
 pub returns-in_err-claims : goal.returns-in_err-claims
 returns-in_err-claims g c =
     let p = err_from_is_err_and c.from_residual-in_err-claims.result c.from_residual-in_err-claims.ensures.1 in
-    record { surveys = rw (p.1, p.2) (scenario_of c.args.scenario.now (net_of c.in_ok-net.net) c.requires.is_text c.in_ok-net.ensures.answers) }
+    let same : c.as_bytes.result.now ≡ c.args.claims.now = search rules in
+    record {
+      surveys = rw (p.1, p.2) (
+        refuses_claims c.args.scenario.now c.args.claims.now c.as_bytes.result.now (net_of c.in_ok-net.net) c.names_of-names.result.now c.in_err-claims.field-0.0 c.requires.is_text
+            c.in_ok-net.ensures.answers c.names_of-names.ensures.named same c.in_err-claims.ensures.refused
+      );
+    }
 
 pub returns : goal.returns
 returns g c = record {
