@@ -19,9 +19,9 @@ returns-in_err-claims c =
     let same : c.as_bytes.result.now ≡ c.args.claims.now = search rules in
     record {
       surveys = rw (p.1, p.2) (
-        refuses_claims c.args.scenario.now c.args.claims.now c.as_bytes.result.now (net_of c.in_ok-net.net) c.names_of-names.result.now c.in_err-claims.field-0.0 c.requires.is_text
-            c.in_ok-net.ensures.answers c.names_of-names.ensures.named same c.in_err-claims.ensures.refused
-      );
+          refuses_claims c.args.scenario.now c.args.claims.now c.as_bytes.result.now (net_of c.in_ok-net.net) c.names_of-names.result.now c.in_err-claims.field-0.0 c.requires.is_text
+          c.in_ok-net.ensures.answers c.names_of-names.ensures.named same c.in_err-claims.ensures.refused
+          );
     }
 
 pub returns : goal.returns
