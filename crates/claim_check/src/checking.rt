@@ -25,7 +25,7 @@ use window_workers::{Cut, Gate, MOST_WORKERS, RunError, SyncKind, run_workers};
 /// proof also shows that it returns.
 ///
 /// # Errors
-/// `Simulation` with the first error in the scenario; otherwise `Claims` with the first error in the claims. The error can
+/// `Simulation` with the first error in the scenario; otherwise `Claims` with an error in the claims. The error can
 /// also be out of memory. No clause says that an allocation failed in that case.
 pub fn check_serial(alloc: Global, scenario: &str, claims: &str) -> Result<Answers, CheckError>
     requires is_text { IsText scenario.now }

@@ -188,7 +188,7 @@ pub fn check_serial_with_faults(
 /// one.
 ///
 /// # Errors
-/// `Simulation` with the first error in the scenario; otherwise `Claims` with the first error in the claims; otherwise
+/// `Simulation` with the first error in the scenario; otherwise `Claims` with an error in the claims; otherwise
 /// `TooManyClaims` or `TooManyFaults` if there are more than 65535; otherwise `Simulation` with `Workers` if there
 /// aren't 1 to 16 workers. The error can also be out of memory. No clause says that an allocation failed in that case.
 /// A run has no other error: a mote that halts says so in its trace, where claims see it.
