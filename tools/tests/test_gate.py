@@ -2,13 +2,15 @@
 import os
 import re
 import shutil
+import signal
 import subprocess
 import unittest
+from pathlib import Path
 from types import SimpleNamespace
 from typing import Any
 from unittest import mock
 
-from here import SECONDS, TOOLS, TOP, Room, call, text_of
+from here import HOLDS, SECONDS, TOOLS, TOP, Room, call, text_of, until
 from motesim.faults import Fault
 from project import counts, testing
 from test_checks import go_on_as
@@ -58,10 +60,29 @@ class Gate(Room):
         self.assertEqual((lines[-1], status), ('20 passed, 0 failed, %s skipped' % number, 0))
         self.assertIn('== skipped: tools/dev/refuse_memory: it is not here', lines)
 
+    def test_without_the_kit_it_says_what_was_not_checked(self) -> None:
+        lines = self.run_it('--quick')[0]
+        said = ' '.join(lines[next(place for place, it in enumerate(lines) if it.startswith('== not checked')):-2])
+        gate = (TOP / 'test').read_text('utf-8')
+        only = set(re.findall('try tools/(?:dev/)?(\\w+)', gate.partition('try tools/dev/check_module program 9')[2]))
+        self.assertTrue(only | {'rt ci', 'wrong_bodies', 'check_module --build'} <= set(re.findall(r'[\w-]+(?: ci| --build)?', said)), said)
+
+    def test_its_steps_end_with_it_however_it_ends(self) -> None:
+        for number, words in (signal.SIGTERM, ['--quick']), (signal.SIGKILL, ['--quick']), (signal.SIGKILL, []):
+            self.put_program('tools/dev/test_tools', 'setsid "$0.below" & setsid "$0.below"')
+            self.put_program('tools/dev/test_tools.below', 'echo $$ >>"%s"; %s' % (self.put('begun'), HOLDS))
+            path = '%s:%s' % (self.room / 'bin', os.environ['PATH'])
+            with subprocess.Popen([str(self.room / 'test'), *words], env={**os.environ, 'PATH': path},
+                                  stdout=subprocess.DEVNULL, stderr=subprocess.DEVNULL) as gate:
+                self.assertTrue(until(lambda: len((self.room / 'begun').read_text().splitlines()) == 2))
+                gate.send_signal(number)
+            processes = [Path('/proc', it) for it in (self.room / 'begun').read_text().splitlines()]
+            self.assertTrue(until(lambda: not any(it.exists() for it in processes)))
+
     def test_without_python_and_compiler_the_steps_fail(self) -> None:
         bare = self.room / 'bare'
         bare.mkdir()
-        for name in 'bash sh dirname readlink mktemp rm sed sort wc find grep cat tail tee nproc env'.split():
+        for name in 'bash sh dirname readlink mkfifo mktemp rm sed sort wc find grep cat tail tee nproc env'.split():
             (bare / name).symlink_to(str(shutil.which(name)))
         lines, status = self.run_it('--quick', path=str(bare))
         self.assertEqual(status, 1)
@@ -88,7 +109,8 @@ class Packages(Room):
         here = {**os.environ, 'PATH': '%s:%s' % (self.room / 'bin', os.environ['PATH'])}
         done = subprocess.run([self.room / 'test', '--quick', *words], env=here, capture_output=True, text=True, timeout=SECONDS)
         self.assertRegex(done.stdout.splitlines()[-1], r'^0 passed, \d+ failed, 0 skipped$')
-        return [it for it in done.stdout.splitlines() if 'not run' not in it][:-2], calls.read_text()
+        before = done.stdout.partition('== not checked')[0]
+        return [it for it in before.splitlines() if 'not run' not in it], calls.read_text()
 
     def test_root_installs_what_is_missing(self) -> None:
         self.assertEqual(self.run_it('', True), ([], ''))
