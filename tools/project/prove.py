@@ -1,7 +1,7 @@
 """Proves the crates of motesim and motecheck on this machine, and builds the proved binaries: ./prove
 
 After that, ./run and all tools run the proved binaries; until then they run those that are already built. A proof
-needs about 20 to 40 minutes on four cores, at a low priority. `rt ci` does the work, on a copy of the crates in
+needs about 40 minutes to an hour on four cores, at a low priority. `rt ci` does the work, on a copy of the crates in
 out/proof. You can interrupt ./prove at any time. Some kits, such as rattle-kit-13f, keep the results of each proved
 crate for all clones on this machine. With such a kit the next ./prove, or ./test, continues with the remaining crates;
 with another kit it begins again. ./prove prints a line for each crate. The prover's output is in out/proof.log. If a
@@ -70,7 +70,7 @@ def prove() -> None:
     """Proves these sources, and moves the built binaries to their places."""
     names, began = programs_in(), time.time()
     crates = crates_of_program(TOP, *names)
-    say('proving %d crate%s: 20 to 40 minutes without earlier results, on four processors; interrupt it at any time, '
+    say('proving %d crate%s: 40 minutes to an hour without earlier results, on four processors; interrupt it at any time, '
         './prove resumes' % (len(crates), 's' * (len(crates) > 1)))
     copy_crates(TOP, crates, COPY)
     made = {COPY / built.relative_to(TOP): built for built in map(built_by_proof, names)}
