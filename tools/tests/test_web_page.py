@@ -2,7 +2,6 @@
 http, by mouse and by keyboard, in windows of several sizes."""
 from __future__ import annotations
 
-import base64
 import functools
 import hashlib
 import http.server
@@ -12,19 +11,16 @@ import re
 import runpy
 import threading
 import unittest
-import zlib
 from pathlib import Path
 from typing import Any
 
-from here import TOOLS, TOP, room_of, text_of
-from browser import InBrowser
-from project.page import HTML, LONGEST, MODULE, make_page
+from here import TOOLS, TOP, text_of
+from in_page import FLOODING, InPage, fragment, made_page
+from project.page import HTML, LONGEST
 
-FLOODING = (TOP / 'examples/flooding.toml').read_text()
 # Mote 0 never waits for time to pass, so each moment has as many lines as there may be.
 ENDLESS = FLOODING.replace('end = 160', 'end = 1000000').replace('if (self', 'while 1 { pause; } if (self', 1)
 SIZES = [(390, 844), (1366, 768), (1920, 1080)]
-CODES = {'Tab': 9, 'Enter': 13, 'Escape': 27, 'ArrowLeft': 37, 'ArrowUp': 38, 'ArrowRight': 39, 'Delete': 46}
 
 
 def grid(side: int) -> str:
@@ -32,13 +28,6 @@ def grid(side: int) -> str:
     motes = ''.join('[[mote]]\nx = %d\ny = %d\nprogram = "flood"\n' % (10 * x, 10 * y)
                     for y in range(side) for x in range(side))
     return FLOODING[:FLOODING.index('[[mote]]')].replace('end = 160', 'end = 300') + motes
-
-
-def fragment(text: str) -> str:
-    """The end of a link that carries a text."""
-    packing = zlib.compressobj(wbits=-15)
-    packed = packing.compress(text.encode()) + packing.flush()
-    return '#t=1.' + base64.urlsafe_b64encode(packed).decode().rstrip('=')
 
 
 def luminance(colour: str) -> float:
@@ -50,11 +39,6 @@ def luminance(colour: str) -> float:
 def contrast(one: str, other: str) -> float:
     low, high = sorted(map(luminance, (one, other)))
     return (high + 0.05) / (low + 0.05)
-
-
-@functools.cache
-def made_page() -> str:
-    return make_page(MODULE.read_bytes())
 
 
 class Sources(unittest.TestCase):
@@ -89,33 +73,7 @@ class Sources(unittest.TestCase):
             self.assertGreaterEqual(contrast(scheme['paper'], scheme['send']), 4.5)
 
 
-class Page(InBrowser):
-    def setUp(self) -> None:
-        super().setUp()
-        self.room = room_of(self)
-        self.page = self.room / 'motesim.html'
-        self.page.write_text(made_page(), 'utf-8')
-
-    def open(self, fragment: str = '', size: tuple[int, int] = (1366, 768)) -> None:
-        """Opens the page as a file."""
-        self.browser.size(*size)
-        self.browser.open(self.page, fragment)
-        # (no run is stopped because the machine is busy)
-        self.browser.run('(motesim.backend.most = 1e6, 1)')
-        self.browser.settle()
-
-    def said(self) -> Any:
-        return self.value('by("said").textContent')
-
-    def key(self, name: str) -> None:
-        self.browser.key(name, name, CODES[name], '\r' if name == 'Enter' else None)
-
-    def undo(self, key: str = 'z') -> None:
-        for kind in 'rawKeyDown', 'keyUp':
-            self.browser.call('Input.dispatchKeyEvent', type=kind, key=key, code='Key' + key.upper(), modifiers=2,
-                              windowsVirtualKeyCode=ord(key.upper()))
-        self.browser.settle()
-
+class Page(InPage):
     def test_it_fits_each_window(self) -> None:
         for width, height in SIZES:
             self.open(size=(width, height))
@@ -218,11 +176,6 @@ class Page(InBrowser):
         self.assertEqual(self.value('text'), FLOODING)
         self.undo('y')
         self.wait('run.losses[0][2] === 1')
-
-    def place(self, mote: int) -> Any:
-        """The place of a mote in the window."""
-        return self.value('((map, box) => [box.x + map.x(%d), box.y + map.y(%d)])(m.maps[0], '
-                          'm.maps[0].canvas.getBoundingClientRect())' % (mote, mote))
 
     def test_motes_are_added_snapped_and_removed(self) -> None:
         self.open()
@@ -385,7 +338,7 @@ class Page(InBrowser):
         self.value('document.querySelector("#gallery-cards button").click()')
         self.wait('run.end !== 50 && !location.hash')
         self.browser.run('void (location.hash = %s)' % json.dumps(link))
-        self.browser.wait('window.motesim && motesim.ready && motesim.web.intro === "This net came with the link."')
+        self.browser.wait('window.motesim && motesim.ready && motesim.web.intro === "This is your text of the last time."')
         self.assertEqual(self.value('run.end'), 50)
 
     def test_two_fingers_zoom(self) -> None:

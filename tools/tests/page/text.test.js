@@ -26,7 +26,7 @@ test('the head of an island has its packets and silences', () => assert.deepEqua
   ['12 packets sent', '1 packet sent, 0 silences', '0 packets sent, 1 silence', '2 packets sent, 1,234 silences']));
 
 test('the effect of a change is one sentence', () => {
-  const run = (...kind) => ({kind, rows: kind.length}), of = (found, ours, others) =>
+  const run = (...kind) => ({kind, rows: kind.length, prints: []}), of = (found, ours, others) =>
     effectInWords(ours || run(SEND), others || run(SEND, SEND), {same: false, first: null, ...found});
   assert.equal(of({same: true}), 'This change has no effect: the report is the same.');
   assert.equal(of({}), 'The motes run other programs, and write the same lines.');

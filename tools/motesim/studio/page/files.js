@@ -2,7 +2,7 @@
 // Files of the studio: opening, saving, and the page of the run as one file.
 import {byId, handOut, makeButton, stored} from '../../timeline/page/dom.js';
 import {page} from '../../timeline/page/stage.js';
-import {attempt, change, open, say} from '../../web/page/web.js';
+import {attempt, change, open, say, setOpened} from '../../web/page/web.js';
 
 const {web} = page;
 
@@ -15,9 +15,9 @@ const forgetDraft = () => stored(it => it.removeItem(draftName()));
 /** Keeps a text that isn't saved in the browser's storage. */
 const keepDraft = text => isDirty() ? stored(it => it.setItem(draftName(), text)) : forgetDraft();
 
-function offerDraft() {
+function offerDraft(document, isAgain) {
   const draft = stored(it => it.getItem(draftName()));
-  if (draft === null || draft === web.saved) return;
+  if (isAgain || draft === null || draft === web.history.text) return;
   say(`This browser has a text of ${web.document.name} that was not saved.`, '', [], [
     ['Take it', () => change(draft, 'edit')], ['Forget it', () => {
       forgetDraft();
@@ -49,7 +49,7 @@ async function save(over = false, named = '') {
       ['Load the other', () => openFile(web.document.name)]]);
   }
   forgetDraft();
-  Object.assign(web, {document: {...file, ...said, maySave: true}, saved: text});
+  setOpened({document: {...file, ...said, maySave: true}, saved: text});
   nameDocument();
   say(`It is saved as ${said.name}.`);
 }

@@ -63,10 +63,10 @@ export function lineButton(where, text, remark, isCurrent, act) {
   return button;
 }
 
-/** The browser's storage, which may refuse. @param {(storage: Storage) => any} work */
-export function stored(work) {
+/** The browser's storage, or that of the tab (`session`), which may refuse. @param {(storage: Storage) => any} work */
+export function stored(work, where = 'local') {
   try {
-    return work(localStorage);
+    return work(where === 'local' ? localStorage : sessionStorage);
   } catch {
     return null;
   }

@@ -5,15 +5,21 @@ import {byId} from './dom.js';
 import {redraw} from './draw.js';
 import {drawLegend} from './forms.js';
 import {beginLog} from './log.js';
+import {beginSplitters} from './splitters.js';
 import {page} from './stage.js';
 import {fillSums} from './sums.js';
 import {beginTabs} from './tabs.js';
 import {closeWhy} from './why.js';
 
-const EDGE = 8, AWAY = 24;
+const EDGE = 8, AWAY = 24, BESIDE = 420, ABOVE = 160;
 
-/** Shows the card at a place of the window, with room for all that it may show. */
-function showCard(x, y) {
+/** Shows the card at a place of the window, with room for all that it may show; without one, beside the lanes' right
+ * end. */
+export function showCard(x = -1, y = 0) {
+  if (x < 0) {
+    const box = byId('panes').getBoundingClientRect();
+    [x, y] = [box.right - BESIDE, box.top - ABOVE];
+  }
   const card = byId('card');
   card.hidden = !page.chosen.pane;
   const {width} = card.getBoundingClientRect(), most = parseFloat(getComputedStyle(card).maxHeight);
@@ -21,7 +27,7 @@ function showCard(x, y) {
   Object.assign(card.style, {left: `${left}px`, top: `${Math.max(EDGE, Math.min(y, innerHeight - most - EDGE))}px`});
 }
 
-/** Shows the card whenever something is selected by the pointer, or by a key over the lanes. */
+/** Shows the card whenever something is selected by the pointer, in the log, or by a key over the lanes. */
 function beginCard() {
   const card = byId('card');
   let before = 0;
@@ -35,13 +41,13 @@ function beginCard() {
     card.hidden = true;
     closeWhy();
   });
-  document.addEventListener('keydown', ({key}) => {
+  document.addEventListener('keydown', ({key, target}) => {
     if (key === 'Escape') card.hidden = true;
-    const canvas = page.panes[0]?.canvas;
-    if (!'[]{}wW'.includes(key) || !page.chosen.pane || document.activeElement !== canvas) return;
-    const box = canvas.getBoundingClientRect();
-    showCard(box.right - 420, box.top - 160);
+    const {line} = page.chosen, isWhy = 'wW'.includes(key) && line >= 0 && card.contains(byId('why-chain'));
+    if (/** @type {HTMLElement} */ (target).matches('input, textarea, select')) return;
+    if (isWhy || '[]{}'.includes(key) && document.activeElement === page.panes[0]?.canvas) showCard();
   });
+  byId('log-lines').addEventListener('click', () => showCard());
 }
 
 /** Shows the totals of the run, if their panel is open. */
@@ -52,6 +58,7 @@ export function showSums() {
 export function beginDrawer() {
   beginCard();
   beginLog();
+  beginSplitters();
   beginTabs('tabs', open => {
     for (const panel of document.querySelectorAll('.panel')) byId(panel.id).hidden = `tab-${panel.id}` !== open;
     showSums();

@@ -91,7 +91,7 @@ function act(key) {
 
 /** Reacts to keys, except in fields and on buttons, which need them. */
 function onKey(event) {
-  if (event.ctrlKey || event.metaKey || event.altKey) return;
+  if (event.ctrlKey || event.metaKey || event.altKey || document.querySelector('dialog[open]')) return;
   const key = event.key.length === 1 ? event.key.toLowerCase() : event.key;
   const there = event.target.closest &&
     event.target.closest('input, textarea, select, button, summary, #details, #drawer');

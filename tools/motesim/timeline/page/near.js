@@ -1,9 +1,10 @@
 // @ts-check
 // What is near a point of the lanes or of a map, and its words.
 import {arrowNear} from './arrows.js';
-import {DROP, HALT, PRINT, START, isCall, lowerBound} from './data.js';
+import {DROP, HALT, PRINT, START, isCall, lowerBound, numbers} from './data.js';
 import {FATE_WORDS, delayOf} from './index.js';
 import {SMALL_LANE} from './layout.js';
+import {rankOf} from './overview.js';
 import {page} from './stage.js';
 import {count} from './words.js';
 
@@ -23,8 +24,10 @@ export function itemAt(pane, x, y) {
   if (line >= 0) return {line};
   if (mote < 0 || pane.lane >= SMALL_LANE) return null;
   const moment = Math.floor(pane.moment(x)), [from, to] = pane.linesInView(mote);
-  const near = lowerBound(pane.run.at, moment, from, to);
-  return near < to && (pane.run.at[near] - moment) * page.time.scale < 6 ? {line: near} : null;
+  const {run} = pane, near = lowerBound(run.at, moment, from, to);
+  if (near >= to || (run.at[near] - moment) * page.time.scale >= 6) return null;
+  // (a pixel has the colour of the most notable line)
+  return {line: numbers(...run.turn(near, mote)).reduce((best, it) => rankOf(run, it) > rankOf(run, best) ? it : best)};
 }
 
 export function itemInWords(run, item) {

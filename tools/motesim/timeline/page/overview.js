@@ -12,15 +12,19 @@ const RANKED = [['paper'], ['run', START, LEAVE, POST, TAKE], ['recv', RECV], ['
 const RANKS = Uint8Array.from(KINDS, (_, kind) => RANKED.findIndex(its => its.includes(kind)));
 const SILENT = RANKED.findIndex(([colour]) => colour === 'quiet');
 
+/** How notable a line is. */
+export const rankOf = ({silent, kind}, line) => silent[line] ? SILENT : RANKS[kind[line]];
+
 /** The turns of a run: the first one of each mote, and for each its moment and the rank of its most notable line. */
-function turnsOf({at, kind, silent, traceStart, count}) {
+function turnsOf(run) {
+  const {at, traceStart, count} = run;
   const starts = new Uint32Array(traceStart.length), moments = new Uint32Array(count), ranks = new Uint8Array(count);
   let turn = -1;
   traceStart.forEach((from, mote) => {
     starts[mote] = turn + 1;
     for (let i = from, end = traceStart[mote + 1]; i < end; i++) {
       if (i === from || at[i] !== at[i - 1]) moments[++turn] = at[i];
-      ranks[turn] = Math.max(ranks[turn], silent[i] ? SILENT : RANKS[kind[i]]);
+      ranks[turn] = Math.max(ranks[turn], rankOf(run, i));
     }
   });
   return {starts, moments, ranks};

@@ -54,8 +54,9 @@ export const page = {
   askWhy: none,
 
   /** Functions that are called when the results that are shown become those of an earlier text; when the results of
-   * a run are there; when a document was opened; and when its text is kept. */
-  reactions: {outdated: does(), judged: does(), opened: does(), kept: does()},
+   * a run are there; when a document was opened, or is shown again (`isAgain`); when its text is kept; and when the
+   * reader leaves the page. */
+  reactions: {outdated: does(), judged: does(), opened: does(), kept: does(), left: does()},
   /** The state that is shown, and the selection whose statement is marked. */
   state: '', marked: 0,
   faults: {number: 0, found: none, isGoing: false, timer: 0},
@@ -64,7 +65,7 @@ export const page = {
    * `part` is the open tab of the text. `asked` counts the runs that were asked for, `ran` is the last of them that
    * ended, `number` the backend's number of the run that is shown, and `judged` of the one whose results are; `fresh`
    * is true until the first run of a text. */
-  web: {pad: none, history: new History(''), document: none, saved: '', intro: '', example: none, part: 'part-program',
+  web: {pad: none, history: new History(), document: none, saved: '', intro: '', example: none, part: 'part-program',
     timer: 0, keepTimer: 0, asked: 0, ran: 0, number: 0, judged: 0, fresh: true, fault: none, folder: ''},
 };
 

@@ -9,6 +9,9 @@ import {SMALL_LANE} from './layout.js';
 import {page} from './stage.js';
 import {count} from './words.js';
 
+/** Pixels above a chain in its frame. */
+const EDGE = 6;
+
 export async function askWhy(pane, line) {
   try {
     showChain(pane, await page.chainOf(pane.run, line));
@@ -22,6 +25,8 @@ function show(title, texts, items, spoken) {
   byId('why-chain').hidden = false;
   byId('why-chain').replaceChildren(element('h2', title), ...texts.map(text => element('p', '', withPlaces(text))),
     list('ol', items), makeButton('Close', closeWhy));
+  const chain = byId('why-chain'), frame = chain.closest('#card, .panel');
+  frame.scrollTop += chain.getBoundingClientRect().top - frame.getBoundingClientRect().top - EDGE;
   byId('spoken').textContent = spoken;
   redraw();
 }

@@ -66,11 +66,25 @@ function senderOf(a, b, place) {
   return (one[at] <= other[at] || at < 0 ? one : other)[1];
 }
 
-/** The first number that differs between two runs, in words; otherwise that their lines do. */
+/** The first print that became another one, in words; '' if none did. */
+function printInWords(run, before) {
+  const found = run.prints.flatMap((lines, mote) => {
+    const others = before.prints[mote] || [], place = lines.findIndex((line, i) => !sameLine(run, before, line, others[i]));
+    return place >= 0 && others[place] ? [{mote, line: lines[place], other: others[place]}] : [];
+  }).sort((a, b) => run.at[a.line] - run.at[b.line]);
+  if (!found.length) return '';
+  const [{mote, line, other}] = found, isValue = run.w[line] !== before.w[other];
+  return `Mote ${mote} prints ${run.w[line]} at ${run.at[line]} instead of ${isValue ? `${before.w[other]} at ` : ''}${
+    before.at[other]}.`;
+}
+
+/** The first number or print that differs between two runs, in words; otherwise that their lines do. */
 function numbersInWords(run, before) {
   const ours = countKinds(run.kind), others = countKinds(before.kind);
   const kind = [SEND, COLLIDE, PRINT, HALT].find(it => ours[it] !== others[it]);
   if (kind !== undefined) return `${count(ours[kind], NOUNS[kind])} instead of ${digits(others[kind])}.`;
+  const print = printInWords(run, before);
+  if (print) return print;
   return run.rows === before.rows ? 'As many packets and prints as before.' :
     `A report of ${count(run.rows, 'line')} instead of ${digits(before.rows)}.`;
 }

@@ -8,12 +8,13 @@ export function firstSentence(text) {
   return (/^.*?[.](?= |$)/.exec(comment.replace(/^#+ ?/gm, '').replace(/\n/g, ' ').replace(/`/g, '')) || [''])[0];
 }
 
-/** Fills the dialog of the examples: with cards of those that have a title. `choose` is called with the chosen one. */
-export function beginGallery(examples, choose) {
+/** Fills the dialog of the examples: with cards of those that have a title. `choose` is called with the chosen one, and
+ * `take` with a text of the reader's own, those of which `drafts` lists. */
+export function beginGallery(examples, choose, drafts, take) {
   const box = byId('gallery'), cards = examples.filter(it => it.title), others = examples.filter(it => !it.title);
-  const buttonOf = (it, name) => makeButton(name, () => {
+  const buttonOf = (it, name, does = choose) => makeButton(name, () => {
     box.close();
-    choose(it);
+    does(it);
   });
   for (const it of cards) {
     const card = buttonOf(it, '');
@@ -22,5 +23,10 @@ export function beginGallery(examples, choose) {
     byId('gallery-cards').append(card);
   }
   byId('others').append(...others.map(it => buttonOf(it, it.file)));
-  byId('examples').addEventListener('click', () => box.showModal());
+  byId('examples').addEventListener('click', () => {
+    const own = drafts();
+    byId('own-texts').hidden = !own.length;
+    byId('own').replaceChildren(...own.map(it => buttonOf(it, `${it.name}, ${new Date(it.opened).toLocaleString()}`, take)));
+    box.showModal();
+  });
 }

@@ -5,7 +5,8 @@ import {packed, unpacked} from '../../timeline/page/packing.js';
 import {page} from '../../timeline/page/stage.js';
 import {digits} from '../../timeline/page/words.js';
 
-const DRAFT = 'motesim draft', FORMAT = 'deflate-raw', LONGEST_TEXT = 1 << 20;
+const DRAFTS = 'motesim draft', SESSION = 'motesim session', MOST_DRAFTS = 6, MOST_STEPS = 40;
+const FORMAT = 'deflate-raw', LONGEST_TEXT = 1 << 20;
 /** Links that are longer than this get lost in chats and mails. */
 const LONGEST_LINK = 8000;
 
@@ -15,10 +16,38 @@ const delivered = typeof document === 'undefined' ? '' : `<!DOCTYPE html>\n${doc
 /** The text and the name that this page was saved with, as JSON; `null` if it was saved with none. */
 const savedHere = () => byId('saved').textContent;
 
-export const keepDraft = (text, name) =>
-  stored(it => it.setItem(DRAFT, JSON.stringify({text, name, of: savedHere()})));
+/** The reader's last texts, the newest first, one for each document that was opened.
+ * @returns {{text: string, name: string, of: string, opened: number}[]} */
+export function drafts() {
+  const found = stored(it => JSON.parse(it.getItem(DRAFTS) || '[]'));
+  // (pages in one folder share the storage, so a draft may be that of another one)
+  return Array.isArray(found) ? found.filter(it => typeof it.text === 'string' && it.of === savedHere()) : [];
+}
 
-export const forgetDraft = () => stored(it => it.removeItem(DRAFT));
+/** Keeps a text of the document that was `opened` at a time, unless it is the text that was opened. */
+export function keepDraft(text, {name, opened}, saved) {
+  const others = drafts().filter(it => it.opened !== opened && it.text !== text).slice(0, MOST_DRAFTS - 1);
+  const its = text === saved ? [] : [{text, name, of: savedHere(), opened}];
+  stored(it => it.setItem(DRAFTS, JSON.stringify([...its, ...others])));
+}
+
+/** Keeps the steps of undo and redo for a visit of this address in this tab. */
+export function keepSession({steps, now}) {
+  const first = Math.max(0, now - MOST_STEPS), near = steps.slice(first, now + MOST_STEPS);
+  const documents = [...new Set(near.map(it => it.of))];
+  const kept = near.map(({run, of, ...step}) => ({...step, of: documents.indexOf(of)}));
+  stored(it => {
+    it.removeItem(SESSION);
+    it.setItem(SESSION, JSON.stringify({at: location.href, of: savedHere(), documents, steps: kept, now: now - first}));
+  }, 'session');
+}
+
+/** The steps that were kept for this address; null if there are none. */
+function sessionHere() {
+  const found = stored(it => JSON.parse(it.getItem(SESSION) || 'null'), 'session');
+  if (!found || found.at !== location.href || found.of !== savedHere()) return null;
+  return {steps: found.steps.map(step => ({...step, run: null, of: found.documents[step.of]})), now: found.now};
+}
 
 /** The address of this page with a text; null if it is too long for chats and mails.
  * @param {string} text @returns {Promise<string|null>} */
@@ -37,16 +66,13 @@ async function textIn(hash) {
 }
 
 /** The text to open with, and where it came from; null for the first example.
- * @returns {Promise<{text: string, name: string, from: 'link'|'page'|'draft'}|null>} */
+ * @returns {Promise<{text: string, name: string, from: 'link'|'page'|'draft', session?: any}|null>} */
 export async function textToOpen() {
-  const linked = await textIn(location.hash);
-  if (linked !== null) return {text: linked, name: 'shared.toml', from: 'link'};
-  const draft = stored(it => JSON.parse(it.getItem(DRAFT) || 'null')), saved = JSON.parse(savedHere());
-  // (pages in one folder share the storage, so the draft may be that of another one)
-  if (draft && typeof draft.text === 'string' && draft.of === savedHere()) {
-    return {text: draft.text, name: String(draft.name), from: 'draft'};
-  }
-  return saved && {...saved, from: 'page'};
+  const session = sessionHere();
+  if (session) return {...session.steps[session.now].of.document, from: 'draft', session};
+  const linked = await textIn(location.hash), [draft] = drafts(), saved = JSON.parse(savedHere());
+  if (linked !== null && linked !== draft?.text) return {text: linked, name: 'shared.toml', from: 'link'};
+  return draft ? {text: draft.text, name: String(draft.name), from: 'draft'} : saved && {...saved, from: 'page'};
 }
 
 /** Writes the text into the address, so that going back and reloading keep it; null takes it away. */
@@ -70,9 +96,12 @@ function savePage(text, name) {
 export async function showSharing(text, name) {
   const {line, mote, pane} = page.chosen, [copy, field] = [byId('copy-link'), byId('link')];
   const bare = await linkTo(text), link = bare && line >= 0 ? `${bare}&line=${pane.run.numberOf(line, mote)}` : bare;
-  byId('sharing-said').textContent = link ?
-    `The link carries the whole scenario, in ${digits(link.length)} characters.` :
-    'This scenario is too long for a link in a chat or a mail: send the file, or this page saved with it.';
+  byId('sharing-said').textContent = !link ?
+    'This scenario is too long for a link in a chat or a mail: send the file, or this page saved with it.' :
+    location.protocol === 'file:' ?
+      'This page was opened from a file of this machine, so others can\'t open the link: send this page, which is saved ' +
+      'with your text. On a web server, its link carries the whole scenario.' :
+      `The link carries the whole scenario, in ${digits(link.length)} characters.`;
   field.hidden = copy.hidden = !link;
   field.value = link || '';
   copy.textContent = 'Copy the link';

@@ -6,37 +6,41 @@ import {openAsAddressed} from '../../timeline/page/main.js';
 import {unpacked} from '../../timeline/page/packing.js';
 import {page} from '../../timeline/page/stage.js';
 import {Alone} from './alone.js';
-import {forgetDraft, keepDraft, keepInAddress, textToOpen} from './keeping.js';
+import {drafts, keepDraft, keepInAddress, keepSession, textToOpen} from './keeping.js';
 import {begin, open, openExample, say} from './web.js';
 
 const ORIGINS = {link: 'This net came with the link.', page: 'This net was saved with the page.',
-  draft: 'This is your text of the last time. Examples has the others.'};
+  draft: 'This is your text of the last time.'};
+let isLeaving = false;
 
 async function start() {
   const data = JSON.parse(byId('data').textContent);
   const module = unpacked(byId('module').textContent, 'gzip').then(
     bytes => WebAssembly.compile(/** @type {BufferSource} */ (bytes)));
   page.chainOf = chainOf;
-  const [first] = begin(new Alone(module, byId('worker').textContent, data.rules), data);
+  const [first] = begin(new Alone(module, byId('worker').textContent, data.rules), data, drafts);
   page.reactions.kept.push(text => {
-    keepDraft(text, page.web.document.name);
-    keepInAddress(text);
+    const {document, saved} = page.web;
+    keepDraft(text, document, saved);
+    keepInAddress(document.where === 'example' && text === saved ? null : text);
   });
   page.reactions.opened.push(({name, where}) => {
     document.title = `${name.replace(/\.toml$/, '')} – motesim`;
-    if (where !== 'example') return;
-    forgetDraft();
-    keepInAddress(null);
+    if (where === 'example') keepInAddress(null);
   });
+  page.reactions.left.push(() => { if (!isLeaving) keepSession(page.web.history); });
   const opened = await textToOpen().catch(() => undefined);
-  if (opened) await open({where: '', ...opened}, {intro: ORIGINS[opened.from]});
+  if (opened) await open({where: '', ...opened}, {intro: ORIGINS[opened.from], session: opened.session});
   else await openExample(first);
   if (opened === undefined) say('The link is broken: no text can be read from it. This is the first example.', 'bad');
   if (opened?.from === 'link' && page.panes.length) openAsAddressed();
 }
 
 // (another link, or a step back to one: the address of the page itself stays the same, so nothing is loaded)
-window.addEventListener('hashchange', () => location.reload());
+window.addEventListener('hashchange', () => {
+  isLeaving = true;
+  location.reload();
+});
 window.motesim = page;
 start().catch(fault => {
   byId('said').textContent = `This page can't run here: ${fault.message}`;

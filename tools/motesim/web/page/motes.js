@@ -68,7 +68,10 @@ const groundEdits = {
   key({key, shiftKey}) {
     const {run} = maps[0], {mote} = chosen, by = ARROWS[key];
     const step = shiftKey ? 1 : Math.max(1, Math.round(run.range / 10));
-    if (key === 'Enter' && ground.adding) {
+    if (key === 'Escape' && ground.adding) {
+      setAdding(false);
+      sayOnMap('No mote is added.');
+    } else if (key === 'Enter' && ground.adding) {
       const near = Math.max(0, mote), [x, y] = run.places[near];
       ground.chooses = true;
       addMote([x + step, y], near);

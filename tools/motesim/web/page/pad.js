@@ -107,10 +107,13 @@ export class Pad {
 
   renew() {
     const box = byId('numbers');
-    box.textContent = `${numbers(1, this.area.value.split('\n').length + 1).join('\n')}\n\n\n`;
+    box.textContent = `${numbers(1, this.rows + 1).join('\n')}\n\n\n`;
     box.scrollTop = this.area.scrollTop;
     this.tint.take();
   }
+
+  /** How many rows are shown. */
+  get rows() { return this.area.value.split('\n').length; }
 
   /** How many rows of the whole text are above those that are shown. */
   get rowsBefore() { return this.before.split('\n').length - 1; }
@@ -137,19 +140,21 @@ export class Pad {
   lightRow(row) {
     const shown = row < 0 ? -1 : row - this.rowsBefore;
     this.tint.mark({row: shown});
-    if (shown >= 0 && shown < this.area.value.split('\n').length) this.showRow(shown);
+    if (shown >= 0 && shown < this.rows) this.showRow(shown);
   }
 
-  /** Tab writes two blanks, Enter keeps the indentation, Esc leaves the text. */
+  /** Tab writes two blanks, Enter keeps the indentation, `}` at the beginning of a row takes two blanks off it, and
+   * Esc leaves the text. */
   onKey(event) {
     if (event.ctrlKey || event.metaKey || event.altKey) return;
     const {area} = this, before = area.value.slice(0, area.selectionStart);
     if (event.key === 'Escape') return area.blur();
-    const isTab = event.key === 'Tab' && !event.shiftKey, row = before.slice(before.lastIndexOf('\n') + 1);
-    if (!isTab && event.key !== 'Enter') return;
-    event.preventDefault();
+    const row = before.slice(before.lastIndexOf('\n') + 1), isClosing = event.key === '}' && /^ {2,}$/.test(row);
     const indent = (/^ */.exec(row) || [''])[0] + (/\{\s*$/.test(row) ? '  ' : '');
-    area.setRangeText(isTab ? '  ' : `\n${indent}`, area.selectionStart, area.selectionEnd, 'end');
+    const written = {Tab: event.shiftKey ? '' : '  ', Enter: `\n${indent}`, '}': isClosing ? '}' : ''}[event.key];
+    if (!written) return;
+    event.preventDefault();
+    area.setRangeText(written, area.selectionStart - (isClosing ? 2 : 0), area.selectionEnd, 'end');
     area.dispatchEvent(new Event('input'));
   }
 }

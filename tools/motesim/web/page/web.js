@@ -50,11 +50,11 @@ export async function attempt(work) {
   }
 }
 
-/** Says what the open example is about, and offers its change; or where the text came from. */
+/** Says what the text is about, and where it came from; and offers the change of an example. */
 function sayIntro() {
-  const {example, intro, history} = web;
+  const {example, intro, history, document} = web;
   if (example) byId('try').textContent = example.try;
-  say(example?.about || intro || firstSentence(history.text) || `This is ${web.document.name}.`, '',
+  say(example?.about || [intro, firstSentence(history.text)].filter(Boolean).join(' ') || `This is ${document.name}.`, '',
     example?.replace ? ['try'] : []);
 }
 
@@ -95,31 +95,48 @@ async function changeByMap(wish, how = 'edit') {
   if (made.text !== text) change(made.text, how);
 }
 
-/** Goes back to an earlier text, or on to a later one. */
+/** Goes back to an earlier text, or on to a later one, which may be of another document. */
 function go(by) {
   if (!web.history.go(by)) return;
-  showText();
+  const {of} = web.history.step, isOther = of.document !== web.document;
+  Object.assign(web, of, {fresh: isOther});
+  showText(isOther);
   changed(0);
+  if (isOther) react('opened', web.document, true);
 }
+
+/** Changes what is known of the open document, for all of its texts. */
+export const setOpened = its => Object.assign(web, Object.assign(web.history.step.of, its));
 
 /** Runs the text after a pause, and keeps it where the reader finds it again; results are those of an earlier text. */
 function changed(pause) {
   clearTimeout(web.timer);
   clearTimeout(web.keepTimer);
   web.timer = window.setTimeout(runNow, pause);
-  web.keepTimer = window.setTimeout(() => react('kept', web.history.text), KEEP);
+  web.keepTimer = window.setTimeout(keepNow, KEEP);
   react('outdated');
 }
 
-/** Opens a text: that of an example, or one with an `intro`, which says where it came from. `against` is an earlier
- * text: the page shows what has changed since. @param {any} document its name, its text, and where it is */
-export async function open(document, {example = /** @type {any} */ (null), intro = '', against = null} = {}) {
-  Object.assign(web, {document, example, intro, saved: document.text, fresh: true});
+/** Keeps the text now, if it was to be kept soon. */
+function keepNow() {
+  if (!web.keepTimer) return;
   clearTimeout(web.keepTimer);
-  web.history.begin(against ?? document.text);
+  web.keepTimer = 0;
+  react('kept', web.history.text);
+}
+
+/** Opens a text, as a step of the history: that of an example, or one with an `intro`, which says where it came from.
+ * `against` is an earlier text: the page shows what has changed since. `session` has the steps of an earlier visit.
+ * @param {any} document its name, its text, and where it is */
+export async function open(document, {example = /** @type {any} */ (null), intro = '', against = null,
+  session = /** @type {any} */ (null)} = {}) {
+  keepNow();
+  const of = {document: {opened: Date.now(), ...document}, example, intro, saved: document.text};
+  if (session) Object.assign(web.history, session); else web.history.take(against ?? document.text, 'opened', of);
+  Object.assign(web, web.history.step.of, {fresh: true});
   showText(true);
   await runNow();
-  react('opened', document);
+  react('opened', web.document, Boolean(session));
   if (against === null) return;
   change(document.text, 'edit');
   await runNow();
@@ -164,17 +181,29 @@ async function runNow() {
   if (!page.panes.length) byId('about').textContent = 'No run yet';
 }
 
+/** The line of a place, as the numbers beside the text have it. */
+function lineInWords(row) {
+  const {pad} = web, shown = row - pad.rowsBefore, isShown = shown >= 0 && shown < pad.rows;
+  return isShown ? `line ${shown + 1}` : `line ${row + 1} of all text`;
+}
+
 function showFault(fault) {
-  const {line, words, place, corrected} = web.fault = fault, above = web.part === 'part-all' ? 0 : web.pad.rowsBefore;
+  const {line, words, place, corrected} = web.fault = fault;
   markFault(place, [...words, line].join('\n'));
   byId('fault-place').hidden = !place;
   byId('fault-correct').hidden = !corrected;
-  say(`The text has an error${place ? ` in line ${place[0] + 1 - above}` : ''}${
+  sayFault();
+}
+
+function sayFault() {
+  const {place} = web.fault;
+  say(`The text has an error${place ? ` in ${lineInWords(place[0])}` : ''}${
     page.panes.length ? ': the last run is shown' : ''}.`, 'bad', reverting());
 }
 
 /** Marks the place of an error, and shows the words about it; or that there is none. */
 function markFault(place = null, words = '') {
+  if (!words) web.fault = null;
   byId('fault').hidden = !words;
   byId('fault').querySelector('pre').textContent = words;
   web.pad.mark(place);
@@ -190,9 +219,9 @@ async function showLimit({limit, number}, text) {
 }
 
 async function showRun({run, number, took}, step) {
-  const {before} = web.history, against = before?.run, found = against && /** @type {any} */ (difference(against, run));
+  const {history} = web, {ranBefore: before} = history, found = before && /** @type {any} */ (difference(before.run, run));
   markFault();
-  step.run = run;
+  history.keep(step, run);
   web.number = number;
   page.differs = {first: found?.first, parts: new Map(found?.parts)};
   if (page.panes.length) showInstead(page.panes[0], run); else showRuns([run]);
@@ -201,11 +230,11 @@ async function showRun({run, number, took}, step) {
   byId('about').textContent = `${count(run.begins.length, 'mote')}, ${count(run.end + 1, 'moment')}` +
     (took === undefined ? '' : `, ${Math.max(1, Math.round(took))} ms`);
   if (web.fresh) beginShow();
-  else if (found) {
-    say(effectInWords(run, against, found), found.same ? 'same' : 'differs', [found.first && 'show', 'revert']);
+  else if (found && before.text !== step.text) {
+    say(effectInWords(run, before.run, found), found.same ? 'same' : 'differs', [found.first && 'show', 'revert']);
     // (the button that was pressed is hidden now)
     if (document.activeElement === document.body && step.how === 'try') byId('revert').focus();
-  } else if (!before) sayIntro();
+  } else sayIntro();
   drawAll();
   if (!page.reactions.judged.length) return;
   const results = await attempt(() => page.backend.ask('judge', {...web.document, text: '', number, saved: web.saved}));
@@ -245,13 +274,20 @@ function beginButtons() {
     'fault-place': () => goTo(.../** @type {[number, number, number]} */ (web.pad.place)),
     'fault-correct': () => change(web.fault.corrected, 'edit'),
   })) byId(id).addEventListener('click', does);
-  byId('which').addEventListener('change', () => showText(true));
+  byId('which').addEventListener('change', () => {
+    showText(true);
+    if (web.fault) sayFault();
+  });
   beginTabs('parts', id => {
     web.part = id;
     showText(true);
+    if (web.fault) sayFault();
   });
   document.addEventListener('keydown', event => {
-    if (!(event.ctrlKey || event.metaKey) || event.altKey) return;
+    if (!(event.ctrlKey || event.metaKey) || event.altKey || document.querySelector('dialog[open]')) return;
+    // (in a field, these keys are about the field)
+    const target = /** @type {HTMLElement} */ (event.target);
+    if (target.matches('input, textarea') && target !== web.pad.area) return;
     const key = event.key.toLowerCase(), by = key === 'z' && !event.shiftKey ? -1 : key === 'y' || key === 'z' ? 1 : 0;
     if (!by) return;
     event.preventDefault();
@@ -261,8 +297,9 @@ function beginButtons() {
 }
 
 /** Begins the page with its examples, of which some have cards, and the words of the notation. Returns the examples,
- * those with a card first. @param {import('../../timeline/page/stage.js').Backend} backend */
-export function begin(backend, {cards, texts, words}) {
+ * those with a card first. `drafts` lists the reader's own texts.
+ * @param {import('../../timeline/page/stage.js').Backend} backend */
+export function begin(backend, {cards, texts, words}, drafts = () => /** @type {any[]} */ ([])) {
   const others = Object.keys(texts).filter(file => !cards.some(it => it.file === file)).map(file => ({file}));
   const examples = [...cards, ...others].map(it => ({...it, text: texts[it.file]}));
   readColours();
@@ -273,9 +310,14 @@ export function begin(backend, {cards, texts, words}) {
   page.overlays.push(drawDifference);
   page.edit = changeByMap;
   beginMotes();
-  beginGallery(examples, openExample);
+  beginGallery(examples, openExample, () => drafts().filter(it => it.text !== web.history.text), draft =>
+    open({where: '', ...draft}, {intro: 'This is a text of yours.'}));
   beginFiles((text, name) => open({where: '', name, text}, {intro: `This is ${name}.`}), words => say(words, 'bad'));
   beginDrawer();
+  window.addEventListener('pagehide', () => {
+    keepNow();
+    react('left');
+  });
   return examples;
 }
 
