@@ -15,7 +15,7 @@ from __future__ import annotations
 
 import contextlib
 import subprocess
-from collections.abc import Iterator
+from collections.abc import Callable, Iterator
 from pathlib import Path
 
 import pytest
@@ -144,16 +144,24 @@ def test_it_says_that_memory_is_out(module: Path, tmp_path: Path) -> None:
     assert got == whole and refused
 
 
-def test_the_script_is_a_program(program: Path, tmp_path: Path) -> None:
+def alone(script: Path, scenario: bytes, *words: str) -> Answer:
+    """The answer of a script in a process of its own."""
+    done = subprocess.run([script, *words], input=scenario, capture_output=True)
+    return Answer(done.returncode, done.stdout, done.stderr)
+
+
+# (the tools run the module without its script)
+@pytest.mark.parametrize('run', [alone, answer])
+def test_the_script_is_a_program(run: Callable[..., Answer], program: Path, tmp_path: Path) -> None:
     scenario = SMALL.read_bytes()
     expected = answer(program, scenario)
-    check_answer('from standard input', expected, answer(SCRIPT, scenario))
+    check_answer('from standard input', expected, run(SCRIPT, scenario))
     for words in [str(SMALL)], ['--', str(SMALL)]:
-        check_answer('from a file', expected, answer(SCRIPT, b'', *words))
+        check_answer('from a file', expected, run(SCRIPT, b'', *words))
     for words in ['/nowhere'], [str(tmp_path)]:
-        check_answer('without a file', answer(program, b'', *words), answer(SCRIPT, b'', *words))
-    check_answer('too long', answer(program, b'#' * 5_000_000), answer(SCRIPT, b'#' * 5_000_000))
-    assert answer(SCRIPT, scenario, '--workers', '2').status == 2
+        check_answer('without a file', answer(program, b'', *words), run(SCRIPT, b'', *words))
+    check_answer('too long', answer(program, b'#' * 5_000_000), run(SCRIPT, b'#' * 5_000_000))
+    assert run(SCRIPT, scenario, '--workers', '2').status == 2
 
 
 def test_the_script_writes_to_a_file_and_to_a_pipe(tmp_path: Path) -> None:

@@ -5,6 +5,7 @@ import os
 import signal
 import subprocess
 import sys
+import tempfile
 import threading
 import unittest
 from collections.abc import Iterator
@@ -15,7 +16,11 @@ from here import HOLDS, SECONDS, TOOLS, Room, scenario_of, until
 from motesim.faults import Fault
 from motesim.runner import LimitMet, Limits, NoReport, ProgramFault, Runner, Stopped, ending, run_each
 from motesim.runner.batch import Workers, each_part
+from motesim.runner.module import script_of
+from skips import need
 from unbuilt_tree import is_alive
+
+SMALL = scenario_of('process a; autostart a; code a { body { print 1; print 2; } }').encode()
 
 class Programs(Room):
     def program(self, text: str, shell: str = '/bin/sh') -> Path:
@@ -132,6 +137,76 @@ class Runs(Programs):
                 Runner(path).answer(b'')
         with self.assertRaisesRegex(ProgramFault, "can't be run: "):
             Runner(self.program('true')).answer(b'', 'a\0b')
+
+
+# Motes that have a turn in each moment, for many seconds.
+ENDLESS = scenario_of('process a; autostart a; code a { etimer t; body { while 1 { set t 1; yield_until fired(t); } } }',
+                      *[(100 * it, 0) for it in range(50)], end=1_000_000).encode()
+LONG = ENDLESS.replace(b'end = 1000000', b'end = 2000')
+
+
+class Modules(unittest.TestCase):
+    """Runs of the modules, in one process of node."""
+
+    def setUp(self) -> None:
+        need('node', 'nodejs')
+        self.runner = Runner(script_of('motesim'), Limits(seconds=30.0))
+
+    def host(self) -> int:
+        running = self.runner.start(SMALL)
+        self.assertEqual(running.wait().status, 0)
+        return running.pid
+
+    def test_one_process_makes_all_runs_with_the_answers_of_the_scripts(self) -> None:
+        host, checker = self.host(), Runner(script_of('motecheck'))
+        claims = b'mote 0: at least 2 lines "print process a"'
+        for runner, scenario, words, files in (
+                (self.runner, SMALL, (), {}), (self.runner, b'end = ', (), {}), (self.runner, SMALL, ('--workers',), {}),
+                (checker, SMALL, ('/dev/stdin', 'claims'), {'claims': claims}),
+                (checker, SMALL, ('--links', '/dev/stdin', 'claims'), {'claims': claims}),
+                (checker, SMALL, ('/dev/stdin', 'none'), {}), (checker, SMALL, ('--runs', '2', '/dev/stdin', 'a'), {})):
+            running = runner.start(scenario, *words, files=files)
+            got = running.wait()
+            with tempfile.NamedTemporaryFile() as file:
+                file.write(b''.join(files.values()))
+                file.flush()
+                alone = subprocess.run([str(runner.program), *(file.name if it in files else it for it in words)],
+                                       input=scenario, capture_output=True)
+            with self.subTest(words=words):
+                self.assertEqual(got, (alone.returncode, alone.stdout, alone.stderr))
+                self.assertEqual(running.pid, host)
+
+    def test_a_limit_or_a_stop_ends_one_run_and_the_next_has_a_process_again(self) -> None:
+        for limits, scenario in (Limits(seconds=0.2), ENDLESS), (Limits(report=10_000), LONG):
+            with self.assertRaises(LimitMet) as met:
+                Runner(script_of('motesim'), limits).answer(scenario)
+            self.assertEqual(met.exception.limit, 'report' if scenario == LONG else 'seconds')
+            self.host()
+        running = self.runner.start(ENDLESS)
+        threading.Thread(target=running.stop).start()
+        with self.assertRaises(Stopped):
+            running.wait()
+        self.host()
+
+    def test_a_process_that_dies_costs_one_run(self) -> None:
+        running = self.runner.start(ENDLESS)
+        os.kill(running.pid, signal.SIGKILL)
+        self.assertEqual(running.wait().status, -signal.SIGKILL)
+        # (one that dies between two runs costs none)
+        idle = self.host()
+        os.kill(idle, signal.SIGKILL)
+        until(lambda: not is_alive(idle))
+        self.host()
+
+    def test_stopping_a_run_that_has_ended_leaves_the_process(self) -> None:
+        running = self.runner.start(SMALL)
+        running.wait()
+        running.stop()
+        self.assertEqual(self.host(), running.pid)
+
+    def test_a_long_report_passes(self) -> None:
+        report = Runner(script_of('motesim')).report(LONG)
+        self.assertEqual(report.count(b' a timer 0\n'), 50 * 2000)
 
 
 @contextlib.contextmanager

@@ -1,7 +1,6 @@
 """Verdicts: the proved program `motecheck` runs a scenario, and decides the claims that sentences mean."""
 from __future__ import annotations
 
-import os
 from collections.abc import Callable, Iterator, Mapping, Sequence
 from pathlib import Path
 
@@ -27,11 +26,8 @@ def answers(scenario: bytes, claims: Sequence[str], *options: str, program: Path
             limits: Limits = Limits(), asks_end: Callable[[], bool] = lambda: False) -> list[str]:
     """The lines that `motecheck` writes. Raises a `NoVerdict` if it has no answer; another `ProgramFault` if it reaches
     a limit, or is ended by `asks_end`."""
-    with open(os.memfd_create('claims'), 'wb', buffering=0) as file:
-        file.write('\n'.join(claims).encode())
-        given = '/proc/%d/fd/%d' % (os.getpid(), file.fileno())
-        got = Runner(program or program_path(CHECKER), limits, asks_end).answer(
-            scenario, *options, '/dev/stdin', given)
+    got = Runner(program or program_path(CHECKER), limits, asks_end).answer(
+        scenario, *options, '/dev/stdin', 'claims', files={'claims': '\n'.join(claims).encode()})
     if got.status not in (ALL_HOLD, ONE_IS_BROKEN):
         raise NoVerdict('no verdict: %s' % got.why)
     return got.report.decode().splitlines()

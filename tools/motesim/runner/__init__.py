@@ -11,11 +11,12 @@ from motesim.on_demand import on_demand
 
 if TYPE_CHECKING:
     from motesim.runner.batch import Done, each_part, run_each
+    from motesim.runner.hosts import OfModule
     from motesim.runner.process import Answer, LimitMet, Limits, NoReport, Runner, Running, Stopped
     from motesim.runner.programs import ProgramFault, program_path
 
-__all__ = ['Answer', 'Done', 'LimitMet', 'Limits', 'NoReport', 'ProgramFault', 'Runner', 'Running',
-           'Stopped', 'each_part', 'program_path', 'run_each']
+__all__ = ['Answer', 'Done', 'LimitMet', 'Limits', 'NoReport', 'OfModule', 'ProgramFault', 'Runner',
+           'Running', 'Stopped', 'each_part', 'program_path', 'run_each']
 __getattr__ = on_demand(__name__, {
-    'batch': ['Done', 'each_part', 'run_each'], 'programs': ['ProgramFault', 'program_path'],
+    'batch': ['Done', 'each_part', 'run_each'], 'hosts': ['OfModule'], 'programs': ['ProgramFault', 'program_path'],
     'process': ['Answer', 'LimitMet', 'Limits', 'NoReport', 'Runner', 'Running', 'Stopped']})

@@ -22,7 +22,7 @@ from types import FrameType
 from typing import TYPE_CHECKING, Any, Generic, TypeVar
 
 from motesim.faults import Fault
-from motesim.runner.process import share_group
+from motesim.runner.ending import share_group
 
 if TYPE_CHECKING:
     from multiprocessing.connection import Connection

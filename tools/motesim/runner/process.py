@@ -1,8 +1,9 @@
-"""One run of `motesim` within limits of time, memory and bytes.
+"""One run of `motesim` or `motecheck` within limits of time, memory and bytes.
 
     got = Runner(limits=Limits(20.0)).answer(scenario)  # an `Answer`, or a `LimitMet`
 
-`motesim` gets the scenario on standard input. A run that another thread may stop is a `Running`:
+A program gets the scenario on standard input. A binary is started for each run; a module runs in a process of node that
+stays (`hosts`). A run that another thread may stop is a `Running`:
 
     running = runner.start(scenario)
     got = running.wait()                                # `Stopped` once another thread has called running.stop()
@@ -12,26 +13,30 @@ from __future__ import annotations
 import contextlib
 import os
 import select
-import signal
 import subprocess
+import tempfile
 import threading
 import time
-from collections.abc import Callable
+from collections.abc import Callable, Iterator, Mapping, Sequence
 from pathlib import Path
 from typing import IO, Literal, NamedTuple
 
+from motesim import runner
 from motesim.runner import ending
-from motesim.runner.programs import ProgramFault, program_path
+from motesim.runner.programs import ProgramFault, is_module, program_path
+from motesim.runner.usage import memory_of, processor_seconds_of
 
 MEGABYTE = 1 << 20
-CHUNK = MEGABYTE
+CHUNK = 1 << 16
 # The most bytes of standard error that are kept: a fault is one line.
 MOST_FAULT = 1 << 16
 # The seconds between two checks of the clock and of the memory of a run.
 TICK = 0.02
 
+
 class Answer(NamedTuple):
-    """The answer of the binary: its status, its standard output and its standard error."""
+    """The answer of the binary: its status, its standard output and its standard error. The status is negative if a
+    signal ended it."""
     status: int
     report: bytes
     fault: bytes
@@ -57,7 +62,8 @@ def _most_memory() -> int:
 
 class Limits(NamedTuple):
     """The limits of a run: seconds of processor time, which hardly depend on the machine's other work, and bytes of
-    memory and of its report."""
+    memory and of its report. A system that says neither of another process (`usage`) has only the clock's limit and
+    that of the report."""
     seconds: float = 600.0
     memory: int = _most_memory()
     report: int = 1 << 30
@@ -93,52 +99,20 @@ class NoReport(ProgramFault):
     """`motesim` refuses a scenario."""
 
 
-class _Group:
-    """The process group of the runs of this process.
-
-    Each run is the leader of its own group, so that Ctrl-C reaches only the tool, and a run ends together with its
-    child processes. A worker of `run_each` is also such a leader, and ends together with its runs.
-    """
-    is_shared = False
-
-
-def share_group() -> None:
-    """Makes this process the leader of a group; all its later runs belong to this group."""
-    os.setpgid(0, 0)
-    _Group.is_shared = True
-
-
-def memory_of(pid: int) -> int:
-    """The bytes of memory that a process has; 0 if the system doesn't report it."""
-    try:
-        with open('/proc/%d/statm' % pid, encoding='ascii') as file:
-            return int(file.read().split()[1]) * os.sysconf('SC_PAGE_SIZE')
-    except (OSError, IndexError, ValueError):
-        return 0
-
-
-def processor_seconds_of(pid: int) -> float:
-    """The seconds of processor time that a process has used; 0 if the system doesn't report it."""
-    try:
-        # (the clock of a process; clock_getcpuclockid computes its number in the same way)
-        return time.clock_gettime(~pid << 3 | 2)
-    except OSError:
-        return 0.0
-
-
 class Running:
-    """A run that has begun. `wait` returns the answer of `motesim`, once; any thread may call `stop` to end the
-    run."""
+    """A run that has begun. `wait` returns the answer of the program, once; any thread may call `stop` to end the run."""
 
-    def __init__(self, process: subprocess.Popen[bytes], limits: Limits, is_leader: bool,
-                 asks_end: Callable[[], bool]):
-        self._process, self._limits, self._is_leader, self._asks_end = process, limits, is_leader, asks_end
+    def __init__(self, process: subprocess.Popen[bytes], limits: Limits, asks_end: Callable[[], bool]):
+        self._process, self._limits, self._asks_end = process, limits, asks_end
         self._look = time.monotonic() + TICK
-        self._end = time.monotonic() + limits.clock
+        self._latest = time.monotonic() + limits.clock
+        self._before = 0.0
         self._report: list[bytes] = []
         self._fault = bytearray()
         self._length = 0
         self._why: LimitMet | Stopped | None = None
+        self._is_over = False
+        self._status = 1
         self._lock = threading.Lock()
 
     @property
@@ -151,74 +125,53 @@ class Running:
         self._end_by(Stopped())
 
     def wait(self) -> Answer:
-        """The answer of `motesim`. Raises `LimitMet` or `Stopped` if the run was ended early."""
+        """The answer of the program. Raises `LimitMet` or `Stopped` if the run was ended early."""
         try:
             self._read()
         finally:
-            self._reap()
+            with self._lock:
+                self._is_over = True
+                self._end()
         if self._why:
             raise self._why
-        return Answer(self._process.returncode, b''.join(self._report), bytes(self._fault))
+        return Answer(self._status, b''.join(self._report), bytes(self._fault))
+
+    def _read(self) -> None:
+        """Reads what the program writes, up to its end."""
+        raise NotImplementedError
+
+    def _end(self) -> None:
+        """Ends the process, unless it may make another run."""
+        raise NotImplementedError
 
     def _end_by(self, why: LimitMet | Stopped) -> None:
         with self._lock:
-            if self._process.returncode is None and self._why is None:
+            if not self._is_over and self._why is None:
                 self._why = why
-                self._kill()
+                ending.kill(self._process)
 
-    def _kill(self) -> None:
-        """Ends the process and its children. Nothing has waited for it yet, so no other process has its number."""
-        with contextlib.suppress(OSError):
-            (os.killpg if self._is_leader else os.kill)(self._process.pid, signal.SIGKILL)
+    def _pieces(self, *pipes: IO[bytes] | None) -> Iterator[tuple[int, bytes]]:
+        """What comes from pipes, each piece with the place of its pipe, until all pipes are closed or the run is
+        ended."""
+        poll, places = select.poll(), {pipe.fileno(): place for place, pipe in enumerate(pipes) if pipe}
+        for number in places:
+            poll.register(number, select.POLLIN)
+        while places and not self._why:
+            ready = poll.poll(TICK * 1000)
+            if not ready and self._process.poll() is not None:
+                # (what the program has started may hold its pipes)
+                return
+            for number, _ in ready:
+                data = os.read(number, CHUNK)
+                if data:
+                    yield places[number], data
+                else:
+                    poll.unregister(number)
+                    del places[number]
+            self._check()
 
-    def _reap(self) -> None:
-        with self._lock:
-            self._kill()
-            if self._is_leader:
-                ending.over(self._process.pid)
-            self._process.wait()
-        for pipe in self._pipes():
-            pipe.close()
-
-    def _pipes(self) -> tuple[IO[bytes], IO[bytes]]:
-        assert self._process.stdout is not None and self._process.stderr is not None
-        return self._process.stdout, self._process.stderr
-
-    def _read(self) -> None:
-        """Reads until the process has ended, or has reached a limit."""
-        report, fault = (pipe.fileno() for pipe in self._pipes())
-        left = {report, fault}
-        poll = select.poll()
-        ended = os.pidfd_open(self._process.pid)
-        try:
-            for number in report, fault, ended:
-                os.set_blocking(number, False)
-                poll.register(number, select.POLLIN)
-            while not self._why:
-                ready = {number for number, _ in poll.poll(TICK * 1000)}
-                is_ended = ended in ready
-                if is_ended:
-                    # (its child processes end with it, so that the pipes are closed)
-                    self._kill()
-                for pipe in left & ready if not is_ended else left.copy():
-                    data = self._take(pipe, pipe == report)
-                    while data and is_ended and not self._why:
-                        data = self._take(pipe, pipe == report)
-                    if data == b'':
-                        left.discard(pipe)
-                        poll.unregister(pipe)
-                if is_ended:
-                    return
-                self._check()
-        finally:
-            os.close(ended)
-
-    def _take(self, pipe: int, is_report: bool) -> bytes | None:
-        """Reads from a pipe. Returns None if there is nothing to read yet, and no bytes at the end of the pipe."""
-        try:
-            data = os.read(pipe, CHUNK)
-        except BlockingIOError:
-            return None
+    def _take(self, is_report: bool, data: bytes) -> None:
+        """Keeps a piece of the report or of the fault."""
         if is_report:
             self._report.append(data)
             self._length += len(data)
@@ -226,7 +179,6 @@ class Running:
                 self._end_by(LimitMet('report', self._limits))
         else:
             self._fault += data[:max(0, MOST_FAULT - len(self._fault))]
-        return data
 
     def _check(self) -> None:
         """Ends the run if it has reached a limit of time, processor time or memory."""
@@ -234,9 +186,9 @@ class Running:
         if now < self._look:
             return
         self._look = now + TICK
-        if processor_seconds_of(self._process.pid) > self._limits.seconds:
+        if processor_seconds_of(self._process.pid) - self._before > self._limits.seconds:
             self._end_by(LimitMet('seconds', self._limits))
-        elif now > self._end:
+        elif now > self._latest:
             self._end_by(LimitMet('clock', self._limits))
         elif memory_of(self._process.pid) > self._limits.memory:
             self._end_by(LimitMet('memory', self._limits))
@@ -244,40 +196,67 @@ class Running:
             self.stop()
 
 
+class OfBinary(Running):
+    """The run of a binary, in a process of its own, with files that are removed at its end."""
+
+    def __init__(self, path: Path, scenario: bytes, words: Sequence[str], files: Mapping[str, bytes], limits: Limits,
+                 asks_end: Callable[[], bool]):
+        with contextlib.ExitStack() as made:
+            given = made.enter_context(_file_with(scenario))
+            names = {}
+            for name, data in files.items():
+                names[name] = made.enter_context(_file_with(data, tempfile.NamedTemporaryFile)).name
+            process = ending.started(lambda: subprocess.Popen(
+                ['motesim', *(names.get(it, it) for it in words)], executable=str(path.resolve()), stdin=given,
+                stdout=subprocess.PIPE, stderr=subprocess.PIPE, bufsize=0, process_group=ending.group()))
+            self._made = made.pop_all()
+        super().__init__(process, limits, asks_end)
+
+    def _read(self) -> None:
+        for place, data in self._pieces(self._process.stdout, self._process.stderr):
+            self._take(place == 0, data)
+
+    def _end(self) -> None:
+        ending.end(self._process)
+        self._status = self._process.returncode
+        self._made.close()
+
+
+def _file_with(data: bytes, made_by: Callable[[], IO[bytes]] = tempfile.TemporaryFile) -> IO[bytes]:
+    """A temporary file with these bytes."""
+    file = made_by()
+    file.write(data)
+    file.flush()
+    file.seek(0)
+    return file
+
+
 class Runner:
-    """Runs a binary within limits; without a path, the binary that all tools run. Once `asks_end()` is true, its runs are
-    stopped."""
+    """Runs a program within limits; without a path, the motesim that all tools run. Once `asks_end()` is true, its runs
+    are stopped."""
 
     def __init__(self, program: Path | None = None, limits: Limits = Limits(),
                  asks_end: Callable[[], bool] = lambda: False):
         self.program, self.limits, self.asks_end = program, limits, asks_end
 
-    def start(self, scenario: bytes, *arguments: str) -> Running:
-        """Begins a run of a scenario."""
+    def start(self, scenario: bytes, *words: str, files: Mapping[str, bytes] = {}) -> Running:
+        """Begins a run of a scenario. Words that are names of `files` name files with these bytes."""
         path = self.program or program_path()
-        is_leader = not _Group.is_shared
         try:
-            given = os.memfd_create('scenario')
-            with open(given, 'wb+') as file:
-                file.write(scenario)
-                file.seek(0)
-                def begin() -> subprocess.Popen[bytes]:
-                    return subprocess.Popen(['motesim', *arguments], executable=str(path.resolve()), stdin=file,
-                                            stdout=subprocess.PIPE, stderr=subprocess.PIPE,
-                                            process_group=0 if is_leader else None)
-                process = ending.started(begin) if is_leader else begin()
+            if is_module(path):
+                return runner.OfModule(path.resolve().name, scenario, words, files, self.limits, self.asks_end)
+            return OfBinary(path, scenario, words, files, self.limits, self.asks_end)
         except (OSError, ValueError) as fault:
             why = fault.strerror if isinstance(fault, OSError) else fault
             raise ProgramFault('%s can\'t be run: %s' % (path, why)) from None
-        return Running(process, self.limits, is_leader, self.asks_end)
 
-    def answer(self, scenario: bytes, *arguments: str) -> Answer:
-        """The answer of the binary to a scenario, with these arguments on its command line."""
-        return self.start(scenario, *arguments).wait()
+    def answer(self, scenario: bytes, *words: str, files: Mapping[str, bytes] = {}) -> Answer:
+        """The answer of the program to a scenario, with these words on its command line."""
+        return self.start(scenario, *words, files=files).wait()
 
-    def report(self, scenario: bytes, *arguments: str) -> bytes:
-        """The report of a scenario. Raises `NoReport` if the binary refuses it."""
-        got = self.answer(scenario, *arguments)
+    def report(self, scenario: bytes, *words: str) -> bytes:
+        """The report of a scenario. Raises `NoReport` if the program refuses it."""
+        got = self.answer(scenario, *words)
         if got.status:
             raise NoReport('the scenario has no report: %s' % got.why)
         return got.report

@@ -199,6 +199,7 @@ def nothing_runs(name: str = PROGRAM) -> str:
     return found.format(name, name.upper(), script_of(name), TOP / 'web/motesim.html')
 
 
+@functools.lru_cache(maxsize=8)
 def is_module(program: Path) -> bool:
     """Returns whether a program is the script that runs the WebAssembly module."""
     return program.resolve() in [script_of(name).resolve() for name in SOURCES]
