@@ -3,7 +3,8 @@ from __future__ import annotations
 
 from pathlib import Path
 
-TOP = Path(__file__).resolve().parents[2]
+from motesim.home import TOP
+
 SHIPPED = [TOP / name for name in ('bench', 'crates', 'docs', 'examples', 'tests', 'tools')]
 
 

@@ -11,6 +11,8 @@ import re
 import sys
 from typing import Any, TextIO, cast
 
+from motesim.typed import as_typed
+
 # The control characters, except the tab and the end of a line.
 OBEYED = re.compile(r'[\x00-\x08\x0b\x0c\x0e-\x1f\x7f-\x9f]|\r(?!\n)')
 CLEAR = '\r\033[K'
@@ -40,13 +42,13 @@ def cut(text: str, most: int) -> str:
 
 
 class Plain:
-    """A stream to which only plain text is written."""
+    """A stream to which only plain text is written, with the names of commands as the user types them."""
 
     def __init__(self, stream: TextIO):
         self.stream = stream
 
     def write(self, text: str) -> int:
-        return self.stream.write(plain(text))
+        return self.stream.write(as_typed(plain(text)))
 
     def __getattr__(self, name: str) -> Any:
         return getattr(self.stream, name)

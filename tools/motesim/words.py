@@ -2,12 +2,14 @@
 from __future__ import annotations
 
 import argparse
+import re
 from collections.abc import Sequence
 from typing import Any, NoReturn
 
 from motesim.command import version_line
 from motesim.faults import FAILED
 from motesim.text import nearest
+from motesim.typed import name_of_command
 
 
 class Version(argparse.Action):
@@ -53,7 +55,18 @@ class Reader(argparse.ArgumentParser):
 
 
 class Words(Reader):
-    """A parser that reports an error in one line, without all options."""
+    """A parser that reports an error in one line, without all options; and its help begins with one line of usage, because
+    it lists the options below."""
+
+    def add_argument(self, *names: Any, **more: Any) -> argparse.Action:
+        made = super().add_argument(*names, **more)
+        if not made.option_strings:
+            self.usage = '%s %s' % (self.usage or self.prog, '[%s]' % made.metavar if made.nargs else made.metavar)
+        return made
+
+    def format_help(self) -> str:
+        self.usage = (self.usage or self.prog).removesuffix(' [options]') + ' [options]'
+        return super().format_help()
 
     def parse_known_args(self, *given: Any, **named: Any) -> Any:
         found, rest = super().parse_known_args(*given, **named)
@@ -64,7 +77,7 @@ class Words(Reader):
         return found, rest
 
     def error(self, message: str) -> NoReturn:
-        self.exit(FAILED, '%s: %s (--help lists the options)\n' % (self.prog, message))
+        self.exit(FAILED, '%s: %s (--help lists the options)\n' % (re.split('[ /]', self.prog)[-1], message))
 
 
 def add_limits(words: argparse.ArgumentParser, seconds: float = 120, memory: int = 2048, report: int = 256) -> None:
@@ -75,8 +88,8 @@ def add_limits(words: argparse.ArgumentParser, seconds: float = 120, memory: int
         words.add_argument('--' + name, type=kind, default=default, metavar='N', help='%s (%g)' % (what, default))
 
 
-def words_of(about: str | None, prog: str | None = None) -> Words:
+def words_of(about: str | None, name: str = '') -> Words:
     """The parser of a tool's arguments; its help begins with the docstring of the tool's module."""
-    words = Words(prog=prog, description=about, formatter_class=argparse.RawDescriptionHelpFormatter)
+    words = Words(prog=name or name_of_command(), description=about, formatter_class=argparse.RawDescriptionHelpFormatter)
     words.add_argument('--version', action=Version, nargs=0, help='print the version, and exit')
     return words

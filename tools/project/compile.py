@@ -1,5 +1,5 @@
-"""Compiles `motesim` and `motecheck` without proving them, if no binaries of these sources are built. ./run and tools/pack
-use this module.
+"""Compiles `motesim` and `motecheck` without proving them, if no binaries of these sources are built. ./run uses
+this module.
 
 The binaries are kept in out/programs by digests of the sources (motesim.runner.programs). `python3 -m project.compile`
 compiles both.

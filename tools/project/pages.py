@@ -17,9 +17,9 @@ import json
 import re
 import textwrap
 from collections.abc import Callable, Iterable, Iterator
-from unittest import mock
 
 from motesim.explain.say import TEXTS
+from motesim.home import VERBS
 from motesim.command import command
 from motesim.notation import faults
 from motesim.notation import grammar as program
@@ -27,7 +27,7 @@ from motesim.plan import keys as plan
 from motesim.plan.tables import Key
 from motesim.runner.programs import TOP
 from motesim.scenario import faults as scenario
-from motesim.words import Words, words_of
+from motesim.words import words_of
 from project.spec_lists import further, headline
 
 SYNTAX = TOP / 'tools/editor/syntaxes/mote.tmLanguage.json'
@@ -38,28 +38,6 @@ PART_OF_RULE = re.compile(r'\{ [^{}]*(?:\{ [^{}]* \})?[^{}]* \}|\[ [^\[\]]* \]|\
 # The options that many tools have, and that the page describes once.
 SHARED = 'seconds', 'memory', 'report', 'bytes', 'jobs', 'dask'
 PART = re.compile(r'(?<=<!-- written by tools/dev/pages: )(?P<name>[\w ]+)(?P<head> -->\n).*?(?=<!-- end -->)', re.S)
-
-
-class Parser(BaseException):
-    """The parser with which a command reads its arguments."""
-
-    def __init__(self, words: argparse.ArgumentParser) -> None:
-        super().__init__()
-        self.words = words
-
-
-def parser_of(tool: str) -> argparse.ArgumentParser:
-    """The parser of a tool."""
-    def found(words: Words, *_: object) -> None:
-        raise Parser(words)
-
-    main = importlib.import_module('motesim.commands.' + tool).main
-    with mock.patch.object(Words, 'parse_known_args', found):
-        try:
-            main.__wrapped__()
-        except Parser as it:
-            return it.words
-    raise AssertionError('%s reads no arguments' % tool)
 
 
 def cell(text: str) -> str:
@@ -81,7 +59,7 @@ def form(it: argparse.Action) -> str:
 
 def options(tool: str) -> Iterator[str]:
     """The arguments of a tool, the options that many tools share, and a table of its own options."""
-    words = parser_of(tool)
+    words = importlib.import_module('motesim.commands.' + tool).parser()
     said = words._get_formatter()._expand_help
     its = [it for it in words._actions if it.dest not in ('help', 'version') and it.help != argparse.SUPPRESS]
     arguments = '; '.join('`%s`: %s' % (form(it), said(it)) for it in its if not it.option_strings)
@@ -95,10 +73,10 @@ def options(tool: str) -> Iterator[str]:
 
 def all_options() -> Iterator[str]:
     """The options of all tools."""
-    for number, path in enumerate(sorted(TOP.glob('tools/motesim/commands/[a-z]*.py'))):
+    for number, tool in enumerate(it for it in VERBS if (TOP / 'tools' / it).exists()):
         yield from [''] * (number > 0)
-        yield from ('## tools/%s' % path.stem, '')
-        yield from options(path.stem)
+        yield from ('## tools/%s' % tool, '')
+        yield from options(tool)
 
 
 def span(least: int, most: int) -> str:

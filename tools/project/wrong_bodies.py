@@ -46,7 +46,8 @@ def words() -> argparse.Namespace:
                        help="try the gate's choice: a twentieth of all mutants that aren't known to be open, first "
                             "those in %s that have changed" % GATE)
     asked.add_argument('names', nargs='*', metavar='CRATE or CRATE/NAME', help='crates, or mutants (all)')
-    return asked.parse_args()
+    found: argparse.Namespace = asked.parse_args()
+    return found
 
 
 # The choice.

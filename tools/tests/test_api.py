@@ -67,34 +67,3 @@ class Calls(Room):
             motesim.run(b'[')
         with self.assertRaises(AttributeError):
             motesim.nothing
-
-
-@long
-class Installed(unittest.TestCase):
-    def test_pip_installs_it_with_its_pages(self) -> None:
-        """The package is built and installed into a folder, and used from there; without a network."""
-        # (Debian's packages are for Debian's own interpreter)
-        python = next((it for it in (sys.executable, packages.SYSTEM) if not subprocess.run(
-            [it, '-c', 'import setuptools, wheel, pip'], capture_output=True).returncode), None)
-        if python is None:
-            self.skipTest('pip, setuptools and wheel are not installed')
-        with tempfile.TemporaryDirectory() as folder:
-            room = Path(folder)
-            source = room / 'source'
-            subprocess.run(['cp', '-r', str(TOOLS / 'motesim'), str(TOOLS / 'pyproject.toml'), str(room)], check=True)
-            source.mkdir()
-            for name in 'motesim', 'pyproject.toml':
-                (room / name).rename(source / name)
-            done = subprocess.run([python, '-m', 'pip', 'install', '--quiet', '--no-build-isolation', '--no-index',
-                                   '--no-deps', '--target', str(room / 'there'), str(source)], capture_output=True,
-                                  text=True)
-            self.assertEqual(done.returncode, 0, done.stderr)
-            use = 'import motesim, motesim.timeline.html as html; print(motesim.__file__); html.page_of; ' \
-                  'print(len(html.TEMPLATE.read_text()) > 99)'
-            done = subprocess.run([sys.executable, '-B', '-c', use], cwd=room, env={**os.environ,
-                'PYTHONPATH': str(room / 'there')}, capture_output=True, text=True)
-            self.assertEqual(done.stdout.splitlines(), [str(room / 'there/motesim/__init__.py'), 'True'], done.stderr)
-            shipped = {it.relative_to(room / 'there') for it in (room / 'there/motesim').rglob('*') if it.is_file()}
-            here = {it.relative_to(TOOLS) for it in (TOOLS / 'motesim').rglob('*')
-                    if it.is_file() and it.suffix != '.pyc'}
-            self.assertEqual(sorted(map(str, here - shipped)), [])

@@ -5,13 +5,15 @@ import sys
 import unittest
 
 from here import TOOLS, call, text_of
+from motesim.home import VERBS
 from motesim.commands import export, search, shrink, studio, sweep
 from motesim.experiments import asked
 from motesim.export.command import ENDS
 from motesim.search.work import LIMITS
 from motesim.studio import runs
 
-COMMANDS = sorted(path.stem for path in (TOOLS / 'motesim/commands').glob('[a-z]*.py'))
+# (an installation has more verbs: in a clone, ./run runs a scenario)
+COMMANDS = [it for it in VERBS if it not in ('completion', 'run')]
 # The modules that only the work of a command needs: reports, the judge, processes, numbers.
 HEAVY = ('motesim.report', 'motesim.judge', 'motesim.runner', 'motesim.scenario',
          'subprocess', 'multiprocessing', 'tomllib')

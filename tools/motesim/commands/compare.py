@@ -1,4 +1,4 @@
-"""Compares two reports, and shows the first difference: tools/compare A B [--rows N] [--html FILE]
+"""Compares two reports, and shows the first difference.
 
 A and B are reports, or scenarios, which are run. If both are scenarios, the tool also lists the differences between the
 scenarios. The first difference between two reports is the one at the earliest moment; `diff` may show another one
@@ -13,7 +13,7 @@ from __future__ import annotations
 from typing import Any
 
 from motesim.command import command
-from motesim.words import words_of
+from motesim.words import Words, words_of
 
 
 def write_page(*given: Any) -> None:
@@ -22,8 +22,7 @@ def write_page(*given: Any) -> None:
     write_page(*given)
 
 
-@command('compare')
-def main() -> int:
+def parser() -> Words:
     words = words_of(__doc__)
     words.add_argument('a', metavar='A', help='a report, or a scenario')
     words.add_argument('b', metavar='B', help='another report or scenario')
@@ -31,6 +30,11 @@ def main() -> int:
                        help='show at most N motes in the table of lines that differ (20)')
     words.add_argument('--html', metavar='FILE',
                        help='write both timelines to this page, which opens at the first difference')
-    asked = words.parse_args()
+    return words
+
+
+@command('compare')
+def main() -> int:
+    asked = parser().parse_args()
     from motesim.comparison.command import status_of
     return status_of(asked, write_page)

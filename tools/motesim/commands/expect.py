@@ -1,4 +1,4 @@
-"""Checks which expectations hold for a run of a scenario: tools/expect SCENARIO [EXPECTATIONS]
+"""Checks which expectations hold for a run of a scenario.
 
 The expectations are in a TOML file. If no file is named, the tool reads NAME.expect.toml, next to the
 scenario NAME.toml:
@@ -22,18 +22,22 @@ from pathlib import Path
 
 from motesim.command import command
 from motesim.faults import Fault
-from motesim.words import add_limits, words_of
+from motesim.words import Words, add_limits, words_of
 
 
-@command('expect')
-def main() -> int:
+def parser() -> Words:
     words = words_of(__doc__)
     words.add_argument('scenario', metavar='SCENARIO', help='a scenario, NAME.toml')
     words.add_argument('expectations', nargs='?', metavar='EXPECTATIONS',
                        help='the expectations (NAME.expect.toml next to the scenario)')
     words.add_argument('--claims', action='store_true', help='write the claims that the expectations mean for this scenario, and run nothing')
     add_limits(words)
-    asked = words.parse_intermixed_args()
+    return words
+
+
+@command('expect')
+def main() -> int:
+    asked = parser().parse_intermixed_args()
     from motesim.explain.within import limits_of, runs_within
     from motesim.judge.expectations import beside, claims_shown, expect
     scenario = Path(asked.scenario)

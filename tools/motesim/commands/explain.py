@@ -1,4 +1,4 @@
-"""Explains why a scenario has no report: tools/explain FILE
+"""Explains why a scenario has no report.
 
 The tool runs the scenario. If `motesim` reports an error, the tool shows the message, the line with the error, a mark
 under the error, the rule that this line breaks, and the words that are allowed there. If the tool can guess what you
@@ -20,11 +20,10 @@ from __future__ import annotations
 
 from motesim.explain.say import NAMES
 from motesim.command import command
-from motesim.words import Once, add_limits, words_of
+from motesim.words import Once, Words, add_limits, words_of
 
 
-@command('explain')
-def main() -> int:
+def parser() -> Words:
     words = words_of(__doc__)
     words.add_argument('file', metavar='FILE', help='a scenario, or with --apply also a program; - is standard input')
     words.add_argument('--apply', metavar='OUTPUT', action=Once,
@@ -32,7 +31,12 @@ def main() -> int:
     words.add_argument('--silence', metavar='NAME', action='append', default=[], choices=NAMES,
                        help='leave out the warnings of this name (more than once for several names)')
     add_limits(words)
-    asked = words.parse_args()
+    return words
+
+
+@command('explain')
+def main() -> int:
+    asked = parser().parse_args()
     from motesim.explain.applied import apply
     from motesim.explain.explanation import explain
     from motesim.explain.within import runs_within

@@ -1,4 +1,4 @@
-"""Writes a run in the format of another program, or a scenario in C: tools/export REPORT --to vcd|pcapng|perfetto|csv
+"""Writes a run in the format of another program, or a scenario in C.
 
   tools/export net.toml --to vcd        net.vcd: waveforms of processes, event queues and radio (GTKWave)
   tools/export net.toml --to pcapng     net.pcapng: packets and their copies (Wireshark)
@@ -15,14 +15,13 @@ The tool ends with status 0, or with 2 if a file can't be read or written.
 from __future__ import annotations
 
 from motesim.command import command
-from motesim.words import words_of
+from motesim.words import Words, words_of
 
 # The forms of a run: those of motesim.export.command.
 FORMS = ('vcd', 'pcapng', 'perfetto', 'csv')
 
 
-@command('export')
-def main() -> int:
+def parser() -> Words:
     words = words_of(__doc__)
     words.add_argument('report', metavar='REPORT', help='a report, or a scenario; - is standard input')
     forms = words.add_mutually_exclusive_group(required=True)
@@ -33,6 +32,12 @@ def main() -> int:
                             "Without -o, the name is made from REPORT's")
     words.add_argument('--host', action='store_true',
                        help='with --form contiki: add a simulator in C that runs the files')
+    return words
+
+
+@command('export')
+def main() -> int:
+    words = parser()
     asked = words.parse_args()
     if asked.host and not asked.form:
         words.error('--host is for --form contiki')

@@ -1,4 +1,4 @@
-"""Grades a folder of solutions: tools/grade FOLDER EXPECTATIONS [--net NET]
+"""Grades a folder of solutions.
 
   tools/grade answers task.expect.toml                                 each solution in its own net
   tools/grade answers task.expect.toml --net task.toml                 only each solution's program, in your net
@@ -27,18 +27,17 @@ The tool ends with status 0; with 1 if a solution isn't graded; with 2 if the ex
 """
 from __future__ import annotations
 
-import argparse
 from pathlib import Path
 
 from motesim.command import command
-from motesim.words import words_of
+from motesim.words import Words, words_of
 
 FORMATS = ('.csv', '.toml', '.html')
 # The limits of a run.
 SECONDS, MEGABYTES = 20.0, 1024
 
 
-def arguments() -> argparse.Namespace:
+def parser() -> Words:
     words = words_of(__doc__)
     words.add_argument('folder', metavar='FOLDER', type=Path, help='a folder with solutions')
     words.add_argument('expectations', metavar='EXPECTATIONS', type=Path, help='NAME.expect.toml')
@@ -71,6 +70,12 @@ def arguments() -> argparse.Namespace:
                        help='write NAME.csv with a byte order mark, and with `;` between the cells')
     words.add_argument('--csv', action='store_true', help='print the grades in CSV')
     words.add_argument('--why', metavar='NAME', help='show what breaks the expectations in one solution')
+    return words
+
+
+@command('grade')
+def main() -> int:
+    words = parser()
     asked = words.parse_args()
     if asked.seconds <= 0 or asked.memory < 1 or asked.report < 1 or (asked.jobs or 1) < 1:
         words.error('limits and --jobs are greater than 0')
@@ -79,11 +84,5 @@ def arguments() -> argparse.Namespace:
     for path in asked.output:
         if path.suffix not in FORMATS:
             words.error('%s: a file of grades ends in .csv, .toml or .html' % path)
-    return asked
-
-
-@command('grade')
-def main() -> int:
-    asked = arguments()
     from motesim.grading.command import status_of
     return status_of(asked)

@@ -5,12 +5,11 @@ Each line shows the moment, the mote, the line number in the report, and what ha
 from __future__ import annotations
 
 from motesim.command import command
-from motesim.words import words_of
+from motesim.words import Words, words_of
 
 
-@command('log')
-def main() -> int:
-    words = words_of(__doc__, 'log')
+def parser() -> Words:
+    words = words_of(__doc__)
     words.add_argument('file', metavar='FILE', help='a scenario, or a report; - is standard input')
     words.add_argument('sentence', metavar='EXPECTATION', nargs='?', help='show the lines that this is about')
     words.add_argument('--scenario', metavar='FILE', help="if FILE is a report: its scenario, which EXPECTATION needs")
@@ -27,6 +26,11 @@ def main() -> int:
     form.add_argument('--counts', action='store_true', help='show only the number of lines of each mote and kind')
     form.add_argument('--csv', action='store_true', help='write a table in CSV, with a row for each line')
     form.add_argument('--json', action='store_true', help='write a JSON object for each line')
-    asked = words.parse_intermixed_args()
+    return words
+
+
+@command('log')
+def main() -> int:
+    asked = parser().parse_intermixed_args()
     from motesim.why.log import status_of
     return status_of(asked)

@@ -1,4 +1,4 @@
-"""Says of each claim about a run whether it holds: tools/motecheck SCENARIO CLAIMS
+"""Says of each claim about a run whether it holds.
 
   tools/expect examples/news.toml --claims >news.claims
   tools/motecheck --links --at-most 2 examples/news.toml news.claims
@@ -15,12 +15,11 @@ import signal
 import sys
 
 from motesim.command import command
-from motesim.words import words_of
+from motesim.words import Words, words_of
 
 
-@command('motecheck')
-def main() -> int:
-    words = words_of(__doc__, 'motecheck')
+def parser() -> Words:
+    words = words_of(__doc__)
     words.add_argument('scenario', metavar='SCENARIO', help='a scenario, NAME.toml')
     words.add_argument('claims', metavar='CLAIMS', help='a file of claims, one in each line')
     words.add_argument('--links', action='store_true', help='survey broken links')
@@ -28,7 +27,12 @@ def main() -> int:
     words.add_argument('--at-most', metavar='K', help='the greatest number of faults in a set of a survey (1)')
     words.add_argument('--runs', metavar='N', help='the greatest number of runs of a survey')
     words.add_argument('--workers', metavar='N', help='only of a compiled motecheck: share the work among N threads, 1 to 16')
-    words.parse_args()
+    return words
+
+
+@command('motecheck')
+def main() -> int:
+    parser().parse_args()
     from motesim.runner.programs import CHECKER, program_path
     program = program_path(CHECKER)
     # (Python ignores them, and motecheck must not)

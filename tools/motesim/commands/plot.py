@@ -1,4 +1,4 @@
-"""Shows a measure of a sweep: tools/plot RESULTS --measure NAME [--against NAME]
+"""Shows a measure of a sweep.
 
   tools/plot net.csv --measure ratio --against gap                           a table: medians with quartiles
   tools/plot net.csv --measure ratio --against gap --show mean               means with confidence intervals
@@ -20,13 +20,11 @@ The tool ends with status 0, or with 2 after an error.
 """
 from __future__ import annotations
 
-import argparse
-
 from motesim.command import command
-from motesim.words import Once, words_of
+from motesim.words import Once, Words, words_of
 
 
-def arguments() -> argparse.Namespace:
+def parser() -> Words:
     from motesim.analysis.plots import OPTIONS
     words = words_of(__doc__)
     words.register('action', None, Once)
@@ -41,11 +39,11 @@ def arguments() -> argparse.Namespace:
             kind = float if it.name == 'confidence' else str
             words.add_argument(*names, dest=it.name, type=kind, default=it.default, metavar=it.form, help=it.help)
     words.add_argument('--plan', metavar='PLAN', help="show what this plan's `plot` describes")
-    return words.parse_args()
+    return words
 
 
 @command('plot')
 def main() -> int:
-    asked = arguments()
+    asked = parser().parse_args()
     from motesim.analysis.command import status_of
     return status_of(asked)

@@ -1,4 +1,4 @@
-"""Writes a scenario from a plan, which describes places, programs and losses by rules: tools/scenario PLAN
+"""Writes a scenario from a plan, which describes places, programs and losses by rules.
 
   tools/scenario net.plan.toml -o net.toml
   tools/scenario net.plan.toml --set gap=20 --set seed=3 | ./run
@@ -13,11 +13,10 @@ the error.
 from __future__ import annotations
 
 from motesim.command import command
-from motesim.words import words_of
+from motesim.words import Words, words_of
 
 
-@command('scenario')
-def main() -> int:
+def parser() -> Words:
     words = words_of(__doc__)
     words.add_argument('plan', metavar='PLAN', nargs='?', help='a plan, a TOML file')
     words.add_argument('--from', dest='source', metavar='SCENARIO',
@@ -26,6 +25,12 @@ def main() -> int:
                        help='change the value of a parameter')
     words.add_argument('-o', dest='output', metavar='FILE',
                        help='the scenario to write (standard output); with --from, the plan to write (NAME.plan.toml)')
+    return words
+
+
+@command('scenario')
+def main() -> int:
+    words = parser()
     asked = words.parse_args()
     if (asked.plan is None) == (asked.source is None) or asked.source and asked.set:
         words.error('name a PLAN, or a scenario with --from')

@@ -1,4 +1,4 @@
-"""Finds faults that break the expectations of a scenario: tools/search SCENARIO [EXPECTATIONS]
+"""Finds faults that break the expectations of a scenario.
 
   tools/search examples/flooding.toml --faults links,motes --at-most 2
 
@@ -28,18 +28,17 @@ after Ctrl-C.
 """
 from __future__ import annotations
 
-import argparse
 import os
 
 from motesim.command import command
 from motesim.search.forms import with_forms
-from motesim.words import words_of
+from motesim.words import Words, words_of
 
 # The limits of a run: those of motesim.search.work.
 SECONDS, BYTES = 10.0, 16_000_000
 
 
-def arguments() -> argparse.ArgumentParser:
+def parser() -> Words:
     words = words_of(with_forms(__doc__))
     words.add_argument('scenario', nargs='?', metavar='SCENARIO', help='a scenario, NAME.toml, or a plan')
     words.add_argument('expectations', nargs='?', metavar='EXPECTATIONS',
@@ -98,6 +97,6 @@ def arguments() -> argparse.ArgumentParser:
 
 @command('search')
 def main() -> int:
-    asked = arguments().parse_intermixed_args()
+    asked = parser().parse_intermixed_args()
     from motesim.search.command import status_of
     return status_of(asked)

@@ -1,4 +1,4 @@
-"""Makes a scenario that fails an expectation as small as possible: tools/shrink SCENARIO [EXPECTATION]
+"""Makes a scenario that fails an expectation as small as possible.
 
   tools/shrink flooding.search/flooding_silent_0.toml "mote 6 prints flood 1"
 
@@ -31,7 +31,7 @@ from types import FrameType
 from motesim.command import command
 from motesim.faults import INTERRUPTED
 from motesim.search.forms import with_forms
-from motesim.words import words_of
+from motesim.words import Words, words_of
 
 # The limit of a run: that of motesim.search.work.
 SECONDS = 10.0
@@ -43,8 +43,7 @@ def end_at_once(number: int, frame: FrameType | None) -> None:
     os._exit(INTERRUPTED)
 
 
-@command('shrink')
-def main() -> int:
+def parser() -> Words:
     words = words_of(with_forms(__doc__))
     words.add_argument('scenario', metavar='SCENARIO', help='a scenario, NAME.toml')
     words.add_argument('expectation', nargs='?', metavar='EXPECTATION',
@@ -63,7 +62,12 @@ def main() -> int:
                        help='report progress and errors in lines of JSON, on standard error')
     words.add_argument('--seconds', type=float, default=SECONDS, metavar='N',
                        help='the limit of a run, in seconds of processor time (10)')
-    asked = words.parse_intermixed_args()
+    return words
+
+
+@command('shrink')
+def main() -> int:
+    asked = parser().parse_intermixed_args()
     # (an exception would be lost if it came during some parts of an import)
     before = signal.signal(signal.SIGINT, end_at_once)
     from motesim.search.shrink_command import status_of

@@ -1,4 +1,4 @@
-"""Opens a page on which you write a protocol and see its run at once: tools/studio [FILE.toml]
+"""Opens a page on which you write a protocol and see its run at once.
 
 The page is served on this machine only. Without FILE.toml the page shows the example flooding.toml. Ctrl-C ends the
 studio. docs/use/STUDIO.md describes the page.
@@ -8,7 +8,7 @@ from __future__ import annotations
 import argparse
 
 from motesim.command import command
-from motesim.words import words_of
+from motesim.words import Words, words_of
 
 # The limits of a run: those of motesim.studio.runs.
 SECONDS, MEMORY, REPORT = 10, 1024, 16
@@ -21,9 +21,8 @@ def positive(word: str) -> int:
     return number
 
 
-@command('studio')
-def main() -> int:
-    words = words_of(__doc__, 'tools/studio')
+def parser() -> Words:
+    words = words_of(__doc__)
     words.add_argument('file', nargs='?', metavar='FILE.toml',
                        help="a scenario; if the file doesn't exist, the studio begins a new scenario with this name")
     words.add_argument('--against', metavar='OTHER.toml',
@@ -35,6 +34,11 @@ def main() -> int:
                        help="the limit of a run's memory, in megabytes (%(default)s)")
     words.add_argument('--report', type=positive, default=REPORT, metavar='N',
                        help='the limit of a report, in megabytes (%(default)s)')
-    asked = words.parse_args()
+    return words
+
+
+@command('studio')
+def main() -> int:
+    asked = parser().parse_args()
     from motesim.studio.command import status_of
     return status_of(asked)

@@ -1,4 +1,4 @@
-"""Counts what happened in a run, for each mote, the net and each link: tools/summary REPORT [--scenario FILE]
+"""Counts what happened in a run, for each mote, the net and each link.
 
 REPORT is a report, or a scenario, which is run; `-` is standard input. `--scenario FILE` names the scenario of a
 report: then links that carried nothing are shown too.
@@ -44,11 +44,10 @@ The tool ends with status 0, or with 2 if the report can't be read.
 from __future__ import annotations
 
 from motesim.command import command
-from motesim.words import words_of
+from motesim.words import Words, words_of
 
 
-@command('summary')
-def main() -> int:
+def parser() -> Words:
     words = words_of(__doc__)
     words.add_argument('report', metavar='REPORT', help='a report, or a scenario; - is standard input')
     words.add_argument('--scenario', metavar='FILE', help='if REPORT is a report: its scenario')
@@ -62,6 +61,12 @@ def main() -> int:
     words.add_argument('--by', metavar='N', type=int,
                        help='show the counts of each interval of N moments; with --flow, of the messages that began '
                             'in each interval')
+    return words
+
+
+@command('summary')
+def main() -> int:
+    words = parser()
     asked = words.parse_args()
     if asked.by is not None and (asked.motes or asked.links):
         words.error('--by is for the whole net: it can\'t be combined with --motes or --links')

@@ -1,4 +1,4 @@
-"""Runs a plan with many values of its parameters, and measures each run: tools/sweep PLAN
+"""Runs a plan with many values of its parameters, and measures each run.
 
   tools/sweep net.plan.toml --vary gap=10,20,40 --vary seed=1..30 --measure sent --measure ratio -o net.csv
 
@@ -45,14 +45,13 @@ import sys
 from pathlib import Path
 
 from motesim.command import command
-from motesim.words import words_of
+from motesim.words import Words, words_of
 
 # The limits of a run: those of motesim.experiments.asked.
 MOST_BYTES, MOST_SECONDS = 200_000_000, 86_400
 
 
-@command('sweep')
-def main() -> int:
+def parser() -> Words:
     words = words_of(__doc__)
     words.add_argument('plan', metavar='PLAN', help='a plan, a TOML file')
     words.add_argument('--vary', action='append', default=[], metavar='NAME=VALUES', help='values of a parameter')
@@ -70,6 +69,12 @@ def main() -> int:
                             'measure')
     words.add_argument('--retry', action='store_true', help='repeat runs with an error or without a measure')
     words.add_argument('--plot', action='store_true', help="draw what the plan's `plot` describes")
+    return words
+
+
+@command('sweep')
+def main() -> int:
+    words = parser()
     asked = words.parse_args()
     if asked.jobs < 1 or asked.seconds is not None and not 0 < asked.seconds <= MOST_SECONDS:
         words.error('--jobs is 1 or more, and --seconds more than 0')

@@ -5,12 +5,11 @@ from __future__ import annotations
 from pathlib import Path
 
 from motesim.command import command
-from motesim.words import words_of
+from motesim.words import Words, words_of
 
 
-@command('timeline')
-def main() -> int:
-    words = words_of(__doc__, 'timeline')
+def parser() -> Words:
+    words = words_of(__doc__)
     words.add_argument('file', metavar='FILE',
                        help='a scenario or a report; - is standard input')
     words.add_argument('--scenario', metavar='FILE',
@@ -19,7 +18,12 @@ def main() -> int:
                        help='the page to write; by default NAME.html, next to FILE, unless FILE is one of the '
                             'repository, such as an example: then in the current folder, or in out/')
     words.add_argument('--title', help='the title of the page; by default the name of the file')
-    asked = words.parse_args()
+    return words
+
+
+@command('timeline')
+def main() -> int:
+    asked = parser().parse_args()
     from motesim.files import refuse_inputs
     from motesim.judge.expectations import fields_beside
     from motesim.output import beside

@@ -9,12 +9,11 @@ import shlex
 
 from motesim.command import command
 from motesim.faults import Fault
-from motesim.words import words_of
+from motesim.words import Words, words_of
 
 
-@command('why')
-def main() -> int:
-    words = words_of(__doc__, 'why')
+def parser() -> Words:
+    words = words_of(__doc__)
     words.add_argument('file', metavar='FILE', help='a scenario, or a report; - is standard input')
     words.add_argument('question', metavar='QUESTION', nargs='?', help='an expectation, or a line of the report')
     words.add_argument('--scenario', metavar='FILE', help='if FILE is a report: its scenario')
@@ -29,6 +28,12 @@ def main() -> int:
     words.add_argument('--short', action='store_true',
                        help='show only the first and the last line of the chain, and the lines that are later than '
                             'their cause')
+    return words
+
+
+@command('why')
+def main() -> int:
+    words = parser()
     asked, more = words.parse_known_intermixed_args()
     if any(it.startswith('-') for it in more):
         words.refuse(more)

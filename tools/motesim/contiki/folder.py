@@ -9,12 +9,13 @@ from motesim.contiki.names import file_names
 from motesim.contiki.program_file import ProgramFile
 from motesim.faults import Fault
 from motesim.files import refuse_inputs
+from motesim.home import TOP
 from motesim.notation.reader import read_program
 from motesim.scenario import Scenario
 from motesim.scenario.faults import find_fault
 
 HERE = Path(__file__).resolve().parent
-HOST = HERE.parent.parent / 'contiki_host'
+HOST = TOP / 'tools/contiki_host'
 HOST_FOLDER = 'contiki_host'
 HOST_RULE = '''
 # The same programs on this machine: `make host && ./host` writes the report of the scenario.

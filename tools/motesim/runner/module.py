@@ -10,7 +10,8 @@ import json
 from pathlib import Path
 from typing import NamedTuple
 
-WEB = Path(__file__).resolve().parents[3] / 'web'
+from motesim.home import WEB
+
 # For each program, the crate from which its module is made.
 SOURCES = {'motesim': 'serial_program', 'motecheck': 'serial_check'}
 

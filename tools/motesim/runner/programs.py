@@ -26,18 +26,15 @@ from collections.abc import Sequence
 from pathlib import Path
 
 from motesim.faults import Fault
+from motesim.home import TOP as TOP
 from motesim.runner.module import SOURCES, read_about, script_of
 
-TOP = Path(__file__).resolve().parents[3]
 PROGRAM, CHECKER = 'motesim', 'motecheck'
 DAY = 86_400
 PROGRAMS = TOP / 'out/programs'
-# The page that an archive of tools/pack has if its binaries were proved.
-PACKED_PROVED = TOP / 'PROVED.md'
 CODE, ALL_PARTS = ('src',), ('src', 'specs', 'proofs')
 # (./run has this line too, for machines without Python)
-COMPILED = 'this program is compiled, not proved'
-NOT_PROVED = COMPILED + '; ./prove proves it here'
+NOT_PROVED = 'this program is compiled, not proved; ./prove proves it here'
 IN_NODE = 'node runs the WebAssembly module of motesim, which isn\'t proved, and takes longer than a compiled motesim'
 NOT_COMPILED = '{0} isn\'t compiled yet: start ./run FILE.toml once, which compiles it within a minute or so; ' \
                'or name a compiled {0} in the environment variable {1}'
@@ -54,11 +51,6 @@ class ProgramFault(Fault):
 def built_by_proof(name: str = PROGRAM) -> Path:
     """The binary that a proof builds; the next proof replaces it."""
     return TOP / 'crates' / name / 'out' / name
-
-
-def packed(name: str = PROGRAM) -> Path:
-    """The binary in an archive that tools/pack made (an archive has no crates)."""
-    return TOP / name
 
 
 def is_program(path: Path) -> bool:
@@ -177,7 +169,7 @@ def compiled_program(name: str = PROGRAM) -> Path | None:
 def program_of_sources(may_be_proved: bool = True, name: str = PROGRAM) -> Path | None:
     """The binary of these sources to run, or None if none has been built."""
     if not (TOP / 'crates.txt').is_file():
-        return packed(name) if is_program(packed(name)) else None
+        return None
     return (proved_program(name) if may_be_proved else None) or compiled_program(name)
 
 
@@ -185,8 +177,8 @@ def program_of_sources(may_be_proved: bool = True, name: str = PROGRAM) -> Path 
 def module_program(name: str = PROGRAM) -> Path | None:
     """The script that runs the WebAssembly module of these sources, if node is here."""
     about = read_about(name) if name in SOURCES and is_program(script_of(name)) and shutil.which('node') else None
-    is_packed = not (TOP / 'crates.txt').is_file()
-    is_own = about and (is_packed or about.sources == digest(TOP, CODE, SOURCES[name]))
+    is_installed = not (TOP / 'crates.txt').is_file()
+    is_own = about and (is_installed or about.sources == digest(TOP, CODE, SOURCES[name]))
     return script_of(name) if is_own else None
 
 
@@ -210,17 +202,14 @@ def _is_kept_as(kind: str, program: Path) -> bool:
 
 
 def is_proved(program: Path) -> bool:
-    """Returns whether a binary was built by a proof: in this tree, or for an archive."""
+    """Returns whether a binary was built by a proof in this tree."""
     program = program.resolve()
-    is_packed = program == packed().resolve() and PACKED_PROVED.is_file()
-    return is_packed or program == built_by_proof().resolve() or _is_kept_as('proved-', program)
+    return program == built_by_proof().resolve() or _is_kept_as('proved-', program)
 
 
 def is_compiled(program: Path) -> bool:
-    """Returns whether a binary was compiled without a proof: here, or for an archive."""
-    program = program.resolve()
-    is_packed = program == packed().resolve() and not PACKED_PROVED.is_file()
-    return is_packed or _is_kept_as('compiled-', program)
+    """Returns whether a binary was compiled here without a proof."""
+    return _is_kept_as('compiled-', program.resolve())
 
 
 def is_said_today() -> bool:
@@ -265,5 +254,5 @@ def _program_here(name: str) -> Path:
     if is_module(found):
         say_not_proved(IN_NODE)
     elif is_compiled(found):
-        say_not_proved(COMPILED if is_program(packed()) else NOT_PROVED)
+        say_not_proved(NOT_PROVED)
     return found

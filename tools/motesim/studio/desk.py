@@ -14,7 +14,7 @@ from typing import Any, NamedTuple
 
 from motesim.faults import Fault, in_words
 from motesim.files import NotWritten, write_whole
-from motesim.runner.programs import TOP
+from motesim.home import EXAMPLES
 from motesim.report.run import refuse_others
 from motesim.scenario.kinds import is_for_teachers
 
@@ -80,7 +80,7 @@ def document(where: str, name: str, data: bytes) -> Document:
 class Desk:
     """The folder and the file with which the studio was started, and the examples."""
 
-    def __init__(self, named: str | Path | None, examples: Path = TOP / 'examples'):
+    def __init__(self, named: str | Path | None, examples: Path = EXAMPLES):
         self.examples = examples.resolve()
         path = Path(named).resolve() if named else None
         self.folder = path.parent if path else Path.cwd().resolve()

@@ -4,15 +4,15 @@ from __future__ import annotations
 import json
 from typing import Any
 
+from motesim.home import EXAMPLES, PACKAGE
 from motesim.notation.grammar import COLOURS, NAMING
-from motesim.runner.programs import TOP
 
-CARDS = TOP / 'tools/motesim/web/examples.json'
+CARDS = PACKAGE / 'web/examples.json'
 
 
 def offered() -> dict[str, Any]:
     """The cards of some examples, the texts of all by the names of their files, and the words of the notation."""
-    paths = sorted((TOP / 'examples').glob('*.toml'))
+    paths = sorted(EXAMPLES.glob('*.toml'))
     texts = {path.stem: path.read_text('utf-8') for path in paths if not path.name.endswith('.expect.toml')}
     cards = [it for it in json.loads(CARDS.read_text('utf-8')) if it['file'] in texts]
     return {'cards': cards, 'texts': texts, 'words': {'colours': COLOURS, 'naming': NAMING}}
