@@ -1,10 +1,9 @@
-"""Reports read in large pieces, against the same texts read line by line."""
+"""Reports as columns: the text is made again from them, and texts that are no reports are refused."""
 import random
 import unittest
-from unittest import mock
 
 from here import text_of
-from motesim.report import LOST, Report, ReportFault, fast, strict
+from motesim.report import LOST, Report, ReportFault
 
 SMALL = text_of('each_kind.report')
 WORDS = ['', ' ', '\n', '-', '0', '00', '1', '65535', '65536', '4611686018427387904', '1000001', 'take', 'halt', 'lost',
@@ -12,35 +11,26 @@ WORDS = ['', ' ', '\n', '-', '0', '00', '1', '65535', '65536', '4611686018427387
          '\t', '\r', 'é']
 
 
-def is_report(data: bytes) -> bool:
-    """Returns whether the reader line by line accepts a text."""
-    try:
-        strict.read(strict.text_of(data))
-    except ReportFault:
-        return False
-    return True
-
-
 class Reading(unittest.TestCase):
     def check(self, data: bytes) -> bool:
-        """Compares both readers, and returns whether the text is a report. The text is made again from the columns."""
-        found = fast.read(data)
-        self.assertEqual(found is not None, is_report(data), data)
-        if found is not None:
-            report, rows = Report(*found), data.decode().split('\n')
-            self.assertEqual(report.text().encode(), data)
-            self.assertEqual([rows[mote.row - 1] for mote in report.motes], list(map(str, report.motes)))
-            self.assertEqual(rows[report.medium_row - 1], 'medium')
-        return found is not None
+        """Returns whether a text is a report. If so, the same text is made again from the columns."""
+        try:
+            report = Report.parse(data)
+        except ReportFault:
+            return False
+        rows = data.decode().split('\n')
+        self.assertEqual(report.text().encode(), data)
+        self.assertEqual([rows[mote.row - 1] for mote in report.motes], list(map(str, report.motes)))
+        self.assertEqual(rows[report.medium_row - 1], 'medium')
+        return True
 
     def test_every_kind_of_line_is_read(self) -> None:
         self.assertTrue(self.check(SMALL.encode()))
 
     def test_texts_that_are_changed_at_random(self) -> None:
-        """Both readers refuse the same texts, and read the same from others, in pieces of any size."""
         chance = random.Random(5)
         kept = 0
-        for turn in range(2000):
+        for _ in range(2000):
             text = chance.choice([SMALL,
                                   SMALL.replace('talk', 't4lk').replace(' busy\n', ' b1\n').replace('msg', 'm5g')])
             for _ in range(chance.choice([1, 1, 2])):
@@ -60,8 +50,7 @@ class Reading(unittest.TestCase):
                 elif how == 4:
                     rows.insert(one, rows[other])
                 text = '\n'.join(rows)
-            with mock.patch.object(fast, 'PIECE', chance.choice([1, 20, 100, 1 << 19])):
-                kept += self.check(text.encode('utf-8'))
+            kept += self.check(text.encode('utf-8'))
         # (not all changes make the text a wrong one)
         self.assertGreater(kept, 100)
 
@@ -87,14 +76,6 @@ class Reading(unittest.TestCase):
             self.assertEqual(self.check(SMALL.replace('9 0 1 3', '9 0 %d 3' % number).encode()), is_one, number)
         for moment, is_one in ((1_000_000, True), (1_000_001, False)):
             self.assertEqual(self.check(SMALL.replace('8 halt', '%d halt' % moment).encode()), is_one)
-
-    def test_several_processes_read_the_same(self) -> None:
-        rows = ['mote %d p%s' % (mote, '\n%d start %s' % (mote, 'abcdef'[mote % 6])) for mote in range(40)]
-        text = '\n'.join([*rows, 'medium', 'left 0', ''])
-        with mock.patch.object(fast, 'MANY', 10), mock.patch.object(fast, 'PIECE', 60), \
-                mock.patch('os.cpu_count', return_value=3):
-            self.assertTrue(self.check(text.encode()))
-            self.assertFalse(self.check(text.replace('7 start', '7 stort').encode()))
 
 
 class Columns(unittest.TestCase):

@@ -96,8 +96,7 @@ class Reports(unittest.TestCase):
                 wanted[number, to] = 'halted' if place < len(silent) - left else 'left'
             text = ''.join('mote %d p\n%s' % (mote, ''.join(it + '\n' for it in its)) for mote, its in enumerate(lines))
             text += 'medium\n%s\nleft %d\n' % ('\n'.join(rows), left)
-            with mock.patch.object(report_module, 'MANY', chance.choice([0, 1 << 30])), \
-                    mock.patch.object(report_module, 'MOTES_AT_ONCE', chance.choice([1, 3, 100])):
+            with mock.patch.object(report_module, 'MOTES_AT_ONCE', chance.choice([1, 3, 100])):
                 found = {(it.packet.number, it.copy.to): it.what for it in Report.parse(text).outcomes()}
             self.assertEqual(found, wanted, text)
 

@@ -9,7 +9,7 @@ from array import array
 from bisect import bisect_right
 from collections.abc import Callable, Iterable, Iterator, Sequence
 from functools import cached_property
-from itertools import accumulate, chain, compress, repeat
+from itertools import chain, compress, repeat
 from typing import Any, TypeVar, overload
 
 from motesim.report.lines import FIELDS, FORMS, Copy, Line, Packet
@@ -52,14 +52,6 @@ class Trace:
 
     def __len__(self) -> int:
         return len(self.at)
-
-    def extend(self, at: array[int], kind: bytes, of: dict[str, Fields]) -> None:
-        """Adds lines. If they end a trace, the caller adds the trace's end to `starts`."""
-        self.at.extend(at)
-        self.kind += kind
-        for name, fields in of.items():
-            for field, column in fields.items():
-                self.of[name][field].extend(column)
 
     def start(self, mote: int) -> int:
         """The index of a mote's first line."""
@@ -253,17 +245,6 @@ class Log(Made[Packet]):
         self.at, self.sender, self.number, self.value = array('I'), array('I'), array('Q'), array('H')
         self.first = array('I', [0])
         self.to, self.arrival = array('I'), array('Q')
-
-    def extend(self, at: Iterable[int], sender: Iterable[int], number: Iterable[int], value: Iterable[int],
-               copies: Iterable[int], to: Iterable[int], arrival: Iterable[int]) -> None:
-        """Adds packets: their columns, how many copies each has, and the columns of the copies."""
-        self.at.extend(at)
-        self.sender.extend(sender)
-        self.number.extend(number)
-        self.value.extend(value)
-        self.first.extend(accumulate(copies, initial=self.first.pop()))
-        self.to.extend(to)
-        self.arrival.extend(arrival)
 
     def __len__(self) -> int:
         return len(self.at)

@@ -12,7 +12,7 @@ from itertools import chain, compress, count, repeat
 
 from motesim.report.columns import KINDS, TYPES, Fields, Log, Trace
 from motesim.report.lines import FIELDS, FORMS, Line
-from motesim.report.pieces import PieceReader
+from motesim.report.reader import log_of
 from motesim.report.report import Report
 
 NAMED = ('process', 'event')
@@ -111,9 +111,7 @@ class LazyReport(Report):
 
     @cached_property
     def log(self) -> Log:  # type: ignore[override]
-        log, end = Log(), self.data.rindex(b'left')
-        log.extend(*PieceReader(1 << 16).packets(self.data[self.at + 8:end]))
-        return log
+        return log_of(self.data[self.at + len(b'\nmedium\n'):].decode('ascii'), 1 << 16)
 
     @cached_property
     def medium_row(self) -> int:  # type: ignore[override]

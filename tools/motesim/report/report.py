@@ -9,14 +9,12 @@ from __future__ import annotations
 
 from bisect import bisect_right
 from collections.abc import Callable, Iterable, Iterator, Sequence
-from functools import cached_property, partial
+from functools import cached_property
 from itertools import compress, count, repeat
 from operator import add, mul
 from typing import NamedTuple
 
-from motesim import runner
-from motesim.faults import Fault
-from motesim.report import fast, strict
+from motesim.report import reader
 from motesim.report.columns import KINDS, LOST, Log, MoteLines, Trace
 from motesim.report.lines import Copy, Line, Packet
 
@@ -53,9 +51,8 @@ class Outcome(NamedTuple):
 
 OUTCOMES = ('received', 'lost', 'overflowed', 'collided', 'halted', 'left')
 _LOST, _HALTED, _LEFT = (OUTCOMES.index(it) for it in ('lost', 'halted', 'left'))
-# The least number of copies for which several processes find the outcomes; and the number of motes for which each of
-# these processes finds them at a time.
-MANY, MOTES_AT_ONCE = 200_000, 256
+# The number of motes for which the outcomes are found at a time.
+MOTES_AT_ONCE = 256
 # The kinds of lines of the copies that have one.
 BECAME = {'received': 'recv', 'overflowed': 'lost', 'collided': 'collide'}
 
@@ -84,13 +81,7 @@ class Report:
     @classmethod
     def parse(cls, text: str | bytes) -> Report:
         """Reads a report; any other text raises a `ReportFault`."""
-        data = text.encode('utf-8', 'surrogatepass') if isinstance(text, str) else text
-        found = fast.read(data)
-        if found is not None:
-            return cls(*found)
-        # (this has the fault of a text that isn't a report)
-        strict.read(strict.text_of(data))
-        raise Fault('a process that read a part of the report has failed')
+        return cls(*reader.read(reader.text_of(text)))
 
     def lines(self, *kinds: str) -> Iterator[Line]:
         """The lines of all traces, mote after mote; if kinds are named, only the lines of these kinds."""
@@ -150,9 +141,7 @@ class Report:
         log, motes = self.log, len(self.motes)
         packets = list(log.of_copies(list(_keys(log.sender, log.number, motes))))
         groups = [range(first, min(first + MOTES_AT_ONCE, motes)) for first in range(0, motes, MOTES_AT_ONCE)]
-        work = partial(self._fates_at, packets)
-        parts = runner.each_part(work, groups) if len(packets) >= MANY else map(work, groups)
-        by_mote = [iter(its) for part in parts for its in part]
+        by_mote = [iter(its) for group in groups for its in self._fates_at(packets, group)]
         following: Callable[[Iterator[int]], int] = next
         found = bytearray(map(following, map(by_mote.__getitem__, log.to)))
         for index in compress(count(), map(LOST.__eq__, log.arrival)):

@@ -1,15 +1,13 @@
-"""Reads reports line by line, and finds the first line with an error.
-
-`read(text)` is the specification of reports; `motesim.report.fast` reads the same texts in larger pieces.
-"""
+"""Reads reports line by line into columns, and finds the first line with an error."""
 from __future__ import annotations
 
 import re
-import sys
-from typing import Any, NoReturn
+from collections.abc import Callable, Iterator
+from typing import NamedTuple, NoReturn
 
 from motesim.faults import Fault
 from motesim.notation.grammar import EVENTS, RESERVED, SYSTEM
+from motesim.report.columns import CODES, LOST, Log, Trace
 from motesim.report.lines import FIELDS, MOST_MOMENT, MOST_NUMBER, MOST_WORD
 
 
@@ -43,20 +41,20 @@ class Bad(Exception):
     """A word that isn't allowed; its text is the expected one."""
 
 
-class Words(dict[str, Any]):
-    """The words of one kind that occurred, each with its meaning. Each word is examined only when it occurs for the
-    first time."""
+class Words(dict[str, int]):
+    """The words of one kind that occurred, each with its number in a column. Each word is examined only when it occurs
+    for the first time."""
     __slots__ = ('expected',)
 
     def __init__(self, expected: str):
         super().__init__()
         self.expected = expected
 
-    def value(self, word: str) -> Any:
-        """The meaning of the word, or None."""
+    def value(self, word: str) -> int | None:
+        """The number of the word, or None."""
         raise NotImplementedError
 
-    def __missing__(self, word: str) -> Any:
+    def __missing__(self, word: str) -> int:
         value = self.value(word)
         if value is None:
             raise Bad(self.expected)
@@ -78,37 +76,56 @@ class Numbers(Words):
 
 
 class Names(Words):
-    """Names that a program can declare, and some of the notation's own."""
-    __slots__ = ('own',)
+    """Names that a program can declare, and some of the notation's own; a name's number is its place in a list."""
+    __slots__ = ('own', 'all_names')
 
-    def __init__(self, what: str, own: tuple[str, ...]):
+    def __init__(self, what: str, own: tuple[str, ...], all_names: list[str]):
         super().__init__(what)
-        self.own = own
+        self.own, self.all_names = own, all_names
 
-    def value(self, word: str) -> str | None:
-        is_declared = re.fullmatch('[a-z][a-z0-9_]{0,15}', word) and word not in RESERVED
-        return sys.intern(word) if is_declared or word in self.own else None
+    def value(self, word: str) -> int | None:
+        if word not in self.own and (not re.fullmatch('[a-z][a-z0-9_]{0,15}', word) or word in RESERVED):
+            return None
+        if word not in self.all_names:
+            self.all_names.append(word)
+        return self.all_names.index(word)
+
+
+class Form(NamedTuple):
+    """A kind of lines: its code, the number of its words, and for each field its words and its column."""
+    code: int
+    length: int
+    fields: list[tuple[Words, Callable[[int], None]]]
+
+
+class Found(NamedTuple):
+    """The contents of a report."""
+    programs: list[str]
+    trace: Trace
+    log: Log
+    left: int
 
 
 class _Reader:
     """Reads the lines of a report from the first to the last."""
 
-    def __init__(self, text: str):
+    def __init__(self, text: str, motes: int | None = None):
         self.rows = text.split('\n')
         self.at = 0
         # (no other line has this beginning: a trace's lines and the medium's begin with a moment)
-        self.count = text.startswith('mote ') + text.count('\nmote ')
+        self.count = text.startswith('mote ') + text.count('\nmote ') if motes is None else motes
+        self.programs, self.trace, self.log = list[str](), Trace([]), Log()
         self.moments = Numbers('a moment', MOST_MOMENT)
-        self.numbers, words = Numbers('a number', MOST_NUMBER), Numbers('a word of 16 bits', MOST_WORD)
+        self.numbers, self.words = Numbers('a number', MOST_NUMBER), Numbers('a word of 16 bits', MOST_WORD)
         self.senders = Numbers('a mote of this report', self.count - 1)
         self.arrivals = Numbers('an arrival', MOST_NUMBER)
-        self.packet = self.moments, self.senders, self.numbers, words
-        process, target = Names('a process', SYSTEM), Names('a process or all', SYSTEM + ('all',))
-        tables = {'process': process, 'event': Names('an event', EVENTS), 'word': words, 'value': words,
-                  'sender': self.senders, 'number': self.numbers, 'serial': self.numbers}
-        self.forms: dict[str, list[Words]] = {kind: [
-            target if kind in ('post', 'full') and field == 'process' else tables[field] for field in fields.split()]
-            for kind, fields in FIELDS.items()}
+        names = self.trace.names
+        process, target = Names('a process', SYSTEM, names), Names('a process or all', SYSTEM + ('all',), names)
+        tables = {'process': process, 'event': Names('an event', EVENTS, names), 'word': self.words,
+                  'value': self.words, 'sender': self.senders, 'number': self.numbers, 'serial': self.numbers}
+        self.forms = {kind: Form(CODES[kind], len(columns) + 2, [
+            (target if kind in ('post', 'full') and field == 'process' else tables[field], column.append)
+            for field, column in columns.items()]) for kind, columns in self.trace.of.items()}
 
     def fault(self, expected: str, row: int | None = None) -> NoReturn:
         row = self.at if row is None else row
@@ -117,42 +134,49 @@ class _Reader:
         is_cut = row > 0 and row >= len(self.rows) - 1
         raise ReportFault(row + 1, expected, None if is_end else self.rows[row], is_cut)
 
-    def read(self) -> None:
+    def read(self) -> Found:
         motes = max(1, self.count)
         for number in range(motes):
-            if not re.fullmatch('mote %d ([A-Za-z0-9_-]{1,32})' % number, self.rows[self.at]):
+            head = re.fullmatch('mote %d ([A-Za-z0-9_-]{1,32})' % number, self.rows[self.at])
+            if not head:
                 self.fault("'mote %d' and the name of its program" % number)
+            self.programs.append(head[1])
             self.at += 1
-            self.trace(number)
+            self.read_trace(number)
+            self.trace.starts.append(len(self.trace.at))
         if self.rows[self.at] != 'medium':
             self.fault("'medium'" if self.count == motes else "'mote %d' and a program" % motes)
         self.at += 1
-        self.medium()
-        self.left()
+        self.read_log()
+        return Found(self.programs, self.trace, self.log, self.read_left())
 
-    def trace(self, mote: int) -> None:
+    def read_trace(self, mote: int) -> None:
         """Reads the lines up to the next mote or the medium."""
-        last, has_halted = 0, False
-        for at in range(self.at, len(self.rows)):
-            words = self.rows[at].split(' ')
-            tables = self.forms.get(words[1]) if len(words) > 1 else None
-            if tables is None or len(words) != len(tables) + 2:
+        last, has_halted, halt = 0, False, CODES['halt']
+        rows, forms, moments, add_moment, add_kind = (
+            self.rows, self.forms, self.moments, self.trace.at.append, self.trace.kind.append)
+        for at in range(self.at, len(rows)):
+            words = rows[at].split(' ')
+            form = forms.get(words[1]) if len(words) > 1 else None
+            if form is None or len(words) != form.length:
                 if words[0] in ('mote', 'medium'):
                     self.at = at
                     return
                 self.bad_line(at, words)
             try:
-                moment: int = self.moments[words[0]]
-                for table, word in zip(tables, words[2:]):
-                    table[word]
+                moment = moments[words[0]]
+                for (table, add), word in zip(form.fields, words[2:]):
+                    add(table[word])
             except Bad as bad:
                 self.fault(str(bad), at)
             if moment < last:
                 self.fault('a moment from %d on' % last, at)
             if has_halted:
                 self.fault('nothing more of mote %d, which has halted' % mote, at)
-            last, has_halted = moment, words[1] == 'halt'
-        self.fault("a line of mote %d, the next mote or 'medium'" % mote, len(self.rows))
+            last, has_halted = moment, form.code == halt
+            add_moment(moment)
+            add_kind(form.code)
+        self.fault("a line of mote %d, the next mote or 'medium'" % mote, len(rows))
 
     def bad_line(self, at: int, words: list[str]) -> NoReturn:
         """The fault of a line that isn't one of a trace."""
@@ -162,9 +186,9 @@ class _Reader:
             self.fault("a line of a trace, 'mote' or 'medium'", at)
         self.fault('a moment and one of %s' % ', '.join(FIELDS), at)
 
-    def medium(self) -> None:
+    def read_log(self) -> None:
         """Reads the packets up to the last line."""
-        last = (-1, -1, -1)
+        last, log = (-1, -1, -1), self.log
         for at in range(self.at, len(self.rows)):
             words = self.rows[at].split(' ')
             if words[0] == 'left':
@@ -173,29 +197,42 @@ class _Reader:
             if len(words) < 4:
                 self.fault("MOMENT SENDER NUMBER VALUE and the packet's copies, or 'left' and a number", at)
             try:
-                moment, sender, number, _ = (table[word] for table, word in zip(self.packet, words))
-                heard = -1
-                for word in words[4:]:
-                    name, _, after = word.partition('@')
-                    to: int = self.senders[name]
-                    if to <= heard or to == sender:
-                        self.fault('receivers in rising order, without the sender', at)
-                    if after != 'lost' and self.arrivals[after] <= moment:
-                        self.fault('arrivals after moment %d' % moment, at)
-                    heard = to
+                moment, sender = self.moments[words[0]], self.senders[words[1]]
+                number, value = self.numbers[words[2]], self.words[words[3]]
+                for to, arrival in self.copies(at, words[4:], moment, sender):
+                    log.to.append(to)
+                    log.arrival.append(arrival)
             except Bad as bad:
                 self.fault(str(bad), at)
             if (moment, sender, number) <= last:
                 self.fault('packets in the order of moment, sender and number', at)
             last = moment, sender, number
+            log.at.append(moment)
+            log.sender.append(sender)
+            log.number.append(number)
+            log.value.append(value)
+            log.first.append(len(log.to))
         self.fault("a packet, or 'left' and a number", len(self.rows))
 
-    def left(self) -> None:
+    def copies(self, at: int, words: list[str], moment: int, sender: int) -> Iterator[tuple[int, int]]:
+        """The receivers and the arrivals of a packet's copies."""
+        heard = -1
+        for word in words:
+            name, _, after = word.partition('@')
+            to, arrival = self.senders[name], LOST
+            if to <= heard or to == sender:
+                self.fault('receivers in rising order, without the sender', at)
+            if after != 'lost' and (arrival := self.arrivals[after]) <= moment:
+                self.fault('arrivals after moment %d' % moment, at)
+            heard = to
+            yield to, arrival
+
+    def read_left(self) -> int:
         words = self.rows[self.at].split(' ')
         try:
             if len(words) != 2:
                 raise Bad("'left' and a number")
-            self.numbers[words[1]]
+            left = self.numbers[words[1]]
         except Bad as bad:
             self.fault(str(bad))
         self.at += 1
@@ -203,8 +240,16 @@ class _Reader:
             self.fault("a line end after 'left'")
         if self.at != len(self.rows) - 1 or self.rows[-1]:
             self.fault('nothing more')
+        return left
 
 
-def read(text: str) -> None:
+def read(text: str) -> Found:
     """Reads a report; any other text raises a `ReportFault`."""
-    _Reader(text).read()
+    return _Reader(text).read()
+
+
+def log_of(text: str, motes: int) -> Log:
+    """The log of the medium, from the lines of a report below the word `medium`."""
+    reader = _Reader(text, motes)
+    reader.read_log()
+    return reader.log
