@@ -63,7 +63,7 @@ class Calls(Room):
     def test_limits_and_faults(self) -> None:
         with self.assertRaisesRegex(motesim.Fault, 'no answer in 0.2 seconds'):
             motesim.run(SCENARIO.replace('{ body', '{ // wait\nbody').encode(), limits=motesim.Limits(0.2))
-        with self.assertRaisesRegex(motesim.Fault, 'not TOML'):
+        with self.assertRaisesRegex(motesim.Fault, 'TOML'):
             motesim.run(b'[')
         with self.assertRaises(AttributeError):
             motesim.nothing

@@ -11,7 +11,7 @@ import unittest
 from here import TOOLS, text_of
 import motesim
 
-MOST_LINES, OF_EXPECT = 3_000, 5_400
+MOST_LINES, OF_EXPECT = 3_700, 5_700
 LOADED = text_of('loaded.py.txt')
 
 

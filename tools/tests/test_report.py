@@ -188,7 +188,7 @@ class Runs(Room):
                     scenario = read_run(self.put(name, begin + EXAMPLE)).scenario
                     self.assertEqual(scenario and scenario.end, 20)
         for text in '[medium]\n', '"end" = 5\n', 'end=5\n':
-            with self.assertRaisesRegex(ScenarioFault, r'net.txt: the scenario has no key .* \(tools/explain '):
+            with self.assertRaisesRegex(ScenarioFault, r'net.txt: scenario fault 2: .* the key .* tools/explain .*net.txt says more'):
                 read_run(self.put('net.txt', text))
         for text in 'mote 1 a\n', '0 start etimer\n':
             with self.assertRaisesRegex(ReportFault, 'net.txt: line 1: expected'):

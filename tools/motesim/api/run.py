@@ -7,10 +7,8 @@ from typing import TYPE_CHECKING
 
 import motesim
 from motesim.faults import Fault
-from motesim.report import Report
-from motesim.report.run import Run, read_run
+from motesim.report.run import Run, read_run, run_of
 from motesim.runner import Limits, Runner
-from motesim.scenario import Scenario
 
 if TYPE_CHECKING:
     from motesim.plan.plan import Plan
@@ -37,5 +35,4 @@ def run(scenario: str | Path | bytes | Plan, parameters: Mapping[str, Value] | N
         name, data = 'scenario', scenario
     else:
         name, data = 'plan', scenario.scenario(dict(parameters or {})).encode()
-    found = Scenario.parse(data)
-    return Run(name, Report.parse(Runner(program, limits).report(data)), found)
+    return run_of(name, data, Runner(program, limits))._replace(file=None)

@@ -12,7 +12,7 @@ from motesim.files import refuse_inputs
 from motesim.home import TOP
 from motesim.notation.reader import read_program
 from motesim.scenario import Scenario
-from motesim.scenario.faults import find_fault
+from motesim.scenario.refused import check
 
 HERE = Path(__file__).resolve().parent
 HOST = TOP / 'tools/contiki_host'
@@ -117,9 +117,7 @@ def _page(title: str, scenario: Scenario, programs: list[str], with_host: bool) 
 
 def write_folder(data: bytes, path: str, folder: Path, with_host: bool) -> list[Path]:
     """Writes the folder of a scenario, which was read from a path, and returns its files."""
-    fault = find_fault(data)
-    if fault:
-        raise Fault('%s: %s (tools/explain %s says more)' % (path, fault.message, path))
+    check(path, data)
     scenario = Scenario.parse(data)
     texts = list(folder_files(Path(path).stem, scenario, with_host))
     for name, _ in texts:

@@ -16,7 +16,7 @@ from motesim.plan.text import Net as NetOfPlan
 from motesim.plan.text import scenario_text
 from motesim.scenario.encodings import read_file
 from motesim.scenario import Scenario
-from motesim.scenario.faults import find_fault
+from motesim.scenario.refused import check
 from motesim.scenario.scenario import hops_over
 from motesim.terminal import cut
 from motesim.toml import MARK, NoToml, read_toml
@@ -82,9 +82,7 @@ def _texts(file: str, its: Plan | str, asked: dict[str, list[Value]]) -> Iterato
 
 
 def _net(name: str, text: str, program: str | None) -> Net:
-    fault = find_fault(text.encode())
-    if fault:
-        raise Fault('%s can\'t be the net of a marking: motesim: %s (tools/explain says more)' % (name, fault.message))
+    check(name, text.encode())
     scenario = Scenario.parse(text)
     names = list(scenario.programs)
     if program is None and len(names) != 1:

@@ -26,6 +26,7 @@ from motesim.scenario import Scenario, ScenarioFault
 from motesim.scenario.encodings import decoded, read_file
 from motesim.scenario.faults import TOP
 from motesim.scenario.fields import Field, of_line, read_fields
+from motesim.scenario.refused import check
 from motesim.judge.meaning import Refused, Sentence
 from motesim.judge.names import Names, names_of
 from motesim.judge.several import read_all
@@ -226,8 +227,9 @@ def expect(scenario: Path, expectations: Path, is_quiet: bool = False,
         except LimitMet as fault:
             raise Fault('%s: the run was ended: %s' % (scenario, fault)) from None
         except NoReport as fault:
-            raise Fault('%s: %s' % (place_of_part(count, part, name), fault) if part.replace else
-                        '%s: %s (tools/explain %s says more)' % (scenario, fault, scenario)) from None
+            if not part.replace:
+                check(str(scenario), text.encode())
+            raise Fault('%s: %s' % (place_of_part(count, part, name), fault)) from None
         except ProgramFault:
             # (this error isn't in the expectations, so the message doesn't name their file)
             raise

@@ -15,6 +15,7 @@ from motesim.plan.from_scenario import write_plan
 from motesim.plan.plan import UNUSED, Plan
 from motesim.plan.tables import Value, value_of_text
 from motesim.scenario import Scenario
+from motesim.scenario.refused import check
 
 
 def given_of(words: Sequence[str]) -> dict[str, Value]:
@@ -47,9 +48,7 @@ def unused(plan: Plan, given: dict[str, Value]) -> list[str]:
 def write_from(source: str, output: str | None) -> int:
     """Writes the plan of a scenario."""
     data = read_file(source)
-    fault = scenario_faults.find_fault(data)
-    if fault:
-        raise Fault('%s has an error: motesim: %s (tools/explain says more)' % (source, fault.message))
+    check(source, data)
     name = 'net' if source == '-' else Path(source).stem
     plan = Path(output) if output else beside(source, name + '.plan.toml')
     if plan.suffix != '.toml':

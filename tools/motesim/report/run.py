@@ -26,10 +26,11 @@ from typing import NamedTuple
 from motesim.report.belongs import check_scenario as check_scenario
 from motesim.scenario.encodings import decoded, read_file
 from motesim.faults import Fault
-from motesim.runner.process import Answer as Answer, Limits, NoReport as NoReport, Runner
+from motesim.runner.process import Answer as Answer, LimitMet, Limits, NoReport as NoReport, Runner
 from motesim.runner.programs import TOP as TOP, ProgramFault as ProgramFault, program_path as program_path
 from motesim.report import Report, ReportFault
-from motesim.scenario import Scenario, ScenarioFault
+from motesim.scenario import Scenario
+from motesim.scenario.refused import check
 
 # The beginning of a report; and that of a scenario: a comment, a table or a key.
 OF_REPORT = re.compile(rb'mote 0 ')
@@ -97,21 +98,31 @@ def read_run(path: str | Path, scenario: str | Path | None = None, limits: Limit
             'standard input' if str(path) == '-' else path))
     if not is_run:
         decoded(str(path), data)
+    if is_run:
+        return run_of(str(path), data, Runner(program, limits))
     try:
-        if is_run:
-            found = Scenario.parse(data)
-            return Run(str(path), Report.parse(Runner(program, limits).report(data)), found, file_of(path, data))
         report = Report.parse(data)
         if scenario is not None:
-            at = scenario
-            text = read_file(scenario)
-            found, file = Scenario.parse(text), file_of(scenario, text)
+            at, text = scenario, read_file(scenario)
+            found, file = Scenario.parse(text, str(scenario)), file_of(scenario, text)
             check_scenario(report, found)
-    except (ReportFault, ScenarioFault, ProgramFault) as fault:
-        is_explained = is_run and isinstance(fault, (ScenarioFault, NoReport))
-        fault.args = ('%s: %s%s' % (at, fault, ' (tools/explain %s says more)' % at if is_explained else ''),)
+    except ReportFault as fault:
+        fault.args = ('%s: %s' % (at, fault),)
         raise
     return Run(str(path), report, found, file)
+
+
+def run_of(name: str, data: bytes, runner: Runner) -> Run:
+    """The run of a scenario from a file of this name. Raises a `ScenarioFault` if `motesim` refuses it."""
+    scenario = Scenario.parse(data, name)
+    try:
+        return Run(name, Report.parse(runner.report(data)), scenario, file_of(name, data))
+    except NoReport as fault:
+        check(name, data)
+        raise NoReport('%s: %s' % (name, fault)) from None
+    except LimitMet as fault:
+        fault.args = ('%s: %s' % (name, fault),)
+        raise
 
 
 def file_of(path: str | Path, data: bytes) -> tuple[str, str] | None:

@@ -189,7 +189,7 @@ def _check_texts(programs: dict[str, Any]) -> None:
             raise ScenarioError(message, ('programs', name), program=fault)
 
 
-def _check_medium(tables: dict[str, Any]) -> None:
+def check_medium(tables: dict[str, Any]) -> None:
     for number, name in (2, 'base'), (3, 'per'):
         if tables['medium'][name] == 0:
             raise ScenarioError('medium fault %d' % number, ('medium', name), may_of(name, MEDIUM[name]))
@@ -241,7 +241,8 @@ def _too_large(value: object, path: Path) -> Iterator[Path]:
         yield from _too_large(member, path + (name,))
 
 
-def _check(tables: dict[str, Any]) -> None:
+def check_tables(tables: dict[str, Any]) -> None:
+    """Raises the first fault of the tables of a scenario, without the rules of its medium and of its programs."""
     is_second = type(tables.get('version')) is int and tables['version'] == 2
     _check_table(tables, (), {**TOP, 'queue': QUEUES} if is_second else TOP)
     _check_table(tables['medium'], ('medium',), {**MEDIUM, 'collide': COLLIDE} if is_second else MEDIUM)
@@ -252,14 +253,23 @@ def _check(tables: dict[str, Any]) -> None:
     for index, mote in enumerate(tables['mote']):
         _check_table(mote, ('mote', index), MOTE)
     _check_names(tables)
-    _check_texts(tables['programs'])
-    _check_medium(tables)
+
+
+def tables_of(data: bytes) -> dict[str, Any]:
+    """The tables of a scenario whose programs needn't be right. Raises a `ScenarioError` for any other text."""
+    tables = _read(data)
+    check_tables(tables)
+    check_medium(tables)
+    return tables
 
 
 def find_fault(data: bytes) -> ScenarioError | None:
     """The first fault of a scenario, or None if it has none."""
     try:
-        _check(_read(data))
+        tables = _read(data)
+        check_tables(tables)
+        _check_texts(tables['programs'])
+        check_medium(tables)
     except ScenarioError as fault:
         return fault
     return None

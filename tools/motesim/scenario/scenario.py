@@ -5,15 +5,11 @@ from collections.abc import Callable, Iterable, Iterator
 from functools import cached_property
 from typing import TYPE_CHECKING, Any, NamedTuple
 
-from motesim.faults import Fault
-from motesim.toml import NoToml, read_toml
+from motesim.scenario.faults import ScenarioError, tables_of
+from motesim.scenario.refused import refused
 
 if TYPE_CHECKING:
     from motesim.scenario.fields import Field
-
-
-class ScenarioFault(Fault):
-    """A text that is not a scenario."""
 
 
 class MotePlace(NamedTuple):
@@ -21,19 +17,6 @@ class MotePlace(NamedTuple):
     x: int
     y: int
     program: str
-
-
-# The kinds of values in a scenario: Python counts a `bool` as a whole number too, which is not allowed here.
-_KINDS = {int: 'a whole number', str: 'a text', dict: 'a table', list: 'an array of tables', bool: 'true or false'}
-
-
-def _get(table: dict[str, Any], key: str, kind: type, where: str) -> Any:
-    """Returns the value that a table has under a key that it needs."""
-    if key not in table:
-        raise ScenarioFault('%s has no key %s' % (where, key))
-    if type(table[key]) is not kind:
-        raise ScenarioFault('%s of %s is not %s' % (key, where, _KINDS[kind]))
-    return table[key]
 
 
 def hops_over(near: Callable[[int], Iterable[int]], origin: int) -> dict[int, int]:
@@ -58,44 +41,33 @@ class Scenario:
     fields    the format of packets that the expectations next to the scenario's file declare
     text      the text that was read; empty if the scenario was made otherwise
 
-    This class checks only what the tools need: it accepts some texts that `motesim` refuses.
+    It is made from tables that keep the rules of scenarios, but for the texts of programs.
     """
 
     def __init__(self, tables: dict[str, Any], text: str = ''):
         self.text = text
         self.fields: tuple[Field, ...] = ()
-        medium: dict[str, Any] = _get(tables, 'medium', dict, 'the scenario')
-        self.version: int = _get(tables, 'version', int, 'the scenario')
-        self.end: int = _get(tables, 'end', int, 'the scenario')
-        self.range: int = _get(medium, 'range', int, 'medium')
-        self.base: int = _get(medium, 'base', int, 'medium')
-        self.per: int = _get(medium, 'per', int, 'medium')
-        self.collide: bool = self.version > 1 and _get(medium, 'collide', bool, 'medium')
-        self.programs: dict[str, str] = _get(tables, 'programs', dict, 'the scenario')
-        self.queue: dict[str, int] = _get(tables, 'queue', dict, 'the scenario') if 'queue' in tables else {}
-        motes: list[dict[str, Any]] = _get(tables, 'mote', list, 'the scenario')
-        losses: list[dict[str, Any]] = _get(tables, 'loss', list, 'the scenario') if 'loss' in tables else []
-        if not all(type(it) is dict for it in motes + losses):
-            raise ScenarioFault('a mote or a loss is not a table')
-        if self.per < 1 or self.base < 1:
-            raise ScenarioFault('base and per are at least 1')
-        self.places = [MotePlace(_get(it, 'x', int, 'mote %d' % number), _get(it, 'y', int, 'mote %d' % number),
-                             _get(it, 'program', str, 'mote %d' % number)) for number, it in enumerate(motes)]
-        self.losses: dict[tuple[int, int], int] = {
-            (_get(it, 'from', int, 'a loss'), _get(it, 'to', int, 'a loss')): _get(it, 'every', int, 'a loss')
-            for it in losses}
+        medium: dict[str, Any] = tables['medium']
+        self.version: int = tables['version']
+        self.end: int = tables['end']
+        self.range: int = medium['range']
+        self.base: int = medium['base']
+        self.per: int = medium['per']
+        self.collide: bool = medium.get('collide', False)
+        self.programs: dict[str, str] = tables['programs']
+        self.queue: dict[str, int] = tables.get('queue', {})
+        self.places = [MotePlace(it['x'], it['y'], it['program']) for it in tables['mote']]
+        self.losses: dict[tuple[int, int], int] = {(it['from'], it['to']): it['every'] for it in tables.get('loss', [])}
 
     @classmethod
-    def parse(cls, text: str | bytes) -> Scenario:
-        """Reads a scenario, which may begin with a byte order mark; any other text raises a `ScenarioFault`."""
+    def parse(cls, text: str | bytes, name: str = 'the scenario') -> Scenario:
+        """Reads a scenario, which may begin with a byte order mark; any other text raises a `ScenarioFault`, in which it
+        has this name."""
+        data = text.encode('utf-8', 'surrogatepass') if isinstance(text, str) else text
         try:
-            if isinstance(text, bytes):
-                text = text.decode('utf-8')
-            return cls(read_toml(text), text)
-        except UnicodeDecodeError:
-            raise ScenarioFault('the scenario is not UTF-8') from None
-        except NoToml as fault:
-            raise ScenarioFault('the scenario is not TOML: %s' % fault) from None
+            return cls(tables_of(data), data.decode('utf-8'))
+        except ScenarioError as error:
+            raise refused(name, data, error) from None
 
     @property
     def motes(self) -> int:

@@ -16,7 +16,7 @@ from motesim.plan.plan import Plan
 from motesim.plan.tables import Value
 from motesim.report.run import refuse_others
 from motesim.scenario.scenario import MotePlace, Scenario
-from motesim.scenario.faults import find_fault
+from motesim.scenario.refused import check
 from motesim.search.added import DIES, changed_program
 from motesim.scenario.edits import Change as Edit
 from motesim.scenario.edits import Text, applied
@@ -69,10 +69,9 @@ class Base:
 
     def __init__(self, source: str, name: str, is_checked: bool = False, plan: Plan | None = None):
         self.plan, self.others = plan, dict[tuple[tuple[str, Value], ...], Base]()
-        fault = None if is_checked else find_fault(source.encode())
-        if fault:
+        if not is_checked:
             refuse_others(name)
-            raise Fault('%s has no report: motesim: %s (tools/explain %s says more)' % (name, fault.message, name))
+            check(name, source.encode())
         self.source, self.name = source, name
         self.scenario_itself = Scenario.parse(source)
         self.tables = read_toml(source)

@@ -11,11 +11,12 @@ from motesim.judge.expectations import fields_beside
 from motesim.report.belongs import check_scenario
 from motesim.faults import Fault
 from motesim.report import Line, Packet, Report
-from motesim.report.run import NoReport, is_scenario, refuse_others, run_program
+from motesim.report.run import is_scenario, refuse_others, run_program
 from motesim.scenario.encodings import decoded, read_file
 from motesim.scenario.scenario import Scenario
 from motesim.replay.endless import Endless, LastRun, endless
 from motesim.scenario.in_programs import ScenarioFile
+from motesim.scenario.refused import check
 from motesim.replay.mote import ARRIVALS, QUEUE, Replay
 from motesim.replay.translate import Program, translated
 
@@ -190,19 +191,15 @@ def read_traces(path: str | Path, scenario: str | Path | None = None) -> tuple[b
     if is_scenario(path, data):
         if scenario is not None:
             raise Fault('%s: it is itself a scenario, so no other can be given' % path)
+        check(str(path), data)
         try:
             return run_program(data), with_fields(Scenario.parse(data), path)
-        except NoReport as fault:
-            raise Fault('%s: %s (tools/explain %s says more)' % (path, fault, path)) from None
         except Fault as fault:
             raise Fault('%s: %s' % (path, fault)) from None
     decoded(str(path), data)
     if scenario is None:
         return data, None
-    try:
-        return data, with_fields(Scenario.parse(read_file(scenario)), scenario)
-    except Fault as fault:
-        raise Fault('%s: %s' % (scenario, fault)) from None
+    return data, with_fields(Scenario.parse(read_file(scenario), str(scenario)), scenario)
 
 
 def scenario_file(path: str | Path) -> ScenarioFile | None:
