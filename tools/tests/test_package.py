@@ -81,7 +81,7 @@ class OneCommand(Room):
             self.assertIn('net.toml has no `end`.', said)
         self.assertEqual(self.run_it('two.toml')[0], 2)
         self.assertEqual(self.run_it('serch'), (2, '', 'motesim: there is no command and no file serch; did you mean search?\n'))
-        self.assertRegex(self.run_it('--version')[1], '^motesim [0-9]')
+        self.assertRegex(self.run_it('--version')[1], 'motesim [0-9]')
 
     def test_bash_completes_verbs_options_and_values(self) -> None:
         script = self.put('completion', self.run_it('completion')[1])

@@ -11,8 +11,8 @@ import struct
 import subprocess
 from collections.abc import Callable, Iterable, Iterator, Mapping
 
+from motesim.home import WEB
 from motesim.runner import ending
-from motesim.runner.module import WEB
 from motesim.runner.process import Limits, Running
 from motesim.runner.usage import memory_of, processor_seconds_of
 

@@ -16,7 +16,8 @@ from motesim.plan.plan import Plan
 from motesim.plan.tables import Value
 from motesim.report.run import refuse_others
 from motesim.scenario.scenario import MotePlace, Scenario
-from motesim.scenario.refused import check
+from motesim.scenario.faults import find_fault
+from motesim.scenario.refused import refused
 from motesim.search.added import DIES, changed_program
 from motesim.scenario.edits import Change as Edit
 from motesim.scenario.edits import Text, applied
@@ -69,9 +70,10 @@ class Base:
 
     def __init__(self, source: str, name: str, is_checked: bool = False, plan: Plan | None = None):
         self.plan, self.others = plan, dict[tuple[tuple[str, Value], ...], Base]()
-        if not is_checked:
+        fault = None if is_checked else find_fault(source.encode())
+        if fault:
             refuse_others(name)
-            check(name, source.encode())
+            raise refused(name, source.encode(), fault)
         self.source, self.name = source, name
         self.scenario_itself = Scenario.parse(source)
         self.tables = read_toml(source)
