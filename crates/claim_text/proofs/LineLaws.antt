@@ -7,7 +7,7 @@ use Rattle.claims.specs.declared.claim.Claim.{Claim}
 use Rattle.claim_text.specs.declared.error.ClaimsError.{ClaimsError}
 use Rattle.claim_text.specs.declared.error.ClaimsError.TheVariants.{Memory, NotAClaim}
 use Rattle.claim_text.specs.ClaimText.{text_of}
-use Rattle.claim_text.specs.ClaimLines.{is_claim_line, lines_of, IsAt, IsNoText, Refuses}
+use Rattle.claim_text.specs.ClaimLines.{is_claim_line, lines_of, IsAt, Refuses}
 
 module _ (bs : List (Bor (List ℕ))) (i : ℕ) (d : Bor (List ℕ)) (below : i < length bs) where
   inside : i < length (map (λ b. b.now) bs)
@@ -33,10 +33,9 @@ module _ (bs : List (Bor (List ℕ))) (i : ℕ) (d : Bor (List ℕ)) (below : i 
 
   -- an error at this line
   pub refused : (names : List (List ℕ)) (text : List ℕ) (claims : List Claim) (e : ClaimsError) → map (λ b. b.now) bs ≡ lines_of text
-      → map (text_of names) claims ≡ filter is_claim_line (take i (lines_of text)) → IsAt (i + 1) (get_or bs i d).now e
-      → IsNoText names (get_or bs i d).now e → Refuses names text e
-  refused names text claims Memory is read at other = tt
-  refused names text claims (NotAClaim n column) is read at other = record {
+      → map (text_of names) claims ≡ filter is_claim_line (take i (lines_of text)) → IsAt (i + 1) (get_or bs i d).now e → Refuses names text e
+  refused names text claims Memory is read at = tt
+  refused names text claims (NotAClaim n column) is read at = record {
     before = take i (lines_of text);
     line = (get_or bs i d).now;
     after = drop (suc i) (lines_of text);
@@ -44,5 +43,4 @@ module _ (bs : List (Bor (List ℕ))) (i : ℕ) (d : Bor (List ℕ)) (below : i 
     claims = claims;
     read = read;
     at = subst (λ k. IsAt (k + 1) (get_or bs i d).now (NotAClaim n column)) (sym (subst (λ ls. length (take i ls) ≡ i) is (length-take-le i (map (λ b. b.now) bs) (omega (arith, inside))))) at;
-    other = other;
   }

@@ -5,7 +5,6 @@ use Rattle.claims.specs.declared.claim.Claim.{Claim}
 use Rattle.claim_text.specs.declared.error.ClaimsError.{ClaimsError}
 use Rattle.claim_text.specs.declared.error.ClaimsError.TheVariants.{Memory, NotAClaim}
 use Rattle.claim_text.specs.ClaimText.{text_of}
-use Rattle.claim_text.specs.Fits.{AreWords, FitsClaim}
 
 -- the lines of a text, without their line feeds
 abbrev pub lines_of : (text : List ℕ) → List (List ℕ)
@@ -26,12 +25,7 @@ IsAt number line Memory = Unit {0}
 IsAt number line (NotAClaim n column) =
     (is_claim_line line ≡ true) × (n ≡ number) × (1 ≤ column) × (column ≤ length line + 1)
 
--- the line isn't the text of a claim whose numbers fit in their types, if the names are words
-abbrev pub IsNoText : (names : List (List ℕ)) → (line : List ℕ) → ClaimsError → Type 0
-IsNoText names line Memory = Unit {0}
-IsNoText names line (NotAClaim n column) = AreWords names → (c : Claim) → FitsClaim c → text_of names c ≢ line
-
--- the error is at the first line of the text that should be the text of a claim and isn't
+-- the error is at a line of the text that should be the text of a claim, behind lines that are texts of claims
 pub record IsRefused (names : List (List ℕ)) (text : List ℕ) (error : ClaimsError) : Type 0 where
   pub before : List (List ℕ)
   pub line : List ℕ
@@ -40,7 +34,6 @@ pub record IsRefused (names : List (List ℕ)) (text : List ℕ) (error : Claims
   pub claims : List Claim
   pub read : map (text_of names) claims ≡ filter is_claim_line before
   pub at : IsAt (length before + 1) line error
-  pub other : IsNoText names line error
 
 -- an error and its cause; an allocation may fail for any text
 abbrev pub Refuses : (names : List (List ℕ)) → (text : List ℕ) → ClaimsError → Type 0

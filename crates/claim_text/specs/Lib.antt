@@ -15,12 +15,3 @@ pub mod EntryView
 pub mod ClaimText
 pub mod ClaimLines
 pub mod BreakText
-pub mod Fits
-pub mod Views
-pub mod Reading
-pub mod ReadNumbers
-pub mod ReadKinds
-pub mod ReadPatterns
-pub mod ReadDeeds
-pub mod ReadTests
-pub mod ReadClaims

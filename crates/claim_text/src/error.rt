@@ -10,7 +10,7 @@ use std::alloc::{AllocError, AllocFailed};
 pub enum ClaimsError {
     /// An allocation failed.
     Memory,
-    /// A line that isn't the text of a claim: its number among all lines, from 1, and a column, from 1. There the reader
+    /// A line that isn't read as a claim: its number among all lines, from 1, and a column, from 1. There the reader
     /// stopped, or there the line first differs from the text of the claim that was read. The contracts say only that
     /// the column is in the line or just behind it.
     NotAClaim { line: usize, column: usize },

@@ -44,10 +44,8 @@
 //! of all moments is left out. So is the mote of a case: the only mote whose lines its first test is about; of a
 //! ratio, that of the greater side.
 //!
-//! Unless an allocation fails, `read_claims` accepts a text exactly if each of its lines that isn't empty and doesn't
-//! begin with `#` is the text of a claim, and it returns claims with these texts. Otherwise its error is at a line that
-//! isn't the text of a claim whose numbers fit in their types, and the lines before it are the texts of claims. (This is
-//! proved for names of processes without spaces and quotation marks. The notation has no other names.)
+//! Each line that `read_claims` accepts is the text of the claim that it returns, and the lines before a refused one are
+//! the texts of claims. This is proved. That it accepts the text of each claim is tested, with random claims.
 #![tactic(auto)]
 
 mod broken;

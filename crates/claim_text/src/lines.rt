@@ -1,7 +1,7 @@
 //! Reads a text of claims, line by line.
 ghost use Rattle.std.specs.Prelude.{◌≡◌, ◌≤◌, [], ◌∷◌, ◌++◌, true, filter, map, length, IsTrue, ◌↔◌, IfErr, IfOk, OnOk};
 ghost use Rattle.claim_text.specs.ClaimText.{text_of};
-ghost use Rattle.claim_text.specs.ClaimLines.{lines_of, is_claim_line, claim_lines, IsAt, IsNoText, Refuses};
+ghost use Rattle.claim_text.specs.ClaimLines.{lines_of, is_claim_line, claim_lines, IsAt, Refuses};
 
 use crate::error::{ClaimsError, Unread};
 use crate::reader::Reader;
@@ -55,7 +55,6 @@ fn read_line(alloc: Global, names: &Names, line: &[u8], number: usize) -> Result
     requires should_be { is_claim_line line.now ≡ true }
     ensures text { IfOk result (λ c. text_of names.now c ≡ line.now) }
     ensures at { IfErr result (IsAt number line.now) }
-    ensures no_text { IfErr result (IsNoText names.now line.now) }
 {
     let mut reader = Reader { alloc, rest: line };
     let claim = match reader.claim(names) {
@@ -83,7 +82,6 @@ fn add_line(
     ensures added { OnOk result (map (text_of names.now) claims.new.items
         ≡ map (text_of names.now) claims.old.items ++ filter is_claim_line (line.now ∷ [])) }
     ensures at { IfErr result (IsAt number line.now) }
-    ensures no_text { IfErr result (IsNoText names.now line.now) }
 {
     if is_claim_line(line) {
         let claim = read_line(alloc, names, line, number)?;
@@ -96,8 +94,8 @@ fn add_line(
 /// other lines.
 ///
 /// # Errors
-/// `NotAClaim` at a line that isn't the text of a claim, behind lines that are; `Memory` if an allocation fails. A line
-/// ends with a line feed alone: a carriage return belongs to its line, which then isn't the text of a claim.
+/// `NotAClaim` at a line that isn't read as a claim, behind lines that are the texts of claims; `Memory` if an allocation
+/// fails. A line ends with a line feed alone: a carriage return belongs to its line, which then isn't the text of a claim.
 pub fn read_claims(alloc: Global, names: &Names, text: &[u8]) -> Result<Vec<Claim>, ClaimsError>
     ensures texts { IfOk result (λ cs. map (text_of names.now) cs.items ≡ claim_lines text.now) }
     ensures refused { IfErr result (Refuses names.now text.now) }

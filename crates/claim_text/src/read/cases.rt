@@ -1,8 +1,5 @@
 //! Reads cases and claims.
 ghost use Rattle.std.specs.Prelude.{List};
-ghost use Rattle.claim_text.specs.Views.{TestView, case_view, claim_view};
-ghost use Rattle.claim_text.specs.Reading.{Reads, ReadsAs};
-ghost use Rattle.claim_text.specs.ReadClaims.{read_cases, read_case, read_quantity, read_claim};
 
 use crate::read::exactly;
 use crate::reader::{Item, Read, Reader};
@@ -11,12 +8,6 @@ use claims::{Case, Claim, Limits};
 use program_tree::Names;
 
 impl Item for Case {
-    ghost View = { List TestView };
-
-    ghost view = { case_view };
-
-    ghost item = { λ names _. read_cases names };
-
     /// Reads a group of cases: the tests are read again for each of its motes.
     fn read(reader: &mut Reader<'_>, scope: Scope<'_>, items: &mut Vec<Case>) -> Read<()> {
         if reader.take("the net: ") {
@@ -36,17 +27,13 @@ impl Item for Case {
 }
 
 impl Reader<'_> {
-    fn case(&mut self, names: &Names, own: Option<u16>) -> Read<Case>
-        ensures reads { ReadsAs (case_view names.now) (read_case names.now own self.old.rest.now) self.new.rest.now result }
-    {
+    fn case(&mut self, names: &Names, own: Option<u16>) -> Read<Case> {
         let tests = self.list_or(Scope { names, own }, "always", "", " and ")?;
         Ok(Case { tests })
     }
 
     /// Reads how many of the cases have to hold; `None` stands for all of them.
-    fn quantity(&mut self) -> Read<Option<Limits>>
-        ensures reads { Reads (read_quantity self.old.rest.now) self.new.rest.now result }
-    {
+    fn quantity(&mut self) -> Read<Option<Limits>> {
         if self.take("each of ") || !self.starts("exactly ") && !self.starts("at ") {
             return Ok(None);
         }
@@ -56,9 +43,7 @@ impl Reader<'_> {
     }
 
     /// Reads a claim, which may have another text.
-    pub fn claim(&mut self, names: &Names) -> Read<Claim>
-        ensures reads { ReadsAs (claim_view names.now) (read_claim names.now self.old.rest.now) self.new.rest.now result }
-    {
+    pub fn claim(&mut self, names: &Names) -> Read<Claim> {
         let quantity = self.quantity()?;
         let _ = self.take("these: ");
         let cases = self.list_or::<Case>(Scope { names, own: None }, "no cases", "", "; ")?;

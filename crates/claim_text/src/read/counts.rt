@@ -1,7 +1,4 @@
 //! Reads what is counted.
-ghost use Rattle.claim_text.specs.Views.{part_view, count_view};
-ghost use Rattle.claim_text.specs.Reading.{Reads, ReadsAs};
-ghost use Rattle.claim_text.specs.ReadTests.{read_lines, read_motes_part, read_packets, read_arrival, read_copies, read_count};
 
 use crate::error::Unread;
 use crate::reader::{Read, Reader};
@@ -9,18 +6,14 @@ use crate::scope::Scope;
 use claims::{Arrival, Copies, Count, Lines, Packets, Set};
 
 impl Reader<'_> {
-    fn lines(&mut self, scope: Scope<'_>) -> Read<Count>
-        ensures reads { ReadsAs (count_view scope.entry.names.now) (read_lines scope.entry.names.now scope.entry.own self.old.rest.now) self.new.rest.now result }
-    {
+    fn lines(&mut self, scope: Scope<'_>) -> Read<Count> {
         let deed = self.deed(scope)?;
         let order = self.order(scope, false)?;
         Ok(Count::Lines(Lines { deed, order }))
     }
 
     /// Reads a set of motes behind a word, if the rest begins with the word.
-    fn motes(&mut self, scope: Scope<'_>, word: &str) -> Read<Option<Set>>
-        ensures reads { ReadsAs part_view (read_motes_part word.now self.old.rest.now) self.new.rest.now result }
-    {
+    fn motes(&mut self, scope: Scope<'_>, word: &str) -> Read<Option<Set>> {
         if self.take(word) {
             self.take_either(" motes ", " mote ")?;
             Ok(Some(self.set(scope)?))
@@ -29,17 +22,13 @@ impl Reader<'_> {
         }
     }
 
-    fn packets(&mut self, scope: Scope<'_>) -> Read<Count>
-        ensures reads { ReadsAs (count_view scope.entry.names.now) (read_packets self.old.rest.now) self.new.rest.now result }
-    {
+    fn packets(&mut self, scope: Scope<'_>) -> Read<Count> {
         let sender = self.motes(scope, " by")?;
         let when = self.period()?;
         Ok(Count::Packets(Packets { sender, when }))
     }
 
-    fn arrival(&mut self) -> Read<Arrival>
-        ensures reads { Reads (read_arrival self.old.rest.now) self.new.rest.now result }
-    {
+    fn arrival(&mut self) -> Read<Arrival> {
         if self.take_either(" lost by the medium or due by ", " sent")? {
             return Ok(Arrival::Due(self.number()?));
         }
@@ -48,18 +37,14 @@ impl Reader<'_> {
         Ok(Arrival::Lost(when))
     }
 
-    fn copies(&mut self, scope: Scope<'_>) -> Read<Count>
-        ensures reads { ReadsAs (count_view scope.entry.names.now) (read_copies self.old.rest.now) self.new.rest.now result }
-    {
+    fn copies(&mut self, scope: Scope<'_>) -> Read<Count> {
         let to = self.motes(scope, " to")?;
         let arrival = self.arrival()?;
         Ok(Count::Copies(Copies { to, arrival }))
     }
 
     /// Reads what is counted.
-    pub fn count(&mut self, scope: Scope<'_>) -> Read<Count>
-        ensures reads { ReadsAs (count_view scope.entry.names.now) (read_count scope.entry.names.now scope.entry.own self.old.rest.now) self.new.rest.now result }
-    {
+    pub fn count(&mut self, scope: Scope<'_>) -> Read<Count> {
         if self.take_noun("line in the report", "lines in the report") {
             Ok(Count::Rows)
         } else if self.take_noun("copy left at the end", "copies left at the end") {

@@ -2,11 +2,6 @@
 ghost use Rattle.std.specs.Prelude.{◌≡◌, ◌++◌, map, ℕ, OnOk, IfErr};
 ghost use Rattle.claim_text.specs.declared.error.Unread.TheVariants.{Memory};
 ghost use Rattle.claims.specs.declared.trace.Watch.{Watch};
-ghost use Rattle.claim_text.specs.Views.{deed_view, order_view};
-ghost use Rattle.claim_text.specs.Reading.{Reads, ReadsAs};
-ghost use Rattle.claim_text.specs.ReadDeeds.{read_mote_span, read_group, read_mote, read_watches, read_deed};
-ghost use Rattle.claim_text.specs.ReadDeeds.{motes_in, watch_at};
-ghost use Rattle.claim_text.specs.ReadDeeds.{some_or_no, read_moments, read_relation, read_order};
 
 use crate::error::Unread;
 use crate::reader::{Item, Read, Reader};
@@ -14,12 +9,6 @@ use crate::scope::Scope;
 use claims::{Deed, Order, Relation, Span, Watch};
 
 impl Item for u16 {
-    ghost View = { ℕ };
-
-    ghost view = { λ _ m. m };
-
-    ghost item = { λ _ _. read_mote_span };
-
     /// Reads a mote, or a span of motes.
     fn read(reader: &mut Reader<'_>, _scope: Scope<'_>, items: &mut Vec<u16>) -> Read<()> {
         let from = reader.mote()?;
@@ -34,7 +23,6 @@ impl Item for u16 {
 
 /// Appends the motes of a span; the last one alone, if the first one comes behind it.
 fn put_span(motes: &mut Vec<u16>, from: u16, to: u16) -> Read<()>
-    ensures motes { OnOk result (motes.new.items ≡ motes.old.items ++ motes_in from to) }
     ensures memory { IfErr result (λ e. e ≡ Memory) }
 {
     for mote in from..to {
@@ -45,12 +33,6 @@ fn put_span(motes: &mut Vec<u16>, from: u16, to: u16) -> Read<()>
 }
 
 impl Item for Watch {
-    ghost View = { Watch };
-
-    ghost view = { λ _ w. w };
-
-    ghost item = { λ _ _. read_group };
-
     /// Reads motes with one period.
     fn read(reader: &mut Reader<'_>, scope: Scope<'_>, items: &mut Vec<Watch>) -> Read<()> {
         let is_one = reader.take_either("mote ", "motes ")?;
@@ -65,7 +47,6 @@ impl Item for Watch {
 
 /// Appends these motes with one period.
 fn put_watches(watches: &mut Vec<Watch>, motes: &[u16], when: Span) -> Read<()>
-    ensures watches { OnOk result (watches.new.items ≡ watches.old.items ++ map (watch_at when) motes.now) }
     ensures memory { IfErr result (λ e. e ≡ Memory) }
 {
     for mote in motes {
@@ -82,15 +63,11 @@ struct Meant {
 }
 
 impl Reader<'_> {
-    fn mote(&mut self) -> Read<u16>
-        ensures reads { Reads (read_mote self.old.rest.now) self.new.rest.now result }
-    {
+    fn mote(&mut self) -> Read<u16> {
         Ok(self.number_up_to(65535)? as u16)
     }
 
-    fn watches(&mut self, scope: Scope<'_>) -> Read<Vec<Watch>>
-        ensures reads { ReadsAs (λ v. v.items) (read_watches scope.entry.own self.old.rest.now) self.new.rest.now result }
-    {
+    fn watches(&mut self, scope: Scope<'_>) -> Read<Vec<Watch>> {
         if self.take(" of no mote") {
             return Ok(Vec::new(self.alloc));
         }
@@ -107,24 +84,18 @@ impl Reader<'_> {
     }
 
     /// Reads a deed.
-    pub fn deed(&mut self, scope: Scope<'_>) -> Read<Deed>
-        ensures reads { ReadsAs (deed_view scope.entry.names.now) (read_deed scope.entry.names.now scope.entry.own self.old.rest.now) self.new.rest.now result }
-    {
+    pub fn deed(&mut self, scope: Scope<'_>) -> Read<Deed> {
         let patterns = self.list_or(scope, "of no kind", "", " or ")?;
         let watches = self.watches(scope)?;
         Ok(Deed { watches, patterns })
     }
 
-    fn some_or_no(&mut self, relation: Relation) -> Read<Option<Meant>>
-        ensures reads { Reads (some_or_no relation self.old.rest.now) self.new.rest.now result }
-    {
+    fn some_or_no(&mut self, relation: Relation) -> Read<Option<Meant>> {
         let is_so = self.take_either("some line ", "no line ")?;
         Ok(Some(Meant { relation, is_so }))
     }
 
-    fn moments(&mut self) -> Read<Option<Meant>>
-        ensures reads { Reads (read_moments self.old.rest.now) self.new.rest.now result }
-    {
+    fn moments(&mut self) -> Read<Option<Meant>> {
         let moments = self.number()?;
         self.take_either(" moments", " moment")?;
         if self.take_either(" after ", " before ")? {
@@ -135,9 +106,7 @@ impl Reader<'_> {
     }
 
     /// Reads the words of a relation, if there is one.
-    fn relation(&mut self) -> Read<Option<Meant>>
-        ensures reads { Reads (read_relation self.old.rest.now) self.new.rest.now result }
-    {
+    fn relation(&mut self) -> Read<Option<Meant>> {
         if self.take(" after ") {
             return self.some_or_no(Relation::After);
         }
@@ -153,9 +122,7 @@ impl Reader<'_> {
     }
 
     /// Reads an order, if there is one. It is denied if it is turned round.
-    pub fn order(&mut self, scope: Scope<'_>, is_turned: bool) -> Read<Option<Order>>
-        ensures reads { ReadsAs (order_view scope.entry.names.now) (read_order scope.entry.names.now scope.entry.own is_turned self.old.rest.now) self.new.rest.now result }
-    {
+    pub fn order(&mut self, scope: Scope<'_>, is_turned: bool) -> Read<Option<Order>> {
         let Some(Meant { relation, is_so }) = self.relation()? else {
             return Ok(None);
         };

@@ -1,7 +1,5 @@
 //! Reads kinds of lines.
 ghost use Rattle.claim_text.specs.KindsText.{marks_of};
-ghost use Rattle.claim_text.specs.Reading.{ReadsAs};
-ghost use Rattle.claim_text.specs.ReadKinds.{read_one_kind, read_kinds};
 
 use crate::error::Unread;
 use crate::reader::{Read, Reader};
@@ -9,9 +7,7 @@ use claims::Kinds;
 
 impl Reader<'_> {
     /// Reads one kind, beside these.
-    fn kind(&mut self, mut kinds: Kinds) -> Read<Kinds>
-        ensures reads { ReadsAs marks_of (read_one_kind (marks_of kinds) self.old.rest.now) self.new.rest.now result }
-    {
+    fn kind(&mut self, mut kinds: Kinds) -> Read<Kinds> {
         if self.take("start") {
             kinds.start = true;
         } else if self.take("leave") {
@@ -47,9 +43,7 @@ impl Reader<'_> {
     }
 
     /// Reads the kinds of a pattern.
-    pub fn kinds(&mut self) -> Read<Kinds>
-        ensures reads { ReadsAs marks_of (read_kinds self.old.rest.now) self.new.rest.now result }
-    {
+    pub fn kinds(&mut self) -> Read<Kinds> {
         let mut kinds = Kinds::default();
         if self.take("nothing") {
             return Ok(kinds);

@@ -3,10 +3,6 @@ ghost use Rattle.std.specs.Prelude.{◌≡◌, ◌≤◌, ℕ, List, Some, IfOk}
 ghost use Rattle.claims.specs.declared.set.Span.{Span};
 ghost use Rattle.claims.specs.declared.limits.Limits.{Limits};
 ghost use Rattle.claim_text.specs.Numbers.{part_text};
-ghost use Rattle.claim_text.specs.Views.{set_view};
-ghost use Rattle.claim_text.specs.Reading.{Reads, ReadsAs, ReadsDigit, begins_digit, read_number, read_number_up_to};
-ghost use Rattle.claim_text.specs.ReadNumbers.{read_spans, read_number_item, read_set_item, read_set, read_item, read_part};
-ghost use Rattle.claim_text.specs.ReadNumbers.{read_period, read_limits};
 
 use crate::error::Unread;
 use crate::reader::{Item, Read, Reader};
@@ -14,12 +10,6 @@ use crate::scope::Scope;
 use claims::{Limits, Set, Span};
 
 impl Item for u64 {
-    ghost View = { ℕ };
-
-    ghost view = { λ _ n. n };
-
-    ghost item = { λ _ _. read_number_item };
-
     fn read(reader: &mut Reader<'_>, _scope: Scope<'_>, items: &mut Vec<u64>) -> Read<()> {
         items.push(reader.number()?)?;
         Ok(())
@@ -27,12 +17,6 @@ impl Item for u64 {
 }
 
 impl Item for Span {
-    ghost View = { Span };
-
-    ghost view = { λ _ s. s };
-
-    ghost item = { λ _ _. read_spans };
-
     fn read(reader: &mut Reader<'_>, _scope: Scope<'_>, items: &mut Vec<Span>) -> Read<()> {
         let from = reader.number()?;
         let to = if reader.take(" to ") {
@@ -46,12 +30,6 @@ impl Item for Span {
 }
 
 impl Item for Set {
-    ghost View = { List Span };
-
-    ghost view = { λ _. set_view };
-
-    ghost item = { λ _ _. read_set_item };
-
     fn read(reader: &mut Reader<'_>, scope: Scope<'_>, items: &mut Vec<Set>) -> Read<()> {
         items.push(reader.item(scope)?)?;
         Ok(())
@@ -59,9 +37,7 @@ impl Item for Set {
 }
 
 impl Reader<'_> {
-    fn digit(&mut self) -> Option<u64>
-        ensures reads { ReadsDigit self.old.rest.now self.new.rest.now result }
-    {
+    fn digit(&mut self) -> Option<u64> {
         match self.rest {
             [byte, rest @ ..] if byte.is_ascii_digit() => {
                 self.rest = rest;
@@ -72,16 +48,12 @@ impl Reader<'_> {
     }
 
     /// Returns whether the rest begins with a digit.
-    pub fn has_number(&self) -> bool
-        ensures value { result ≡ begins_digit self.now.rest.now }
-    {
+    pub fn has_number(&self) -> bool {
         matches!(self.rest, [byte, ..] if byte.is_ascii_digit())
     }
 
     /// Reads a number that fits in 64 bits.
-    pub fn number(&mut self) -> Read<u64>
-        ensures reads { Reads (read_number self.old.rest.now) self.new.rest.now result }
-    {
+    pub fn number(&mut self) -> Read<u64> {
         let Some(mut number) = self.digit() else {
             return Err(Unread::Unexpected);
         };
@@ -101,7 +73,6 @@ impl Reader<'_> {
     /// Reads a number that is at most this great.
     pub fn number_up_to(&mut self, most: u64) -> Read<u64>
         ensures within { IfOk result (λ n. n ≤ most) }
-        ensures reads { Reads (read_number_up_to most self.old.rest.now) self.new.rest.now result }
     {
         let number = self.number()?;
         if number <= most {
@@ -112,25 +83,19 @@ impl Reader<'_> {
     }
 
     /// Reads a set of numbers.
-    pub fn set(&mut self, scope: Scope<'_>) -> Read<Set>
-        ensures reads { ReadsAs set_view (read_set self.old.rest.now) self.new.rest.now result }
-    {
+    pub fn set(&mut self, scope: Scope<'_>) -> Read<Set> {
         let spans = self.list_or(scope, "none", "", " or ")?;
         Ok(Set { spans })
     }
 
     /// Reads an item of a list: a set of numbers, with `any of` in front or without it.
-    fn item(&mut self, scope: Scope<'_>) -> Read<Set>
-        ensures reads { ReadsAs set_view (read_item self.old.rest.now) self.new.rest.now result }
-    {
+    fn item(&mut self, scope: Scope<'_>) -> Read<Set> {
         let _is_any = self.take("any of ");
         self.set(scope)
     }
 
     /// Reads a set of numbers behind its label, if the rest begins with the label.
-    pub fn part(&mut self, scope: Scope<'_>, label: &str) -> Read<Option<Set>>
-        ensures reads { ReadsAs (part_text label.now) (read_part label.now self.old.rest.now) self.new.rest.now result }
-    {
+    pub fn part(&mut self, scope: Scope<'_>, label: &str) -> Read<Option<Set>> {
         if self.take(label) {
             Ok(Some(self.set(scope)?))
         } else {
@@ -139,9 +104,7 @@ impl Reader<'_> {
     }
 
     /// Reads a period. Nothing stands for all moments.
-    pub fn period(&mut self) -> Read<Span>
-        ensures reads { Reads (read_period self.old.rest.now) self.new.rest.now result }
-    {
+    pub fn period(&mut self) -> Read<Span> {
         if self.take(" at ") {
             let at = self.number()?;
             return Ok(Span { from: at, to: at });
@@ -161,9 +124,7 @@ impl Reader<'_> {
     }
 
     /// Reads limits.
-    pub fn limits(&mut self) -> Read<Limits>
-        ensures reads { Reads (read_limits self.old.rest.now) self.new.rest.now result }
-    {
+    pub fn limits(&mut self) -> Read<Limits> {
         if self.take("exactly ") {
             let number = self.number()?;
             return Ok(exactly(number));

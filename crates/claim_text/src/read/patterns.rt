@@ -1,8 +1,6 @@
 //! Reads patterns.
 ghost use Rattle.std.specs.Prelude.{ℕ, List};
 ghost use Rattle.claim_text.specs.PatternText.{target_text, target_part, pattern_text};
-ghost use Rattle.claim_text.specs.Reading.{ReadsAs};
-ghost use Rattle.claim_text.specs.ReadPatterns.{IsPlace, ReadsName, read_target, read_target_part, read_pattern, read_pattern_item};
 
 use crate::reader::{Item, Read, Reader};
 use crate::scope::Scope;
@@ -10,12 +8,6 @@ use claims::Pattern;
 use program_tree::{Names, Proc, Target};
 
 impl Item for Pattern {
-    ghost View = { List ℕ };
-
-    ghost view = { pattern_text };
-
-    ghost item = { λ names _. read_pattern_item names };
-
     fn read(reader: &mut Reader<'_>, scope: Scope<'_>, items: &mut Vec<Pattern>) -> Read<()> {
         items.push(reader.pattern(scope)?)?;
         Ok(())
@@ -23,9 +15,7 @@ impl Item for Pattern {
 }
 
 /// The place of a word among the first 256 names.
-fn place_of(names: &Names, word: &[u8]) -> Option<u8>
-    ensures place { IsPlace names.now word.now result }
-{
+fn place_of(names: &Names, word: &[u8]) -> Option<u8> {
     for place in 0..names.len().min(256) {
         if names.get(place).as_bytes() == word {
             return Some(place as u8);
@@ -36,9 +26,7 @@ fn place_of(names: &Names, word: &[u8]) -> Option<u8>
 
 impl Reader<'_> {
     /// Takes the name of a process, if the word in front of a space or a quotation mark is one.
-    fn name(&mut self, names: &Names) -> Option<u8>
-        ensures reads { ReadsName names.now self.old.rest.now self.new.rest.now result }
-    {
+    fn name(&mut self, names: &Names) -> Option<u8> {
         let rest = self.rest;
         let end = rest.iter().position(|byte| *byte == b' ' || *byte == b'"')?;
         let place = place_of(names, &rest[..end])?;
@@ -46,9 +34,7 @@ impl Reader<'_> {
         Some(place)
     }
 
-    fn target(&mut self, names: &Names) -> Read<Target>
-        ensures reads { ReadsAs (target_text names.now) (read_target names.now self.old.rest.now) self.new.rest.now result }
-    {
+    fn target(&mut self, names: &Names) -> Read<Target> {
         let process = if let Some(place) = self.name(names) {
             Proc::Own(place)
         } else if self.take("etimer") {
@@ -65,9 +51,7 @@ impl Reader<'_> {
         Ok(Target::One(process))
     }
 
-    fn target_part(&mut self, names: &Names) -> Read<Option<Target>>
-        ensures reads { ReadsAs (target_part names.now) (read_target_part names.now self.old.rest.now) self.new.rest.now result }
-    {
+    fn target_part(&mut self, names: &Names) -> Read<Option<Target>> {
         if self.take(" process ") {
             Ok(Some(self.target(names)?))
         } else {
@@ -76,9 +60,7 @@ impl Reader<'_> {
     }
 
     #[tactic(auto, unfolding(crate::specs::KindsText::kinds_text))]
-    fn pattern(&mut self, scope: Scope<'_>) -> Read<Pattern>
-        ensures reads { ReadsAs (pattern_text scope.entry.names.now) (read_pattern scope.entry.names.now self.old.rest.now) self.new.rest.now result }
-    {
+    fn pattern(&mut self, scope: Scope<'_>) -> Read<Pattern> {
         self.expect("\"")?;
         let kinds = self.kinds()?;
         let target = self.target_part(scope.names)?;

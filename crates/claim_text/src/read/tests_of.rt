@@ -1,9 +1,5 @@
 //! Reads tests.
 ghost use Rattle.std.specs.Prelude.{map};
-ghost use Rattle.claim_text.specs.Views.{TestView, test_view};
-ghost use Rattle.claim_text.specs.Reading.{Reads, ReadsAs};
-ghost use Rattle.claim_text.specs.ReadTests.{read_test_item, read_each, read_limited, read_times, read_ratio, read_values};
-ghost use Rattle.claim_text.specs.ReadTests.{read_listed, read_last, read_test};
 
 use crate::error::Unread;
 use crate::read::exactly;
@@ -12,12 +8,6 @@ use crate::scope::Scope;
 use claims::{Count, Lines, Ratio, Test};
 
 impl Item for Test {
-    ghost View = { TestView };
-
-    ghost view = { test_view };
-
-    ghost item = { read_test_item };
-
     fn read(reader: &mut Reader<'_>, scope: Scope<'_>, items: &mut Vec<Test>) -> Read<()> {
         items.push(reader.test(scope)?)?;
         Ok(())
@@ -25,9 +15,7 @@ impl Item for Test {
 }
 
 impl Reader<'_> {
-    fn each(&mut self, scope: Scope<'_>) -> Read<Test>
-        ensures reads { ReadsAs (test_view scope.entry.names.now) (read_each scope.entry.names.now scope.entry.own self.old.rest.now) self.new.rest.now result }
-    {
+    fn each(&mut self, scope: Scope<'_>) -> Read<Test> {
         let deed = self.deed(scope)?;
         self.expect(" is")?;
         match self.order(scope, true)? {
@@ -36,25 +24,19 @@ impl Reader<'_> {
         }
     }
 
-    fn limited(&mut self, scope: Scope<'_>) -> Read<Test>
-        ensures reads { ReadsAs (test_view scope.entry.names.now) (read_limited scope.entry.names.now scope.entry.own self.old.rest.now) self.new.rest.now result }
-    {
+    fn limited(&mut self, scope: Scope<'_>) -> Read<Test> {
         let limits = self.limits()?;
         self.expect(" ")?;
         Ok(Test::Count(self.count(scope)?, limits))
     }
 
-    fn times(&mut self) -> Read<u32>
-        ensures reads { Reads (read_times self.old.rest.now) self.new.rest.now result }
-    {
+    fn times(&mut self) -> Read<u32> {
         let factor = self.number_up_to(u64::from(u32::MAX))? as u32;
         self.expect(" times the number of ")?;
         Ok(factor)
     }
 
-    fn ratio(&mut self, scope: Scope<'_>) -> Read<Test>
-        ensures reads { ReadsAs (test_view scope.entry.names.now) (read_ratio scope.entry.names.now scope.entry.own self.old.rest.now) self.new.rest.now result }
-    {
+    fn ratio(&mut self, scope: Scope<'_>) -> Read<Test> {
         let low_times = self.times()?;
         let low = self.count(scope)?;
         let is_strict = self.take_either(" is less than ", " is at most ")?;
@@ -69,15 +51,11 @@ impl Reader<'_> {
         }))
     }
 
-    fn values<T: Item + Drop>(&mut self, scope: Scope<'_>) -> Read<Vec<T>>
-        ensures reads { ReadsAs (λ v. map (T.view scope.entry.names.now) v.items) (read_values (T.item scope.entry.names.now scope.entry.own) self.old.rest.now) self.new.rest.now result }
-    {
+    fn values<T: Item + Drop>(&mut self, scope: Scope<'_>) -> Read<Vec<T>> {
         self.list_or(scope, "no values", "the values ", ", ")
     }
 
-    fn listed(&mut self, scope: Scope<'_>) -> Read<Test>
-        ensures reads { ReadsAs (test_view scope.entry.names.now) (read_listed scope.entry.names.now scope.entry.own self.old.rest.now) self.new.rest.now result }
-    {
+    fn listed(&mut self, scope: Scope<'_>) -> Read<Test> {
         let deed = self.deed(scope)?;
         if self.take_either(
             " have in order of time exactly ",
@@ -89,17 +67,13 @@ impl Reader<'_> {
         }
     }
 
-    fn last(&mut self, scope: Scope<'_>) -> Read<Test>
-        ensures reads { ReadsAs (test_view scope.entry.names.now) (read_last scope.entry.names.now scope.entry.own self.old.rest.now) self.new.rest.now result }
-    {
+    fn last(&mut self, scope: Scope<'_>) -> Read<Test> {
         let deed = self.deed(scope)?;
         self.expect(" has the value ")?;
         Ok(Test::Last(deed, self.set(scope)?))
     }
 
-    fn test(&mut self, scope: Scope<'_>) -> Read<Test>
-        ensures reads { ReadsAs (test_view scope.entry.names.now) (read_test scope.entry.names.now scope.entry.own self.old.rest.now) self.new.rest.now result }
-    {
+    fn test(&mut self, scope: Scope<'_>) -> Read<Test> {
         if self.take("every line ") {
             self.each(scope)
         } else if self.take("the lines ") {

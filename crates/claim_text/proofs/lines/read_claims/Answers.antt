@@ -17,4 +17,4 @@ returns-in_err-add_line-clause-refused c =
     ap (map (λ b. b.now)) c.deref-line-items.ensures.value ∙ c.in_ok-lines.ensures.lines in
     let p = err_from_is_err_and c.from_residual-in_err-add_line.result c.from_residual-in_err-add_line.ensures.1 in
     rw (p.1, p.2) (refused c.deref-line-items.result.now c.loop-index.index _ c.loop-index-test.true c.args.names.now c.args.text.now
-    c.loop-index.claims.items _ is c.loop-index.invariant c.in_err-add_line.ensures.at c.in_err-add_line.ensures.no_text)
+    c.loop-index.claims.items _ is c.loop-index.invariant c.in_err-add_line.ensures.at)
