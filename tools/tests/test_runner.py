@@ -8,14 +8,14 @@ import sys
 import tempfile
 import threading
 import unittest
-from collections.abc import Iterator
+from collections.abc import Callable, Generator, Iterable, Iterator
 from pathlib import Path
+from typing import Any
 from unittest import mock
 
 from here import HOLDS, SECONDS, TOOLS, Room, scenario_of, until
 from motesim.faults import Fault
-from motesim.runner import LimitMet, Limits, NoReport, ProgramFault, Runner, Stopped, ending, run_each
-from motesim.runner.batch import Workers, each_part
+from motesim.runner import Done, LimitMet, Limits, NoReport, ProgramFault, Runner, Stopped, each_part, ending, pool
 from motesim.runner.module import script_of
 from skips import need
 from unbuilt_tree import is_alive
@@ -160,11 +160,12 @@ class Modules(unittest.TestCase):
     def test_one_process_makes_all_runs_with_the_answers_of_the_scripts(self) -> None:
         host, checker = self.host(), Runner(script_of('motecheck'))
         claims = b'mote 0: at least 2 lines "print process a"'
-        for runner, scenario, words, files in (
+        runs: list[tuple[Runner, bytes, tuple[str, ...], dict[str, bytes]]] = [
                 (self.runner, SMALL, (), {}), (self.runner, b'end = ', (), {}), (self.runner, SMALL, ('--workers',), {}),
                 (checker, SMALL, ('/dev/stdin', 'claims'), {'claims': claims}),
                 (checker, SMALL, ('--links', '/dev/stdin', 'claims'), {'claims': claims}),
-                (checker, SMALL, ('/dev/stdin', 'none'), {}), (checker, SMALL, ('--runs', '2', '/dev/stdin', 'a'), {})):
+                (checker, SMALL, ('/dev/stdin', 'none'), {}), (checker, SMALL, ('--runs', '2', '/dev/stdin', 'a'), {})]
+        for runner, scenario, words, files in runs:
             running = runner.start(scenario, *words, files=files)
             got = running.wait()
             with tempfile.NamedTemporaryFile() as file:
@@ -226,10 +227,21 @@ def squared(item: int) -> int:
     return item * item
 
 
+def itself(work: Any) -> Any:
+    return work
+
+
+def run_each(work: Callable[[Any], Any], items: Iterable[Any], processes: int,
+             is_over: Callable[[], bool] = lambda: False, **how: Any) -> Generator[Done[Any, Any], None, None]:
+    """The results of work that one pool does for one series of items."""
+    with pool(itself, work, processes, seconds=how.pop('seconds', math.inf)) as workers:
+        yield from workers.results(items, is_over, **how)
+
+
 class Batches(Programs):
     def test_each_item_has_its_result(self) -> None:
-        for workers in 0, 1, 3:
-            found = list(run_each(squared, range(200), workers=workers))
+        for processes in 1, 3:
+            found = list(run_each(squared, range(200), processes))
             self.assertEqual(sorted((it.item, it.result, it.fault) for it in found),
                              [(n, n * n, '') for n in range(200)])
 
@@ -240,10 +252,10 @@ class Batches(Programs):
                 until(lambda: (self.room / '1').exists() and (self.room / '2').exists())
             self.put(str(item))
             return item
-        self.assertEqual([it.result for it in run_each(work, range(60), workers=3, ordered=True)], list(range(60)))
+        self.assertEqual([it.result for it in run_each(work, range(60), 3, ordered=True)], list(range(60)))
 
     def test_no_items(self) -> None:
-        self.assertEqual(list(run_each(squared, [], workers=2)), [])
+        self.assertEqual(list(run_each(squared, [], 2)), [])
 
     def test_whatever_an_item_raises_is_its_fault(self) -> None:
         def work(item: int) -> object:
@@ -260,7 +272,7 @@ class Batches(Programs):
             if item == 6:
                 return [10] * 10 ** 15
             return item
-        found = {it.item: it.fault for it in run_each(work, range(9), workers=2)}
+        found = {it.item: it.fault for it in run_each(work, range(9), 2)}
         self.assertEqual([found[it] for it in (0, 1, 2, 3, 4, 6, 7, 8)], ['', 'in a line', 'ValueError: of two lines',
             'SystemExit: 4', 'out of memory', 'out of memory', '', ''])
         self.assertIn('pickle', found[5])
@@ -272,8 +284,8 @@ class Batches(Programs):
                     signal.pause()
             return item
         found, clock = {}, mock.Mock(monotonic=mock.Mock(return_value=0))
-        with mock.patch.multiple('motesim.runner.batch', time=clock, MOST_AHEAD=1):
-            for it in run_each(work, range(40), workers=2, seconds=9):
+        with mock.patch.multiple('motesim.runner.workers', time=clock, MOST_AHEAD=1):
+            for it in run_each(work, range(40), 2, seconds=9):
                 found[it.item] = it.result, it.fault
                 # (all others are done)
                 clock.monotonic.return_value = 10 * (len(found) == 39)
@@ -284,7 +296,7 @@ class Batches(Programs):
             if item in (0, 21, 39):
                 os.kill(os.getpid(), signal.SIGKILL)
             return item
-        found = {it.item: it.fault for it in run_each(work, range(40), workers=2)}
+        found = {it.item: it.fault for it in run_each(work, range(40), 2)}
         self.assertEqual(sorted(found), list(range(40)))
         self.assertEqual([n for n, fault in found.items() if fault], sorted([0, 21, 39], key=list(found).index))
         self.assertIn('ended by the system', found[21])
@@ -292,15 +304,13 @@ class Batches(Programs):
     def test_workers_do_one_series_after_another(self) -> None:
         def work(item: int) -> tuple[int, int]:
             return item, os.getpid()
-        workers = Workers(work, 2, SECONDS)
-        self.addCleanup(workers.end)
-        first, second = (
-            [done.result for _, done in workers.results(range(count)) if done.result] for count in (9, 5))
+        with pool(itself, work, 2) as workers:
+            first, second = ([done.result for done in workers.results(range(count)) if done.result] for count in (9, 5))
         self.assertEqual([sorted(it for it, _ in its) for its in (first, second)], [[*range(9)], [*range(5)]])
         self.assertLessEqual({pid for _, pid in second}, {pid for _, pid in first})
 
     def test_large_items_and_results_pass(self) -> None:
-        found = list(run_each(lambda it: it + it, [b'x' * 3_000_000] * 8, workers=2))
+        found = list(run_each(lambda it: it + it, [b'x' * 3_000_000] * 8, 2))
         self.assertEqual([len(it.result or b'') for it in found], [6_000_000] * 8)
 
     def test_items_are_read_as_workers_become_free(self) -> None:
@@ -311,7 +321,7 @@ class Batches(Programs):
                 given.append(number)
                 yield number
 
-        with contextlib.closing(run_each(squared, items(), workers=2)) as found:
+        with contextlib.closing(run_each(squared, items(), 2)) as found:
             for _ in range(20):
                 next(found)
         self.assertLess(len(given), 200)
@@ -323,35 +333,39 @@ class Batches(Programs):
             if item == 0:
                 return os.getpid()
             return Runner(program).answer(b'').status
-        with contextlib.closing(run_each(work, range(9), workers=2)) as found:
+        with contextlib.closing(run_each(work, range(9), 2)) as found:
             next(found)
             self.assertTrue(until(lambda: len(list(self.room.glob('*.run'))) == 2))
         for path in self.room.glob('*.run'):
             self.assertTrue(until(lambda: not is_alive(int(path.stem))))
 
     def test_stop_begins_nothing_more(self) -> None:
-        stop = threading.Event()
-        found = []
-
-        for done in run_each(squared, range(1000), workers=2, stop=stop):
+        found: list[int | None] = []
+        for done in run_each(squared, range(1000), 2, lambda: bool(found)):
             found.append(done.result)
-            stop.set()
         self.assertLess(len(found), 10)
-        self.assertEqual(list(run_each(squared, range(9), workers=0, stop=stop)), [])
+        self.assertEqual(list(run_each(squared, range(9), 1, lambda: True)), [])
+
+    def test_work_that_can_not_be_prepared_is_the_fault_of_each_item(self) -> None:
+        def unprepared(shared: str) -> Callable[[int], int]:
+            raise Fault(shared)
+        with pool(unprepared, 'not ready', 2) as workers:
+            faults = [it.fault for it in workers.results(range(3))]
+        self.assertEqual(faults, ['not ready'] * 3)
 
     def test_items_that_fail_end_the_loop_with_their_fault(self) -> None:
         def items() -> Iterator[int]:
             yield 1
             raise Fault('no more')
         with self.assertRaisesRegex(Fault, 'no more'):
-            list(run_each(squared, items(), workers=2))
+            list(run_each(squared, items(), 2))
 
     def test_ctrl_c_is_for_the_tool_alone(self) -> None:
         # (once one has its result, both workers have begun)
-        source = ('import multiprocessing, signal, sys; sys.path.insert(0, %r)\n' 'from motesim.runner import run_each\n'
+        source = ('import multiprocessing, signal, sys; sys.path.insert(0, %r)\n' 'from motesim.runner import pool\n'
                   'both = multiprocessing.Barrier(2)\n' 'try:\n'
-                  '    for done in run_each(lambda it: both.wait() if it < 2 else signal.pause(), range(9), workers=2):\n'
-                  '        print("one", flush=True)\n' 'except KeyboardInterrupt:\n'
+                  '    with pool(lambda it: it, lambda it: both.wait() if it < 2 else signal.pause(), 2) as workers:\n'
+                  '        for done in workers.results(range(9)):\n            print("one", flush=True)\n' 'except KeyboardInterrupt:\n'
                   '    print("stopped")\n' % str(TOOLS))
         with subprocess.Popen([sys.executable, '-B', '-c', source], stdout=subprocess.PIPE, stderr=subprocess.PIPE,
                               start_new_session=True, text=True) as ran:
@@ -363,7 +377,7 @@ class Batches(Programs):
 
     def test_with_threads_about_workers_are_not_forked(self) -> None:
         with beside():
-            self.assertEqual(sorted(it.result or 0 for it in run_each(math.isqrt, [1, 4], workers=1)), [1, 2])
+            self.assertEqual(sorted(it.result or 0 for it in run_each(math.isqrt, [1, 4], 1)), [1, 2])
 
 
 class Parts(unittest.TestCase):

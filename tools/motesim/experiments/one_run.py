@@ -5,6 +5,8 @@
 from __future__ import annotations
 
 import hashlib
+from collections.abc import Callable
+from functools import partial
 from pathlib import Path
 from typing import NamedTuple
 
@@ -20,8 +22,8 @@ from motesim.plan.plan import Plan
 from motesim.plan.tables import Value
 from motesim.processor_time import at_most
 from motesim.report import Report
-from motesim.runner.batch import fault_of
 from motesim.runner.cluster import Binary
+from motesim.runner.pools import fault_of
 from motesim.runner.process import Limits, Runner
 from motesim.report.run import ProgramFault, Run
 
@@ -136,3 +138,8 @@ def run_job(work: Work, job: Job) -> Result:
                              report=digest(got.report))
     except BaseException as failure:
         return made._replace(fault=reason_of(failure))
+
+
+def runs_of(work: Work) -> Callable[[Job], Result]:
+    """The function that makes a run."""
+    return partial(run_job, work)

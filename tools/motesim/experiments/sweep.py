@@ -16,7 +16,7 @@ from motesim.experiments.measures import file_of
 from motesim.experiments.one_run import DIGITS, Job, Result, Work, digest
 from motesim.cells import text_of
 from motesim.experiments.results import Head, Results, Row
-from motesim.experiments.runs import Stopped, run_by_dask, run_here
+from motesim.experiments.runs import Stopped, results_of
 from motesim.faults import INTERRUPTED, Fault
 from motesim.files import refuse_inputs
 from motesim.output import beside
@@ -122,10 +122,8 @@ class Sweeper:
         if not missing:
             return 0
         jobs, work, progress, made, failed = self.jobs(missing), self.work(), Progress(), 0, 0
-        results = (run_by_dask(jobs, work, len(missing), address) if address else
-                   run_here(jobs, work, min(processes, len(missing))))
         try:
-            for result in results:
+            for result in results_of(jobs, work, min(processes, len(missing)), address):
                 self.rows[result.place] = self.row(result)
                 self.file.add(self.rows[result.place])
                 made, failed = made + 1, failed + bool(result.fault)

@@ -22,7 +22,7 @@ from motesim.progress import Progress
 from motesim.judge.expectations import parts_of, text_of
 from motesim.judge.names import Names, names_of
 from motesim.judge.several import read_all
-from motesim.runner import Limits, program_path, run_each
+from motesim.runner import Limits, pool, program_path
 from motesim.runner.programs import CHECKER
 from motesim.terminal import one_line
 
@@ -42,12 +42,13 @@ def grade(entries: Sequence[Entry], task: Task, jobs: int | None = None) -> list
     seconds = (task.limits.clock + SPARE) * max(1, len(task.nets))
     found: dict[int, Marks] = {}
     progress = Progress()
-    for done in run_each(task.of, enumerate(entries, 1), workers=jobs, seconds=seconds):
-        number, entry = done.item
-        found[number] = (done.result or unmarked(entry.name, done.fault or 'it can\'t be graded')).in_lines()
-        if progress.is_due():
-            progress.show(('grade: %d of %d solutions are graded; the last one is %s' % (
-                len(found), len(entries), entry.name))[:WIDTH])
+    with pool(lambda its: its.of, task, jobs, seconds=seconds) as workers:
+        for done in workers.results(enumerate(entries, 1)):
+            number, entry = done.item
+            found[number] = (done.result or unmarked(entry.name, done.fault or 'it can\'t be graded')).in_lines()
+            if progress.is_due():
+                progress.show(('grade: %d of %d solutions are graded; the last one is %s' % (
+                    len(found), len(entries), entry.name))[:WIDTH])
     progress.end()
     return [found[number] for number in sorted(found)]
 

@@ -1,34 +1,26 @@
-"""Work for the workers of a Dask cluster, for tools/sweep and tools/search.
-
-    with Cluster('tcp://there:8786') as cluster:
-        for result in cluster.results(work, shared, items, 50, is_over):
-            print(result)
-
-`work(shared, items)` is a function of a module of these tools, which the workers get, and it returns a list of results.
-"""
+"""The workers of a Dask cluster as a pool, for machines beyond one."""
 from __future__ import annotations
 
 import itertools
 import logging
 import os
 import tempfile
+import threading
 import zipfile
 from collections.abc import Callable, Iterable, Iterator
 from pathlib import Path
-from typing import Any, NamedTuple, TypeVar
+from typing import Any, Generic, NamedTuple
 
 from motesim import packages
 from motesim.faults import Fault
+from motesim.runner.pools import Done, Item, Result, Shared, in_order, tried
 from motesim.runner.programs import ProgramFault, program_path
 from motesim.runner.versions import program_digest
 
 PACKAGE = Path(__file__).resolve().parents[1]
-# The seconds for an answer of the scheduler, those between two looks at `is_over`, and the number of lists of items
-# that each worker has at a time.
-SECONDS, TICK, AHEAD = 10, 1, 3
-Shared = TypeVar('Shared')
-Item = TypeVar('Item')
-Result = TypeVar('Result')
+# The seconds for an answer of the scheduler, and those between two looks at `is_over`; the most items in a list, and the
+# number of lists that each worker has at a time.
+SECONDS, TICK, MOST_AT_A_TIME, AHEAD = 10, 1, 64, 3
 
 
 class Binary(NamedTuple):
@@ -54,12 +46,31 @@ class Binary(NamedTuple):
         return path
 
 
-class Cluster:
-    """The workers of a cluster, with these tools."""
+# For each thread of a worker: its work, and the pool for which the work is.
+_of_thread = threading.local()
 
-    def __init__(self, address: str) -> None:
+
+class Given(NamedTuple):
+    """What the workers of a cluster share, with the number of their pool."""
+    number: str
+    prepare: Callable[[Any], Callable[[Any], Any]]
+    shared: Any
+
+
+def run_there(given: Given, items: list[Any]) -> list[tuple[Any, str]]:
+    """The results of some items, on a worker, each with its fault."""
+    if getattr(_of_thread, 'number', None) != given.number:
+        _of_thread.work, _of_thread.fault = tried(given.prepare, given.shared)
+        _of_thread.number = given.number
+    return [tried(_of_thread.work, it) if _of_thread.work else (None, _of_thread.fault) for it in items]
+
+
+class Cluster(Generic[Item, Result]):
+    """The workers of a cluster, which get these tools, and then lists of items that become longer."""
+
+    def __init__(self, address: str, prepare: Callable[[Shared], Callable[[Item], Result]], shared: Shared) -> None:
         self.distributed: Any = packages.load('distributed')
-        self.address = address
+        self.address, self.given = address, Given(os.urandom(8).hex(), prepare, shared)
         # (Dask and asyncio also log the errors that they raise, with tracebacks)
         logging.disable()
         try:
@@ -70,16 +81,13 @@ class Cluster:
             self.client.wait_for_workers(1, timeout=SECONDS)
             self.client.upload_file(self._package())
         except TimeoutError:
-            self.close()
+            self.client.close()
             raise Fault('the Dask scheduler at %s has no workers' % address) from None
 
-    def __enter__(self) -> Cluster:
+    def __enter__(self) -> Cluster[Item, Result]:
         return self
 
     def __exit__(self, *fault: object) -> None:
-        self.close()
-
-    def close(self) -> None:
         self.client.close()
 
     def _package(self) -> str:
@@ -91,35 +99,35 @@ class Cluster:
                 file.write(source, str(source.relative_to(PACKAGE.parent)))
         return str(path)
 
-    def workers(self) -> int:
-        return max(1, len(self.client.scheduler_info()['workers']))
-
-    def results(self, work: Callable[[Shared, list[Item]], list[Result]], shared: Shared, items: Iterable[Item],
-                length: int, is_over: Callable[[], bool]) -> Iterator[Result]:
-        """The results in the order in which lists of at most this many items end. Once `is_over()` is true, no more
-        items are read, and only the lists that were sent already end."""
+    def results(self, items: Iterable[Item], is_over: Callable[[], bool] = lambda: False,
+                ordered: bool = False) -> Iterator[Done[Item, Result]]:
         try:
-            yield from self._results(work, shared, iter(items), length, is_over)
+            found = self._numbered(enumerate(items), is_over)
+            yield from in_order(found) if ordered else (done for _, done in found)
         except Fault:
             raise
         except Exception as fault:
             raise Fault('the Dask cluster at %s: %s: %s' % (self.address, type(fault).__name__, fault)) from None
 
-    def _results(self, work: Callable[[Shared, list[Item]], list[Result]], shared: Shared, items: Iterator[Item],
-                 length: int, is_over: Callable[[], bool]) -> Iterator[Result]:
+    def _numbered(self, items: Iterator[tuple[int, Item]], is_over: Callable[[], bool]
+                  ) -> Iterator[tuple[int, Done[Item, Result]]]:
         # (in a list, because Dask would treat the members of a tuple as arguments)
-        there, = self.client.scatter([shared], broadcast=True)
-        ahead = AHEAD * self.workers()
-        going: list[Any] = []
+        there, = self.client.scatter([self.given], broadcast=True)
+        ahead = AHEAD * max(1, len(self.client.scheduler_info()['workers']))
+        going: dict[Any, list[tuple[int, Item]]] = {}
+        ended = 0
         while True:
+            # (first short lists, so that all workers get some)
+            length = min(MOST_AT_A_TIME, 1 + ended // ahead)
             while len(going) < ahead and not is_over() and (some := list(itertools.islice(items, length))):
-                going.append(self.client.submit(work, there, some, pure=False))
+                going[self.client.submit(run_there, there, [it for _, it in some], pure=False)] = some
             if not going:
                 return
             try:
-                done = self.distributed.wait(going, timeout=TICK, return_when='FIRST_COMPLETED').done
+                done = self.distributed.wait(list(going), timeout=TICK, return_when='FIRST_COMPLETED').done
             except TimeoutError:
                 continue
             for future in done:
-                going.remove(future)
-                yield from future.result()
+                for (number, item), answer in zip(going.pop(future), future.result(), strict=True):
+                    ended += 1
+                    yield number, Done(item, *answer)

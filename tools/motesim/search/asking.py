@@ -1,6 +1,7 @@
 """The request for a search: prepares it, and runs the search."""
 from __future__ import annotations
 
+import contextlib
 import hashlib
 import time
 from collections.abc import Callable
@@ -12,15 +13,14 @@ from motesim.search.change import Base
 from motesim.search.faults import Asked, absent_kinds, after_packets, faults_of, untried_copies, without_effect
 from motesim.search.kept import Kept
 from motesim.search.notes import Note, note
-from motesim.runner import Limits, Runner, program_path
+from motesim.runner import Limits, Runner, pool, program_path
 from motesim.runner.cluster import Binary
 from motesim.runner.programs import CHECKER, PROGRAM
 from motesim.search.prepare import plain_run, prepare
-from motesim.search.runner import Here, OnCluster
 from motesim.search.search import Bounds, Search
 from motesim.search.sets import Known, count_of, union
 from motesim.search.survey import survey_of
-from motesim.search.work import LIMITS, Work, mask_of, numbers_of
+from motesim.search.work import LIMITS, Work, mask_of, numbers_of, runs_of
 
 
 class Asking:
@@ -88,13 +88,10 @@ class Asking:
             sets = sum(count_of(known.faults, size) for size in range(1, self.bounds.at_most + 1))
             limits = self.limits._replace(seconds=self.limits.seconds + self.seconds * sets)
             search.survey = survey_of(self.base, known.faults, its, self.bounds.at_most, processes, limits, asks_end)
-        runner: OnCluster | Here = OnCluster(self.work(), address) if address else Here(self.work(), processes)
-        try:
-            search.run(runner)
-        except KeyboardInterrupt:
-            search.is_stopped = True
-            search.is_over()
-        finally:
-            runner.close()
-            kept.close()
+        with contextlib.closing(kept), pool(runs_of, self.work(), processes, address) as workers:
+            try:
+                search.run(workers)
+            except KeyboardInterrupt:
+                search.is_stopped = True
+                search.is_over()
         return search

@@ -12,8 +12,8 @@ from dataclasses import dataclass
 
 from motesim.faults import Fault
 from motesim.judge.shortfall import Shortfall
+from motesim.runner import Pool
 from motesim.search.kept import Kept
-from motesim.search.runner import Runner
 from motesim.search.sets import Known, Set, Tally, count_of, draws, union
 from motesim.search.survey import Survey
 from motesim.search.work import MORE, RUN, SAME, STOPPED, UNMADE, Outcome, Task
@@ -90,25 +90,25 @@ class Search:
             return False
         return True
 
-    def run(self, runner: Runner) -> None:
+    def run(self, workers: Pool[Task, Outcome]) -> None:
         """Tries the sets, one size after another."""
         for size in range(1, self.bounds.at_most + 1):
             tally = self.tallies[size] = Tally(count_of(self.known.faults, size))
             if tally.sets and not self.ended_by:
-                self.try_sets(self.known.of_size(size), tally, runner, size)
+                self.try_sets(self.known.of_size(size), tally, workers, size)
         if self.bounds.sample and not self.ended_by:
-            self.draw(runner)
+            self.draw(workers)
 
-    def draw(self, runner: Runner) -> None:
+    def draw(self, workers: Pool[Task, Outcome]) -> None:
         least = self.bounds.at_most + 1
         drawn = list(draws(self.known, least, least + LARGER - 1, self.bounds.sample, self.bounds.seed))
         self.sample.sets = len(drawn)
         found: list[Outcome] = []
-        self.try_sets(iter(drawn), self.sample, runner, 0, found.append)
+        self.try_sets(iter(drawn), self.sample, workers, 0, found.append)
         for outcome in sorted(found):
-            self.reduce(outcome, runner)
+            self.reduce(outcome, workers)
 
-    def reduce(self, outcome: Outcome, runner: Runner) -> None:
+    def reduce(self, outcome: Outcome, workers: Pool[Task, Outcome]) -> None:
         """For each expectation that a set of the sample breaks, removes faults from the set as long as it still breaks
         this expectation, and notes the remaining set."""
         for number in range(outcome.broken.bit_length()):
@@ -117,7 +117,7 @@ class Search:
             at = 0
             while outcome.broken & bit and at < len(faults):
                 fewer = faults[:at] + faults[at + 1:]
-                smaller = next(iter(runner.outcomes(iter([Task(fewer, bit)]), lambda: False)))
+                smaller = next(_outcomes(workers, iter([Task(fewer, bit)]), lambda: False))
                 self.runs += smaller.became == RUN
                 self.lacks[fewer] = smaller.lacks
                 if smaller.became == SAME or smaller.broken & bit:
@@ -127,12 +127,12 @@ class Search:
             if outcome.broken & bit and not self.known.broken_within(faults) & bit:
                 self.known.minimal[faults] = self.known.minimal.get(faults, 0) | bit
 
-    def try_sets(self, sets: Iterator[Set], tally: Tally, runner: Runner, size: int,
+    def try_sets(self, sets: Iterator[Set], tally: Tally, workers: Pool[Task, Outcome], size: int,
                  hold: Callable[[Outcome], None] | None = None) -> None:
         """Tries the sets of one size; each is decided by its own run or by smaller sets."""
         # (which sets of one size are minimal depends only on the smaller ones)
         found: list[Outcome] = []
-        for outcome in runner.outcomes(self.tasks(sets, tally, found), self.is_over):
+        for outcome in _outcomes(workers, self.tasks(sets, tally, found), self.is_over):
             self.kept.add(outcome)
             self.note(outcome, tally, found)
             self.breaking = len(found)
@@ -181,3 +181,10 @@ class Search:
         tally.more += outcome.became == MORE
         if outcome.why:
             self.why[outcome.why] += 1
+
+
+def _outcomes(workers: Pool[Task, Outcome], tasks: Iterator[Task], is_over: Callable[[], bool]) -> Iterator[Outcome]:
+    """The results of tasks, in the order of their arrival. A set whose process is ended by the system counts as
+    stopped."""
+    for done in workers.results(tasks, is_over):
+        yield done.result or Outcome(done.item.faults, STOPPED, 0, done.fault)

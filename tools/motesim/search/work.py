@@ -1,7 +1,7 @@
 """One run with a set of faults: makes the text, runs `motesim` on it, and judges the sentences."""
 from __future__ import annotations
 
-from collections.abc import Sequence
+from collections.abc import Callable, Sequence
 from typing import NamedTuple
 
 from motesim.runner import Limits, ProgramFault, Runner
@@ -113,6 +113,11 @@ class Bench:
         """The motes that the faults halt, each with its moment."""
         halting = (self.faults[number].effect for number in task.faults if number in self.halting)
         return {int(mote): int(moment) for _, mote, moment in halting}
+
+
+def runs_of(work: Work) -> Callable[[Task], Outcome]:
+    """The function that runs a task."""
+    return Bench(work).run
 
 
 def check_text(text: str, change: Change, base: Base) -> None:

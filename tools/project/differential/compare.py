@@ -31,7 +31,7 @@ from typing import NamedTuple
 
 from motesim.command import command
 from motesim.faults import Fault
-from motesim.runner import Limits, Runner, run_each
+from motesim.runner import Limits, Runner, pool
 from motesim.runner.programs import TOP, program_path
 from motesim.search.net import loss_steps, mote_steps, net_of, number_steps, program_steps
 from motesim.scenario import Scenario, ScenarioFault
@@ -181,29 +181,30 @@ def compare_all(items: Iterable[Item], work: Comparison, folder: Path,
     failures = list[Failure]()
     coverage = Coverage()
     begin = last = time.monotonic()
-    for done in run_each(work.compare, items, workers=jobs, seconds=300.0):
-        failure = done.result.failure if done.result else Failure(False, done.fault or 'it was ended')
-        if done.result:
-            coverage.add(done.result.reached)
-            size += done.result.bytes
-        if not failure:
-            agreed += 1
-        else:
-            failures.append(failure)
-            print('%s: %s' % (done.item.name, failure), flush=True)
-            scenario = done.item.scenario or random_scenario(done.item.seed)
-            if len(failures) <= MOST_SHOWN and done.result:
-                scenario = work.smallest(scenario, done.item.is_strict)
-                print('  the smallest: %s' % work.failure(scenario, done.item.is_strict)[0])
-            if len(failures) <= MOST_SHOWN:
-                path = folder / ('differs_%d.toml' % len(failures))
-                path.write_bytes(scenario)
-                print('  the scenario is in %s' % path, flush=True)
-        now = time.monotonic()
-        if now - last > 20:
-            last = now
-            print('%d agree, %d don\'t, %d MB of reports, %d s' % (agreed, len(failures), size >> 20, now - begin),
-                  file=sys.stderr, flush=True)
+    with pool(lambda its: its.compare, work, jobs, seconds=300.0) as workers:
+        for done in workers.results(items):
+            failure = done.result.failure if done.result else Failure(False, done.fault or 'it was ended')
+            if done.result:
+                coverage.add(done.result.reached)
+                size += done.result.bytes
+            if not failure:
+                agreed += 1
+            else:
+                failures.append(failure)
+                print('%s: %s' % (done.item.name, failure), flush=True)
+                scenario = done.item.scenario or random_scenario(done.item.seed)
+                if len(failures) <= MOST_SHOWN and done.result:
+                    scenario = work.smallest(scenario, done.item.is_strict)
+                    print('  the smallest: %s' % work.failure(scenario, done.item.is_strict)[0])
+                if len(failures) <= MOST_SHOWN:
+                    path = folder / ('differs_%d.toml' % len(failures))
+                    path.write_bytes(scenario)
+                    print('  the scenario is in %s' % path, flush=True)
+            now = time.monotonic()
+            if now - last > 20:
+                last = now
+                print('%d agree, %d don\'t, %d MB of reports, %d s' % (agreed, len(failures), size >> 20, now - begin),
+                      file=sys.stderr, flush=True)
     return agreed, failures, coverage
 
 
