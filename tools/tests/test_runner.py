@@ -15,7 +15,7 @@ from unittest import mock
 
 from here import HOLDS, SECONDS, TOOLS, Room, scenario_of, until
 from motesim.faults import Fault
-from motesim.runner import Done, LimitMet, Limits, NoReport, ProgramFault, Runner, Stopped, each_part, ending, pool
+from motesim.runner import Done, LimitMet, Limits, NoReport, ProgramFault, Runner, Stopped, ending, pool
 from motesim.runner.module import script_of
 from skips import need
 from unbuilt_tree import is_alive
@@ -378,24 +378,3 @@ class Batches(Programs):
     def test_with_threads_about_workers_are_not_forked(self) -> None:
         with beside():
             self.assertEqual(sorted(it.result or 0 for it in run_each(math.isqrt, [1, 4], 1)), [1, 2])
-
-
-class Parts(unittest.TestCase):
-    """A piece of work in parts."""
-
-    def test_parts_come_in_order_from_other_processes(self) -> None:
-        found = list(each_part(lambda it: (it, os.getpid()), range(40)))
-        self.assertEqual([it for it, _ in found], list(range(40)))
-        self.assertEqual(os.getpid() in {process for _, process in found}, (os.cpu_count() or 1) < 2)
-
-    def test_with_threads_this_process_works(self) -> None:
-        with beside():
-            self.assertEqual({process for process in each_part(lambda it: os.getpid(), range(9))}, {os.getpid()})
-
-    def test_a_part_that_fails_is_a_fault(self) -> None:
-        def work(it: int) -> int:
-            if it == 7:
-                raise Fault('it is seven')
-            return it
-        with self.assertRaisesRegex(Fault, 'it is seven'):
-            list(each_part(work, range(9)))

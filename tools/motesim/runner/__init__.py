@@ -12,14 +12,14 @@ from motesim.on_demand import on_demand
 if TYPE_CHECKING:
     from motesim.runner.cluster import Cluster
     from motesim.runner.hosts import OfModule
-    from motesim.runner.pools import Done, Pool, each_part, pool
+    from motesim.runner.pools import Done, Pool, pool
     from motesim.runner.process import Answer, LimitMet, Limits, NoReport, Runner, Running, Stopped
     from motesim.runner.programs import ProgramFault, program_path
     from motesim.runner.workers import Workers
 
 __all__ = ['Answer', 'Cluster', 'Done', 'LimitMet', 'Limits', 'NoReport', 'OfModule', 'Pool', 'ProgramFault', 'Runner',
-           'Running', 'Stopped', 'Workers', 'each_part', 'pool', 'program_path']
+           'Running', 'Stopped', 'Workers', 'pool', 'program_path']
 __getattr__ = on_demand(__name__, {
-    'cluster': ['Cluster'], 'hosts': ['OfModule'], 'pools': ['Done', 'Pool', 'each_part', 'pool'],
+    'cluster': ['Cluster'], 'hosts': ['OfModule'], 'pools': ['Done', 'Pool', 'pool'],
     'process': ['Answer', 'LimitMet', 'Limits', 'NoReport', 'Runner', 'Running', 'Stopped'],
     'programs': ['ProgramFault', 'program_path'], 'workers': ['Workers']})

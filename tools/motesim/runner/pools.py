@@ -11,7 +11,6 @@ from __future__ import annotations
 
 import math
 import os
-import threading
 from collections.abc import Callable, Iterable, Iterator
 from dataclasses import dataclass
 from typing import Generic, Protocol, TypeVar
@@ -22,8 +21,6 @@ from motesim.faults import Fault
 Shared = TypeVar('Shared')
 Item = TypeVar('Item')
 Result = TypeVar('Result')
-# The most processes that share one piece of work.
-MOST_SHARING = 4
 
 
 @dataclass(frozen=True)
@@ -94,20 +91,3 @@ def in_order(found: Iterable[tuple[int, Done[Item, Result]]]) -> Iterator[Done[I
         while following in kept:
             yield kept.pop(following)
             following += 1
-
-
-def each_part(work: Callable[[Item], Result], parts: Iterable[Item]) -> Iterator[Result]:
-    """The result of each part of much work, in order: several processes do it.
-
-    The processes are copies of this one, so they share its memory. If this process has threads, it does all the
-    work itself. Raises a `Fault` if one of the processes fails.
-    """
-    processes = min(MOST_SHARING, os.cpu_count() or 1)
-    if processes < 2 or threading.active_count() > 1:
-        yield from map(work, parts)
-        return
-    with pool(lambda it: it, work, processes) as workers:
-        for done in workers.results(parts, ordered=True):
-            if done.result is None:
-                raise Fault(done.fault)
-            yield done.result
