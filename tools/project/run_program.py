@@ -3,8 +3,9 @@
 The proved binary of these sources runs if it has been built, and otherwise one that is compiled without a proof. If
 there is neither, and there are no options, node runs the WebAssembly module of these sources, and the binary is
 compiled in the background. Without node, or with options, the binary is compiled first. A line on standard error says
-what runs. Before it compiles, the tool refuses arguments that motesim doesn't know, and a file that can't be read. The environment variable MOTESIM names another binary. After an error, a further line
-says how to find out why there is no report. With --help the options of ./run are below those of motesim.
+what runs. Before it compiles, the tool refuses arguments that motesim doesn't know, a file that can't be read, and a
+scenario with an error, which further lines explain. The environment variable MOTESIM names another binary. With --help
+the options of ./run are below those of motesim.
 """
 from __future__ import annotations
 
@@ -89,22 +90,24 @@ def can_be_read(file: str) -> bool:
     return os.access(file, os.R_OK) and not os.path.isdir(file)
 
 
-def has_error(file: str) -> bool:
-    """Returns whether a scenario has an error."""
-    # (this module is needed only after an error)
+def error_of(file: str | None) -> str:
+    """The line of motesim about the error of a scenario; an empty text if it has none, or can't be read."""
+    # (this module is needed only if nothing is built, or after an error)
     from motesim.scenario.faults import find_fault
     with contextlib.suppress(OSError):
-        return find_fault(Path(file).read_bytes()) is not None
-    return False
+        fault = find_fault(Path(file).read_bytes()) if file else None
+        return '%s: %s' % (NAME, fault.message) if fault else ''
+    return ''
 
 
 def say_more(file: str | None) -> None:
-    """Prints how to find out why there is no report, if the scenario is the reason."""
-    if file:
-        if not can_be_read(file):
-            say('%s: there is no file %s that can be read' % (NAME, file))
-        elif has_error(file):
-            say('%s: tools/explain %s says more' % (NAME, file))
+    """Prints why there is no report, if the scenario is the reason."""
+    from motesim.explain.explanation import explanation
+    from motesim.text import folded
+    if file and not can_be_read(file):
+        say('%s: there is no file %s that can be read' % (NAME, file))
+    elif file and (line := error_of(file)):
+        say('\n'.join(folded(explanation(file, Path(file).read_bytes(), line))))
 
 
 def check_arguments(request: Request) -> None:
@@ -121,13 +124,19 @@ def check_arguments(request: Request) -> None:
 def without_binary(request: Request) -> Path:
     """The script of the module, or a binary that is compiled now."""
     module, has_kit = module_program(), shutil.which('rt') is not None
+    error = error_of(request.file)
     if module and not request.has_options:
-        say('%s: %s%s' % (NAME, IN_NODE, IN_BACKGROUND * has_kit))
-        if has_kit:
+        is_compiled_now = has_kit and not error
+        say('%s: %s%s' % (NAME, IN_NODE, IN_BACKGROUND * is_compiled_now))
+        if is_compiled_now:
             compile_in_background()
         return module
     if not has_kit:
         raise Fault(NO_OPTIONS if module else nothing_runs())
+    if error:
+        say(error)
+        say_more(request.file)
+        sys.exit(FAILED)
     found = compile_program()
     if len(programs_in()) > 1:
         compile_in_background()

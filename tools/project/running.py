@@ -4,6 +4,7 @@ from __future__ import annotations
 import contextlib
 import ctypes
 import fcntl
+import functools
 import os
 import signal
 import subprocess
@@ -18,10 +19,11 @@ PR_SET_PDEATHSIG = 1
 ENDING = signal.SIGTERM, signal.SIGHUP, signal.SIGINT
 
 
-def ends_with_parent(number: int) -> Callable[[], object]:
+def ends_with_parent(number: int) -> Callable[[], object] | None:
     """Returns a function that a new process calls before its command, so that it gets this signal when its parent
-    ends."""
-    return lambda: LIBC.prctl(PR_SET_PDEATHSIG, number)
+    ends; None if the system hasn't this call."""
+    prctl = getattr(LIBC, 'prctl', None)
+    return functools.partial(prctl, PR_SET_PDEATHSIG, number) if prctl else None
 
 
 @contextlib.contextmanager

@@ -1,4 +1,4 @@
-"""Prints, after an error of motesim, how to find out why there is no report: python3 -m project.say_more [arguments]"""
+"""Prints, after an error of motesim, why there is no report: python3 -m project.say_more [arguments]"""
 import sys
 
 from project.run_program import request_of, say_more
