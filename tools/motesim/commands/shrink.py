@@ -15,9 +15,10 @@ If motes get other numbers, the tool changes their numbers in expectations and f
 tool uses the first broken expectation in this file. Without EXPECTATION, the file is NAME.expect.toml, next to the
 scenario NAME.toml.
 
-The tool writes the result to NAME.small.toml, with its expectation next to it. In the result no single further step is
-possible. This may last many minutes. After Ctrl-C, or at a limit, the tool writes the smallest scenario so far, or no
-file if it has taken no step. docs/use/TESTING.md has an example.
+The tool writes the result to NAME.small.toml, next to the scenario, with its expectation next to it, and says so if it
+replaces an earlier result; it never replaces another file that you haven't named. In the result no single further step
+is possible. A large net may need minutes. After Ctrl-C, or at a limit, the tool writes the smallest scenario so far, or
+no file if it has taken no step. docs/use/TESTING.md has an example.
 
 The tool ends with status 0, with 2 after an error, for instance if the scenario doesn't break the expectation or if a
 limit allows no step, and with 130 after Ctrl-C.
@@ -48,7 +49,7 @@ def parser() -> Words:
     words.add_argument('scenario', metavar='SCENARIO', help='a scenario, NAME.toml')
     words.add_argument('expectation', nargs='?', metavar='EXPECTATION',
                        help='an expectation of tools/expect, or a file of expectations')
-    words.add_argument('-o', dest='output', metavar='FILE', help='the result; by default NAME.small.toml')
+    words.add_argument('-o', dest='output', metavar='FILE', help='the result; by default NAME.small.toml, next to the scenario')
     words.add_argument('--keep', action='append', default=[], metavar='KEPT',
                        help='an expectation that has to hold after each step; or parts that stay, with commas between '
                             'them: end, medium, places, numbers (the values of `self` and `from`), programs')

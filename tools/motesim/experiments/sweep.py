@@ -6,7 +6,7 @@ import contextlib
 import sys
 import time
 from collections import Counter
-from collections.abc import Iterable, Iterator, Mapping
+from collections.abc import Iterable, Iterator, Mapping, Sequence
 from pathlib import Path
 
 from motesim import packages
@@ -137,6 +137,13 @@ class Sweeper:
         return len(missing)
 
 
+def always_empty(rows: Sequence[Row], measures: Iterable[str]) -> list[str]:
+    """The measures that no run has, although some runs have neither an error nor a failure of a measure."""
+    if all(row['error'] or row['note'] for row in rows):
+        return []
+    return [name for name in measures if not any(text_of(row[name]) for row in rows)]
+
+
 def said(sweeper: Sweeper, ran: int) -> int:
     """Reports the contents of the file; returns the status."""
     rows = [sweeper.rows[place] for place in sorted(sweeper.rows)]
@@ -146,6 +153,9 @@ def said(sweeper: Sweeper, ran: int) -> int:
         print('the first error: %s' % faults[0]['error'])
     if notes:
         print('%d of %d runs lack a measure; the first: %s' % (len(notes), len(rows), notes[0]['note']))
+    for name in always_empty(rows, sweeper.head.measures):
+        print('sweep: warning: %s is empty in each run without an error: no run has the lines that `%s` needs' % (
+            name, sweeper.head.measures[name]), file=sys.stderr)
     codes = Counter(code for row in rows for code in text_of(row['warnings']).split())
     for code, count in codes.items():
         print('sweep: warning: %s, in %d of %d runs: %s' % (code, count, len(rows), MEANINGS[code]), file=sys.stderr)

@@ -2,11 +2,13 @@
 from __future__ import annotations
 
 import argparse
+import contextlib
 import sys
 import time
 from functools import partial
 from pathlib import Path
 
+from motesim import output
 from motesim.runner.interrupt import Break
 from motesim.faults import INTERRUPTED, Fault
 from motesim.files import refuse_inputs
@@ -58,6 +60,13 @@ def motes_before(shrinking: Shrinking, net: Net, name: str) -> str:
         mote, before, name, net.motes[before].x, net.motes[before].y) for mote, before in enumerate(shrinking.motes))
 
 
+def is_made(path: Path) -> bool:
+    """Returns whether a file is an earlier result."""
+    with contextlib.suppress(OSError):
+        return path.read_bytes().startswith(MADE_SMALL.encode())
+    return False
+
+
 def write_result(shrinking: Shrinking, net: Net, name: str, path: Path) -> None:
     """Writes the scenario with its expectation. `net` is the one from which it was made."""
     case = shrinking.case
@@ -98,7 +107,9 @@ class Work:
     def __init__(self, asked: argparse.Namespace, program: Runner, stop: Break) -> None:
         self.asked, self.program, self.stop = asked, program, stop
         self.path = Path(asked.scenario)
-        self.output = Path(asked.output or self.path.name.removesuffix('.toml') + '.small.toml')
+        self.output = Path(asked.output) if asked.output else output.beside(
+            asked.scenario, self.path.name.removesuffix('.toml') + '.small.toml')
+        self.is_over_another = self.output.exists()
         self.begun = time.monotonic()
         self.progress = ProgressOfSearch(asked.progress)
 
@@ -129,6 +140,8 @@ class Work:
         expected = Path(asked.expectation) if asked.expectation else beside(path)
         for made in self.output, beside(self.output):
             refuse_inputs(made, [path, expected])
+        if self.is_over_another and not (asked.output or is_made(self.output)):
+            raise Fault('%s exists, and isn\'t an earlier result of tools/shrink: name another file with -o' % self.output)
         sentence = first_broken(base, expected, self.program) if is_file else asked.expectation
         parts, wanted = parts_and_sentences(asked.keep)
         read_all([sentence, *wanted], names_of(base.scenario_itself))
@@ -160,7 +173,8 @@ class Work:
         whole = 'no further step is possible' + ' without a change of %s' % kept * bool(kept)
         print('%d steps, %d runs; %s' % (len(shrinking.taken), shrinking.runs,
                                          'STOPPED: more steps may be possible (%s)' % why if why else whole))
-        print('%s breaks: %s' % (self.output, shrinking.case.sentence))
+        print('%s%s breaks: %s' % (self.output, ', written over an earlier file,' * self.is_over_another,
+                                   shrinking.case.sentence))
         if shrinking.renumbered:
             print('  in %s, %s' % (self.path.name, shrinking.renumbered))
         for line in differing(shrinking):
