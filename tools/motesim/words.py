@@ -2,14 +2,22 @@
 from __future__ import annotations
 
 import argparse
+import os
 import re
+import sys
 from collections.abc import Sequence
 from typing import Any, NoReturn
 
 from motesim.command import version_line
-from motesim.faults import FAILED
+from motesim.faults import FAILED, Fault
 from motesim.text import nearest
 from motesim.typed import name_of_command
+
+
+# The options that may name a file.
+TABLES = '--csv', '--json'
+# Options that have got other names.
+RENAMED = {'bytes': 'report', 'set': 'param', 'vary': 'param', 'where': 'param'}
 
 
 class Version(argparse.Action):
@@ -50,7 +58,8 @@ class Reader(argparse.ArgumentParser):
         """Refuses arguments that aren't known: an option, if one is among them, or else all of them."""
         option = next((it.partition('=')[0] for it in rest if it.startswith('-')), '')
         known = [it[2:] for it in self._option_string_actions if it.startswith('--')]
-        near = nearest(option.lstrip('-'), known)
+        name = option.lstrip('-')
+        near = RENAMED[name] if RENAMED.get(name) in known else nearest(name, known)
         self.error('unrecognized arguments: %s%s' % (option or ' '.join(rest), '; did you mean --%s?' % near if near else ''))
 
 
@@ -68,8 +77,8 @@ class Words(Reader):
         self.usage = (self.usage or self.prog).removesuffix(' [options]') + ' [options]'
         return super().format_help()
 
-    def parse_known_args(self, *given: Any, **named: Any) -> Any:
-        found, rest = super().parse_known_args(*given, **named)
+    def parse_known_args(self, args: Any = None, namespace: Any = None) -> Any:
+        found, rest = super().parse_known_args(named_files(sys.argv[1:] if args is None else args), namespace)
         for action in self._actions:
             value = getattr(found, action.dest, None)
             if '-o' in action.option_strings and '-' in map(str, value if isinstance(value, list) else [value]):
@@ -80,12 +89,70 @@ class Words(Reader):
         self.exit(FAILED, '%s: %s (--help lists the options)\n' % (re.split('[ /]', self.prog)[-1], message))
 
 
-def add_limits(words: argparse.ArgumentParser, seconds: float = 120, memory: int = 2048, report: int = 256) -> None:
-    """Adds the options for the limits of a run."""
-    for name, default, kind, what in (('seconds', seconds, float, 'the limit of a run, in seconds of processor time'),
-                                      ('memory', memory, int, "the limit of a run's memory, in megabytes"),
-                                      ('report', report, int, 'the limit of a report, in megabytes')):
-        words.add_argument('--' + name, type=kind, default=default, metavar='N', help='%s (%g)' % (what, default))
+def named_files(words: Sequence[str]) -> list[str]:
+    """The words of a command line in which `--csv` and `--json` name standard output, unless the name of a file with
+    this ending follows."""
+    return [it + '=-' if it in TABLES and not following.endswith('.' + it[2:]) and following != '-' else it
+            for it, following in zip(words, [*words[1:], ''])]
+
+
+def add_table(words: argparse.ArgumentParser | argparse._ActionsContainer, form: str, what: str) -> None:
+    """Adds an option for a table in CSV, or results in JSON: to standard output, or to a file."""
+    words.add_argument('--' + form, metavar='[FILE.%s]' % form, help='%s, to this file or to standard output' % what)
+
+
+def add_parameter(words: argparse.ArgumentParser, what: str) -> None:
+    """Adds the option for the values of a parameter of a plan."""
+    words.add_argument('--param', action='append', default=[], metavar='NAME=VALUES', help=what)
+
+
+def add_expectation(words: argparse.ArgumentParser, what: str = 'an expectation, instead of a file of expectations '
+                    '(more than once for several)') -> None:
+    """Adds the option for an expectation that is in no file."""
+    words.add_argument('--expect', action='append', default=[], metavar='EXPECTATION', help=what)
+
+
+def one_of(named: str | None, given: Sequence[str]) -> str | None:
+    """The only expectation: the one without an option, or that of `--expect`."""
+    found = [*([] if named is None else [named]), *given]
+    if len(found) > 1:
+        raise Fault('this command takes only one expectation')
+    return found[0] if found else None
+
+
+def number_above_0(word: str) -> float:
+    """The value of a limit."""
+    number = float(word)
+    if number <= 0:
+        raise argparse.ArgumentTypeError('%s is not greater than 0' % word)
+    return number
+
+
+def whole_above_0(word: str) -> int:
+    """The value of a limit, or of a number of runs."""
+    number = int(word)
+    if number < 1:
+        raise argparse.ArgumentTypeError('%s is not at least 1' % word)
+    return number
+
+
+def add_limits(words: argparse.ArgumentParser, seconds: float | None = 120, memory: int | None = 2048,
+               report: int | None = 256, usual: str = '') -> None:
+    """Adds the options for the limits of a run, but for those without a usual value; `usual` describes that of the
+    seconds, if they have none."""
+    for name, default, kind, what in (
+            ('seconds', seconds, number_above_0, 'the limit of a run, in seconds of processor time'),
+            ('memory', memory, whole_above_0, "the limit of a run's memory, in megabytes"),
+            ('report', report, whole_above_0, 'the limit of a report, in megabytes')):
+        if default is not None or name == 'seconds':
+            words.add_argument('--' + name, type=kind, default=default, metavar='N',
+                               help='%s (%s)' % (what, usual if default is None else '%g' % default))
+
+
+def add_jobs(words: argparse.ArgumentParser) -> None:
+    """Adds the option for the number of runs that are made at once."""
+    words.add_argument('--jobs', type=whole_above_0, default=os.cpu_count() or 1, metavar='N',
+                       help='the number of simultaneous runs (one for each processor)')
 
 
 def words_of(about: str | None, name: str = '') -> Words:

@@ -27,6 +27,7 @@ from motesim.plan import keys as plan
 from motesim.plan.tables import Key
 from motesim.runner.programs import TOP
 from motesim.scenario import faults as scenario
+from motesim.summary import columns
 from motesim.words import words_of
 from project.spec_lists import further, headline
 
@@ -216,6 +217,9 @@ def syntax_of(text: str) -> str:
 
 
 PARTS: dict[str, Callable[[], Iterator[str]]] = {
+    'columns of flows': lambda: table(('Column', 'For the messages of an origin'), columns.rows(columns.FLOWS)),
+    'columns of intervals': lambda: table(('Column', 'For an interval'), columns.rows(columns.INTERVALS)),
+    'columns of motes': lambda: table(('Column', 'For a mote'), columns.rows(columns.MOTES)),
     'definitions': lambda: iter(headline(TOP).splitlines()),
     'definitions of answers': lambda: iter(further(TOP).splitlines()), 'grammar': grammar,
     'grammar of claims': grammar_of_claims, 'limits': limits, 'options': all_options, 'plan keys': plan_keys,

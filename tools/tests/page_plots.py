@@ -32,7 +32,7 @@ class Asked:
         found += ['--against', self.against] if self.against else []
         found += ['--show', self.show] if self.pair is None else ['--pair', '%s=%s,%s' % self.pair]
         found += [word for name in self.by for word in ('--by', name)]
-        found += [word for name, values in self.where for word in ('--where', '%s=%s' % (name, ','.join(values)))]
+        found += [word for name, values in self.where for word in ('--param', '%s=%s' % (name, ','.join(values)))]
         return found + [word for name in self.over for word in ('--over', name)]
 
 
@@ -131,13 +131,7 @@ class PagePlot:
                 found += [{**head, **row} for row in self.difference(runs)]
                 continue
             values = [float(run[asked.measure]) for run in runs if run[asked.measure]]
-            if asked.show == 'points':
-                found += [{**head, asked.measure: float(run[asked.measure]), 'seed': number(run['seed'])}
-                          for run in runs if run[asked.measure]]
-            elif asked.show == 'cdf':
-                found += [{**head, asked.measure: it, 'part of runs': sum(value <= it for value in values) / len(runs)}
-                          for it in sorted(set(values))]
-            elif values and asked.show == 'median':
+            if values and asked.show == 'median':
                 found.append({**head, 'runs': len(values), 'first quartile': quartile(values, 0.25),
                               'median': quartile(values, 0.5), 'third quartile': quartile(values, 0.75)})
             elif values:

@@ -44,7 +44,7 @@ class Commands(unittest.TestCase):
                             (('plot', 'a.csv', '--measure', 'x', '--against', 'y', '--measure', 'z'),
                              '--measure is given twice: give it only once'),
                             (('search', 'a.toml', '--step', 'x'), "argument --step: invalid int value: 'x'"),
-                            (('sweep', 'a.toml', '--jobs', '0'), '--jobs is 1 or more, and --seconds more than 0'),
+                            (('sweep', 'a.toml', '--jobs', '0'), 'argument --jobs: 0 is not at least 1'),
                             (('scenario', 'a.plan.toml', '-o', '-'), NO_NAME),
                             (('grade', 'a.toml', 'b.toml', '-o', '-'), NO_NAME),
                             (('log', 'a.toml', '--motes', '3'), 'unrecognized arguments: --motes; did you mean --mote?'),
@@ -55,8 +55,8 @@ class Commands(unittest.TestCase):
             self.assertEqual((done.returncode, done.stdout, done.stderr), (2, '', line))
 
     def test_defaults_are_those_of_the_libraries(self) -> None:
-        self.assertEqual((search.SECONDS, search.BYTES, shrink.SECONDS), (LIMITS.seconds, LIMITS.report, LIMITS.seconds))
+        self.assertEqual((search.SECONDS, search.REPORT << 20, shrink.SECONDS), (LIMITS.seconds, LIMITS.report, LIMITS.seconds))
         megabytes = [it // runs.MEGABYTE for it in (runs.LIMITS.memory, runs.LIMITS.report)]
         self.assertEqual([studio.SECONDS, studio.MEMORY, studio.REPORT], [runs.LIMITS.seconds, *megabytes])
-        self.assertEqual((sweep.MOST_BYTES, sweep.MOST_SECONDS), (asked.MOST_BYTES, asked.MOST_SECONDS))
+        self.assertEqual(sweep.REPORT << 20, asked.MOST_BYTES)
         self.assertEqual(export.FORMS, tuple(ENDS))

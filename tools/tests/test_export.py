@@ -6,7 +6,7 @@ import subprocess
 from collections import Counter
 
 from here import SECONDS, TOOLS, TOP, Room, call, rows_of, text_of
-from motesim.export import pcapng, perfetto, times, vcd
+from motesim.export import pcapng, perfetto, times
 from motesim.report import Report
 from skips import interpreter_with, need
 from test_report import EXAMPLE_REPORT
@@ -20,32 +20,7 @@ REPORT = EXAMPLE_REPORT.replace('10 print echo 30\n', '10 print echo 30\n11 halt
 PACKETS = text_of('packets.csv')
 FIELDS = ['frame.time_epoch', 'frame.interface_name', 'motesim.kind', 'motesim.sender', 'motesim.receiver',
           'motesim.number', 'motesim.value', 'motesim.sent', 'motesim.arrival']
-WAVES = {tuple(name.split('.')): [(int(at), None if value == '-' else int(value)) for at, value in (
-    it.split('=') for it in its.split(' '))] for name, its in rows_of('waves.tsv')}
 PANDAS = text_of('tables.py.txt')
-
-
-def read_vcd(text: str) -> dict[tuple[str, ...], list[tuple[int, int | None]]]:
-    """The signals of a dump by their names, each with its values."""
-    scope: list[str] = []
-    names: dict[str, tuple[str, ...]] = {}
-    found: dict[tuple[str, ...], list[tuple[int, int | None]]] = {}
-    now = 0
-    for line in text.split('\n'):
-        words = line.split()
-        if line.startswith('$scope'):
-            scope.append(words[2])
-        elif line.startswith('$upscope'):
-            scope.pop()
-        elif line.startswith('$var'):
-            names[words[3]] = (*scope, words[4])
-        elif line.startswith('#'):
-            now = int(line[1:])
-        elif re.match('b[01x]+ |[01x]', line):
-            value, short = (words[0][1:], words[1]) if line[0] == 'b' else (line[0], line[1:])
-            values = found.setdefault(names[short], [])
-            values.append((now, None if 'x' in value else int(value, 2)))
-    return found
 
 
 class ExportTest(Room):
@@ -69,25 +44,6 @@ class ExportTest(Room):
         turns = list(times.turns(mote))
         self.assertEqual([(it.begin, it.step) for it in turns], [(0, 1_000), (3_000_000, 199), (4_000_000, 1_000)])
         self.assertLess(turns[1].time(5_000), turns[2].begin)
-
-    def test_a_waveform(self) -> None:
-        self.assertEqual(self.export('a.report', '--to', 'vcd'), 'a.vcd\n')
-        found = read_vcd((self.room / 'a.vcd').read_text())
-        for name, values in WAVES.items():
-            self.assertEqual(found[name], values, name)
-
-    def test_short_names_differ(self) -> None:
-        names = {vcd.short_name(number) for number in range(20_000)}
-        self.assertEqual((len(names), max(map(len, names))), (20_000, 3))
-
-    def test_gtkwave_reads_the_waveform(self) -> None:
-        need('vcd2fst', 'gtkwave')
-        self.export('a.report', '--to', 'vcd')
-        done = self.run_it('vcd2fst', 'a.vcd', 'a.fst')
-        self.assertEqual(done.returncode, 0, done)
-        back = read_vcd(self.run_it('fst2vcd', 'a.fst').stdout)
-        for name, values in WAVES.items():
-            self.assertEqual(back[name], values, name)
 
     def test_wireshark_reads_the_packets(self) -> None:
         need('tshark', 'tshark')

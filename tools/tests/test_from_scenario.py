@@ -32,7 +32,7 @@ class FromScenario(Room):
         (self.room / 'net.toml').write_bytes((TOP / 'examples/flooding.toml').read_bytes())
         self.assertEqual(self.made('--from', 'net.toml').stdout.split(),
                          ['flood.mote', 'net.places.csv', 'net.losses.csv', 'net.plan.toml'])
-        made = Scenario.parse(self.made('net.plan.toml', '--set', 'range=15', '--set', 'end=50').stdout)
+        made = Scenario.parse(self.made('net.plan.toml', '--param', 'range=15', '--param', 'end=50').stdout)
         self.assertEqual((made.range, made.end), (15, 50))
 
     def test_nothing_is_written_over(self) -> None:

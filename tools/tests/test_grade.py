@@ -3,7 +3,6 @@ The other tests are in sessions/grade.toml."""
 import argparse
 import contextlib
 import os
-import random
 import re
 import signal
 import socket
@@ -18,7 +17,7 @@ from here import SECONDS, TOOLS, call, rows_of, until
 from motesim.faults import Fault
 from motesim.grading import tables
 from motesim.grading.command import remarks
-from motesim.grading.entries import Entry, anonymous, data_of, entries_of
+from motesim.grading.entries import Entry, data_of, entries_of
 from motesim.grading.marking import Task, page_name
 from motesim.grading.marks import Mark, Marks
 from motesim.grading.nets import cut_off, nets_of, program_of
@@ -145,34 +144,11 @@ def test_motes_are_cut_off_if_each_link_to_them_loses_everything() -> None:
 def test_combinations_without_a_net_are_counted(room: Class) -> None:
     for name, text in ('net.plan.toml', TEXTS['plan']), ('task.mote', PROGRAM):
         (room.top / name).write_text(text)
-    words = argparse.Namespace(folder=room.folder, vary=['motes=2..4', 'seed=1..2'], vary_hidden=['motes=1..5'])
+    words = argparse.Namespace(folder=room.folder, param=['motes=2..4', 'seed=1..2'])
     with mock.patch('motesim.grading.nets.MOST_NETS', 4):
         assert len(nets_of([room.top / 'net.plan.toml'], ['motes=1..6'], None)) == 4
-        assert [re.findall(r'\d+', it) for it in remarks(words, [], [])] == [['6', '4', '2'], ['5', '4', '1']]
+        assert [re.findall(r'\d+', it) for it in remarks(words, [], [])] == [['6', '4', '2']]
     assert remarks(words, [], []) == []
-
-
-def test_the_key_of_an_anonymous_marking_has_all_names_and_no_page_has_one(room: Class) -> None:
-    for name, text in ('ben.toml', WRONG), ('dora.toml', 'x ='), ('eva.toml.txt', WRONG):
-        room.hand_in(name, text)
-    room.grade('--anonymous', '--key', 'class/key.csv', '-o', 'marks.html', '--net', 'task.toml')
-    rows = dict(it.replace('"', '').split(',') for it in (room.folder / 'key.csv').read_text().splitlines()[1:])
-    assert sorted(rows.values()) == ['anna.toml', 'ben.toml', 'dora.toml', 'eva.toml.txt']
-    page, *others = (it.read_text() for it in [room.top / 'marks.html', *(room.top / 'marks_runs').iterdir()])
-    assert others and not re.search('anna|ben|dora|eva', ''.join([page, *others]))
-    for number, name in rows.items():
-        assert (number + '</td><td class="number all">' in page) == (name == 'anna.toml')
-    assert 'key.csv' not in room.grade()
-    room.grade('--key', 'k.csv', status=2)
-
-
-def test_anonymous_numbers_change_with_each_marking(room: Class) -> None:
-    for number in range(8):
-        room.hand_in('s%d.toml' % number, GOOD)
-    entries, _ = entries_of(room.folder)
-    drawn = {tuple(it.path for it in anonymous(entries)) for _ in range(20)}
-    assert len(drawn) > 1 and {frozenset(it) for it in drawn} == {frozenset(it.path for it in entries)}
-    assert anonymous(entries, random.Random(1)) == anonymous(entries, random.Random(1))
 
 
 def test_no_two_pages_fill_the_same_folder() -> None:

@@ -50,7 +50,7 @@ class Inputs(Room):
     def test_a_picture_and_its_tables_replace_no_results(self) -> None:
         python = interpreter_with(self, 'matplotlib')
         need_built()
-        self.done('sweep net.plan.toml --vary seed=1..3 --measure sent -o a.table.csv')
+        self.done('sweep net.plan.toml --param seed=1..3 --measure sent -o a.table.csv')
         before = self.texts()
         words = 'a.table.csv --measure sent --against seed -o a.svg'
         done = subprocess.run([python, '-B', TOOLS / 'plot', *words.split()], cwd=self.room, capture_output=True,

@@ -105,7 +105,8 @@ class Lesson(Room):
         plan = self.put('wave.plan.toml', PAGE.split("cat >wave.plan.toml <<'END'\n")[1].split('END\n')[0])
         self.put('wave.mote', EVE)
         sentences = (LESSON / 'task2.expect.toml').read_text()
-        shown, hidden = (nets_of([plan], ['seed=' + it], None) for it in re.findall(r'--vary\S* seed=(\S+)', PAGE))
+        shown, hidden = (nets_of([plan], ['seed=' + it], None) for it in (
+            *re.findall(r'--param seed=(\S+)', PAGE), *re.findall(r'vary = { seed = "(\S+)" }', PAGE)))
         for nets in shown, nets_of([plan], ['seed=1..30'], None):
             self.assertEqual(self.marks_in(nets, sentences, BY_NUMBER % 'print (now / 4);').held, 0)
         for nets in shown, hidden:

@@ -14,8 +14,6 @@ from pathlib import Path
 from unittest import mock
 
 from here import room_of  # (it puts tools/ on the path)
-from motesim import packages
-from motesim.analysis import drawing
 from motesim.commands import plot
 from motesim.experiments.results import Head
 from page_plots import Asked, PagePlot, Refused
@@ -56,7 +54,7 @@ class Study:
 
     def asked(self) -> Asked:
         """A command by chance."""
-        chance, show = self.chance, self.chance.choice(('median', 'mean', 'mean', 'points', 'cdf', 'pair'))
+        chance, show = self.chance, self.chance.choice(('median', 'mean', 'mean', 'pair'))
         others = [name for name in self.parameters[1:-1] if len(self.values[name]) > 1]
         pair: tuple[str, str, str] | None = None
         if show == 'pair' and others:
@@ -66,7 +64,7 @@ class Study:
         ways = {name: chance.choice(('by', 'by', 'where', 'over', '')) for name in left}
         where = [(name, (chance.choice(self.values[name]),)) for name in left if ways[name] == 'where']
         over = [name for name in left if ways[name] == 'over']
-        is_along = show != 'cdf' and chance.random() < .9
+        is_along = chance.random() < .9
         if not is_along:
             where.append(('period', (chance.choice(self.values['period']),)))
         return Asked(chance.choice([*TEXTS]), 'period' if is_along else '',
@@ -77,22 +75,18 @@ class Study:
 class Plots(unittest.TestCase):
     def setUp(self) -> None:
         self.folder, self.seen = room_of(self), Counter[str]()
-        for patch in (mock.patch.object(packages, 'need'), mock.patch.object(drawing, 'draw'),
-                      mock.patch.object(drawing, 'draw_differences')):
-            self.enterContext(patch)
 
     def plot(self, words: list[str]) -> tuple[list[dict[str, str]] | None, str]:
-        """The table of a picture, and the lines about it; without a table, the message of an error."""
-        out, fault, picture = io.StringIO(), io.StringIO(), self.folder / 'a.svg'
-        with (mock.patch.object(sys, 'argv', ['plot', str(self.folder / 'a.csv'), *words, '-o', str(picture)]),
+        """The table, and the lines about it; without a table, the message of an error."""
+        out, fault, table = io.StringIO(), io.StringIO(), self.folder / 'a.table.csv'
+        with (mock.patch.object(sys, 'argv', ['plot', str(self.folder / 'a.csv'), *words, '--csv', str(table)]),
               contextlib.redirect_stdout(out), contextlib.redirect_stderr(fault)):
             with self.assertRaises(SystemExit) as ended:
                 plot.main()
         if ended.exception.code:
             return None, fault.getvalue()
-        with (self.folder / 'a.table.csv').open(newline='') as file:
-            file.readline()
-            return [*csv.DictReader(file)], out.getvalue()
+        with table.open(newline='') as file:
+            return [*csv.DictReader(file)], fault.getvalue()
 
     def assert_page(self, study: Study, asked: Asked) -> None:
         its, lines = self.plot(asked.words())
@@ -131,5 +125,5 @@ class Plots(unittest.TestCase):
                 for number in range(COMMANDS):
                     with self.subTest(seed=seed, number=number):
                         self.assert_page(study, study.asked())
-        views = 'median', 'mean', 'points', 'cdf', 'pair', 'refused'
+        views = 'median', 'mean', 'pair', 'refused'
         self.assertGreater(min(self.seen[it] for it in views), 0, self.seen)

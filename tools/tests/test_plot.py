@@ -28,13 +28,11 @@ class Pictures(Room):
     def test_pictures_of_each_kind_with_their_tables(self) -> None:
         for name, head, words in (
                 ('a.svg', b'<?xml', '--against period --show mean --log'), ('b.pdf', b'%PDF-', '--against period'),
-                ('c.png', b'\x89PNG', '--against period --show points --log-y'), ('d.svg', b'<?xml', '--show cdf'),
-                ('e.svg', b'<?xml', '--against ok'), ('f.pdf', b'%PDF-', '--pair seed=1,2 --against period'),
-                ('g.svg', b'<?xml', '--by period')):
-            more = words if 'cdf' not in words else words + ' --by period'
+                ('c.png', b'\x89PNG', '--against period --show mean'), ('d.svg', b'<?xml', '--by period'),
+                ('e.svg', b'<?xml', '--against ok')):
             made = []
             for _ in range(2 if name == 'a.svg' else 1):
-                done = self.plot('--measure sent --where density=thin', *more.split(), '-o', name)
+                done = self.plot('--measure sent --param density=thin', *words.split(), '-o', name)
                 self.assertEqual((done.returncode, done.stdout.splitlines()[0], done.stderr), (0, name, ''))
                 made.append((self.room / name).read_bytes())
             self.assertTrue(made[0].startswith(head) and made[0] == made[-1], name)
@@ -47,8 +45,6 @@ class Pictures(Room):
         self.assertEqual(done.stdout.splitlines(), ['a.svg', 'left out: 1 run with an error'])
         texts = [it.text for it in ElementTree.parse(self.room / 'a.svg').iter() if it.tag.endswith('}text')]
         self.assertLess({'How it goes', 'density thin', 'density dense', 'period', 'packets'}, set(texts))
-        wrong = self.plot('--measure sent --against density --by period --log -o b.svg')
-        self.assertIn('`log` needs numbers above 0, and density has others', wrong.stderr)
 
     def test_the_pictures_of_a_plan(self) -> None:
         plan = 'end = 1\nmedium = { range = 1, base = 1, per = 1 }\n[places]\nrule = "line"\ncount = 1\nstep = 1\n' \

@@ -27,6 +27,7 @@ from motesim.report.report import Report
 from motesim.report.run import answer, program_path
 from motesim.runner.interrupt import Break
 from motesim.scenario.scenario import Scenario
+from motesim.runner.pools import Done
 from motesim.search.added import DIES, LATE, NoRoom, changed_program
 from motesim.search.change import Base, CannotChange
 from motesim.search.cuts import cut_of
@@ -302,12 +303,8 @@ def test_sets_are_those_of_a_naive_count() -> None:
 
 def test_sets_of_the_present_size_count_as_found() -> None:
     class Breaking:
-        def outcomes(self, tasks: Iterator[Task], is_over: object) -> Iterator[Outcome]:
-            return (Outcome(it.faults, RUN, int(it.faults[-1] % 2)) for it in tasks)
-
-        def close(self) -> None: ...
-
-        def kill(self) -> None: ...
+        def results(self, tasks: Iterator[Task], is_over: object) -> Iterator[Done[Task, Outcome]]:
+            return (Done(it, Outcome(it.faults, RUN, int(it.faults[-1] % 2))) for it in tasks)
 
     counts: list[int] = []
     known = Known(faults_of(Base(DIAMOND, 'd'), Asked(('links',))), 1)
@@ -334,7 +331,7 @@ def test_as_a_naive_search_finds() -> None:
     need_built()
     sentences, kinds = [REACHED, 'exactly 4 packets are sent', 'mote 1 receives at least 2'], ('links', 'motes', 'values')
     with folder_with(sentences=sentences) as folder:
-        sets, _, _ = minimal_sets(folder, '--faults', ','.join(kinds), '--at-most', '2', '--set', 'range=8')
+        sets, _, _ = minimal_sets(folder, '--faults', ','.join(kinds), '--at-most', '2', '--param', 'range=8')
     base = Base(DIAMOND, 'd')
     breaks = {}
     for size in 0, 1, 2:
@@ -406,7 +403,7 @@ def test_the_bug_of_the_tutorial() -> None:
     for it, wanted in (text, {sentence: single(*('base is %d' % it for it in (7, 8, 9, 10)))}), (
             text.replace('if is(packet) {', 'if (is(packet) && (data == block)) {'), {}):
         with folder_with(it, [sentence]) as folder:
-            assert minimal_sets(folder, '--faults', 'values', '--set', 'base=1..10')[0] == wanted
+            assert minimal_sets(folder, '--faults', 'values', '--param', 'base=1..10')[0] == wanted
 
 
 def test_a_sample_finds_minimal_sets_and_is_repeated_by_its_seed() -> None:
@@ -453,7 +450,7 @@ def test_hostile_programs_are_stopped() -> None:
     head, *motes = DIAMOND.replace('end = 100', 'end = 1000000').split('[[mote]]')
     motes[3] = motes[3].replace('"p"', '"loud"')
     with folder_with('[[mote]]'.join([head + loud, *motes])) as folder:
-        _, said, seen = search(folder, '--faults', 'motes', '--bytes', '1000000')
+        _, said, seen = search(folder, '--faults', 'motes', '--report', '1')
         assert '4 single faults: 3 run, 1 STOPPED at a limit, of which nothing is known' in said, seen
         assert 'in every run;' not in said
 

@@ -43,7 +43,7 @@ class StudiesTest(Room):
             return list(csv.DictReader(file))
 
     def test_density(self) -> None:
-        rows = self.study('density', '--vary', 'seed=1,2', '--vary', 'motes=20,50', '--vary', 'period=20,40')
+        rows = self.study('density', '--param', 'seed=1,2', '--param', 'motes=20,50', '--param', 'period=20,40')
         found = {(int(row['motes']), int(row['period']), int(row['seed'])): row for row in rows}
         self.assertEqual((len(found), {row['error'] for row in rows}), (8, {''}))
         for (motes, period, seed), row in found.items():
@@ -55,7 +55,7 @@ class StudiesTest(Room):
             self.assertAlmostEqual(float(row['delivered']), float(row['aloha']), delta=0.04)
 
     def test_trickle(self) -> None:
-        rows = self.study('trickle', '--vary', 'seed=1,2', '--vary', 'enough=1,4', '--vary', 'step=20,8')
+        rows = self.study('trickle', '--param', 'seed=1,2', '--param', 'enough=1,4', '--param', 'step=20,8')
         found = {(int(row['step']), int(row['enough']), int(row['seed'])): row for row in rows}
         self.assertEqual((len(found), {row['error'] for row in rows}), (8, {''}))
         for seed in (1, 2):
@@ -71,7 +71,7 @@ class StudiesTest(Room):
 
     def test_trickle_in_phase_collides_more(self) -> None:
         need_built()
-        words = [it for name in ('phases=1,256', 'seed=1,2', 'enough=1', 'step=20') for it in ('--vary', name)]
+        words = [it for name in ('phases=1,256', 'seed=1,2', 'enough=1', 'step=20') for it in ('--param', name)]
         done = call('sweep', str(STUDIES / 'trickle.plan.toml'), *words, cwd=self.room)
         self.assertEqual(done.returncode, 0, done)
         found = {(int(row['phases']), row['seed']): int(row['collided']) for row in self.rows('trickle')}
@@ -79,7 +79,7 @@ class StudiesTest(Room):
             self.assertGreater(found[1, seed], 1.5 * found[256, seed])
 
     def test_flooding(self) -> None:
-        rows = self.study('flooding', '--vary', 'seed=1,2', '--vary', 'jitter=1,32', '--vary', 'range=10,25')
+        rows = self.study('flooding', '--param', 'seed=1,2', '--param', 'jitter=1,32', '--param', 'range=10,25')
         found = {(int(row['range']), int(row['jitter']), int(row['seed'])): row for row in rows}
         self.assertEqual((len(found), {row['error'] for row in rows}), (8, {''}))
         for reach in (10, 25):

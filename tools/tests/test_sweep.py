@@ -149,7 +149,7 @@ class Bed(Room):
             file.readline()
             return list(csv.DictReader(file))
 
-    words = ('--vary', 'period=1..3', '--vary', 'motes=2,3', '--measure', 'end = last: every mote prints a',
+    words = ('--param', 'period=1..3', '--param', 'motes=2,3', '--measure', 'end = last: every mote prints a',
              '--measure', 'prints')
 
 
@@ -198,7 +198,7 @@ class SweepTest(Bed):
     def test_ctrl_c_keeps_what_is_finished(self) -> None:
         self.put('wait.mote', TABLE.texts['mote'] + '// wait\n')
         # (the worker has at most four runs at a time, so that the last one doesn't begin)
-        words = '--vary', 'name=a,wait', '--vary', 'motes=1..4', '--measure', 'prints', '--jobs', '1'
+        words = '--param', 'name=a,wait', '--param', 'motes=1..4', '--measure', 'prints', '--jobs', '1'
         with subprocess.Popen([sys.executable, '-B', TOOLS / 'sweep', 'net.plan.toml', *words], cwd=self.room,
                               env={**os.environ, **programs_of(self.stub)}, stdout=subprocess.PIPE,
                               stderr=subprocess.PIPE, text=True, start_new_session=True) as run:

@@ -4,6 +4,7 @@ from __future__ import annotations
 import argparse
 import shlex
 import sys
+from collections.abc import Sequence
 from dataclasses import replace
 from pathlib import Path
 from typing import Any
@@ -27,32 +28,40 @@ def table_path(picture: Path) -> Path:
     return picture.with_suffix('.table.csv')
 
 
-def show(results: Path, head: Head, rows: list[Row], plot: Plot, folder: Path) -> None:
-    """Draws a picture, or prints a table."""
+def show(results: Path, head: Head, rows: list[Row], plot: Plot, folder: Path, called: str, is_csv: bool = False
+         ) -> None:
+    """Draws a picture, or prints a table; `called` is the command."""
     picture = folder / plot.file if plot.file else None
     if plot.pair:
         found = compare(head, rows, plot)
         table, notes = rows_of_differences(found, plot), found.notes
         words = heading(plot, found.over, [it.estimate.method for it in found.differences],
                         ': %s less %s, run by run' % (found.names[1], found.names[0]))
-        if picture:
-            drawing.draw_differences(found, plot, picture)
     else:
         shown = shown_of(head, rows, plot)
         table, notes = rows_of(shown, plot), shown.notes
         words = heading(plot, shown.over, [it.estimate.method for it in shown.points])
         if picture:
             drawing.draw(shown, plot, picture)
+    text = ''.join([line_of(list(table[0])), *(line_of(row.values()) for row in table)])
     if picture:
-        origin = head.origin(results, shlex.join(['tools/plot', *sys.argv[1:]]))
-        text = ''.join([origin + '\n', line_of(list(table[0])),
-                        *(line_of(row.values()) for row in table)])
-        write_whole(table_path(picture), [text.encode()])
+        origin = head.origin(results, called)
+        write_whole(table_path(picture), [('%s\n%s' % (origin, text)).encode()])
         print(picture)
+    elif is_csv:
+        print(text, end='')
     else:
         print('\n'.join([words, *lines(table)]))
     for note in notes:
-        print(note)
+        print(note, file=sys.stderr if is_csv else sys.stdout)
+
+
+def draw_plan(results: Path, plan: str, plots: Sequence[Plot]) -> None:
+    """Draws the pictures of a plan."""
+    head, rows = read_results(results)
+    packages.need('matplotlib')
+    for plot in plots:
+        show(results, head, rows, plot, results.parent, shlex.join(['tools/plot', str(results), '--plan', plan]))
 
 
 def status_of(asked: argparse.Namespace) -> int:
@@ -61,10 +70,11 @@ def status_of(asked: argparse.Namespace) -> int:
     head, rows = read_results(results)
     if not rows:
         raise Fault('%s has no runs: run tools/sweep again' % results)
+    called = shlex.join(['tools/plot', *sys.argv[1:]])
     given: dict[str, Any] = {it.name: value for it in OPTIONS if (value := getattr(asked, it.name)) != it.default and value != []}
     if asked.plan:
         if set(given) - {'where'}:
-            raise Fault('with --plan, the plan\'s `plot` has all options but --where')
+            raise Fault('with --plan, the plan\'s `plot` has all options but --param')
         plots, folder = plots_of(Plan.read(asked.plan)), results.parent
         if not plots:
             raise Fault('%s has no `plot`: add tables [[plot]] to it, or name --measure' % asked.plan)
@@ -75,6 +85,8 @@ def status_of(asked: argparse.Namespace) -> int:
         plots, folder = [Plot(**given)], Path()
     for plot in plots:
         plot.check()
+        if plot.file and asked.csv is not None:
+            raise Fault('a picture has its table next to it: leave out --csv or -o')
         plot.check_names(head.parameters, measures_in(head))
         if plot.file:
             for path in folder / plot.file, table_path(folder / plot.file):
@@ -82,5 +94,5 @@ def status_of(asked: argparse.Namespace) -> int:
     if any(plot.file for plot in plots):
         packages.need('matplotlib')
     for plot in plots:
-        show(results, head, rows, plot, folder)
+        show(results, head, rows, plot, folder, called, asked.csv is not None)
     return 0

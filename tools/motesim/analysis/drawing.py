@@ -8,10 +8,9 @@ from typing import Any
 
 from motesim import packages
 from motesim.analysis.estimates import Estimate
-from motesim.analysis.paired import Compared
 from motesim.analysis.plots import Plot
-from motesim.analysis.points import Point, Shown, lines_of
-from motesim.analysis.tables import named, places_of, steps_of
+from motesim.analysis.points import Shown, lines_of
+from motesim.analysis.tables import named, places_of
 from motesim.cells import Cell, text_of
 from motesim.faults import Fault
 
@@ -54,74 +53,33 @@ def draw(shown: Shown, plot: Plot, path: Path) -> None:
     _, names = places_of([it.x for it in shown.points])
     for number, (by, points) in enumerate(lines_of(shown.points).items()):
         label = named(by, plot.by) or None
-        if plot.show == 'cdf':
-            _draw_steps(axes, points[0], label, number)
-            continue
         xs = _xs([it.x for it in points], names)
-        if plot.show == 'points':
-            _draw_runs(axes, points, xs, plot, label, number)
-            continue
         across = errors([it.across for it in points if it.across]) if points[0].across else None
         axes.errorbar(xs, [it.estimate.middle for it in points], errors([it.estimate for it in points]), across,
                       label=label, capsize=3, elinewidth=1, **look(number, not names and bool(plot.against)))
-    is_cdf = plot.show == 'cdf'
-    _finish(figure, axes, plot, path, [] if is_cdf or shown.points[0].across else [it.x for it in shown.points],
-            (plot.measure if is_cdf else plot.against, 'part of runs' if is_cdf else plot.measure))
-
-
-def draw_differences(found: Compared, plot: Plot, path: Path) -> None:
-    """Draws the differences of a comparison, with their intervals."""
-    figure, axes = _axes()
-    xs = [it.x for it in found.differences]
-    _, names = places_of(xs)
-    for number, by in enumerate(dict.fromkeys(it.by for it in found.differences)):
-        its = [it for it in found.differences if it.by == by]
-        axes.errorbar(_xs([it.x for it in its], names), [it.estimate.middle for it in its],
-                      errors([it.estimate for it in its]), label=named(by, plot.by) or None, capsize=3, elinewidth=1,
-                      **look(number, not names and bool(plot.against)))
-    axes.axhline(0, color='#555555', linewidth=0.8)
-    _finish(figure, axes, plot, path, xs, (plot.against, 'difference of %s' % plot.measure))
+    _finish(figure, axes, plot, path, [] if shown.points[0].across else [it.x for it in shown.points])
 
 
 def _xs(values: Sequence[Cell], names: Sequence[str]) -> list[float]:
     return [float(names.index(text_of(it))) for it in values] if names else places_of(values)[0]
 
 
-def _draw_steps(axes: Any, point: Point, label: str | None, number: int) -> None:
-    """For each value, the part of the runs with at most this value."""
-    steps = steps_of(point)
-    axes.step([steps[0][0], *(value for value, _ in steps)], [0.0, *(part for _, part in steps)], where='post',
-              label=label, color=COLOURS[number % len(COLOURS)])
-
-
-def _draw_runs(axes: Any, points: Sequence[Point], xs: Sequence[float], plot: Plot, label: str | None,
-               number: int) -> None:
-    """Each run as a mark."""
-    # (on an axis of a measure each run has a place of its own)
-    places = [(row[plot.against] if point.across else x, value) for point, x in zip(points, xs)
-              for row, value in zip(point.runs, point.values)]
-    axes.plot([x for x, _ in places], [value for _, value in places], label=label, alpha=0.55, markersize=4,
-              **look(number, False))
-
-
-def _finish(figure: Any, axes: Any, plot: Plot, path: Path, xs: Sequence[Cell], texts: tuple[str, str]) -> None:
+def _finish(figure: Any, axes: Any, plot: Plot, path: Path, xs: Sequence[Cell]) -> None:
     """Adds scales, texts and a legend, and writes the picture. `xs` has the values of a parameter on the axis."""
     places, names = places_of(xs)
     if plot.log and (names or min(places, default=1.0) <= 0):
         raise Fault('`log` needs numbers above 0, and %s has others' % plot.against)
     if plot.log:
         axes.set_xscale('log')
-    if plot.log_y:
-        axes.set_yscale('log', nonpositive='clip')
     if names:
         axes.set_xticks(range(len(names)), names)
     elif plot.against and 0 < len(set(places)) <= MOST_TICKS:
         axes.set_xticks(sorted(set(places)), ['%g' % it for it in sorted(set(places))])
         axes.minorticks_off()
-    elif not plot.against and plot.show != 'cdf':
+    elif not plot.against:
         axes.set_xticks([])
-    axes.set_xlabel(plot.x or texts[0])
-    axes.set_ylabel(plot.y or texts[1])
+    axes.set_xlabel(plot.x or plot.against)
+    axes.set_ylabel(plot.y or plot.measure)
     axes.set_title(plot.title)
     if axes.get_legend_handles_labels()[1]:
         axes.legend(frameon=False)

@@ -8,7 +8,7 @@ from typing import Any, NamedTuple
 
 from motesim.faults import Fault
 
-SHOWS = ('median', 'mean', 'points', 'cdf')
+SHOWS = ('median', 'mean')
 FORMATS = ('.svg', '.pdf', '.png')
 
 
@@ -28,7 +28,6 @@ class Plot:
     x: str = ''
     y: str = ''
     log: bool = False
-    log_y: bool = False
 
     def check(self) -> None:
         """Refuses values and combinations that have no meaning."""
@@ -38,10 +37,9 @@ class Plot:
                 (not 50 <= self.confidence <= 99.9, '`confidence` is 50 to 99.9, and not %g' % self.confidence),
                 (self.file and not self.file.endswith(FORMATS),
                  'a picture is SVG, PDF or PNG, and the name %s ends in none of .svg, .pdf and .png' % self.file),
-                (self.show == 'cdf' and (self.against or self.log_y),
-                 'a cdf has the measure on its horizontal axis: leave out `against` and `log_y`'),
                 (self.pair and self.show != 'mean', 'a comparison shows means: `show` is mean together with `pair`'),
-                (self.log and not self.against and self.show != 'cdf', '`log` needs `against`')):
+                (self.pair and self.file, 'a comparison is a table: leave out `file`'),
+                (self.log and not self.against, '`log` needs `against`')):
             if is_wrong:
                 raise Fault(reason)
 
@@ -72,7 +70,7 @@ OPTIONS = (
     Option('measure', 'NAME', 'the measure to show'),
     Option('against', 'NAME', 'the parameter, or the measure, on the horizontal axis (one row over all runs)'),
     Option('by', 'NAME', 'a line for each value of this parameter, or, if it is given twice, for each pair of values'),
-    Option('show', 'VIEW', 'median (with quartiles), mean (with an interval), points (all runs) or cdf (median)'),
+    Option('show', 'VIEW', 'median (with quartiles) or mean (with an interval) (median)'),
     Option('confidence', 'PERCENT', 'the confidence of the intervals (95)'),
     Option('over', 'NAME', 'a parameter in which the runs of a point may differ (`seed` and names that end in `_seed`)'),
     Option('pair', 'NAME=ONE,OTHER', 'compare two values of a parameter, run by run'),
@@ -82,5 +80,4 @@ OPTIONS = (
     Option('x', 'TEXT', 'the text at the horizontal axis'),
     Option('y', 'TEXT', 'the text at the vertical axis'),
     Option('log', '', 'a logarithmic horizontal axis'),
-    Option('log_y', '', 'a logarithmic vertical axis'),
 )

@@ -37,13 +37,11 @@ class Point(NamedTuple):
 
 class Shown(NamedTuple):
     """The points, the parameters in which the runs of a point differ, lines about runs that are left out and about what
-    may mislead, the parameters in which the points of a line differ if each axis has a measure, and all parameters that
-    only repeat runs."""
+    may mislead, and the parameters in which the points of a line differ if each axis has a measure."""
     points: list[Point]
     over: list[str]
     notes: list[str]
     along: list[str]
-    repeats: list[str]
 
 
 def is_repeat(name: str, over: Sequence[str]) -> bool:
@@ -106,7 +104,7 @@ def check_mixture(rows: Sequence[Row], names: Sequence[str], plot: Plot) -> None
             one = text_of(rows[0][name])
             repeats = [it for it in names if is_repeat(it, plot.over)]
             raise Fault('the runs of a point or line would differ in %s (%s): --by %s draws a line for each value, '
-                        '--where %s=%s selects some, and %s mixes them' % (
+                        '--param %s=%s selects some, and %s mixes them' % (
                             name, some_of([row[name] for row in rows]), name, name, one,
                             ' '.join('--over %s' % it for it in [*repeats, name])))
 
@@ -131,7 +129,6 @@ def shown_of(head: Head, rows: Sequence[Row], plot: Plot) -> Shown:
     has_two = bool(plot.against) and plot.against not in head.parameters
     measures = [plot.against, plot.measure] if has_two else [plot.measure]
     full = [row for row in good if None not in [number_of(row, it) for it in measures]]
-    counted = full if plot.show != 'cdf' else good
     if not full:
         raise Fault('there is no value of %s to show in %s, %d of them with an error' % (
             ' and '.join(measures), some(len(selected)), len(selected) - len(good)))
@@ -139,9 +136,9 @@ def shown_of(head: Head, rows: Sequence[Row], plot: Plot) -> Shown:
     # (with a measure on each axis, the runs of a point differ only in repetitions, and those of a line in a parameter)
     along = [it for it in free if not is_repeat(it, plot.over)] if has_two else []
     over = [it for it in free if it not in along]
-    check_mixture(good, [*over, *along[plot.show == 'points' and len(along) or 1:]], plot)
+    check_mixture(good, [*over, *along[1:]], plot)
     groups: dict[tuple[Values, Values], list[Row]] = {}
-    for row in counted:
+    for row in full:
         keys = along if has_two else [plot.against] * bool(plot.against)
         groups.setdefault((tuple(row[it] for it in plot.by), tuple(row[it] for it in keys)), []).append(row)
     up, across = (estimate_of(head, rows, it, plot) for it in (plot.measure, measures[0]))
@@ -155,7 +152,7 @@ def shown_of(head: Head, rows: Sequence[Row], plot: Plot) -> Shown:
         elif values:
             points.append(Point(by, key[0] if key else None, runs, values, up(values)))
     return Shown(points, over, [*left_out(selected, good, full, measures), *doubts(full), *shared(points)],
-                 along, [it for it in head.parameters if is_repeat(it, plot.over) and it not in plot.by])
+                 along)
 
 
 def _values(rows: Sequence[Row], measure: str) -> list[float]:

@@ -24,21 +24,7 @@ def heading(plot: Plot, over: Sequence[str], methods: Sequence[str], more: str =
 
 def rows_of(shown: Shown, plot: Plot) -> list[Row]:
     """The points as rows of a table."""
-    if plot.show == 'points':
-        # (each run has its seed, so that it can be repeated)
-        return [{**_of_by(point.by, plot), **_of_x(row[plot.against] if plot.against else None, plot),
-                 plot.measure: row[plot.measure], **{it: row[it] for it in (*shown.along, *shown.repeats)}}
-                for point in shown.points for row in point.runs]
-    if plot.show == 'cdf':
-        return [{**_of_by(point.by, plot), plot.measure: value, 'part of runs': part}
-                for point in shown.points for value, part in steps_of(point)]
     return [{**dict(zip(shown.along, point.along)), **_of_point(point, plot)} for point in shown.points]
-
-
-def steps_of(point: Point) -> list[tuple[float, float]]:
-    """Each value once, with the part of all runs that have at most this value."""
-    last = {value: number for number, value in enumerate(sorted(point.values), 1)}
-    return [(value, number / len(point.runs)) for value, number in last.items()]
 
 
 def _of_by(by: Values, plot: Plot) -> Row:

@@ -22,7 +22,7 @@ from pathlib import Path
 
 from motesim.command import command
 from motesim.faults import Fault
-from motesim.words import Words, add_limits, words_of
+from motesim.words import Words, add_expectation, add_limits, words_of
 
 
 def parser() -> Words:
@@ -30,7 +30,9 @@ def parser() -> Words:
     words.add_argument('scenario', metavar='SCENARIO', help='a scenario, NAME.toml')
     words.add_argument('expectations', nargs='?', metavar='EXPECTATIONS',
                        help='the expectations (NAME.expect.toml next to the scenario)')
-    words.add_argument('--claims', action='store_true', help='write the claims that the expectations mean for this scenario, and run nothing')
+    add_expectation(words)
+    words.add_argument('--claims', action='store_true',
+                       help='write the claims that the expectations mean for this scenario, and run nothing')
     add_limits(words)
     return words
 
@@ -42,13 +44,15 @@ def main() -> int:
     from motesim.judge.expectations import beside, claims_shown, expect
     scenario = Path(asked.scenario)
     expectations = Path(asked.expectations) if asked.expectations else beside(scenario)
-    if not asked.expectations and scenario.exists() and not expectations.exists():
-        raise Fault('there is no file %s next to %s: name another one, tools/expect SCENARIO EXPECTATIONS' % (
+    if asked.expectations and asked.expect:
+        raise Fault('the expectations are in a file or in --expect, not in both')
+    if not (asked.expectations or asked.expect) and scenario.exists() and not expectations.exists():
+        raise Fault('there is no file %s next to %s: name another one, tools/expect SCENARIO EXPECTATIONS, or use --expect' % (
             expectations, scenario))
     if asked.claims:
-        print('\n'.join(claims_shown(scenario, expectations)))
+        print('\n'.join(claims_shown(scenario, expectations, asked.expect)))
         return 0
-    passed, failed = expect(scenario, expectations, run=runs_within(asked.scenario, asked), limits=limits_of(asked))
+    passed, failed = expect(scenario, expectations, run=runs_within(asked.scenario, asked), limits=limits_of(asked),
+                            given=asked.expect)
     print('%d passed, %d failed' % (passed, failed))
     return 1 if failed else 0
-

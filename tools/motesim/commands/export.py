@@ -1,6 +1,5 @@
 """Writes a run in the format of another program, or a scenario in C.
 
-  tools/export net.toml --to vcd        net.vcd: waveforms of processes, event queues and radio (GTKWave)
   tools/export net.toml --to pcapng     net.pcapng: packets and their copies (Wireshark)
   tools/export net.toml --to perfetto   net.perfetto.json: a trace (ui.perfetto.dev)
   tools/export net.toml --to csv        net.lines.csv, net.packets.csv, net.copies.csv (pandas, R)
@@ -18,7 +17,7 @@ from motesim.command import command
 from motesim.words import Words, words_of
 
 # The forms of a run: those of motesim.export.command.
-FORMS = ('vcd', 'pcapng', 'perfetto', 'csv')
+FORMS = ('pcapng', 'perfetto', 'csv')
 
 
 def parser() -> Words:

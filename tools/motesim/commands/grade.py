@@ -3,14 +3,13 @@
   tools/grade answers task.expect.toml                                 each solution in its own net
   tools/grade answers task.expect.toml --net task.toml                 only each solution's program, in your net
   tools/grade answers task.expect.toml --net task.toml --hidden hidden.toml -o grades.html
-  tools/grade answers task.expect.toml --net task.plan.toml --vary seed=1..5 \\
-    --hidden task.plan.toml --vary-hidden seed=77..79
+  tools/grade answers task.expect.toml --net task.plan.toml --param seed=1..5
 
 A solution is a scenario NAME.toml. With --net, a solution may also be a program NAME.mote. Of a scenario, the tool then
 uses only the text of one program: the program that --program names, or the only one. So nobody gains by changing the
-net.
-With several nets, an expectation counts only if it holds in each of them. A net that --hidden names counts like the
-other nets, but a page of grades doesn't show it.
+net. A plan has a net for each combination of the values in its table `sweep`; --param replaces those of a parameter in
+the plans that --net names. With several nets, an expectation counts only if it holds in each of them. A net that
+--hidden names counts like the other nets, but a page of grades doesn't show it.
 
 The tool prints a table of grades, with a row for each entry of the folder. An error in one entry doesn't affect the
 others. Each run has limits (--seconds of processor time, --memory, --report), and several runs are made at once
@@ -30,11 +29,9 @@ from __future__ import annotations
 from pathlib import Path
 
 from motesim.command import command
-from motesim.words import Words, words_of
+from motesim.words import Words, add_jobs, add_limits, add_parameter, add_table, words_of
 
 FORMATS = ('.csv', '.toml', '.html')
-# The limits of a run.
-SECONDS, MEGABYTES = 20.0, 1024
 
 
 def parser() -> Words:
@@ -45,30 +42,15 @@ def parser() -> Words:
                        help='run the programs in this net, a scenario or a plan; you can repeat the option')
     words.add_argument('--hidden', action='append', default=[], metavar='NET', type=Path,
                        help="run the programs in this net too, but don't show it on a page of grades")
-    words.add_argument('--vary', action='append', default=[], metavar='NAME=VALUES',
-                       help='for the plans that --net names: the values of a parameter, such as seed=1..5')
-    words.add_argument('--vary-hidden', action='append', default=[], metavar='NAME=VALUES',
-                       help='for the plans that --hidden names: the values of a parameter, such as seed=77..79')
+    add_parameter(words, 'for the plans that --net names: the values of a parameter, such as seed=1..5')
     words.add_argument('--program', metavar='NAME', help='the program that the students write, if a net has several')
-    words.add_argument('--seconds', type=float, default=SECONDS, metavar='N',
-                       help='the limit of a run, in seconds of processor time (20)')
-    words.add_argument('--memory', type=int, default=MEGABYTES, metavar='MEGABYTES',
-                       help="the limit of a run's memory (1024)")
-    words.add_argument('--report', type=int, default=16, metavar='MEGABYTES',
-                       help='the limit of a report (16)')
-    words.add_argument('--jobs', type=int, metavar='N',
-                       help='the number of simultaneous runs (one for each processor)')
+    add_limits(words, 20, 1024, 16)
+    add_jobs(words)
     words.add_argument('-o', dest='output', action='append', default=[], metavar='FILE', type=Path,
                        help='write the grades: NAME.csv, NAME.toml or NAME.html')
-    words.add_argument('--anonymous', action='store_true',
-                       help='show numbers instead of the names of solutions; each call of the tool chooses new numbers')
-    words.add_argument('--key', metavar='FILE', type=Path,
-                       help='with --anonymous: write the number of each solution to this file, which is only for you')
     words.add_argument('--write', metavar='FOLDER', type=Path,
                        help='also write each program in each net as a scenario, which the studio can open')
-    words.add_argument('--excel', action='store_true',
-                       help='write NAME.csv with a byte order mark, and with `;` between the cells')
-    words.add_argument('--csv', action='store_true', help='print the grades in CSV')
+    add_table(words, 'csv', 'write the grades in CSV')
     words.add_argument('--why', metavar='NAME', help='show what breaks the expectations in one solution')
     return words
 
@@ -77,12 +59,10 @@ def parser() -> Words:
 def main() -> int:
     words = parser()
     asked = words.parse_args()
-    if asked.seconds <= 0 or asked.memory < 1 or asked.report < 1 or (asked.jobs or 1) < 1:
-        words.error('limits and --jobs are greater than 0')
-    if asked.key and not asked.anonymous:
-        words.error('--key needs --anonymous')
     for path in asked.output:
         if path.suffix not in FORMATS:
             words.error('%s: a file of grades ends in .csv, .toml or .html' % path)
     from motesim.grading.command import status_of
-    return status_of(asked)
+    from motesim.output import output_to
+    with output_to(asked.csv, [asked.expectations, *asked.net, *asked.hidden]):
+        return status_of(asked)

@@ -5,7 +5,7 @@ Each line shows the moment, the mote, the line number in the report, and what ha
 from __future__ import annotations
 
 from motesim.command import command
-from motesim.words import Words, words_of
+from motesim.words import Words, add_expectation, add_table, one_of, words_of
 
 
 def parser() -> Words:
@@ -24,13 +24,17 @@ def parser() -> Words:
     words.add_argument('--first-lines', metavar='N', type=int, help='show only the first N lines')
     form = words.add_mutually_exclusive_group()
     form.add_argument('--counts', action='store_true', help='show only the number of lines of each mote and kind')
-    form.add_argument('--csv', action='store_true', help='write a table in CSV, with a row for each line')
-    form.add_argument('--json', action='store_true', help='write a JSON object for each line')
+    add_table(form, 'csv', 'write a table in CSV, with a row for each line')
+    add_table(form, 'json', 'write a JSON object for each line')
+    add_expectation(words, 'the same as EXPECTATION')
     return words
 
 
 @command('log')
 def main() -> int:
     asked = parser().parse_intermixed_args()
+    from motesim.output import output_to
     from motesim.why.log import status_of
-    return status_of(asked)
+    asked.sentence = one_of(asked.sentence, asked.expect)
+    with output_to(asked.csv or asked.json, [asked.file, asked.scenario]):
+        return status_of(asked)

@@ -1,7 +1,7 @@
 """Writes a scenario from a plan, which describes places, programs and losses by rules.
 
   tools/scenario net.plan.toml -o net.toml
-  tools/scenario net.plan.toml --set gap=20 --set seed=3 | ./run
+  tools/scenario net.plan.toml --param gap=20 --param seed=3 | ./run
   tools/scenario --from net.toml -o net.plan.toml            writes a plan that yields the net of net.toml
 
 Without -o the scenario is written to standard output. The same plan, files and parameters always produce the same
@@ -13,7 +13,7 @@ the error.
 from __future__ import annotations
 
 from motesim.command import command
-from motesim.words import Words, words_of
+from motesim.words import Words, add_parameter, words_of
 
 
 def parser() -> Words:
@@ -21,8 +21,7 @@ def parser() -> Words:
     words.add_argument('plan', metavar='PLAN', nargs='?', help='a plan, a TOML file')
     words.add_argument('--from', dest='source', metavar='SCENARIO',
                        help='write a plan that yields the net of this scenario, and the files that the plan needs')
-    words.add_argument('--set', action='append', default=[], metavar='NAME=VALUE',
-                       help='change the value of a parameter')
+    add_parameter(words, 'change the value of a parameter: --param NAME=VALUE')
     words.add_argument('-o', dest='output', metavar='FILE',
                        help='the scenario to write (standard output); with --from, the plan to write (NAME.plan.toml)')
     return words
@@ -32,7 +31,7 @@ def parser() -> Words:
 def main() -> int:
     words = parser()
     asked = words.parse_args()
-    if (asked.plan is None) == (asked.source is None) or asked.source and asked.set:
+    if (asked.plan is None) == (asked.source is None) or asked.source and asked.param:
         words.error('name a PLAN, or a scenario with --from')
     from motesim.plan.written import status_of
     return status_of(asked)

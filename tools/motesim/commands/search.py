@@ -17,9 +17,9 @@ Kinds of faults, for --faults:
   late         a mote starts late (--moments 40,80)
   collisions   packets that arrive together are lost
   queues       the event queues are shorter (--queues 8,4,2,1)
-  values       range, base or per have other values (--set range=8..12)
+  values       range, base or per have other values (--param range=8..12)
   places       a mote is moved (--step 5)
-  parameters   parameters of a plan have other values (--set gap=10,20)
+  parameters   parameters of a plan have other values (--param gap=10,20)
 
 docs/use/TESTING.md begins with a protocol that looks right, and explains what the result of a search means.
 
@@ -28,14 +28,12 @@ after Ctrl-C.
 """
 from __future__ import annotations
 
-import os
-
 from motesim.command import command
 from motesim.search.forms import with_forms
-from motesim.words import Words, words_of
+from motesim.words import Words, add_expectation, add_jobs, add_limits, add_parameter, add_table, words_of
 
 # The limits of a run: those of motesim.search.work.
-SECONDS, BYTES = 10.0, 16_000_000
+SECONDS, REPORT = 10.0, 16
 
 
 def parser() -> Words:
@@ -43,18 +41,16 @@ def parser() -> Words:
     words.add_argument('scenario', nargs='?', metavar='SCENARIO', help='a scenario, NAME.toml, or a plan')
     words.add_argument('expectations', nargs='?', metavar='EXPECTATIONS',
                        help='the expectations (NAME.expect.toml next to the scenario)')
-    words.add_argument('--expect', action='append', default=[], metavar='EXPECTATION',
-                       help='an expectation, instead of a file of expectations')
+    add_expectation(words)
     words.add_argument('--faults', default='', metavar='KINDS',
-                       help='the kinds of faults. Without this option: links,motes or, with --set, the kinds of the '
-                            'names in --set: values, parameters, or both')
+                       help='the kinds of faults. Without this option: links,motes or, with --param, the kinds of '
+                            'its names: values, parameters, or both')
     words.add_argument('--at-most', type=int, default=1, metavar='K',
                        help='the greatest number of faults in one run (1)')
     words.add_argument('--every', default='2', metavar='NUMBERS', help='for `every`: the values of k (2)')
     words.add_argument('--moments', metavar='NUMBERS', help='for `deaths` and `late`: the moments')
     words.add_argument('--queues', default='8,4,2,1', metavar='NUMBERS', help='for `queues`: the lengths')
-    words.add_argument('--set', action='append', default=[], metavar='NAME=VALUES',
-                       help='for `values` and `parameters`: the other values')
+    add_parameter(words, 'for `values` and `parameters`: the other values')
     words.add_argument('--repeat', action='append', metavar='NAME=VALUES',
                        help='of a plan: search once for each of these values of a parameter, such as seed=1..5, and show '
                             'in how many searches each set breaks an expectation; with several parameters, for each '
@@ -69,17 +65,12 @@ def parser() -> Words:
                             'count. With --shrink, the runs that make a scenario small count too')
     words.add_argument('--most-seconds', type=float, metavar='N',
                        help='begin no more runs after N seconds, also with --shrink')
-    words.add_argument('--seconds', type=float, default=SECONDS, metavar='N',
-                       help='the limit of a run, in seconds of processor time (10)')
-    words.add_argument('--bytes', type=int, default=BYTES, metavar='N',
-                       help='the limit of a report, in bytes (16,000,000)')
-    words.add_argument('--jobs', type=int, default=os.cpu_count() or 1, metavar='N',
-                       help='the number of simultaneous runs (one for each processor)')
+    add_limits(words, SECONDS, None, REPORT)
+    add_jobs(words)
     words.add_argument('--dask', metavar='ADDRESS', help='send the runs to the Dask scheduler at this address')
     words.add_argument('-o', dest='output', metavar='FOLDER', help='the folder of the written files (NAME.search)')
-    words.add_argument('--csv', metavar='FILE', help='write a table of the sets that break an expectation')
-    words.add_argument('--json', metavar='FILE',
-                       help='write all results in JSON to this file; - is standard output')
+    add_table(words, 'csv', 'write a table of the sets that break an expectation')
+    add_table(words, 'json', 'write all results in JSON')
     words.add_argument('--all', action='store_true',
                        help='show all sets that break an expectation, not only ten for each expectation')
     words.add_argument('--shrink', action='store_true',

@@ -32,7 +32,7 @@ from types import FrameType
 from motesim.command import command
 from motesim.faults import INTERRUPTED
 from motesim.search.forms import with_forms
-from motesim.words import Words, words_of
+from motesim.words import Words, add_expectation, add_limits, one_of, words_of
 
 # The limit of a run: that of motesim.search.work.
 SECONDS = 10.0
@@ -61,8 +61,8 @@ def parser() -> Words:
     words.add_argument('--most-seconds', type=float, metavar='N', help='begin no more runs after N seconds')
     words.add_argument('--progress', action='store_true',
                        help='report progress and errors in lines of JSON, on standard error')
-    words.add_argument('--seconds', type=float, default=SECONDS, metavar='N',
-                       help='the limit of a run, in seconds of processor time (10)')
+    add_limits(words, SECONDS, None, None)
+    add_expectation(words, 'the expectation')
     return words
 
 
@@ -73,4 +73,5 @@ def main() -> int:
     before = signal.signal(signal.SIGINT, end_at_once)
     from motesim.search.shrink_command import status_of
     signal.signal(signal.SIGINT, before)
+    asked.expectation = one_of(asked.expectation, asked.expect)
     return status_of(asked)

@@ -5,20 +5,11 @@ studio. docs/use/STUDIO.md describes the page.
 """
 from __future__ import annotations
 
-import argparse
-
 from motesim.command import command
-from motesim.words import Words, words_of
+from motesim.words import Words, add_limits, words_of
 
 # The limits of a run: those of motesim.studio.runs.
 SECONDS, MEMORY, REPORT = 10, 1024, 16
-
-
-def positive(word: str) -> int:
-    number = int(word)
-    if number < 1:
-        raise argparse.ArgumentTypeError('%s is not at least 1' % word)
-    return number
 
 
 def parser() -> Words:
@@ -28,12 +19,7 @@ def parser() -> Words:
     words.add_argument('--against', metavar='OTHER.toml',
                        help='open the page at the first difference from the run of this scenario')
     words.add_argument('--no-open', action='store_true', help='print the address, and open no browser')
-    words.add_argument('--seconds', type=positive, default=SECONDS, metavar='N',
-                       help='the limit of a run, in seconds of processor time (%(default)s)')
-    words.add_argument('--memory', type=positive, default=MEMORY, metavar='N',
-                       help="the limit of a run's memory, in megabytes (%(default)s)")
-    words.add_argument('--report', type=positive, default=REPORT, metavar='N',
-                       help='the limit of a report, in megabytes (%(default)s)')
+    add_limits(words, SECONDS, MEMORY, REPORT)
     return words
 
 

@@ -3,38 +3,20 @@
 REPORT is a report, or a scenario, which is run; `-` is standard input. `--scenario FILE` names the scenario of a
 report: then links that carried nothing are shown too.
 
-The columns of each mote, and of the net:
-  sent      packets that it sent
-  copies    copies of packets that were on their way to it; of these:
-  received    copies that it received
-  lost        copies that the medium lost
-  ring        copies that arrived while eight packets were waiting
-  collided    copies that arrived together with others; a line on standard error counts those that collided with
-              another packet that their sender had sent at the same moment
-  halted      copies that arrived after it had halted
-  late        copies that would have arrived after the end
-  ratio     the share of received copies among all copies that weren't late
-  posted    events that its queue accepted
-  taken     events that reached a process; an event for all processes counts once for each process
-  dropped   events whose process wasn't on the process list
-  refused   events that found the queue full
-  prints    lines that it printed
-  halt      the moment at which it halted; for the net, the number of motes that halted
-The columns of each link are `copies` to `ratio`, and
-  delay     the number of moments that a packet needs to arrive
+A line on standard error counts the copies that collided with another packet that their sender had sent at the same
+moment. The columns of a mote, and of the net:
+{motes}
+A link has its two motes, the columns `copies` to `ratio`, and `delay`: {delay}.
 
 `--flow "print sink"` shows flows from end to end instead: each line `print sink V` is a delivery of the message V. The
 message begins with the first packet that has the value V. The mote that sends this packet is the origin of the message.
 With `--flow "print source -> print sink"` the message begins with the first line `print source V` instead. The columns
-of each origin, and of the net:
-  sent      messages that began there
-  delivered messages that arrived at another mote at least once; ratio is their share
-  reached   the number of motes that a message reached, on average
-  copies    all deliveries; duplicates are deliveries to a mote that had the message already
-  hops      the least number of hops to the reached motes, on average, if the scenario is known
-  least, middle, most   moments from a message's beginning to its first delivery at a mote
+of an origin, and of the net:
+{flows}
 
-`--by N` shows the counts of each interval of N moments instead: docs/use/COMMANDS.md describes the columns of this table.
+`--by N` shows the counts of each interval of N moments instead, also of flows. Copies count in the interval in which
+they arrived; those that are `lost` or `left`, in the one in which they were sent. The columns of an interval:
+{intervals}
 
 `--motes` and `--links` show only one of the tables. `--csv` writes one table for a spreadsheet: the table of motes, or
 with `--links` the table of links. `--json` writes all tables in JSON.
@@ -44,16 +26,18 @@ The tool ends with status 0, or with 2 if the report can't be read.
 from __future__ import annotations
 
 from motesim.command import command
-from motesim.words import Words, words_of
+from motesim.summary.columns import FLOWS, INTERVALS, LINKS, MOTES, described
+from motesim.words import Words, add_table, words_of
 
 
 def parser() -> Words:
-    words = words_of(__doc__)
+    words = words_of((__doc__ or '').format(delay=LINKS['delay'], motes=described(MOTES), flows=described(FLOWS),
+                                             intervals=described(INTERVALS)))
     words.add_argument('report', metavar='REPORT', help='a report, or a scenario; - is standard input')
     words.add_argument('--scenario', metavar='FILE', help='if REPORT is a report: its scenario')
     form = words.add_mutually_exclusive_group()
-    form.add_argument('--csv', action='store_true', help='write a table for a spreadsheet')
-    form.add_argument('--json', action='store_true', help='write all tables in JSON')
+    add_table(form, 'csv', 'write one table in CSV')
+    add_table(form, 'json', 'write all tables in JSON')
     part = words.add_mutually_exclusive_group()
     part.add_argument('--motes', action='store_true', help='show only the table of motes and the net')
     part.add_argument('--links', action='store_true', help='show only the table of links')
@@ -70,5 +54,7 @@ def main() -> int:
     asked = words.parse_args()
     if asked.by is not None and (asked.motes or asked.links):
         words.error('--by is for the whole net: it can\'t be combined with --motes or --links')
+    from motesim.output import output_to
     from motesim.summary.counts import status_of
-    return status_of(asked)
+    with output_to(asked.csv or asked.json, [asked.report, asked.scenario]):
+        return status_of(asked)

@@ -1,11 +1,11 @@
 """Runs a plan with many values of its parameters, and measures each run.
 
-  tools/sweep net.plan.toml --vary gap=10,20,40 --vary seed=1..30 --measure sent --measure ratio -o net.csv
+  tools/sweep net.plan.toml --param gap=10,20,40 --param seed=1..30 --measure sent --measure ratio -o net.csv
 
 The tool makes a run for each combination of the values. Each run has a row with its parameters and measures in net.csv.
 If you start the same command again, the tool makes only the missing runs. After Ctrl-C the finished rows stay in the
 file. A run with an error has a row with the error. If a measure fails, its cell is empty, and the row has a note. A plan
-can have values and measures in its table `sweep`: --vary replaces the plan's values of the same parameter, and
+can have values and measures in its table `sweep`: --param replaces the plan's values of the same parameter, and
 --measure adds to the plan's measures. --plot draws what the plan's `plot` describes.
 
 The forms of values are 10,20,40 (these numbers), 1..30 (all whole numbers from 1 to 30), and 0..100..25 (0, 25, 50, 75
@@ -40,29 +40,21 @@ The tool ends with status 0, with 1 if a row has an error or lacks a measure, wi
 """
 from __future__ import annotations
 
-import os
-import sys
-from pathlib import Path
-
 from motesim.command import command
-from motesim.words import Words, words_of
+from motesim.words import Words, add_jobs, add_limits, add_parameter, words_of
 
-# The limits of a run: those of motesim.experiments.asked.
-MOST_BYTES, MOST_SECONDS = 200_000_000, 86_400
+# The limit of a report, in megabytes: that of motesim.experiments.asked.
+REPORT = 200
 
 
 def parser() -> Words:
     words = words_of(__doc__)
     words.add_argument('plan', metavar='PLAN', help='a plan, a TOML file')
-    words.add_argument('--vary', action='append', default=[], metavar='NAME=VALUES', help='values of a parameter')
+    add_parameter(words, 'values of a parameter')
     words.add_argument('--measure', action='append', default=[], metavar='MEASURE', help='a measure of a run')
     words.add_argument('-o', dest='output', metavar='FILE', help='the results (NAME.csv, next to NAME.plan.toml)')
-    words.add_argument('--jobs', type=int, default=os.cpu_count() or 1, metavar='N',
-                       help='the number of simultaneous runs (one for each processor)')
-    words.add_argument('--seconds', type=float, metavar='N',
-                       help='the limit of a run, in seconds of processor time (the plan\'s limit, or 60)')
-    words.add_argument('--bytes', type=int, default=MOST_BYTES, metavar='N',
-                       help='the limit of a report, in bytes (200,000,000)')
+    add_jobs(words)
+    add_limits(words, None, None, REPORT, 'that of the plan, or 60')
     words.add_argument('--dask', metavar='ADDRESS', help='send the runs to the Dask scheduler at this address')
     words.add_argument('--renew', action='store_true',
                        help='repeat the runs of rows that are older than a change of the plan, of motesim or of a '
@@ -74,10 +66,7 @@ def parser() -> Words:
 
 @command('sweep')
 def main() -> int:
-    words = parser()
-    asked = words.parse_args()
-    if asked.jobs < 1 or asked.seconds is not None and not 0 < asked.seconds <= MOST_SECONDS:
-        words.error('--jobs is 1 or more, and --seconds more than 0')
+    asked = parser().parse_args()
     from motesim.analysis.of_plan import plots_of
     from motesim.analysis.points import measures_in
     from motesim.experiments.sweep import status_of, sweeper_of
@@ -86,8 +75,6 @@ def main() -> int:
     plots = plots_of(sweeper.plan, sweeper.head.parameters, measures_in(sweeper.head)) if asked.plot else []
     status = status_of(asked, sweeper)
     if plots and status in (0, 1):
-        import subprocess
-        plot = str(Path(__file__).resolve().parents[2] / 'plot')
-        drawn = subprocess.run([sys.executable, '-B', plot, str(sweeper.path), '--plan', asked.plan])
-        status = max(status, drawn.returncode)
+        from motesim.analysis.command import draw_plan
+        draw_plan(sweeper.path, asked.plan, plots)
     return status

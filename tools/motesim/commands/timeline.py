@@ -26,11 +26,11 @@ def main() -> int:
     asked = parser().parse_args()
     from motesim.files import refuse_inputs
     from motesim.judge.expectations import fields_beside
-    from motesim.output import beside
+    from motesim.output import made_beside
     from motesim.report.run import read_run
     from motesim.timeline.html import write_page
     name = 'run' if asked.file == '-' else Path(asked.file).stem
-    page = asked.page or str(beside(asked.file, name + '.html'))
+    page = asked.page or str(made_beside(asked.file, name + '.html'))
     refuse_inputs(page, [asked.file, asked.scenario])
     run = read_run(asked.file, asked.scenario)
     if run.scenario:

@@ -9,7 +9,7 @@ import shlex
 
 from motesim.command import command
 from motesim.faults import Fault
-from motesim.words import Words, words_of
+from motesim.words import Words, add_expectation, add_table, one_of, words_of
 
 
 def parser() -> Words:
@@ -24,7 +24,8 @@ def parser() -> Words:
                        help='show the values of variables over time: --watch mote 3 newest, distance')
     words.add_argument('--state', metavar='WORD', nargs='+',
                        help='show the state of a mote: --state mote 3 at 46, or after a line: --state 3:114')
-    words.add_argument('--json', action='store_true', help='write the result in JSON')
+    add_table(words, 'json', 'write the result in JSON')
+    add_expectation(words, 'an expectation as the question')
     words.add_argument('--short', action='store_true',
                        help='show only the first and the last line of the chain, and the lines that are later than '
                             'their cause')
@@ -40,5 +41,8 @@ def main() -> int:
     if more:
         raise Fault('the question has to be in quotes: tools/why %s' % shlex.join(
             [asked.file, ' '.join(filter(None, [asked.question, *more]))]))
+    from motesim.output import output_to
     from motesim.why.command import status_of
-    return status_of(asked)
+    asked.question = one_of(asked.question, asked.expect)
+    with output_to(asked.json, [asked.file, asked.scenario, asked.other]):
+        return status_of(asked)

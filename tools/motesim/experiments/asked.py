@@ -20,7 +20,7 @@ from motesim.scenario import Scenario
 
 # The greatest number of runs whose scenarios are made before the first run, to find mistakes early.
 MOST_TRIED = 40
-SECONDS, MOST_SECONDS, MOST_BYTES = 60, 86_400, 200_000_000
+SECONDS, MOST_SECONDS, MOST_BYTES = 60, 86_400, 200 << 20
 SWEEP = {'vary': optional(dict, {}), 'measure': optional(list, []), 'seconds': optional(int, SECONDS, 1, MOST_SECONDS)}
 
 
@@ -82,7 +82,7 @@ def sweep_of(plan: Plan, vary: Sequence[str], measures: Sequence[str], seconds: 
     for words in vary:
         name, sign, text = words.partition('=')
         if not sign or name in named:
-            raise Fault('--vary needs NAME=VALUES, once for each name, not %r' % words)
+            raise Fault('--param needs NAME=VALUES, once for each name, not %r' % words)
         named.add(name)
         asked[name] = values_of(text)
     plan.with_given({name: values[0] for name, values in asked.items()})

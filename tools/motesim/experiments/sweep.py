@@ -169,8 +169,8 @@ def name_of_results(plan: str) -> str:
 
 def sweeper_of(asked: argparse.Namespace) -> Sweeper:
     """The sweep of a command, with the file of its results."""
-    sweep = sweep_of(Plan.read(asked.plan), asked.vary, asked.measure, asked.seconds)
-    sweep.most_bytes = asked.bytes
+    sweep = sweep_of(Plan.read(asked.plan), asked.param, asked.measure, asked.seconds)
+    sweep.most_bytes = asked.report << 20
     output = Path(asked.output) if asked.output else beside(asked.plan, name_of_results(asked.plan))
     of_measures = [sweep.plan.files.folder / it for it in map(file_of, sweep.measures) if it]
     refuse_inputs(output, [*sweep.plan.paths(sweep.run_at(0)), *of_measures])

@@ -24,6 +24,7 @@ from motesim.scenario import Scenario, encodings
 from motesim.scenario import faults as scenario_faults
 from motesim.scenario.faults import ScenarioError
 from motesim.scenario.places import Place, place_of
+from motesim.scenario.refused import rule_of_program
 from motesim.scenario.in_programs import offset_of, place_of_token, source_of
 from motesim.scenario.kinds import has_plan, is_c_file, is_program_file, is_program_in_c
 from motesim.terminal import one_line
@@ -107,13 +108,6 @@ def rule_of(line: str) -> str:
     if program and int(program[2]) in program_faults.RULES:
         return '%s: %s' % program_faults.RULES[int(program[2])]
     return scenario_faults.RULES.get('program' if program else line, 'docs/use/SCENARIO.md has the errors.')
-
-
-def rule_of_program(its: program_faults.ProgramError) -> str:
-    title, rule = program_faults.RULES[its.kind]
-    if its.token.kind == 'end' and its.kind == 2:
-        rule = 'The text ends here, but other words must follow those before it.'
-    return '%s: %s' % (title, rule)
 
 
 def shown_program(name: str, text: str, program: str, token: Token) -> list[Shown]:

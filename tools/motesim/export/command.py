@@ -2,17 +2,19 @@
 from __future__ import annotations
 
 import argparse
+import sys
 from collections.abc import Callable, Iterable
 from pathlib import Path
 
 from motesim.contiki.folder import write_folder
-from motesim.export import pcapng, perfetto, tables, vcd
+from motesim.export import pcapng, perfetto, tables
 from motesim.files import refuse_inputs, write_whole
+from motesim.output import beside
 from motesim.report import Report
 from motesim.report.run import read_run
 from motesim.scenario.encodings import read_file
 
-ENDS = {'vcd': '.vcd', 'pcapng': '.pcapng', 'perfetto': '.perfetto.json', 'csv': ''}
+ENDS = {'pcapng': '.pcapng', 'perfetto': '.perfetto.json', 'csv': ''}
 
 
 def encoded(lines: Iterable[str]) -> Iterable[bytes]:
@@ -30,15 +32,14 @@ def parts_of(report: Report, form: str) -> dict[str, Iterable[bytes]]:
         return {end: (line.encode() for line in tables.table(report, name))
                 for name, end in zip(tables.TABLES, ends_of(form))}
     work: dict[str, Callable[[], Iterable[bytes]]] = {
-        'vcd': lambda: encoded(vcd.vcd(report)), 'pcapng': lambda: pcapng.pcapng(report),
-        'perfetto': lambda: encoded(perfetto.perfetto(report))}
+        'pcapng': lambda: pcapng.pcapng(report), 'perfetto': lambda: encoded(perfetto.perfetto(report))}
     return {'': work[form]()}
 
 
 def export_program_files(path: str, folder: str | None, with_host: bool) -> int:
     """Writes a scenario as a folder of C files."""
     name = 'scenario' if path == '-' else Path(path).stem
-    for written in write_folder(read_file(path), path, Path(folder or name + '_contiki'), with_host):
+    for written in write_folder(read_file(path), path, Path(folder or beside(path, name + '_contiki')), with_host):
         print(written)
     return 0
 
@@ -48,8 +49,10 @@ def status_of(asked: argparse.Namespace) -> int:
     if asked.form:
         return export_program_files(asked.report, asked.output, asked.host)
     name = 'run' if asked.report == '-' else Path(asked.report).stem
-    begin = asked.output or name + ENDS[asked.to]
+    begin = asked.output or str(beside(asked.report, name + ENDS[asked.to]))
     for end in ends_of(asked.to):
+        if not asked.output and Path(begin + end).is_file():
+            print('%s is replaced' % (begin + end), file=sys.stderr)
         refuse_inputs(begin + end, [asked.report])
     for end, parts in parts_of(read_run(asked.report).report, asked.to).items():
         write_whole(Path(begin + end), parts)

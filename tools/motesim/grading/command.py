@@ -10,13 +10,12 @@ from pathlib import Path
 from motesim.faults import Fault
 from motesim.files import refuse_inputs, replace_whole
 from motesim.grading import page, tables
-from motesim.grading.entries import Entry, anonymous, data_of, decoded, entries_of
+from motesim.grading.entries import Entry, data_of, decoded, entries_of
 from motesim.grading.marking import Task, page_name
 from motesim.grading.marks import Marks, unmarked
 from motesim.grading.nets import (
     Net, files_of, hidden_and_shown, nets_of, nets_with_cut_off, program_of, without_nets,
 )
-from motesim.grading.own import OF_KEY
 from motesim.grading.pages import keep_names, pages_of, remove_earlier
 from motesim.progress import Progress
 from motesim.judge.expectations import parts_of, text_of
@@ -57,8 +56,7 @@ def task_of(asked: argparse.Namespace, pictures: Path | None) -> Task:
     """The task of all solutions. Faults of the sentences and of the nets are the teacher's."""
     name = str(asked.expectations)
     part = parts_of(text_of(asked.expectations), name)[0]
-    nets = [*nets_of(asked.net, asked.vary, asked.program),
-            *nets_of(asked.hidden, asked.vary_hidden, asked.program, is_hidden=True)]
+    nets = [*nets_of(asked.net, asked.param, asked.program), *nets_of(asked.hidden, [], asked.program, is_hidden=True)]
     try:
         read_all(part.sentences, Names(fields=part.fields))
         for net in nets:
@@ -80,11 +78,10 @@ def spoken_of_by_none(marked: Sequence[Marks], sentences: Sequence[str]) -> list
     return lines
 
 
-def write(path: Path, marked: Sequence[Marks], sentences: Sequence[str], task: Task, expectations: Path,
-          is_for_excel: bool = False) -> None:
+def write(path: Path, marked: Sequence[Marks], sentences: Sequence[str], task: Task, expectations: Path) -> None:
     """Writes the marks into a file, in the format that its ending names."""
     if path.suffix == '.csv':
-        text = tables.csv_of(marked, sentences, is_for_excel)
+        text = tables.csv_of(marked, sentences)
     elif path.suffix == '.toml':
         text = tables.toml_of(marked, sentences, one_line(str(expectations)), [net.name for net in task.nets])
     else:
@@ -95,13 +92,13 @@ def write(path: Path, marked: Sequence[Marks], sentences: Sequence[str], task: T
 
 
 def refuse_all_inputs(asked: argparse.Namespace, entries: Sequence[Entry]) -> None:
-    """Raises a fault if the marks or their key would replace the expectations, a net or a solution."""
+    """Raises a fault if the marks would replace the expectations, a net or a solution."""
     solutions = [it.path for it in entries if it.is_solution]
     inputs = [asked.expectations, *files_of([*asked.net, *asked.hidden]), *solutions]
-    for path, option in (*((it, '-o') for it in asked.output), (asked.key, '--key')):
+    for path in asked.output:
         # (a link is replaced, so the file to which it points stays)
-        if path and not path.is_symlink():
-            refuse_inputs(path, inputs, option)
+        if not path.is_symlink():
+            refuse_inputs(path, inputs)
 
 
 def write_scenarios(folder: Path, entries: Sequence[Entry], task: Task) -> None:
@@ -127,13 +124,6 @@ def write_scenarios(folder: Path, entries: Sequence[Entry], task: Task) -> None:
     print('%s: %d %s' % (one_line(str(folder)), count, 'scenario' if count == 1 else 'scenarios'))
 
 
-def key_of(entries: Sequence[Entry], folder: Path) -> str:
-    """The numbers of the solutions, as CSV."""
-    rows = ['"%s","%s"' % (it.name, tables.cell(tables.without_separators(one_line(str(it.path.relative_to(folder)))))
-                            .replace('"', '""')) for it in entries]
-    return OF_KEY + ''.join(it + '\n' for it in rows)
-
-
 def entry_of(name: str, entries: Sequence[Entry], folder: Path) -> Entry:
     """The entry that a name means: its whole name, the name of a solution without its ending, or the beginning of only
     one name."""
@@ -151,7 +141,7 @@ def entry_of(name: str, entries: Sequence[Entry], folder: Path) -> Entry:
 def remarks(asked: argparse.Namespace, nets: Sequence[Net], skipped: Sequence[str]) -> list[str]:
     """Lines on things that a teacher may not have meant: combinations of values without a net, nets that are hidden
     and shown, motes that are cut off, and files without a row."""
-    lines = [*without_nets(asked.vary), *without_nets(asked.vary_hidden, True)]
+    lines = without_nets(asked.param)
     for remark, names in (
             ('these hidden nets equal a shown net, so a page of grades shows them', hidden_and_shown(nets)),
             ('in these nets no packet of the other motes reaches some motes', nets_with_cut_off(nets)),
@@ -173,10 +163,6 @@ def status_of(asked: argparse.Namespace) -> int:
     refuse_all_inputs(asked, entries)
     if asked.why is not None:
         entries = [entry_of(asked.why, entries, asked.folder)]
-    elif asked.anonymous:
-        entries = anonymous(entries)
-        if asked.key:
-            replace_whole(asked.key, [key_of(entries, asked.folder).encode('utf-8')])
     if asked.write:
         write_scenarios(asked.write, entries, task)
     if pictures:
@@ -199,5 +185,5 @@ def status_of(asked: argparse.Namespace) -> int:
         print('\n'.join([*tables.table(marked, sentences), '', *tables.below(marked, sentences),
                          *tables.pointer(marked)]))
     for path in asked.output:
-        write(path, marked, sentences, task, asked.expectations, asked.excel)
+        write(path, marked, sentences, task, asked.expectations)
     return 1 if any(it.is_open for it in marked) else 0

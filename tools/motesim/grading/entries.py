@@ -6,10 +6,9 @@ opened, and at most as many bytes are read as a scenario may have.
 from __future__ import annotations
 
 import os
-import random
 import re
 import stat
-from collections.abc import Iterator, Sequence
+from collections.abc import Iterator
 from itertools import islice
 from pathlib import Path
 from typing import NamedTuple
@@ -47,8 +46,7 @@ def _kind(mode: int) -> str:
 
 
 def _why_by_name(name: str) -> str:
-    """The reason why a plain file has no mark, if its name isn't that of a solution. The reason doesn't contain the
-    name, because it is shown on anonymous pages too."""
+    """The reason why a plain file has no mark, if its name isn't that of a solution."""
     why = 'its name ends neither in .toml nor in .mote'
     if name.lower().endswith(SUFFIXES):
         return why + ': write the ending in small letters'
@@ -102,14 +100,6 @@ def entries_of(folder: Path) -> tuple[list[Entry], list[str]]:
     if not found:
         raise Fault('%s has no solution: a scenario NAME.toml or a program NAME.mote' % folder)
     return found, skipped
-
-
-def anonymous(entries: Sequence[Entry], chance: random.Random | None = None) -> list[Entry]:
-    """The entries with numbers as names, in a random order: another order for each marking, unless `chance` has a
-    seed."""
-    mixed = list(entries)
-    (chance or random.SystemRandom()).shuffle(mixed)
-    return [it._replace(name='solution-%d' % number) for number, it in enumerate(mixed, 1)]
 
 
 def without_program(entry: Entry, text: str) -> str:

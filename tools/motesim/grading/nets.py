@@ -23,8 +23,6 @@ from motesim.toml import MARK, NoToml, read_toml
 
 # The most nets of a plan.
 MOST_NETS = 1_000
-# The options with values of parameters and with files: for the shown nets, and for the hidden nets.
-OPTIONS = ('--vary', '--net'), ('--vary-hidden', '--hidden')
 # The most motes of a net in a remark.
 MOST_MOTES = 8
 # The most names of programs in a message, and the greatest length of each.
@@ -59,15 +57,21 @@ def _read(path: Path) -> Plan | str:
         raise Fault('%s is not TOML: %s' % (path, fault)) from None
 
 
-def _values(vary: Sequence[str], option: str) -> dict[str, list[Value]]:
-    """The values of each parameter that an option names."""
+def _values(given: Sequence[str]) -> dict[str, list[Value]]:
+    """The values of each parameter that `--param` names."""
     asked = {}
-    for words in vary:
+    for words in given:
         name, sign, values = words.partition('=')
         if not sign:
-            raise Fault('%s needs NAME=VALUES, not %r' % (option, words))
+            raise Fault('--param needs NAME=VALUES, not %r' % words)
         asked[name] = values_of(values)
     return asked
+
+
+def _own_values(plan: Plan) -> dict[str, list[Value]]:
+    """The values that a plan has in its table `sweep`."""
+    its = plan.tables.top.get('sweep', {}).get('vary', {})
+    return {name: values_of(values) if isinstance(values, str) else list(values) for name, values in its.items()}
 
 
 def _texts(file: str, its: Plan | str, asked: dict[str, list[Value]]) -> Iterator[tuple[str, str]]:
@@ -75,6 +79,7 @@ def _texts(file: str, its: Plan | str, asked: dict[str, list[Value]]) -> Iterato
     if isinstance(its, str):
         yield file, its
         return
+    asked = {**_own_values(its), **asked}
     for values_now in itertools.islice(itertools.product(*asked.values()), MOST_NETS):
         given = dict(zip(asked, values_now))
         shown = ' '.join('%s=%s' % (name, text_of_value(value)) for name, value in given.items())
@@ -93,16 +98,14 @@ def _net(name: str, text: str, program: str | None) -> Net:
     return Net(name, scenario, program or names[0])
 
 
-def nets_of(paths: Sequence[Path], vary: Sequence[str], program: str | None, is_hidden: bool = False) -> list[Net]:
-    """The nets of these files; a plan has one for each combination of these values of parameters. The plans of hidden
-    nets have their own values: with the values of the shown nets, the hidden nets would be the same as the shown
-    ones."""
-    option, other = OPTIONS[is_hidden], OPTIONS[not is_hidden]
-    asked = _values(vary, option[0])
+def nets_of(paths: Sequence[Path], given: Sequence[str], program: str | None, is_hidden: bool = False) -> list[Net]:
+    """The nets of these files; a plan has one for each combination of the values of its table `sweep` and of these.
+    (Hidden nets with the values of the shown nets would be the same as those.)"""
+    asked = _values(given)
     files = [(path.name, _read(path)) for path in paths]
     if asked and all(isinstance(its, str) for _, its in files):
         scenarios = ''.join('; %s is a scenario, because it has no table [places]' % name for name, _ in files[:1])
-        raise Fault('%s needs a plan that %s names; %s varies the plans of %s' % (*option, *other) + scenarios)
+        raise Fault('--param needs a plan that --net names' + scenarios)
     found = [_net(name, text, program) for file, its in files for name, text in _texts(file, its, asked)]
     return [replace(it, is_hidden=is_hidden) for it in found]
 
@@ -113,12 +116,11 @@ def files_of(paths: Sequence[Path]) -> list[Path]:
     return [*paths, *(it for plan in found if isinstance(plan, Plan) for it in plan.paths({}))]
 
 
-def without_nets(vary: Sequence[str], is_hidden: bool = False) -> list[str]:
+def without_nets(given: Sequence[str]) -> list[str]:
     """The line about the combinations of values that have no net, because there are too many."""
-    option = OPTIONS[is_hidden][0]
-    count = math.prod(map(len, _values(vary, option).values()))
-    return ['{} has {:,} combinations of values: only the first {:,} have a net, and {:,} are left out'.format(
-        option, count, MOST_NETS, count - MOST_NETS)] if count > MOST_NETS else []
+    count = math.prod(map(len, _values(given).values()))
+    return ['--param has {:,} combinations of values: only the first {:,} have a net, and {:,} are left out'.format(
+        count, MOST_NETS, count - MOST_NETS)] if count > MOST_NETS else []
 
 
 def hidden_and_shown(nets: Sequence[Net]) -> list[str]:

@@ -6,27 +6,23 @@ import stat
 from pathlib import Path
 
 from motesim.grading.pages import NAMES, OF_PAGES, names_in
-from motesim.toml import MARK
 
 # The beginnings of marks.
 OF_TOML = '# Written by tools/grade.'
 OF_PAGE = '<!DOCTYPE html>\n<html lang="en">\n<head>\n<meta name="generator" content="tools/grade">\n'
-OF_KEY = '"number","solution"\n'
 COLUMNS = ('scenario', 'holds', 'of', 'error')
-HEADS = {'.toml': (OF_TOML + '\n',), '.html': (OF_PAGE,), '.csv': (
-    *(begin + sign.join([*('"%s"' % it for it in COLUMNS), '']) for begin, sign in (('', ','), (MARK, ';'))), OF_KEY)}
+HEADS = {'.toml': OF_TOML + '\n', '.html': OF_PAGE, '.csv': ','.join([*('"%s"' % it for it in COLUMNS), ''])}
 
 
 def is_marks(path: Path) -> bool:
     """True if a plain file begins like the marks that tools/grade writes."""
-    heads = [it.encode() for it in HEADS.get(path.suffix, ())]
+    head = HEADS[path.suffix].encode()
     try:
         number = os.open(path, os.O_RDONLY | os.O_NONBLOCK | os.O_NOFOLLOW | os.O_CLOEXEC)
     except OSError:
         return False
     with open(number, 'rb') as file:
-        begin = file.read(max(map(len, heads), default=0)) if stat.S_ISREG(os.fstat(number).st_mode) else b''
-        return any(map(begin.startswith, heads))
+        return stat.S_ISREG(os.fstat(number).st_mode) and file.read(len(head)) == head
 
 
 def own_of(folder: Path) -> set[str]:

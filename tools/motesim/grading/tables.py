@@ -12,7 +12,6 @@ from motesim.grading.marks import Mark, Marks
 from motesim.grading.own import COLUMNS, OF_TOML
 from motesim.judge.expectations import REQUIRED
 from motesim.plan.text import escaped
-from motesim.toml import MARK
 
 # How many nets a line names.
 MOST_NAMED = 3
@@ -84,15 +83,11 @@ def without_separators(text: str) -> str:
     return text.replace(';', '\\x3b').replace('\t', '\\x09')
 
 
-def csv_of(marked: Sequence[Marks], sentences: Sequence[str], is_for_excel: bool = False) -> str:
+def csv_of(marked: Sequence[Marks], sentences: Sequence[str]) -> str:
     """A row for each solution, with 1 for a sentence that holds and otherwise 0; its cells are empty if it isn't
-    marked.
-
-    All texts are in quotes. A file for Excel begins with a byte order mark, and `;` separates its cells.
-    """
-    out = io.StringIO(MARK * is_for_excel, newline='')
-    out.seek(0, io.SEEK_END)
-    rows = csv.writer(out, lineterminator='\n', quoting=csv.QUOTE_NONNUMERIC, delimiter=',;'[is_for_excel])
+    marked. All texts are in quotes."""
+    out = io.StringIO(newline='')
+    rows = csv.writer(out, lineterminator='\n', quoting=csv.QUOTE_NONNUMERIC)
     rows.writerow([*COLUMNS, *map(cell, sentences)])
     for it in marked:
         holds: list[object] = [int(one.holds) for one in it.marks]

@@ -133,6 +133,13 @@ def fields_beside(scenario: str | Path) -> tuple[Field, ...]:
     return parts_of(text_of(path), str(path))[0].fields if path.is_file() else ()
 
 
+def parts_given(scenario: Path, expectations: Path, given: Sequence[str]) -> list[Part]:
+    """The expectations of a file, or those that are given instead."""
+    if not given:
+        return parts_of(text_of(expectations), str(expectations))
+    return [Part('--expect', [*given], None, {}, fields=fields_beside(scenario))]
+
+
 def place_of_part(number: int, part: Part, name: str) -> str:
     """The place of a part in its file, in a message: the file, or the number of the change with its description."""
     if not number:
@@ -214,14 +221,15 @@ def judged(scenario: str, part: Part, run: Callable[[bytes], Answer] | None = No
 
 
 def expect(scenario: Path, expectations: Path, is_quiet: bool = False,
-           run: Callable[[bytes], Answer] | None = None, limits: Limits = Limits()) -> tuple[int, int]:
+           run: Callable[[bytes], Answer] | None = None, limits: Limits = Limits(), given: Sequence[str] = ()
+           ) -> tuple[int, int]:
     """Prints which sentences hold, or, if `is_quiet`, those that don't; returns how many hold and how many don't.
-    `run` runs the scenario; `limits` are those of `motecheck`."""
+    `run` runs the scenario; `limits` are those of `motecheck`; `given` are the sentences, if no file has them."""
     text = text_of(scenario)
     refuse_others(scenario)
     passed = failed = 0
     name = str(expectations)
-    for count, part in enumerate(parts_of(text_of(expectations), name)):
+    for count, part in enumerate(parts_given(scenario, expectations, given)):
         try:
             verdicts = judged(text, part, run, limits)
         except LimitMet as fault:
@@ -247,11 +255,11 @@ def expect(scenario: Path, expectations: Path, is_quiet: bool = False,
     return passed, failed
 
 
-def claims_shown(scenario: Path, expectations: Path) -> Iterator[str]:
+def claims_shown(scenario: Path, expectations: Path, given: Sequence[str] = ()) -> Iterator[str]:
     """The lines of a text of claims: each expectation as a comment, and the claims that it means. Expectations that
     claims can't say, and those about a changed scenario, have only a comment."""
     name = str(expectations)
-    part, *others = parts_of(text_of(expectations), name)
+    part, *others = parts_given(scenario, expectations, given)
     known, names = known_of(text_of(scenario), part.fields)
     sentences = read_all(part.sentences, names)
     if known is None:

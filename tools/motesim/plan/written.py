@@ -10,7 +10,7 @@ from motesim.scenario.encodings import read_file
 from motesim.scenario import faults as scenario_faults
 from motesim.faults import Fault
 from motesim.files import refuse_inputs, write_whole
-from motesim.output import beside
+from motesim.output import made_beside
 from motesim.plan.from_scenario import write_plan
 from motesim.plan.plan import UNUSED, Plan
 from motesim.plan.tables import Value, value_of_text
@@ -24,7 +24,7 @@ def given_of(words: Sequence[str]) -> dict[str, Value]:
     for word in words:
         name, sign, value = word.partition('=')
         if not sign or not name:
-            raise Fault('--set needs NAME=VALUE, not %r' % word)
+            raise Fault('--param needs NAME=VALUE, not %r' % word)
         given[name] = value_of_text(value)
     return given
 
@@ -50,7 +50,7 @@ def write_from(source: str, output: str | None) -> int:
     data = read_file(source)
     check(source, data)
     name = 'net' if source == '-' else Path(source).stem
-    plan = Path(output) if output else beside(source, name + '.plan.toml')
+    plan = Path(output) if output else made_beside(source, name + '.plan.toml')
     if plan.suffix != '.toml':
         raise Fault('%s: the name of a plan ends in .toml' % plan)
     for path in write_plan(Scenario.parse(data), source, plan):
@@ -62,7 +62,7 @@ def status_of(asked: argparse.Namespace) -> int:
     """The work of tools/scenario; returns the status."""
     if asked.source:
         return write_from(asked.source, asked.output)
-    plan, given = Plan.read(asked.plan), given_of(asked.set)
+    plan, given = Plan.read(asked.plan), given_of(asked.param)
     text = checked(plan.scenario(given))
     for name in unused(plan, given):
         print('scenario: warning: ' + UNUSED % (name, name), file=sys.stderr)

@@ -19,13 +19,17 @@ def read_file(path: str | Path) -> bytes:
         raise Fault('%s: %s' % (path, fault.strerror)) from None
 
 
+def not_text(file: str, line: int) -> str:
+    """The message about a file that isn't UTF-8."""
+    return '%s is not UTF-8, because of a byte in line %d. %s' % (file, line, SAVE)
+
+
 def decoded(file: str, data: bytes) -> str:
     """A file's text. Raises a fault if it isn't UTF-8."""
     try:
         return data.decode('utf-8')
     except UnicodeDecodeError as fault:
-        line = data[:fault.start].count(b'\n') + 1
-        raise Fault('%s is not UTF-8, because of a byte in line %d. %s' % (file, line, SAVE)) from None
+        raise Fault(not_text(file, data[:fault.start].count(b'\n') + 1)) from None
 
 
 def hint(data: bytes) -> str | None:

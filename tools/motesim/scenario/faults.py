@@ -39,6 +39,7 @@ RULES: dict[str, str] = {
     'write fault': 'The report could not be written. Perhaps the scenario has no error.',
     'out of memory': 'There was not enough memory. Perhaps the scenario has no error.',
 }
+NOT_TEXT = 'scenario is not UTF-8'
 # Numbers of `scenario fault`.
 BAD_NAME, WRONG_KIND, OUT_OF_RANGE, NO_PROGRAM = 3, 4, 5, 6
 
@@ -221,7 +222,7 @@ def _read(data: bytes) -> dict[str, Any]:
     except UnicodeDecodeError as fault:
         begin = data.rfind(b'\n', 0, fault.start) + 1
         line = data.count(b'\n', 0, begin) + 1, len(data[begin:fault.start].decode('utf-8'))
-        raise ScenarioError('scenario is not UTF-8', line=line, may='text in UTF-8') from None
+        raise ScenarioError(NOT_TEXT, line=line, may='text in UTF-8') from None
     try:
         tables = read_toml(text)
     except NoToml as fault:

@@ -3,7 +3,8 @@ from __future__ import annotations
 
 from motesim.faults import Fault
 from motesim.notation import faults as of_programs
-from motesim.scenario.faults import RULES, ScenarioError, find_fault
+from motesim.scenario.encodings import not_text
+from motesim.scenario.faults import NOT_TEXT, RULES, ScenarioError, find_fault
 from motesim.scenario.in_programs import place_of_token
 
 
@@ -19,16 +20,26 @@ def line_of(text: str, error: ScenarioError) -> int | None:
     return None if error.lacks else error.place(text).line
 
 
+def rule_of_program(its: of_programs.ProgramError) -> str:
+    """The rule that the text of a program breaks."""
+    title, rule = of_programs.RULES[its.kind]
+    if its.token.kind == 'end' and its.kind == 2:
+        rule = 'The text ends here, but other words must follow those before it.'
+    return '%s: %s' % (title, rule)
+
+
 def rule_of(error: ScenarioError) -> str:
     """The rule that a text breaks, and what is allowed instead."""
     if error.program:
-        return '%s: %s' % of_programs.RULES[error.program.kind]
+        return rule_of_program(error.program)
     return '%s Allowed here: %s.' % (RULES[error.message], error.may)
 
 
 def refused(name: str, data: bytes, error: ScenarioError) -> ScenarioFault:
     """The fault of a scenario from a file of this name."""
     line = line_of(data.decode('utf-8', 'replace'), error)
+    if error.message == NOT_TEXT and line:
+        return ScenarioFault(not_text(name, line))
     at = '%s, line %d' % (name, line) if line else name
     return ScenarioFault('%s: %s: %s tools/explain %s says more' % (at, error.message, rule_of(error), name))
 

@@ -36,26 +36,27 @@ from motesim.search.work import LIMITS
 from motesim.toml import NoToml, read_toml
 
 STATE = 'tried.txt'
+MEGABYTE = 1 << 20
 USUAL = 'links,motes'
 
 
 def values_asked(words: list[str]) -> tuple[dict[str, tuple[int, ...]], dict[str, list[Value]]]:
-    """The values that --set names: those of the medium, and those of a plan's parameters."""
+    """The values that --param names: those of the medium, and those of a plan's parameters."""
     numbers, given = dict[str, tuple[int, ...]](), dict[str, list[Value]]()
     for it in words:
         name, sign, text = it.partition('=')
         if not sign or not name:
-            raise Fault('--set needs NAME=VALUES, such as range=8..12, not %s' % it)
+            raise Fault('--param needs NAME=VALUES, such as range=8..12, not %s' % it)
         if name in NUMBERS:
-            numbers[name] = numbers_of_words(text, '--set', 0 if name == 'range' else 1)
+            numbers[name] = numbers_of_words(text, '--param', 0 if name == 'range' else 1)
         else:
             given[name] = values_of(text)
     return numbers, given
 
 
 def asked_of(words: argparse.Namespace) -> Asked:
-    """The kinds of faults that the command line names: if it names none, those of --set."""
-    numbers, given = values_asked(words.set)
+    """The kinds of faults that the command line names: if it names none, those of --param."""
+    numbers, given = values_asked(words.param)
     implied = ','.join(kind for kind, names in (('values', numbers), ('parameters', given)) if names)
     faults = words.faults or implied or USUAL
     kinds = tuple(it.strip() for it in faults.split(','))
@@ -63,9 +64,9 @@ def asked_of(words: argparse.Namespace) -> Asked:
     for kind, names, what in (('values', list(numbers), 'range=8..12'),
                               ('parameters', list(given), 'gap=10,20, of a plan')):
         if kind in kinds and not names:
-            raise Fault('the kind `%s` needs --set, such as --set %s' % (kind, what))
+            raise Fault('the kind `%s` needs --param, such as --param %s' % (kind, what))
         if names and kind not in kinds:
-            raise Fault('--set %s is for the kind `%s`: --faults %s,%s' % (names[0], kind, faults, kind))
+            raise Fault('--param %s is for the kind `%s`: --faults %s,%s' % (names[0], kind, faults, kind))
     moments = numbers_of_words(words.moments, '--moments', LEAST['moments']) if words.moments else ()
     return Asked(kinds, numbers_of_words(words.every, '--every', LEAST['every']), (), moments,
                  numbers_of_words(words.queues, '--queues', LEAST['queues']), numbers, words.step, given)
@@ -115,7 +116,7 @@ def asking_of(words: argparse.Namespace, base: Base) -> Asking:
     base.scenario_itself.fields = fields_of(words)
     texts, sentences = sentences_of(words, names_of(base.scenario_itself))
     bounds = Bounds(words.at_most, words.random, words.seed, words.most_runs, words.most_seconds)
-    return Asking(base, texts, sentences, asked_of(words), bounds, LIMITS._replace(seconds=words.seconds, report=words.bytes))
+    return Asking(base, texts, sentences, asked_of(words), bounds, LIMITS._replace(seconds=words.seconds, report=words.report * MEGABYTE))
 
 
 def refuse_all_inputs(words: argparse.Namespace, asking: Asking, folder: Path) -> None:
@@ -124,7 +125,7 @@ def refuse_all_inputs(words: argparse.Namespace, asking: Asking, folder: Path) -
     inputs = [path, Path(words.expectations) if words.expectations else beside(path)]
     inputs += asking.base.plan.paths({}) if asking.base.plan else []
     for name, option in (words.csv, '--csv'), (words.json, '--json'):
-        if name:
+        if name and name != '-':
             refuse_inputs(name, inputs, option)
     small = ['small_%d.toml' % number for number in range(1, len(asking.texts) + 1)] if words.shrink else []
     for it in map(folder.joinpath, (STATE, 'found.csv', *small)):
@@ -137,14 +138,14 @@ def show(words: argparse.Namespace, asking: Asking, search: Search, folder: Path
     found = found_by(search, asking.texts, asking.base)
     write_files(found, asking.base, asking.texts, folder)
     write_whole(folder / 'found.csv', as_csv(found))
-    if words.csv:
-        write_whole(Path(words.csv), as_csv(found))
-    as_text = as_json(search, found, asking.texts, asking.base.name, asking.remarks) if words.json else ''
-    if words.json == '-':
-        print(as_text, end='')
+    tables = {words.csv: as_csv(found), words.json: as_json(search, found, asking.texts, asking.base.name, asking.remarks)
+              if words.json else ''}
+    for name, table in tables.items():
+        if name not in (None, '-'):
+            write_whole(Path(name), table)
+    if '-' in tables:
+        print(tables['-'], end='')
     else:
-        if words.json:
-            write_whole(Path(words.json), as_text)
         for row in [*map(note_in_words, asking.remarks), *covered_lines(coverage_of(search)),
                     *verdict_lines(search, found, asking.texts, words.all)]:
             print(row)
@@ -156,7 +157,7 @@ def show(words: argparse.Namespace, asking: Asking, search: Search, folder: Path
     if search.is_stopped:
         return INTERRUPTED
     if words.shrink and shrink_each(asking, search, found, folder, ProgressOfSearch(words.progress),
-                                    words.json == '-', parts_and_sentences(words.keep)):
+                                    '-' in (words.csv, words.json), parts_and_sentences(words.keep)):
         return INTERRUPTED
     return 1 if found else 0 if search.runs else 2
 
@@ -182,8 +183,8 @@ def status_of(words: argparse.Namespace) -> int:
 
 def carried_out(words: argparse.Namespace) -> int:
     """Searches, or checks fault studies; returns the status."""
-    if words.jobs < 1 or words.at_most < 0 or words.random < 0 or words.seconds <= 0 or words.bytes < 1:
-        raise Fault('--jobs, --seconds and --bytes are more than 0, and --at-most and --random 0 or more')
+    if words.at_most < 0 or words.random < 0:
+        raise Fault('--at-most and --random are 0 or more')
     if words.expectations and words.expect:
         raise Fault('the expectations are in a file or in --expect, not in both')
     if words.studies:

@@ -312,7 +312,7 @@ def _parameters(base: Base, asked: Asked) -> Iterator[FaultyPart]:
     if base.plan is None:
         like = nearest(next(iter(asked.given), ''), NUMBERS)
         raise Fault('the kind `parameters` is for plans, and %s is a scenario%s' % (
-            base.name, '; did you mean --set %s=..?' % like if like else ''))
+            base.name, '; did you mean --param %s=..?' % like if like else ''))
     own = base.plan.with_given({name: values[0] for name, values in asked.given.items()}) and base.plan.parameters
     for name, values in asked.given.items():
         for value in values:

@@ -74,7 +74,7 @@ def _wrong_keys(study: object) -> str:
             return 'the value of `%s` has to be %s' % (key, FORMS[key])
     kind = next((it for it in NEED_SET if it in kinds_of(study)), None)
     if kind:
-        return 'the kind `%s` needs --set, for which a study has no key: change the values with `replace`' % kind
+        return 'the kind `%s` needs --param, for which a study has no key: change the values with `replace`' % kind
     if 'expect' not in study or ('breaks' in study) == ('counts' in study):
         return 'it needs `expect`, and exactly one of `breaks` and `counts`'
     return ''

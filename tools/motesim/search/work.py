@@ -20,7 +20,7 @@ from motesim.judge.verdicts import NoVerdict, decided, is_broken
 from motesim.report.lazy import LazyReport
 
 # The usual limits of a run.
-LIMITS = Limits(10.0, 1 << 30, 16_000_000)
+LIMITS = Limits(10.0, 1 << 30, 16 << 20)
 RUN, SAME, STOPPED, UNMADE, MORE = 'run', 'same', 'stopped', 'unmade', 'more'
 
 

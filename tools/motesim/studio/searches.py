@@ -90,7 +90,7 @@ class Going:
             (self.folder / name).write_text(text, 'utf-8', newline='')
         self.search = Command(SEARCH, [
             NAME, '--faults', ','.join(wanted.kinds), '--at-most', str(wanted.at_most), '--json', 'found.json', '-o',
-            'found', '--seconds', str(limits.seconds), '--bytes', str(limits.report)], self.folder)
+            'found', '--seconds', str(limits.seconds), '--report', str(limits.report >> 20)], self.folder)
         self.reader = threading.Thread(target=self.read, daemon=True)
         self.reader.start()
 

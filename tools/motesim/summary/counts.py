@@ -14,6 +14,7 @@ from typing import Any
 from motesim.cells import aligned
 from motesim.report.moments import collided
 from motesim.faults import Fault
+from motesim.summary.columns import LINKS
 from motesim.summary.flows import NAMES as FLOW_NAMES
 from motesim.summary.flows import NAMES_BY, doubts, flow_rows, flow_rows_by
 from motesim.summary.shares import share
@@ -26,7 +27,7 @@ from motesim.summary.series import Series
 # A row of a table, by the names of the columns: numbers, names, or None if there is no value.
 Row = dict[str, Any]
 
-LINK_NAMES = ['from', 'to', 'copies', *OUTCOMES, 'ratio', 'delay']
+LINK_NAMES = [*LINKS]
 # The lines of a trace that are only counted.
 COUNTED = {'post': 'posted', 'take': 'taken', 'drop': 'dropped', 'full': 'refused', 'print': 'prints'}
 

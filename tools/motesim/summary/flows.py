@@ -20,11 +20,12 @@ from motesim.notation.grammar import SYSTEM
 from motesim.report import MOST_WORD, Line, Report
 from motesim.scenario import Scenario
 from motesim.judge.names import names_of, processes_of
+from motesim.summary.columns import FLOWS
 from motesim.summary.shares import share
 
 Row = dict[str, Union[int, float, str, None]]
-NAMES = ['origin', 'sent', 'delivered', 'ratio', 'reached', 'copies', 'duplicates', 'hops', 'least', 'middle', 'most']
-NAMES_BY = ['from', 'to', 'sent', 'delivered', 'ratio', 'reached', 'copies', 'duplicates', 'least', 'middle', 'most']
+NAMES = [*FLOWS]
+NAMES_BY = ['from', 'to', *(it for it in FLOWS if it not in ('origin', 'hops'))]
 FORM = re.compile(r'\s*(?:(send|recv)|print\s+([A-Za-z][A-Za-z0-9_]*))'
                   r'(?:\s+([0-9]{1,5})(?:\s+to\s+([0-9]{1,5}))?)?\s*')
 

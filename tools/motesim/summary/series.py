@@ -1,15 +1,16 @@
-"""Counts for each interval of a run: sends, receptions, losses by cause, queues and delays. docs/use/COMMANDS.md."""
+"""Counts for each interval of a run: sends, receptions, losses by cause, queues and delays."""
 from __future__ import annotations
 
 from collections import Counter
 from collections.abc import Iterator
 
 from motesim.report import OUTCOMES, Report
+from motesim.summary.columns import INTERVALS
 from motesim.summary.shares import share
 
 # A row, by the names of its columns; None for a mean of no values.
 Row = dict[str, int | float | None]
-NAMES = ['from', 'to', 'sent', *OUTCOMES, 'ratio', 'delay', 'posted', 'refused', 'queue', 'waited', 'prints']
+NAMES = [*INTERVALS]
 COUNTED = {'send': 'sent', 'recv': 'received', 'lost': 'overflowed', 'collide': 'collided', 'full': 'refused',
            'print': 'prints', 'post': 'posted'}
 
