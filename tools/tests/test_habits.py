@@ -3,16 +3,18 @@ mistakes in whole scenarios, by somebody who hadn't seen the hints, are in mista
 import unittest
 from pathlib import Path
 
-from here import TOP
+from here import TOP, rows_of
 from motesim.explain.advice import advice
 from motesim.explain.applied import changes
 from motesim.explain.explanation import correction_of, explanation, of_program_file
 from motesim.explain.habits import habits
+from motesim.explain.structure import without_parameters
 from motesim.notation.reader import find_fault
 from motesim.scenario.faults import find_fault as find_fault_of_scenario
 
 HERE = Path(__file__).parent
 MOST = 60
+LINE = 'event go;\nsemaphore s = 0;\nprocess a;\ncode a {\n  var x = 0;\n  etimer t;\n  body {\n    %s\n  }\n}\n'
 ROWS = [row.split('\t') for row in (HERE / 'habits.tsv').read_text().splitlines()]
 MISTAKES = [row.split('\t') for row in (HERE / 'mistakes/mistakes.tsv').read_text().splitlines()]
 
@@ -46,6 +48,18 @@ class Habits(unittest.TestCase):
                 else:
                     self.assertEqual(found.edits, ())
         self.assertLessEqual({it.why for it in habits()}, said)
+
+    def test_rules_correct_a_statement_and_the_structure_of_a_program(self) -> None:
+        for form, typed, right in rows_of('hints.tsv'):
+            text, wanted = (it if form == 'program' else it and LINE % it for it in (typed, right))
+            with self.subTest(text):
+                fault = find_fault(without_parameters(text)[0])
+                assert fault is not None
+                found = advice(text, fault)
+                assert found is not None
+                self.assertEqual(found.applied(text) if found.edits else '', wanted)
+                if wanted:
+                    self.assertIsNone(find_fault(without_parameters(wanted)[0]))
 
     def test_a_value_under_the_name_that_it_has_elsewhere(self) -> None:
         text = 'process a;\nautostart a;\ncode a {\n  var seen = 0;\n  body {\n    print %s;\n  }\n}\n'

@@ -79,6 +79,3 @@ class Endless(Room):
         self.assertRegex(str(caught.exception), (
             r'^net\.toml: the run was ended: the report is longer than 1,048,576 bytes\. Up to moment \d+, process '
             r'idle of mote 0 pauses .* A larger --report raises the limit$'))
-
-    def test_limits_are_greater_than_0(self) -> None:
-        self.assertEqual(self.said('explain', 'print', '--memory', '0'), 'explain: limits are greater than 0\n')

@@ -9,8 +9,9 @@ from collections.abc import Iterator, Sequence
 
 from motesim.explain.edits import Correction, Edit, edit_between, hint, replaced
 from motesim.explain.habits import of_line
+from motesim.explain.structure import late_part, open_block, operators, without_parameters
 from motesim.notation.faults import ProgramError
-from motesim.notation.grammar import OPERATORS, STATEMENTS
+from motesim.notation.grammar import OPERATORS, STATEMENTS, TESTS
 from motesim.notation.reader import find_fault, read_program
 from motesim.notation.tokens import Token
 from motesim.notation.parentheses import rewritten
@@ -33,17 +34,34 @@ MEANT = {'sender': 'from', 'source': 'from', 'payload': 'data', 'time': 'now', '
 SIGNS = (';', '(', ')', '{', '}', '=')
 # What declares one name at a time.
 OF_ONE_NAME = ('event', 'semaphore', 'var', 'etimer')
+OF_ONE_VALUE = tuple(word for word, it in STATEMENTS.items() if it.parts == ('E',))
 
 
 def advice(source: str, fault: ProgramError) -> Correction | None:
-    """The most likely correction of a fault; without one, advice or an example."""
+    """The most likely correction of a fault; without one, advice or an example. The text may have parameters of a
+    plan, for each of which the fault's text has a number."""
+    plain, back = without_parameters(source)
+    found = _advice(plain, fault)
+    return found._replace(
+        edits=tuple(it._replace(lines=tuple(map(back, it.lines))) for it in found.edits),
+        facts={name: back(its) if isinstance(its, str) else its for name, its in found.facts.items()}) if found else None
+
+
+def _advice(source: str, fault: ProgramError) -> Correction | None:
     if found := _first(source, fault):
         return _with_others(source, fault, found) if found.edits else found
     return _example(source, fault) if fault.kind == UNEXPECTED else None
 
 
 def _first(source: str, fault: ProgramError) -> Correction | None:
-    return next((it for it in _attempts(source, fault) if not it.edits or is_better(source, fault, it)), None)
+    return next((it for it in _attempts(source, fault) if not it.edits or is_better(source, fault, it) and (
+        it.facts.get('sign') != ',' or not _has_another(source, fault, it.applied(source)))), None)
+
+
+def _has_another(source: str, fault: ProgramError, text: str) -> bool:
+    """Returns whether a corrected text has another fault in the statement of the source's fault."""
+    other = find_fault(text)
+    return other is not None and _is_in_statement(source, fault, text, other)
 
 
 def _with_others(source: str, fault: ProgramError, it: Correction) -> Correction:
@@ -79,11 +97,18 @@ def _left(source: str, fault: ProgramError) -> tuple[int, int]:
 def _attempts(source: str, fault: ProgramError) -> Iterator[Correction]:
     tokens = read_program(source).tokens
     at = _index(tokens, fault.token)
+    if fault.kind in (UNEXPECTED, UNKNOWN_NAME):
+        yield from _word_operators(source, tokens, at, fault)
+    if fault.kind == UNEXPECTED:
+        yield from late_part(source, tokens, at, fault)
     yield from of_line(source, fault)
     if fault.kind == BAD_TOKEN:
         yield from _small_letters(source, fault.token)
     if fault.kind == UNEXPECTED:
+        yield from open_block(source, tokens)
         yield from _signs(source, tokens, at, fault)
+    if fault.kind == BAD_TARGET:
+        yield from _questions(source, fault)
     if fault.kind in (UNEXPECTED, UNKNOWN_NAME, BAD_TARGET):
         yield from _nearest(source, fault)
     if fault.kind == UNKNOWN_NAME:
@@ -94,6 +119,25 @@ def _index(tokens: Sequence[Token], token: Token) -> int:
     """The index of a token. (A parameter of a plan stands for a number in the text, and has other tokens.)"""
     return next((at for at, it in enumerate(tokens) if (it.line, it.column) >= (token.line, token.column)), -1) % len(
         tokens)
+
+
+def _word_operators(source: str, tokens: Sequence[Token], at: int, fault: ProgramError) -> Iterator[Correction]:
+    """A statement with operators instead of words, and with what else these need there, such as parentheses."""
+    text = operators(source, tokens, at)
+    while text != source and (other := find_fault(text)) and _is_in_statement(source, fault, text, other) and (
+            more := _first(text, other)) and more.edits:
+        text = more.applied(text)
+    if text != source:
+        yield hint('word-operators', edit_between(source, text))
+
+
+def _questions(source: str, fault: ProgramError) -> Iterator[Correction]:
+    """A test about a name that isn't a value."""
+    token = fault.token
+    for test in (*TESTS, 'is'):
+        whole = '%s(%s)' % (test, token.text)
+        yield hint('question', replaced(source, token.line, token.column, token.column + len(token.text), whole),
+                   name=token.text, whole=whole)
 
 
 def _small_letters(source: str, token: Token) -> Iterator[Correction]:
@@ -120,9 +164,11 @@ def _signs(source: str, tokens: Sequence[Token], at: int, fault: ProgramError) -
         edit = replaced(source, first.line, first.column, last_of.column + len(last_of.text), blank + whole)
         yield hint('two-values' if here.text in OPERATORS else 'one-value',
                    *(edit,) if first.line == last_of.line else (), sign=here.text, whole=whole)
-    word = next((it.text for it in reversed(tokens[:at]) if it.text in (*DECLARED, *SIGNS) and it.text != '='), '')
-    if here.text == ',' and word in OF_ONE_NAME:
-        yield hint('one-name', replaced(source, here.line, here.column, here.column + 1, '; ' + word), word=word)
+    word = next((it.text for it in reversed(tokens[:at]) if it.text in (*DECLARED, *STATEMENTS, ';', '{', '}')), '')
+    what = 'name' if word in OF_ONE_NAME else 'value' if word in OF_ONE_VALUE else ''
+    if here.text == ',' and what:
+        yield hint('one-each', replaced(source, here.line, here.column, here.column + 1, '; ' + word), word=word,
+                   what=what)
     end = last.column + len(last.text)
     for sign in SIGNS:
         if fault.allows(sign) and at:
@@ -139,7 +185,9 @@ def _nearest(source: str, fault: ProgramError) -> Iterator[Correction]:
     """The allowed word that is most similar to the one that is there."""
     word, token = fault.token.text, fault.token
     known = [name for it in fault.may for name in it.names]
-    names = [it for it in known if it.isidentifier()]
+    # (a call can only be a test: there are no functions)
+    is_call = source.split('\n')[token.line - 1][token.column + len(word):].lstrip().startswith('(')
+    names = [it for it in known if it.isidentifier() and (not is_call or it in (*TESTS, 'is'))]
     like = (MEANT[word] if MEANT.get(word) in names else nearest(word, names)) if word else None
     if like:
         yield hint('similar', replaced(source, token.line, token.column, token.column + len(word), like), name=like)

@@ -10,12 +10,12 @@ from motesim.explain.advice import advice
 from motesim.explain.edits import Correction, hint
 from motesim.explain.repair import repair
 from motesim.explain.say import edits_in_words, hint_in_words, with_name
+from motesim.explain.structure import without_parameters
 from motesim.explain.warned import Warned
 from motesim.explain.warnings import warnings
 from motesim.faults import tried
 from motesim.notation import faults as program_faults
 from motesim.notation import reader
-from motesim.notation.grammar import PARAMETER
 from motesim.notation.tokens import Token
 from motesim.report import Report
 from motesim.report.run import Answer, answer, is_report
@@ -178,11 +178,10 @@ def where_told(name: str, text: str, fault: ScenarioError) -> list[Shown]:
 def program_instead(name: str, data: bytes) -> list[str]:
     """The lines about a file with a program instead of a scenario: how to write it into a scenario, and its error."""
     source = data.decode('utf-8', 'replace').removeprefix(MARK)
-    # (a number for each parameter of a plan, as long as its name, so that places in the program stay)
-    its = reader.find_fault(PARAMETER.sub(lambda it: '1'.ljust(len(it[0])), source))
+    its = reader.find_fault(without_parameters(source)[0])
     lines = ['%s is the text of a program, not a scenario.' % one_line(name), *hinted(hint('program'))]
     if its is None:
-        return ['%s has no error.' % one_line(name), *lines]
+        return [*lines, 'The program itself has no error.']
     return [*lines, 'The program has an error, too:', *of_program_file(name, source, its)]
 
 

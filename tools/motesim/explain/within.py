@@ -9,7 +9,6 @@ from collections.abc import Callable
 
 from motesim.explain.say import doing_in_words
 from motesim.explain.warned import Doing
-from motesim.faults import Fault
 from motesim.notation.tokens import Token
 from motesim.notation.printer import head_of
 from motesim.notation.reader import read_program
@@ -31,8 +30,6 @@ MANY = 20
 
 def limits_of(asked: argparse.Namespace) -> Limits:
     """The limits that the options of a tool name."""
-    if min(asked.seconds, asked.memory, asked.report) <= 0:
-        raise Fault('limits are greater than 0')
     return Limits(asked.seconds, asked.memory * MEGABYTE, asked.report * MEGABYTE)
 
 
