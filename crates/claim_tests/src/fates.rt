@@ -55,6 +55,52 @@ fn write_all(text: &mut String, medium: &Medium)
     write_fates(text, medium, &[Fault::Silent(1)]);
 }
 
+/// Packet 0 of mote 1, on its way to mote `to`, is lost or late.
+fn lost(to: u16) -> Fault {
+    Fault::Lost {
+        sender: 1,
+        number: 0,
+        to,
+    }
+}
+
+fn late(to: u16, by: u32) -> Fault {
+    Fault::Late {
+        sender: 1,
+        number: 0,
+        to,
+        by,
+    }
+}
+
+/// Writes down the fates with faults of single packets.
+fn write_packets(text: &mut String, medium: &Medium)
+    requires three_places { length medium.now.places ≡ 3 }
+{
+    let (sender, number) = (1, 0);
+    write_fates(text, medium, &[lost(2)]);
+    write_fates(text, medium, &[Fault::LostToAll { sender, number }]);
+    write_fates(text, medium, &[late(0, 4)]);
+    write_fates(text, medium, &[late(0, 4), late(2, 1), late(0, 3)]);
+    write_fates(text, medium, &[late(2, u32::MAX), lost(0), lost(1)]);
+}
+
+/// Writes down the fates with faults of other packets, which change nothing.
+fn write_others(text: &mut String, medium: &Medium)
+    requires three_places { length medium.now.places ≡ 3 }
+{
+    let of_next = Fault::LostToAll {
+        sender: 1,
+        number: 1,
+    };
+    let back = Fault::Lost {
+        sender: 2,
+        number: 0,
+        to: 1,
+    };
+    write_fates(text, medium, &[of_next, back]);
+}
+
 #[test]
 fn broken_links_lose_the_packet(rt: HostRuntime) -> Result<(), Fail> {
     let mut text = String::new(rt.alloc());
@@ -64,5 +110,19 @@ fn broken_links_lose_the_packet(rt: HostRuntime) -> Result<(), Fail> {
     same_text(
         text.as_str(),
         "0 Some(115) 2 Some(115) |0 Some(115) 2 None |0 Some(115) 2 Some(115) |0 None 2 None |",
+    )
+}
+
+#[test]
+fn single_packets_are_lost_or_late(rt: HostRuntime) -> Result<(), Fail> {
+    let mut text = String::new(rt.alloc());
+    if let Ok(medium) = three_motes(rt.alloc()) {
+        write_packets(&mut text, &medium);
+        write_others(&mut text, &medium);
+    }
+    same_text(
+        text.as_str(),
+        "0 Some(115) 2 None |0 None 2 None |0 Some(119) 2 Some(115) |0 Some(122) 2 Some(116) |\
+         0 None 2 Some(4294967410) |0 Some(115) 2 Some(115) |",
     )
 }

@@ -5,7 +5,7 @@ use Rattle.std.specs.List.{flat_map, list_any}
 use Rattle.claims.specs.declared.claim.Claim.{Claim}
 use Rattle.claim_text.specs.ClaimText.{text_of}
 use Rattle.radio_faults.specs.declared.fault.Fault.{Fault}
-use Rattle.radio_faults.specs.declared.fault.Fault.TheVariants.{Link, Silent}
+use Rattle.radio_faults.specs.declared.fault.Fault.TheVariants.{Link, Silent, Lost, LostToAll, Late}
 use Rattle.net_survey.specs.Chosen.{faults_at}
 use Rattle.survey.specs.declared.broken.Broken.{Broken}
 use Rattle.survey.specs.declared.broken.Survey.{Survey}
@@ -14,6 +14,12 @@ use Rattle.survey.specs.declared.search.Limits.{Limits}
 abbrev pub fault_text : Fault → List ℕ
 fault_text (Link s r) = codes "link " ++ decimal s ++ codes " to " ++ decimal r ++ codes " is broken"
 fault_text (Silent m) = codes "mote " ++ decimal m ++ codes " is silent"
+fault_text (Lost s n r) =
+    codes "packet " ++ decimal n ++ codes " of mote " ++ decimal s ++ codes " is lost on the way to mote " ++ decimal r
+fault_text (LostToAll s n) = codes "packet " ++ decimal n ++ codes " of mote " ++ decimal s ++ codes " is lost"
+fault_text (Late s n r by) =
+    codes "packet " ++ decimal n ++ codes " of mote " ++ decimal s ++ codes " is " ++ decimal by
+    ++ codes " late on the way to mote " ++ decimal r
 
 abbrev pub next_fault : Fault → List ℕ
 next_fault f = codes " and " ++ fault_text f

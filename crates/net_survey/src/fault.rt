@@ -20,6 +20,22 @@ impl fmt::Display for FaultText {
         match self.0 {
             Fault::Link(from, to) => write!(f, "link {from} to {to} is broken"),
             Fault::Silent(mote) => write!(f, "mote {mote} is silent"),
+            Fault::Lost { sender, number, to } => write!(
+                f,
+                "packet {number} of mote {sender} is lost on the way to mote {to}"
+            ),
+            Fault::LostToAll { sender, number } => {
+                write!(f, "packet {number} of mote {sender} is lost")
+            }
+            Fault::Late {
+                sender,
+                number,
+                to,
+                by,
+            } => write!(
+                f,
+                "packet {number} of mote {sender} is {by} late on the way to mote {to}"
+            ),
         }
     }
 }

@@ -6,7 +6,6 @@ ghost use Rattle.radio_medium.specs.Medium.{medium_fault};
 ghost use Rattle.mote_net.specs.Meaning.{net_of};
 ghost use Rattle.mote_net.specs.Report.{report_of};
 ghost use Rattle.radio_faults.specs.declared.fault.Fault.TheVariants.{Silent};
-ghost use Rattle.serial_run.specs.NetFaults.{net_with};
 ghost use Rattle.serial_run.proofs.OneReport.{report_with};
 ghost use Rattle.net_survey.specs.Chosen.{faults_at};
 ghost use Rattle.net_survey.specs.Judged.{claim_holds};
@@ -32,7 +31,6 @@ pub(crate) struct NetTrial<'a> {
 impl<'a> Trial for NetTrial<'a> {
     ghost use Rattle.std.specs.Prelude.{length};
     ghost use Rattle.mote_net.specs.Meaning.{net_of};
-    ghost use Rattle.serial_run.specs.NetFaults.{net_with};
     ghost use Rattle.serial_run.proofs.OneReport.{report_with};
     ghost use Rattle.net_survey.specs.Chosen.{holds_with};
     ghost use Rattle.net_survey.specs.Judged.{claim_holds};
@@ -41,7 +39,7 @@ impl<'a> Trial for NetTrial<'a> {
 
     ghost claim_count = { λ t. length t.claims.now };
 
-    ghost holds = { λ t set claim. holds_with (λ faults. report_with (net_with faults (net_of t.net.now)))
+    ghost holds = { λ t set claim. holds_with (λ faults. report_with faults (net_of t.net.now))
         (claim_holds t.claims.now) t.candidates.now set claim };
 
     fn candidates(&self) -> u16 {
@@ -81,7 +79,7 @@ fn fault_at(candidates: &[Fault], number: u16) -> Fault
 
 /// Runs a net with faults.
 fn run(alloc: Global, net: &Net, faults: &[Fault]) -> Result<Report, AllocError>
-    ensures is_report { IfOk result (λ r. report_of r ≡ report_with (net_with faults.now (net_of net.now))) }
+    ensures is_report { IfOk result (λ r. report_of r ≡ report_with faults.now (net_of net.now)) }
 {
     check_medium(net);
     run_with_faults(alloc, net, faults)

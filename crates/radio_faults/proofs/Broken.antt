@@ -1,6 +1,6 @@
 -- A broken link loses every packet, and each other link what it lost without the faults.
-use Rattle.std.proofs.Common.{◌≡◌, ℕ, ◌+◌, ◌%◌, ◌<◌, ◌==◌, nat_lt, Bool, true, false, not, cond, ◌&&◌, if◌then◌else◌, ⊎_elim, List, [], ◌∷◌, length, map, Option, Some, None, option_map, refl, sym, ap, ◌∙◌, arith}
-use Rattle.std.specs.List.{filter, list_any}
+use Rattle.std.proofs.Common.{◌≡◌, ℕ, ◌+◌, ◌%◌, ◌<◌, ◌==◌, nat_lt, Bool, true, false, not, cond, ◌&&◌, ◌||◌, if◌then◌else◌, ⊎_elim, List, [], ◌∷◌, length, map, Option, Some, None, option_map, refl, sym, ap, ap₂, ◌∙◌, arith}
+use Rattle.std.specs.List.{AllByRecursion, filter, list_any}
 use Rattle.std.proofs.lemmas.Bool.{cases_Bool, and_parts, eq-eqb, eqb-true, ltb-true}
 use Rattle.std.proofs.lemmas.Bool.Decides.{nat_tests}
 use Rattle.std.proofs.lemmas.Map.Views.{any-filter_same}
@@ -9,9 +9,11 @@ use Rattle.radio_packet.specs.declared.fate.Fate.{Fate}
 use Rattle.radio_medium.specs.declared.losses.Loss.{Loss}
 use Rattle.radio_medium.specs.Medium.{Radio, is_for_pair, every_of, is_lost, loses, hears, delay, receivers, motes, fate, fates}
 use Rattle.radio_faults.specs.declared.fault.Fault.{Fault}
-use Rattle.radio_faults.specs.Faults.{is_broken, links, broken_links, losing_all, radio_with}
-use Rattle.radio_faults.specs.Fates.{fate_with}
-use Rattle.radio_faults.specs.Laws.{BrokenLinksLoseAll}
+use Rattle.radio_faults.specs.declared.fault.Fault.TheVariants.{Link, Silent, Lost, LostToAll, Late}
+use Rattle.std.specs.Option.{option_and_then}
+use Rattle.radio_faults.specs.LossTables.{IsOfLinks, breaks, is_broken, links, broken_links, losing_all, radio_with}
+use Rattle.radio_faults.specs.Faults.{fate_after, fates_with}
+use Rattle.radio_faults.specs.Laws.{LossTablesAgree}
 use Rattle.radio_faults.proofs.AnyOf.{any-map, any-flat_map, any-filter, any_in_range, find-filter, map-filter_same, map-map}
 
 -- the link from mote s to mote r
@@ -83,31 +85,81 @@ lost_if : (n : ℕ) (b : Bool) (every : Option ℕ) → is_lost n (cond b (Some 
 lost_if n true every = each_lost n
 lost_if n false every = refl
 
-pub broken_links_lose_all : BrokenLinksLoseAll
+-- of the packets from mote s to mote r, which hears s, all are lost if a fault breaks this link, and otherwise those that are
+-- lost without the faults
+with_losses : (radio : Radio) (faults : List Fault) (s r n : ℕ) → hears radio r s ≡ true → loses (radio_with faults radio) s r n ≡ (if is_broken faults s r then true else loses radio s r n)
 unfolding loses
-broken_links_lose_all radio faults s r n h = ap (is_lost n) (every_with faults radio s r h) ∙ lost_if n (is_broken faults s r) (every_of radio.losses s r)
+with_losses radio faults s r n h = ap (is_lost n) (every_with faults radio s r h) ∙ lost_if n (is_broken faults s r) (every_of radio.losses s r)
 
-at_lost : (b lost : Bool) (to at : ℕ)
-    → record { to = to; at = if cond b true lost then None else Some at } ≡ cond {A = Fate} b (record { to = to; at = None }) (record { to = to; at = if lost then None else Some at })
+abbrev fate_if : Bool → Fate → Fate
+fate_if broken fate = if broken then record { to = fate.to; at = None } else fate
+
+-- the fate of a copy whose link some of the faults break
+abbrev lost_by : List Fault → Sent → Fate → Fate
+lost_by faults sent fate = fate_if (is_broken faults sent.sender fate.to) fate
+
+at_lost : (b lost : Bool) (to at : ℕ) → record { to = to; at = if cond b true lost then None else Some at } ≡ fate_if b (record { to = to; at = if lost then None else Some at })
 at_lost true lost to at = refl
 at_lost false lost to at = refl
 
-fate_is : (radio : Radio) (faults : List Fault) (sent : Sent) (r : ℕ) → hears radio r sent.sender ≡ true
-    → fate (radio_with faults radio) sent r ≡ fate_with faults sent.sender (fate radio sent r)
+fate_is : (radio : Radio) (faults : List Fault) (sent : Sent) (r : ℕ) → hears radio r sent.sender ≡ true → fate (radio_with faults radio) sent r ≡ lost_by faults sent (fate radio sent r)
 unfolding fate delay
 fate_is radio faults sent r h =
-    ap (λ (lost : Bool). record { to = r; at = if lost then None else Some (sent.at + delay radio sent.sender r) }) (broken_links_lose_all radio faults sent.sender r sent.number h)
+    ap (λ (lost : Bool). record { to = r; at = if lost then None else Some (sent.at + delay radio sent.sender r) }) (with_losses radio faults sent.sender r sent.number h)
     ∙ at_lost (is_broken faults sent.sender r) (loses radio sent.sender r sent.number) r (sent.at + delay radio sent.sender r)
 
 receivers_are : (radio : Radio) (faults : List Fault) (s : ℕ) → receivers (radio_with faults radio) s ≡ receivers radio s
 unfolding receivers hears
 receivers_are radio faults s = refl
 
-pub fates_are : (radio : Radio) (faults : List Fault) (sent : Sent) → map (fate_with faults sent.sender) (fates radio sent) ≡ fates (radio_with faults radio) sent
+fates_are : (radio : Radio) (faults : List Fault) (sent : Sent) → map (lost_by faults sent) (fates radio sent) ≡ fates (radio_with faults radio) sent
 unfolding fates receivers fate
 fates_are radio faults sent =
-    map-map (fate_with faults sent.sender) (fate radio sent) (receivers radio sent.sender)
+    map-map (lost_by faults sent) (fate radio sent) (receivers radio sent.sender)
     ∙ (sym (heard (motes radio)) ∙ ap (map (fate (radio_with faults radio) sent)) (sym (receivers_are radio faults sent.sender)))
   where
-    heard : (rs : List ℕ) → map (fate (radio_with faults radio) sent) (filter (λ r. hears radio r sent.sender) rs) ≡ map (λ r. fate_with faults sent.sender (fate radio sent r)) (filter (λ r. hears radio r sent.sender) rs)
-    heard = map-filter_same (fate (radio_with faults radio) sent) (λ r. fate_with faults sent.sender (fate radio sent r)) (λ r. hears radio r sent.sender) (fate_is radio faults sent)
+    heard : (rs : List ℕ) → map (fate (radio_with faults radio) sent) (filter (λ r. hears radio r sent.sender) rs) ≡ map (λ r. lost_by faults sent (fate radio sent r)) (filter (λ r. hears radio r sent.sender) rs)
+    heard = map-filter_same (fate (radio_with faults radio) sent) (λ r. lost_by faults sent (fate radio sent r)) (λ r. hears radio r sent.sender) (fate_is radio faults sent)
+
+-- one fault of links after others, for a test of the links that it breaks
+named_is_lost : (named : Bool) (to : ℕ) (at : Option ℕ) → record { to = to; at = option_and_then (λ (at : ℕ). if named then None else Some at) at } ≡ fate_if named (record { to = to; at = at })
+named_is_lost true to None = refl
+named_is_lost true to (Some at) = refl
+named_is_lost false to None = refl
+named_is_lost false to (Some at) = refl
+
+lost_or : (named : Bool) (fate : Fate) → record { to = fate.to; at = None } ≡ fate_if (named || true) fate
+lost_or true fate = refl
+lost_or false fate = refl
+
+or_no : (named : Bool) → named ≡ (named || false)
+or_no true = refl
+or_no false = refl
+
+after_test : (test : ℕ → Bool) (broken : Bool) (fate : Fate)
+    → record { to = (fate_if broken fate).to; at = option_and_then (λ (at : ℕ). if test (fate_if broken fate).to then None else Some at) (fate_if broken fate).at } ≡ fate_if (test fate.to || broken) fate
+after_test test true fate = lost_or (test fate.to) fate
+after_test test false fate = named_is_lost (test fate.to) fate.to fate.at ∙ ap (λ b. fate_if b fate) (or_no (test fate.to))
+
+after_link : (fault : Fault) → IsOfLinks fault → (sent : Sent) (broken : Bool) (fate : Fate) → fate_after fault sent (fate_if broken fate) ≡ fate_if (breaks fault sent.sender fate.to || broken) fate
+after_link (Link from to) is sent broken fate = after_test (λ r. (from == sent.sender) && (to == r)) broken fate
+after_link (Silent mote) is sent broken fate = after_test (λ r. mote == sent.sender) broken fate
+after_link (Lost sender number to) is sent broken fate = absurd is
+after_link (LostToAll sender number) is sent broken fate = absurd is
+after_link (Late sender number to by) is sent broken fate = absurd is
+
+-- the fates after all of them
+untouched : (sent : Sent) (fates : List Fate) → fates ≡ map (lost_by [] sent) fates
+untouched sent [] = refl
+untouched sent (fate ∷ fates) = ap (λ l. fate ∷ l) (untouched sent fates)
+
+map_after : (fault : Fault) → IsOfLinks fault → (faults : List Fault) (sent : Sent) (fates : List Fate) → map (fate_after fault sent) (map (lost_by faults sent) fates) ≡ map (lost_by (fault ∷ faults) sent) fates
+map_after fault is faults sent [] = refl
+map_after fault is faults sent (fate ∷ fates) = ap₂ (λ f l. f ∷ l) (after_link fault is sent (is_broken faults sent.sender fate.to) fate) (map_after fault is faults sent fates)
+
+all_lost : (faults : List Fault) → AllByRecursion IsOfLinks faults → (sent : Sent) (fates : List Fate) → fates_with faults sent fates ≡ map (lost_by faults sent) fates
+all_lost [] are sent fates = untouched sent fates
+all_lost (fault ∷ faults) are sent fates = ap (map (fate_after fault sent)) (all_lost faults are.1 sent fates) ∙ map_after fault are.0 faults sent fates
+
+pub loss_tables_agree : LossTablesAgree
+loss_tables_agree radio faults are sent = all_lost faults are sent (fates radio sent) ∙ fates_are radio faults sent

@@ -1,5 +1,4 @@
 pub mod AnyOf
 pub mod Broken
-pub mod NoFaults
-pub mod SameFates
+pub mod Copies
 pub mod Valid

@@ -1,4 +1,4 @@
--- Faults make no error in a medium.
+-- Losses on broken links make no error in a medium.
 use Rattle.std.proofs.Common.{◌≡◌, ℕ, ◌==◌, nat_lt, Bool, true, false, not, ◌&&◌, ⊎_elim, List, [], ◌∷◌, length, map, refl, ◌∙◌, arith}
 use Rattle.std.specs.List.{filter, list_any}
 use Rattle.std.proofs.lemmas.Bool.{cases_Bool, or_parts}
@@ -7,8 +7,8 @@ use Rattle.radio_medium.specs.declared.losses.Loss.{Loss}
 use Rattle.radio_medium.specs.Medium.{Radio, is_for_pair, is_good, has_pair_twice, has_bad_loss, hears, receivers, motes}
 use Rattle.radio_medium.proofs.Faults.{base_above, per_above, losses_good, no_fault}
 use Rattle.radio_faults.specs.declared.fault.Fault.{Fault}
-use Rattle.radio_faults.specs.Faults.{is_broken, links, broken_links, losing_all, radio_with}
-use Rattle.radio_faults.specs.Laws.{FaultsKeepTheMedium}
+use Rattle.radio_faults.specs.LossTables.{is_broken, links, broken_links, losing_all, radio_with}
+use Rattle.radio_faults.specs.Laws.{LossTablesAreSound}
 use Rattle.radio_faults.proofs.AnyOf.{any-map, any-flat_map, any-filter, none_stricter, none_filtered, none_ever}
 
 abbrev total : ℕ × ℕ → Loss
@@ -89,8 +89,8 @@ losing_not_bad n links losses good old =
     let first = losing_good n links losses good parts.0 in
     rw first (losing_once links losses parts.1)
 
-pub faults_keep_the_medium : FaultsKeepTheMedium
-faults_keep_the_medium radio faults sound =
+pub loss_tables_are_sound : LossTablesAreSound
+loss_tables_are_sound radio faults sound =
     no_fault (radio_with faults radio)
     (λ e. let above = base_above radio sound in omega arith)
     (λ e. let above = per_above radio sound in omega arith)

@@ -1,40 +1,48 @@
--- A medium with faults: the same medium with more losses.
-use Rattle.std.specs.Prelude.{ℕ, ◌==◌, ◌&&◌, Bool, not, List, [], ◌∷◌, map}
-use Rattle.std.specs.List.{filter, flat_map, list_any}
-use Rattle.radio_medium.specs.declared.losses.Loss.{Loss}
-use Rattle.radio_medium.specs.Medium.{Radio, is_for_pair, motes, receivers}
+-- Faults of a net, and what they make of copies on their way.
+use Rattle.std.specs.Prelude.{ℕ, ◌+◌, ◌==◌, ◌&&◌, Bool, if◌then◌else◌, List, [], ◌∷◌, map, Option, Some, None}
+use Rattle.std.specs.Prelude.{option_map}
+use Rattle.std.specs.List.{filter_map}
+use Rattle.std.specs.Option.{option_and_then}
+use Rattle.radio_packet.specs.declared.copy.RadioCopy.{RadioCopy}
+use Rattle.radio_packet.specs.declared.fate.Fate.{Fate}
+use Rattle.radio_packet.specs.declared.sent.Sent.{Sent}
 use Rattle.radio_faults.specs.declared.fault.Fault.{Fault}
-use Rattle.radio_faults.specs.declared.fault.Fault.TheVariants.{Link, Silent}
+use Rattle.radio_faults.specs.declared.fault.Fault.TheVariants.{Link, Silent, Lost, LostToAll, Late}
 
--- the fault breaks the link from mote s to mote r
-abbrev pub breaks : Fault → (s r : ℕ) → Bool
-breaks (Link from to) s r = (from == s) && (to == r)
-breaks (Silent mote) s r = mote == s
+-- the fault names the copy of packet n of mote s for mote r
+abbrev pub names : Fault → (s n r : ℕ) → Bool
+names (Link from to) s n r = (from == s) && (to == r)
+names (Silent mote) s n r = mote == s
+names (Lost sender number to) s n r = (sender == s) && (number == n) && (to == r)
+names (LostToAll sender number) s n r = (sender == s) && (number == n)
+names (Late sender number to by) s n r = (sender == s) && (number == n) && (to == r)
 
--- one of the faults breaks this link
-abbrev pub is_broken : List Fault → (s r : ℕ) → Bool
-is_broken faults s r = list_any (λ fault. breaks fault s r) faults
+-- when a copy arrives that the fault names, if it arrives at this moment without it: a late copy so much later, and each
+-- other copy never
+abbrev pub named_arrival : Fault → (at : ℕ) → Option ℕ
+named_arrival (Late sender number to by) at = Some (at + by)
+named_arrival fault at = None
 
--- all links of the medium, each from a sender to a mote that hears it
-abbrev pub links : Radio → List (ℕ × ℕ)
-links radio = flat_map (λ s. map (λ r. (s, r)) (receivers radio s)) (motes radio)
+-- when the copy of packet n of mote s arrives at mote r after this fault, if it arrives at this moment without it
+abbrev pub arrival_after : Fault → (s n r at : ℕ) → Option ℕ
+arrival_after fault s n r at = if names fault s n r then named_arrival fault at else Some at
 
--- the links that the faults break
-abbrev pub broken_links : List Fault → Radio → List (ℕ × ℕ)
-broken_links faults radio = filter (λ link. is_broken faults link.0 link.1) (links radio)
+-- the copy after this fault, if it isn't lost
+abbrev pub copy_after : Fault → RadioCopy → Option RadioCopy
+copy_after fault copy =
+    option_map (λ at. record copy { at = at }) (arrival_after fault copy.sender copy.number copy.to copy.at)
 
--- each of these links gets a loss of every packet, in place of the loss that it may have had
-abbrev pub losing_all : List (ℕ × ℕ) → List Loss → List Loss
-losing_all [] losses = losses
-losing_all (link ∷ links) losses =
-    record { sender = link.0; to = link.1; every = 1 } ∷ filter (λ loss. not (is_for_pair link.0 link.1 loss)) (losing_all links losses)
+-- the copies that are left of some copies after these faults
+abbrev pub copies_with : List Fault → List RadioCopy → List RadioCopy
+copies_with [] copies = copies
+copies_with (fault ∷ faults) copies = filter_map (copy_after fault) (copies_with faults copies)
 
--- the medium with these faults: a broken link loses every packet, and all else is as it was
-abbrev pub radio_with : List Fault → Radio → Radio
-radio_with faults radio = record {
-  places = radio.places;
-  range = radio.range;
-  base = radio.base;
-  per = radio.per;
-  losses = losing_all (broken_links faults radio) radio.losses;
-}
+-- the fate after this fault of a copy of this packet
+abbrev pub fate_after : Fault → Sent → Fate → Fate
+fate_after fault sent fate =
+    record fate { at = option_and_then (arrival_after fault sent.sender sent.number fate.to) fate.at }
+
+-- the fates after these faults of the copies of this packet
+abbrev pub fates_with : List Fault → Sent → List Fate → List Fate
+fates_with [] sent fates = fates
+fates_with (fault ∷ faults) sent fates = map (fate_after fault sent) (fates_with faults sent fates)

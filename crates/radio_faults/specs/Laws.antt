@@ -1,15 +1,23 @@
 -- Laws of media with faults.
-use Rattle.std.specs.Prelude.{◌≡◌, ℕ, if◌then◌else◌, true, List, None}
-use Rattle.radio_medium.specs.Medium.{Radio, hears, loses, medium_fault}
+use Rattle.std.specs.Prelude.{◌≡◌, List, None}
+use Rattle.std.specs.List.{AllByRecursion, filter_map}
+use Rattle.radio_medium.specs.Medium.{Radio, copy_of, fates, medium_fault}
+use Rattle.radio_packet.specs.declared.fate.Fate.{Fate}
+use Rattle.radio_packet.specs.declared.sent.Sent.{Sent}
 use Rattle.radio_faults.specs.declared.fault.Fault.{Fault}
-use Rattle.radio_faults.specs.Faults.{is_broken, radio_with}
+use Rattle.radio_faults.specs.Faults.{copies_with, fates_with}
+use Rattle.radio_faults.specs.LossTables.{IsOfLinks, radio_with}
 
--- a medium without an error has none with faults
-abbrev pub FaultsKeepTheMedium : Type 0
-FaultsKeepTheMedium = (radio : Radio) (faults : List Fault) → medium_fault radio ≡ None → medium_fault (radio_with faults radio) ≡ None
+-- the fates with faults are those of the copies with faults
+abbrev pub FatesTellCopies : Type 0
+FatesTellCopies = (faults : List Fault) (sent : Sent) (fates : List Fate)
+    → filter_map (copy_of sent) (fates_with faults sent fates) ≡ copies_with faults (filter_map (copy_of sent) fates)
 
--- of the packets from mote s to mote r, which hears s, all are lost if a fault breaks this link, and otherwise those that
--- are lost without the faults
-abbrev pub BrokenLinksLoseAll : Type 0
-BrokenLinksLoseAll = (radio : Radio) (faults : List Fault) (s r n : ℕ) → hears radio r s ≡ true
-    → loses (radio_with faults radio) s r n ≡ (if is_broken faults s r then true else loses radio s r n)
+-- if the faults are of links, each packet has the fates that it has in the medium that loses all on these links
+abbrev pub LossTablesAgree : Type 0
+LossTablesAgree = (radio : Radio) (faults : List Fault) → AllByRecursion IsOfLinks faults → (sent : Sent)
+    → fates_with faults sent (fates radio sent) ≡ fates (radio_with faults radio) sent
+
+-- a medium without an error has none with these losses
+abbrev pub LossTablesAreSound : Type 0
+LossTablesAreSound = (radio : Radio) (faults : List Fault) → medium_fault radio ≡ None → medium_fault (radio_with faults radio) ≡ None

@@ -1,3 +1,3 @@
-pub mod Fates
 pub mod Faults
 pub mod Laws
+pub mod LossTables

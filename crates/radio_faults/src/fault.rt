@@ -1,32 +1,59 @@
-//! The faults of a medium.
+//! Faults.
 
 ghost use Rattle.std.specs.Prelude.{◌≡◌};
-ghost use Rattle.radio_faults.specs.Faults.{breaks, is_broken};
+ghost use Rattle.radio_faults.specs.Faults.{names};
 
-/// A fault of some links. On a link that a fault breaks, the medium loses every packet.
+/// A fault of a net: what happens to some of the copies on their way. All faults are of the way from one mote to another,
+/// in this direction. A packet has a number: that of the packets that its mote had sent before.
 #[derive(Clone, Copy, Debug, PartialEq, Eq)]
 pub enum Fault {
-    /// The link from one mote to another, in this direction, is broken.
+    /// The link from one mote to another is broken: each packet is lost on it.
     Link(u16, u16),
-    /// The mote is silent: it hears other motes, and the medium loses every packet of its own.
+    /// The mote is silent: each of its packets is lost on its way to each mote. It hears other motes.
     Silent(u16),
+    /// A packet is lost on its way to one mote.
+    Lost {
+        sender: u16,
+        number: u64,
+        to: u16,
+    },
+    /// A packet is lost on its way to each mote.
+    LostToAll {
+        sender: u16,
+        number: u64,
+    },
+    /// A packet arrives at one mote so many moments later.
+    Late {
+        sender: u16,
+        number: u64,
+        to: u16,
+        by: u32,
+    },
 }
 
 impl Fault {
-    /// Returns `true` if this fault breaks the link from mote s to mote r.
-    pub fn breaks(self, s: u16, r: u16) -> bool
-        ensures value { result ≡ breaks self s r }
+    /// Returns `true` if the fault names the copy of packet `number` of mote `sender` for mote `to`.
+    pub fn names(self, sender: u16, number: u64, to: u16) -> bool
+        ensures value { result ≡ names self sender number to }
     {
         match self {
-            Fault::Link(from, to) => from == s && to == r,
-            Fault::Silent(mote) => mote == s,
+            Fault::Link(s, r) => s == sender && r == to,
+            Fault::Silent(s) => s == sender,
+            Fault::LostToAll {
+                sender: s,
+                number: n,
+            } => s == sender && n == number,
+            Fault::Lost {
+                sender: s,
+                number: n,
+                to: r,
+            }
+            | Fault::Late {
+                sender: s,
+                number: n,
+                to: r,
+                by: _,
+            } => s == sender && n == number && r == to,
         }
     }
-}
-
-/// Returns `true` if one of the faults breaks the link from mote s to mote r.
-pub fn is_broken(faults: &[Fault], s: u16, r: u16) -> bool
-    ensures value { result ≡ is_broken faults.now s r }
-{
-    faults.iter().any(|fault| fault.breaks(s, r))
 }

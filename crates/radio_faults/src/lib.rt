@@ -1,6 +1,5 @@
-//! Faults of a medium: links that lose everything, and silent motes. A medium with faults is the same medium with more
-//! losses. To find the fates of a packet, nothing is changed in the medium: it tells the fates without the faults, and
-//! then the copies on broken links are lost.
+//! Faults of a net: broken links, silent motes, and single copies that are lost or late. Nothing in a net is changed for
+//! a fault: the medium tells the fates of a packet, and then the faults change the fates of the copies that they name.
 #![tactic(auto)]
 
 mod fates;

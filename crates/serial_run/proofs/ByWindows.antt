@@ -19,19 +19,21 @@ use Rattle.window_laws.proofs.Order.{sorted_permutes}
 use Rattle.window_laws.proofs.Puts.{put_each}
 use Rattle.net_agenda.specs.NetSystem.{system_of}
 use Rattle.mote_net.specs.Report.{Packet, ReportModel}
-use Rattle.serial_run.specs.NetRun.{packet_with_fates, report_at}
+use Rattle.serial_run.specs.FaultRun.{net_with, packet_with}
+use Rattle.serial_run.specs.NetRun.{report_at}
 use Rattle.serial_run.specs.Laws.{NetsRunForward, ReportIsThere, WindowsCommuteInNets}
 use Rattle.serial_run.specs.Stamps.{sent_by}
 use Rattle.net_agenda.proofs.Systems.{system_is}
 use Rattle.serial_run.proofs.Stamps.{run_counts_up}
+use Rattle.fault_laws.proofs.Forward.{faults_run_forward}
 
 pub nets_run_forward : NetsRunForward
-nets_run_forward n fault placed = system_is n fault placed
+nets_run_forward faults n fault placed = faults_run_forward (system_of n) faults (system_is n fault placed)
 
 pub report_is_there : ReportIsThere
-report_is_there n fault placed =
-    let r = run_is_there (system_of n) (system_is n fault placed) n.end in
-    (report_at n r.0, record { last = r.0; run = r.1; matches = refl })
+report_is_there faults n fault placed =
+    let r = run_is_there (net_with faults n) (nets_run_forward faults n fault placed) n.end in
+    (report_at (packet_with faults n.radio) n r.0, record { last = r.0; run = r.1; matches = refl })
 
 -- numbered packets: the first one has number k
 number_first : (k : ℕ) (x : Sent) (xs : List Sent) → AreNumberedFrom k (x ∷ xs) → x.number ≡ k
@@ -79,17 +81,17 @@ reported_of traces log left = record { traces = traces; log = log; left = left }
 
 pub windows_commute : WindowsCommuteInNets
 unfolding system_of
-windows_commute n fault placed motes windows log is rest left = record {
+windows_commute faults n fault placed motes windows log is rest left = record {
   last = r.net;
   run = r.run;
   matches =
-      ap (λ traces. reported_of traces (map (packet_with_fates n.radio) log) (length rest)) r.traces_are
-      ∙ (ap (λ l. reported_of (map r.net.traces (up_to (length n.motes))) (map (packet_with_fates n.radio) l) (length rest)) log_is
-      ∙ ap (reported_of (map r.net.traces (up_to (length n.motes))) (map (packet_with_fates n.radio) r.net.log)) r.left_is);
+      ap (λ traces. reported_of traces (map (packet_with faults n.radio) log) (length rest)) r.traces_are
+      ∙ (ap (λ l. reported_of (map r.net.traces (up_to (length n.motes))) (map (packet_with faults n.radio) l) (length rest)) log_is
+      ∙ ap (reported_of (map r.net.traces (up_to (length n.motes))) (map (packet_with faults n.radio) r.net.log)) r.left_is);
 }
   where
-    r : IsReport (system_of n) n.end (map (λ number. (motes number).lines) (up_to (system_of n).motes)) (as_log is.joined) (length rest)
-    r = windows_report (system_of n) (system_is n fault placed) n.end motes windows is.joined is.is_joined rest left
+    r : IsReport (net_with faults n) n.end (map (λ number. (motes number).lines) (up_to (net_with faults n).motes)) (as_log is.joined) (length rest)
+    r = windows_report (net_with faults n) (nets_run_forward faults n fault placed) n.end motes windows is.joined is.is_joined rest left
 
     permuted : IsPermutation r.net.log log
     permuted =
@@ -97,4 +99,4 @@ windows_commute n fault placed motes windows log is rest left = record {
         (IsPermutation-trans _ _ _ (IsPermutation-sym _ _ (sorted_permutes (λ sent. sent.at) (λ sent. sent.sender) is.joined)) is.same)
 
     log_is : log ≡ r.net.log
-    log_is = log_is_in_order (system_of n) (system_is n fault placed) n.end r.net r.run (numbers_rise (λ mote. 0) r.net.log (run_counts_up n r.run)) log permuted is.sorted
+    log_is = log_is_in_order (net_with faults n) (nets_run_forward faults n fault placed) n.end r.net r.run (numbers_rise (λ mote. 0) r.net.log (run_counts_up faults n r.run)) log permuted is.sorted

@@ -20,6 +20,8 @@ use Rattle.net_agenda.specs.NetSystem.{system_of}
 use Rattle.window_laws.specs.NetStep.{NetState, Run, Done, Turn, boot, turn_at}
 use Rattle.serial_run.specs.Counted.{is_by, turns, IsGivenInTime, CopiesAreGiven, CopiesComeInTime}
 use Rattle.serial_run.proofs.Counted.{more, packets-turn, log-turn}
+use Rattle.radio_faults.specs.declared.fault.Fault.{Fault}
+use Rattle.serial_run.specs.FaultRun.{net_with}
 
 due_is_by : (end t m at to : ℕ) → t ≤ end → (eqb at t && eqb to m) ≡ true → not (ltb end at) ≡ true
 due_is_by end t m at to h e = grind (arith, nat_tests)
@@ -95,12 +97,12 @@ module _ {S L : Type 0} (system : System S L) (end : ℕ) where
       subst (IsPermutation (by (flat_map system.copies last.log))) (append_assoc given (due_at t m net) (flat_map (λ turn. turn.given) (turns run)))
       (given_run run (given ++ due_at t m net) (given_turn t m net given le has))
 
-boots : (n : NetModel) → HasGiven (system_of n) n.end [] (boot (system_of n))
-boots n = subst (λ l. IsPermutation [] (by (system_of n) n.end l)) (sym (packets_wakes (up_to (system_of n).motes))) (IsPermutation-refl [])
+boots : (faults : List Fault) (n : NetModel) → HasGiven (net_with faults n) n.end [] (boot (net_with faults n))
+boots faults n = subst (λ l. IsPermutation [] (by (net_with faults n) n.end l)) (sym (packets_wakes (up_to (net_with faults n).motes))) (IsPermutation-refl [])
 
 pub copies_are_given : CopiesAreGiven
 unfolding system_of
-copies_are_given n r report = given_run (system_of n) n.end report.run [] (boots n)
+copies_are_given faults n r report = given_run (net_with faults n) n.end report.run [] (boots faults n)
 
 abbrev IsInTime : (t m : ℕ) → RadioCopy → Type 0
 IsInTime t m copy = (copy.at ≡ t) × (copy.to ≡ m)
@@ -122,4 +124,4 @@ run_in_time {net = net} (Turn t m least le run) =
     (recursion_from_All (IsInTime t m) (in_order cs) given, run_in_time run)
 
 pub copies_come_in_time : CopiesComeInTime
-copies_come_in_time n r report = run_in_time report.run
+copies_come_in_time faults n r report = run_in_time report.run

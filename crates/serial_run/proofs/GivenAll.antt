@@ -16,8 +16,9 @@ use Rattle.window_laws.proofs.Lists.{every_weaker}
 use Rattle.window_laws.proofs.Serial.{all_from}
 use Rattle.window_laws.proofs.Ahead.{turn_ahead}
 use Rattle.window_laws.proofs.Agenda.{packets_filter}
-use Rattle.net_agenda.proofs.Systems.{system_is}
 use Rattle.serial_run.proofs.Counted.{HasAll, more, packets-turn, log-turn, all_turn, all_boot}
+use Rattle.serial_run.specs.FaultRun.{net_with}
+use Rattle.serial_run.proofs.ByWindows.{nets_run_forward}
 
 -- (t, m), (u, k), (v, j) and (at, to) are moments and motes
 still_from : (t m u k v j : ℕ) → (ltb t u || (eqb u t && not (ltb k m))) ≡ true → (ltb u v || (eqb v u && not (ltb j (suc k)))) ≡ true → (ltb t v || (eqb v t && not (ltb j m))) ≡ true
@@ -88,5 +89,5 @@ module _ {S L : Type 0} (system : System S L) (fine : RunsForward system) where
 
 pub turns_are_given_all : TurnsAreGivenAll
 unfolding system_of
-turns_are_given_all n r report fault placed =
-    given_all (system_of n) (system_is n fault placed) report.run 0 0 (boot_from (up_to (system_of n).motes)) (λ u k h. all_boot (system_of n) (is_copy_for u k))
+turns_are_given_all faults n r report fault placed =
+    given_all (net_with faults n) (nets_run_forward faults n fault placed) report.run 0 0 (boot_from (up_to (net_with faults n).motes)) (λ u k h. all_boot (net_with faults n) (is_copy_for u k))

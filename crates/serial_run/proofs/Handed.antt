@@ -10,23 +10,25 @@ use Rattle.net_agenda.specs.NetSystem.{system_of, mote_at}
 use Rattle.window_laws.specs.NetStep.{NetState, Run, Done, Turn, boot, turned_at, turn_at}
 use Rattle.window_laws.proofs.Puts.{put_both}
 use Rattle.serial_run.specs.Laws.{TracesHandOn}
+use Rattle.radio_faults.specs.declared.fault.Fault.{Fault}
+use Rattle.serial_run.specs.FaultRun.{net_with}
 
-module _ (n : NetModel) where
+module _ (faults : List Fault) (n : NetModel) where
   abbrev AllGo : NetState Node Line → Type 0
   AllGo net = (k : ℕ) → GoesWith (net.traces k) (net.states k).mote
 
-  turn_goes : (t m : ℕ) (net : NetState Node Line) → AllGo net → AllGo (turn_at (system_of n) t m net)
+  turn_goes : (t m : ℕ) (net : NetState Node Line) → AllGo net → AllGo (turn_at (net_with faults n) t m net)
   unfolding system_of
   turn_goes t m net go =
-      put_both (λ k (lines : List Line) (x : Node). GoesWith lines x.mote) net.traces net.states m (net.traces m ++ (turned_at (system_of n) t m net).lines) (turned_at (system_of n) t m net).state (turn_keeps (net.traces m) t _ (net.states m) (go m)) (λ k ne. go k)
+      put_both (λ k (lines : List Line) (x : Node). GoesWith lines x.mote) net.traces net.states m (net.traces m ++ (turned_at (net_with faults n) t m net).lines) (turned_at (net_with faults n) t m net).state (turn_keeps (net.traces m) t _ (net.states m) (go m)) (λ k ne. go k)
 
-  run_goes : {net last : NetState Node Line} → Run (system_of n) n.end net last → AllGo net → AllGo last
+  run_goes : {net last : NetState Node Line} → Run (net_with faults n) n.end net last → AllGo net → AllGo last
   run_goes (Done h) go = go
   run_goes {net} (Turn t m least le r) go = run_goes r (turn_goes t m net go)
 
-  boot_goes : AllGo (boot (system_of n))
+  boot_goes : AllGo (boot (net_with faults n))
   unfolding system_of
   boot_goes k = let m = mote_at n.motes k in new_goes m.tree k m.queue
 
 pub traces_hand_on : TracesHandOn
-traces_hand_on n r report k h = in_order (report.last.traces k) (report.last.states k).mote (run_goes n report.run (boot_goes n) k)
+traces_hand_on faults n r report k h = in_order (report.last.traces k) (report.last.states k).mote (run_goes faults n report.run (boot_goes faults n) k)

@@ -1,6 +1,6 @@
-mod Boots
 pub mod ByWindows
 pub mod Counted
+pub mod FaultLaws
 pub mod Given
 pub mod GivenAll
 pub mod Handed
@@ -10,9 +10,7 @@ pub mod OneWake
 pub mod OnTime
 pub mod Reached
 pub mod Reports
-mod SameCopies
 pub mod Stamped
 pub mod Stamps
 pub mod Steps
 pub mod Unique
-mod UnusedLinks

@@ -22,6 +22,8 @@ use Rattle.net_agenda.specs.NetSystem.{system_of, tree_at}
 use Rattle.serial_run.specs.declared.engine.Engine.{Engine}
 use Rattle.serial_run.specs.OnTime.{CanTurn, IsNotAfter, IsOnTime}
 use Rattle.serial_run.specs.IsInState.{IsEngineAt}
+use Rattle.radio_faults.specs.declared.fault.Fault.{Fault}
+use Rattle.serial_run.specs.FaultRun.{net_with}
 
 -- comparisons of plain numbers
 then_later : (t m u k : ℕ) → k ≡ m → (ltb t u || (eqb u t && not (ltb k (suc m)))) ≡ true → nat_le u t ≡ false
@@ -38,26 +40,26 @@ still_after : (at t : ℕ) (last : Option ℕ) → IsNotAfter at last → at ≤
 still_after at t None h le = tt
 still_after at t (Some last) h le = omega arith
 
-module _ (n : NetModel) where
-  turn_ends : (t m : ℕ) (net : NetState Node Line) → (turned_at (system_of n) t m net).state.last ≡ Some t
+module _ (faults : List Fault) (n : NetModel) where
+  turn_ends : (t m : ℕ) (net : NetState Node Line) → (turned_at (net_with faults n) t m net).state.last ≡ Some t
   unfolding system_of turn_of
   turn_ends t m net = refl
 
-  pub boot_on_time : IsOnTime 0 (boot (system_of n))
+  pub boot_on_time : IsOnTime 0 (boot (net_with faults n))
   unfolding system_of new_node
-  boot_on_time = record { coming = from_zero (boot (system_of n)).agenda; turned = λ k. tt; ahead = no_turn_yet (boot (system_of n)).agenda }
+  boot_on_time = record { coming = from_zero (boot (net_with faults n)).agenda; turned = λ k. tt; ahead = no_turn_yet (boot (net_with faults n)).agenda }
     where
       from_zero : (items : List Item) → AllByRecursion (λ item. 0 ≤ moment_of item) items
       from_zero [] = tt
       from_zero (item ∷ items) = (zero-le, from_zero items)
 
-      no_turn_yet : (items : List Item) → AllByRecursion (λ item. is_past (moment_of item) ((boot (system_of n)).states (mote_of item)).last ≡ false) items
+      no_turn_yet : (items : List Item) → AllByRecursion (λ item. is_past (moment_of item) ((boot (net_with faults n)).states (mote_of item)).last ≡ false) items
       no_turn_yet [] = tt
       no_turn_yet (item ∷ items) = (refl, no_turn_yet items)
 
-  module _ (fine : RunsForward (system_of n)) (at t m : ℕ) (net : NetState Node Line) (least : IsLeast t m net.agenda) (on_time : IsOnTime at net) where
+  module _ (fine : RunsForward (net_with faults n)) (at t m : ℕ) (net : NetState Node Line) (least : IsLeast t m net.agenda) (on_time : IsOnTime at net) where
     abbrev next : Turned Node Line
-    next = turned_at (system_of n) t m net
+    next = turned_at (net_with faults n) t m net
 
     reached : at ≤ t
     reached = due_has (λ u k. at ≤ u) t m net.agenda least.is_there on_time.coming
@@ -66,13 +68,13 @@ module _ (n : NetModel) where
     abbrev IsAheadElsewhere : Item → Type 0
     IsAheadElsewhere item = (mote_of item ≡ m → ⊥) → is_past (moment_of item) (net.states (mote_of item)).last ≡ false
 
-    elsewhere : AllByRecursion IsAheadElsewhere (turn_at (system_of n) t m net).agenda
+    elsewhere : AllByRecursion IsAheadElsewhere (turn_at (net_with faults n) t m net).agenda
     elsewhere =
-        turn_every (system_of n) IsAheadElsewhere t m net (every_filter _ _ (is_left t m) (λ item h e ne. h) net.agenda on_time.ahead) (λ u e ne. absurd (ne refl))
-        (λ s. every_weaker (IsCopyOf (system_of n) (stamped t m s)) (λ (copy : RadioCopy). IsAheadElsewhere (Packet copy)) (λ (copy : RadioCopy) h ne. no_turn_after at t copy.at (net.states copy.to).last (on_time.turned copy.to) reached (let l = fine.some_lookahead in let k = h.later in omega arith)) _ (fine.copies_later (stamped t m s)))
+        turn_every (net_with faults n) IsAheadElsewhere t m net (every_filter _ _ (is_left t m) (λ item h e ne. h) net.agenda on_time.ahead) (λ u e ne. absurd (ne refl))
+        (λ s. every_weaker (IsCopyOf (net_with faults n) (stamped t m s)) (λ (copy : RadioCopy). IsAheadElsewhere (Packet copy)) (λ (copy : RadioCopy) h ne. no_turn_after at t copy.at (net.states copy.to).last (on_time.turned copy.to) reached (let l = fine.some_lookahead in let k = h.later in omega arith)) _ (fine.copies_later (stamped t m s)))
 
     abbrev later_on : ℕ → Option ℕ
-    later_on k = ((turn_at (system_of n) t m net).states k).last
+    later_on k = ((turn_at (net_with faults n) t m net).states k).last
 
     one_ahead : (item : Item) → is_from t (suc m) item ≡ true → IsAheadElsewhere item → is_past (moment_of item) (later_on (mote_of item)) ≡ false
     one_ahead item from h =
@@ -80,18 +82,18 @@ module _ (n : NetModel) where
         (λ e. ap (is_past (moment_of item)) (turn_ends t m net) ∙ then_later t m (moment_of item) (mote_of item) e from)
         (λ k ne e. subst (λ j. is_past (moment_of item) (net.states j).last ≡ false) e (h (λ f. ne (sym e ∙ f)))) (mote_of item) refl
 
-    pub turn_on_time : IsOnTime t (turn_at (system_of n) t m net)
+    pub turn_on_time : IsOnTime t (turn_at (net_with faults n) t m net)
     turn_on_time = record {
       coming = every_weaker _ _ (λ item h. no_sooner t (suc m) (moment_of item) (mote_of item) h) _ ahead;
       turned = put_each (λ k (x : Node). IsNotAfter t x.last) net.states m next.state (subst (IsNotAfter t) (sym (turn_ends t m net)) (omega arith)) (λ k ne. still_after at t (net.states k).last (on_time.turned k) reached);
-      ahead = every_weaker _ _ (λ item h. one_ahead item h.0 h.1) _ (every_both _ _ (turn_at (system_of n) t m net).agenda ahead elsewhere);
+      ahead = every_weaker _ _ (λ item h. one_ahead item h.0 h.1) _ (every_both _ _ (turn_at (net_with faults n) t m net).agenda ahead elsewhere);
     }
       where
-        ahead : AllByRecursion (λ item. is_from t (suc m) item ≡ true) (turn_at (system_of n) t m net).agenda
-        ahead = turn_ahead (system_of n) fine t m net least.is_first
+        ahead : AllByRecursion (λ item. is_from t (suc m) item ≡ true) (turn_at (net_with faults n) t m net).agenda
+        ahead = turn_ahead (net_with faults n) fine t m net least.is_first
 
   -- the mote of the next turn can take it
-  pub least_can_turn : (at t m : ℕ) (engine : Engine) (net : NetState Node Line) → IsEngineAt n engine net → IsOnTime at net → IsLeast t m net.agenda → m < length n.motes
+  pub least_can_turn : (at t m : ℕ) (engine : Engine) (net : NetState Node Line) → IsEngineAt faults n engine net → IsOnTime at net → IsLeast t m net.agenda → m < length n.motes
       → (d : Mote) → CanTurn t (node_in (tree_at n m) (get_or engine.motes.items m d))
   least_can_turn at t m engine net in_state on_time least there d = subst (CanTurn t) (sym (in_state.nodes m there d)) now
     where

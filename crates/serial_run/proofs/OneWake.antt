@@ -8,9 +8,9 @@ use Rattle.window_laws.specs.NetStep.{NetState, Run, Done, Turn, boot, turned_at
 use Rattle.window_laws.specs.System.{System}
 use Rattle.window_laws.proofs.Agenda.{first_wakes, wakes_other, wakes_own}
 use Rattle.window_laws.proofs.Lists.{filter_stronger, every_weaker, no_more}
-use Rattle.net_agenda.specs.NetSystem.{system_of}
 use Rattle.net_agenda.specs.Items.{is_wake_at, WakesDiffer}
 use Rattle.serial_run.specs.Laws.{agendas, OneWake, AlwaysOneWake, WakesAlwaysDiffer}
+use Rattle.serial_run.specs.FaultRun.{net_with}
 
 at_most_one : (m : ℕ) (wake : Option ℕ) → length (wake_items m wake) ≤ 1
 at_most_one m None = omega arith
@@ -47,7 +47,7 @@ module _ {S L : Type 0} (system : System S L) (end : ℕ) where
   at_first k = let same = ap length (first_wakes system.motes k) in let h = at_most_one k (cond (ltb k system.motes) (Some 0) None) in omega arith
 
 pub one_wake : AlwaysOneWake
-one_wake n r report = all_one (system_of n) n.end report.run (at_first (system_of n) n.end)
+one_wake faults n r report = all_one (net_with faults n) n.end report.run (at_first (net_with faults n) n.end)
 
 pub wakes_differ : WakesAlwaysDiffer
-wakes_differ n r report = every_weaker OneWake WakesDiffer differ (agendas report.run) (one_wake n r report)
+wakes_differ faults n r report = every_weaker OneWake WakesDiffer differ (agendas report.run) (one_wake faults n r report)

@@ -9,12 +9,12 @@ use Rattle.std.proofs.lemmas.List.{map-append}
 use Rattle.trace_lines.specs.declared.line.Line.{Line}
 use Rattle.mote_net.specs.Net.{NetModel}
 use Rattle.mote_net.specs.declared.report.Report.{Report}
-use Rattle.mote_net.specs.Report.{ReportModel, trace_lines_in, report_of}
-use Rattle.radio_faults.proofs.NoFaults.{no_faults}
+use Rattle.mote_net.specs.Report.{trace_lines_in, report_of}
+use Rattle.radio_faults.specs.declared.fault.Fault.{Fault}
 use Rattle.serial_run.specs.declared.engine.Engine.{Engine}
 use Rattle.window_laws.specs.Agenda.{packets, up_to}
-use Rattle.serial_run.specs.NetFaults.{net_with}
-use Rattle.serial_run.specs.NetRun.{report_at, IsReportOf}
+use Rattle.serial_run.specs.FaultRun.{packet_with, IsReportWith}
+use Rattle.serial_run.specs.NetRun.{report_at}
 use Rattle.serial_run.specs.IsInState.{IsWhole}
 use Rattle.serial_run.specs.Ended.{HasEnded}
 use Rattle.serial_run.proofs.Handed.{traces_hand_on}
@@ -37,9 +37,9 @@ family {X} {Y} g f xs h = ap (map g) (sym (take-length xs)) ∙ upto xs h (lengt
         ∙ (ap (λ l. l ++ g (get_or (x ∷ xs) n x) ∷ []) (upto (x ∷ xs) h n b)
         ∙ (ap (λ y. map f (up_to n) ++ y ∷ []) (h n a x) ∙ sym (map-append f (up_to n) (n ∷ [])))))
 
-pub report_is : (n : NetModel) (engine : Engine) (report : Report) → IsWhole n engine → (at : HasEnded n engine)
-    → report.traces ≡ engine.traces → report.medium ≡ engine.log → report.left ≡ length (packets at.last.agenda) → IsReportOf n (report_of report)
-report_is n engine report whole at traces log left = record {
+pub report_is : (faults : List Fault) (n : NetModel) (engine : Engine) (report : Report) → IsWhole n engine → (at : HasEnded faults n engine)
+    → report.traces ≡ engine.traces → report.medium ≡ engine.log → report.left ≡ length (packets at.last.agenda) → IsReportWith faults n (report_of report)
+report_is faults n engine report whole at traces log left = record {
   last = at.last;
   run = at.run;
   matches = rw (traces, log, left, all, at.in_state.log) refl;
@@ -50,11 +50,7 @@ report_is n engine report whole at traces log left = record {
         family trace_lines_in at.last.traces engine.traces.items (λ k h d. at.in_state.traces k (let e = whole.traces in omega arith) d)
         ∙ ap (λ j. map at.last.traces (up_to j)) whole.traces
 
-pub all_in_order : (n : NetModel) (engine : Engine) → IsWhole n engine → HasEnded n engine → All (λ (v : Vec Line Global). IsInOrder v.items) engine.traces.items
-all_in_order n engine whole at k d h =
+pub all_in_order : (faults : List Fault) (n : NetModel) (engine : Engine) → IsWhole n engine → HasEnded faults n engine → All (λ (v : Vec Line Global). IsInOrder v.items) engine.traces.items
+all_in_order faults n engine whole at k d h =
     let there : k < length n.motes = (let e = whole.traces in omega arith) in
-    subst IsInOrder (sym (at.in_state.traces k there d)) (traces_hand_on n (report_at n at.last) (record { last = at.last; run = at.run; matches = refl }) k there)
-
--- a net without faults is the same net
-pub without_faults : (n : NetModel) (r : ReportModel) → IsReportOf (net_with [] n) r → IsReportOf n r
-without_faults n r = subst (λ radio. IsReportOf (record { end = n.end; collide = n.collide; radio = radio; motes = n.motes }) r) (no_faults n.radio)
+    subst IsInOrder (sym (at.in_state.traces k there d)) (traces_hand_on faults n (report_at (packet_with faults n.radio) n at.last) (record { last = at.last; run = at.run; matches = refl }) k there)

@@ -12,6 +12,8 @@ use Rattle.window_laws.proofs.Puts.{put_each}
 use Rattle.net_agenda.specs.NetSystem.{system_of, mote_at}
 use Rattle.serial_run.specs.Stamps.{AreStamped, SendsAreStamped}
 use Rattle.serial_run.specs.Ended.{AreNumbered}
+use Rattle.radio_faults.specs.declared.fault.Fault.{Fault}
+use Rattle.serial_run.specs.FaultRun.{net_with}
 
 pub stamped_is : (t m : ℕ) (sends : List Sent) → PacketsBear t m sends → map (stamped t m) sends ≡ sends
 stamped_is t m [] h = refl
@@ -22,31 +24,31 @@ stamped_is t m (x ∷ xs) h =
     let head : stamped t m x ≡ x = rw (← at, ← sender) refl in
     ap₂ (λ y ys. y ∷ ys) head (stamped_is t m xs (All-tail (λ (x : Sent). (x.at ≡ t) × (x.sender ≡ m)) x xs h))
 
-module _ (n : NetModel) where
-  pub boot_numbered : AreNumbered (boot (system_of n))
+module _ (faults : List Fault) (n : NetModel) where
+  pub boot_numbered : AreNumbered (boot (net_with faults n))
   unfolding system_of
   boot_numbered k = let m = mote_at n.motes k in (new_is m.tree k m.queue).0
 
-  number_kept : (t m : ℕ) (net : NetState Node Line) → (turned_at (system_of n) t m net).state.mote.state.mote ≡ (net.states m).mote.state.mote
+  number_kept : (t m : ℕ) (net : NetState Node Line) → (turned_at (net_with faults n) t m net).state.mote.state.mote ≡ (net.states m).mote.state.mote
   unfolding system_of
   number_kept t m net = (turns_stamp t _ (net.states m)).mote
 
-  sends_bear : (t m : ℕ) (net : NetState Node Line) → PacketsBear t (net.states m).mote.state.mote (turned_at (system_of n) t m net).sends
+  sends_bear : (t m : ℕ) (net : NetState Node Line) → PacketsBear t (net.states m).mote.state.mote (turned_at (net_with faults n) t m net).sends
   unfolding system_of
   sends_bear t m net = (turns_stamp t _ (net.states m)).packets
 
-  pub turn_numbered : (t m : ℕ) (net : NetState Node Line) → AreNumbered net → AreNumbered (turn_at (system_of n) t m net)
+  pub turn_numbered : (t m : ℕ) (net : NetState Node Line) → AreNumbered net → AreNumbered (turn_at (net_with faults n) t m net)
   turn_numbered t m net numbered =
-      put_each (λ k (x : Node). x.mote.state.mote ≡ k) net.states m (turned_at (system_of n) t m net).state (number_kept t m net ∙ numbered m) (λ k ne. numbered k)
+      put_each (λ k (x : Node). x.mote.state.mote ≡ k) net.states m (turned_at (net_with faults n) t m net).state (number_kept t m net ∙ numbered m) (λ k ne. numbered k)
 
-  turn_stamped : (t m : ℕ) (net : NetState Node Line) → AreNumbered net → sends_of t m (turned_at (system_of n) t m net) ≡ (turned_at (system_of n) t m net).sends
+  turn_stamped : (t m : ℕ) (net : NetState Node Line) → AreNumbered net → sends_of t m (turned_at (net_with faults n) t m net) ≡ (turned_at (net_with faults n) t m net).sends
   turn_stamped t m net numbered =
-      let sends = (turned_at (system_of n) t m net).sends in
+      let sends = (turned_at (net_with faults n) t m net).sends in
       stamped_is t m sends (subst (λ k. PacketsBear t k sends) (numbered m) (sends_bear t m net))
 
-  run_stamped : {net last : NetState Node Line} (run : Run (system_of n) n.end net last) → AreNumbered net → AreStamped run
+  run_stamped : {net last : NetState Node Line} (run : Run (net_with faults n) n.end net last) → AreNumbered net → AreStamped run
   run_stamped (Done late) numbered = tt
   run_stamped {net} (Turn t m least le rest) numbered = (turn_stamped t m net numbered, run_stamped rest (turn_numbered t m net numbered))
 
 pub sends_are_stamped : SendsAreStamped
-sends_are_stamped n r report = run_stamped n report.run (boot_numbered n)
+sends_are_stamped faults n r report = run_stamped faults n report.run (boot_numbered faults n)

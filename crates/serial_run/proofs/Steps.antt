@@ -4,7 +4,7 @@ use Rattle.std.proofs.Common.{refl, sym, ap, ◌∙◌, subst, arith, append_ass
 use Rattle.std.proofs.Common.{get_or-set_same, get_or-set_other}
 use Rattle.std.specs.Prelude.{IfSome, Vec}
 use Rattle.std.specs.declared.alloc.Global.{Global}
-use Rattle.std.specs.List.{filter, flat_map}
+use Rattle.std.specs.List.{filter}
 use Rattle.std.proofs.lemmas.List.{map-append}
 use Rattle.program_tree.specs.Code.{Tree}
 use Rattle.radio_packet.specs.declared.arrival.Arrival.{Arrival}
@@ -17,14 +17,13 @@ use Rattle.mote_node.specs.Public.{node_in, turn_given, wake_in}
 use Rattle.kernel_laws.specs.Stamps.{PacketsBear}
 use Rattle.mote_laws.proofs.Stamps.{turns_stamp}
 use Rattle.mote_node.specs.Turn as node
-use Rattle.radio_medium.specs.Medium.{copies}
 use Rattle.mote_net.specs.Net.{NetModel}
 use Rattle.mote_net.specs.Report.{line_model}
 use Rattle.serial_run.specs.declared.engine.Engine.{Engine}
 use Rattle.window_laws.specs.Agenda.{Item, Packet, comes_at, is_wake_of, is_left, wake_items}
 use Rattle.net_agenda.specs.Buckets.{HoldsItems, arrivals_at, wake_but_at}
 use Rattle.net_agenda.specs.NetSystem.{system_of, tree_at}
-use Rattle.serial_run.specs.NetRun.{packet_with_fates}
+use Rattle.serial_run.specs.FaultRun.{net_with, packet_with}
 use Rattle.window_laws.specs.NetStep.{NetState, stamped, turn_at}
 use Rattle.serial_run.specs.IsInState.{IsEngineAt, KeepsWakes, OneTakesTurn}
 use Rattle.net_agenda.specs.Traces.{AddsLines}
@@ -33,6 +32,8 @@ use Rattle.window_laws.proofs.Puts.{put_each}
 use Rattle.serial_run.specs.OnTime.{CanTurn}
 use Rattle.serial_run.proofs.Kept.{wake_later}
 use Rattle.serial_run.proofs.Stamped.{stamped_is}
+use Rattle.radio_faults.specs.declared.fault.Fault.{Fault}
+use Rattle.serial_run.specs.Counted.{all_copies}
 
 -- the outcome of a turn, and the state to which it led
 record Tells (o : Option Node) (out : TurnOut) (t : node.TurnGiven) : Type 0 where
@@ -63,7 +64,7 @@ neither : (a b : Bool) → not (a || b) ≡ (not a && not b)
 neither true b = refl
 neither false b = refl
 
-module _ (n : NetModel) (t m : ℕ) (state : NetState Node Line) where
+module _ (faults : List Fault) (n : NetModel) (t m : ℕ) (state : NetState Node Line) where
   abbrev turned : node.TurnGiven
   turned = turn_of t (arrivals_at t m state.agenda) (state.states m)
 
@@ -71,16 +72,16 @@ module _ (n : NetModel) (t m : ℕ) (state : NetState Node Line) where
   abbrev pub agenda_after : Option ℕ → List Sent → List Item
   agenda_after wake sends =
       (filter (λ item. not (is_wake_of m item)) (filter (λ item. not (comes_at t m item)) state.agenda) ++ wake_items m wake)
-      ++ map Packet (flat_map (copies n.radio) sends)
+      ++ map Packet (all_copies faults n.radio sends)
 
   pub in_state_turn : (old new : Engine) (tree : Tree) (packets : List Arrival) (out : TurnOut)
-      → m < length n.motes → length old.motes.items ≡ length n.motes → length old.traces.items ≡ length n.motes → IsEngineAt n old state
+      → m < length n.motes → length old.motes.items ≡ length n.motes → length old.traces.items ≡ length n.motes → IsEngineAt faults n old state
       → tree ≡ tree_at n m → packets ≡ arrivals_at t m state.agenda
       → OneTakesTurn tree t packets m old.motes.items new.motes.items out → PacketsBear t m out.sends.items
       → AddsLines m out.lines.items old.traces.items new.traces.items
       → HoldsItems new.agenda.buckets (agenda_after out.wake out.sends.items)
-      → map line_model new.log.items ≡ map line_model old.log.items ++ map (packet_with_fates n.radio) out.sends.items
-      → IsEngineAt n new (turn_at (system_of n) t m state)
+      → map line_model new.log.items ≡ map line_model old.log.items ++ map (packet_with faults n.radio) out.sends.items
+      → IsEngineAt faults n new (turn_at (net_with faults n) t m state)
   unfolding system_of
   in_state_turn old new tree packets out there motes traces at tree_is packets_are takes bear adds agenda log = record {
     nodes =
@@ -96,9 +97,9 @@ module _ (n : NetModel) (t m : ℕ) (state : NetState Node Line) where
         (λ k ne h d. ap (λ l. (get_or l k d).items) adds.put
         ∙ (ap (λ (v : Vec Line Global). v.items) (get_or-set_other old.traces.items m k adds.after d ne) ∙ at.traces k h d));
     log =
-        log ∙ (ap (λ l. l ++ map (packet_with_fates n.radio) out.sends.items) at.log
-        ∙ (ap (λ l. map (packet_with_fates n.radio) state.log ++ map (packet_with_fates n.radio) l) sent
-        ∙ sym (map-append (packet_with_fates n.radio) state.log (map (stamped t m) turned.sends))));
+        log ∙ (ap (λ l. l ++ map (packet_with faults n.radio) out.sends.items) at.log
+        ∙ (ap (λ l. map (packet_with faults n.radio) state.log ++ map (packet_with faults n.radio) l) sent
+        ∙ sym (map-append (packet_with faults n.radio) state.log (map (stamped t m) turned.sends))));
     agenda = subst (λ l. HoldsItems new.agenda.buckets l) same agenda;
   }
     where
@@ -118,16 +119,16 @@ module _ (n : NetModel) (t m : ℕ) (state : NetState Node Line) where
       sent : out.sends.items ≡ map (stamped t m) turned.sends
       sent = sym (stamped_is t m out.sends.items bear) ∙ ap (map (stamped t m)) is.sends
 
-      same : agenda_after out.wake out.sends.items ≡ filter (is_left t m) state.agenda ++ (wake_items m turned.wake ++ map Packet (flat_map (copies n.radio) (map (stamped t m) turned.sends)))
+      same : agenda_after out.wake out.sends.items ≡ filter (is_left t m) state.agenda ++ (wake_items m turned.wake ++ map Packet (all_copies faults n.radio (map (stamped t m) turned.sends)))
       same =
           append_assoc _ (wake_items m out.wake) _
-          ∙ (ap (λ l. l ++ (wake_items m out.wake ++ map Packet (flat_map (copies n.radio) out.sends.items)))
+          ∙ (ap (λ l. l ++ (wake_items m out.wake ++ map Packet (all_copies faults n.radio out.sends.items)))
           (filter_both (λ item. not (is_wake_of m item)) (λ item. not (comes_at t m item)) (is_left t m) (λ item. neither (comes_at t m item) (is_wake_of m item)) state.agenda)
-          ∙ (ap (λ w. filter (is_left t m) state.agenda ++ (wake_items m w ++ map Packet (flat_map (copies n.radio) out.sends.items))) is.wake
-          ∙ ap (λ l. filter (is_left t m) state.agenda ++ (wake_items m turned.wake ++ map Packet (flat_map (copies n.radio) l))) sent))
+          ∙ (ap (λ w. filter (is_left t m) state.agenda ++ (wake_items m w ++ map Packet (all_copies faults n.radio out.sends.items))) is.wake
+          ∙ ap (λ l. filter (is_left t m) state.agenda ++ (wake_items m turned.wake ++ map Packet (all_copies faults n.radio l))) sent))
 
   -- the mote's wake, if the turn doesn't remove it as a due event
-  pub wake_to_drop : (wake other : Option ℕ) (engine : Engine) → m < length n.motes → IsEngineAt n engine state → KeepsWakes n state
+  pub wake_to_drop : (wake other : Option ℕ) (engine : Engine) → m < length n.motes → IsEngineAt faults n engine state → KeepsWakes n state
       → ((x : Tree) (d : Mote) → wake ≡ wake_in (node_in x (get_or engine.motes.items m d))) → (d : Mote)
       → other ≡ wake_but_at t wake
       → filter (is_wake_of m) (filter (λ item. not (comes_at t m item)) state.agenda) ≡ wake_items m other

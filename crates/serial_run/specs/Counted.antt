@@ -5,14 +5,17 @@ use Rattle.std.specs.List.{filter, flat_map, AllByRecursion}
 use Rattle.std.specs.Option.{option_map_or}
 use Rattle.radio_packet.specs.declared.copy.RadioCopy.{RadioCopy}
 use Rattle.radio_packet.specs.declared.fate.Fate.{Fate}
-use Rattle.radio_medium.specs.Medium.{copies, medium_fault}
+use Rattle.radio_medium.specs.Medium.{Radio, copies, medium_fault}
+use Rattle.radio_faults.specs.declared.fault.Fault.{Fault}
+use Rattle.radio_faults.specs.Faults.{copies_with}
+use Rattle.radio_packet.specs.declared.sent.Sent.{Sent}
 use Rattle.mote_net.specs.Net.{NetModel}
 use Rattle.window_laws.specs.System.{System}
 use Rattle.window_laws.specs.Order.{in_order}
 use Rattle.window_laws.specs.Agenda.{comes_at, packets}
 use Rattle.window_laws.specs.NetStep.{NetState, Run, Done, Turn}
 use Rattle.mote_net.specs.Report.{ReportModel}
-use Rattle.serial_run.specs.NetRun.{IsReportOf}
+use Rattle.serial_run.specs.FaultRun.{IsReportWith}
 
 abbrev pub is_after : (end : ℕ) → RadioCopy → Bool
 is_after end copy = nat_lt end copy.at
@@ -21,15 +24,19 @@ is_after end copy = nat_lt end copy.at
 abbrev pub is_by : (end : ℕ) → RadioCopy → Bool
 is_by end copy = not (is_after end copy)
 
+-- the copies of these packets that aren't lost with these faults
+abbrev pub all_copies : List Fault → Radio → List Sent → List RadioCopy
+all_copies faults radio log = flat_map (λ sent. copies_with faults (copies radio sent)) log
+
 -- the copies on the agenda at the end are exactly the copies of the log's packets that arrive after the end
 abbrev pub LateCopiesStay : Type 0
-LateCopiesStay = (model : NetModel) (r : ReportModel) (report : IsReportOf model r) → packets report.last.agenda
-    ≡ filter (is_after model.end) (flat_map (copies model.radio) report.last.log)
+LateCopiesStay = (faults : List Fault) (model : NetModel) (r : ReportModel) (report : IsReportWith faults model r) → packets report.last.agenda
+    ≡ filter (is_after model.end) (all_copies faults model.radio report.last.log)
 
 -- the number of copies left in a report is the number of copies of the log's packets that arrive after the end
 abbrev pub LeftIsCounted : Type 0
-LeftIsCounted = (model : NetModel) (r : ReportModel) (report : IsReportOf model r) → r.left
-    ≡ count_by (is_after model.end) (flat_map (copies model.radio) report.last.log)
+LeftIsCounted = (faults : List Fault) (model : NetModel) (r : ReportModel) (report : IsReportWith faults model r) → r.left
+    ≡ count_by (is_after model.end) (all_copies faults model.radio report.last.log)
 
 -- the copy isn't lost, and arrives after the end
 abbrev pub is_late : (end : ℕ) → Fate → Bool
@@ -37,7 +44,7 @@ is_late end fate = option_map_or (nat_lt end) fate.at false
 
 -- the number of copies left in a report is the number of fates in the report whose arrival is after the end
 abbrev pub FatesTellLeft : Type 0
-FatesTellLeft = (model : NetModel) (r : ReportModel) → IsReportOf model r → r.left
+FatesTellLeft = (faults : List Fault) (model : NetModel) (r : ReportModel) → IsReportWith faults model r → r.left
     ≡ count_by (is_late model.end) (flat_map (λ packet. packet.fates) r.log)
 
 -- a turn of a run: its moment, its mote, and the copies that it gets
@@ -55,8 +62,8 @@ turns {net = net} (Turn moment mote least le rest) =
 
 -- the copies of the log that arrive at or before the end are given to the turns of the run, each exactly once
 abbrev pub CopiesAreGiven : Type 0
-CopiesAreGiven = (model : NetModel) (r : ReportModel) (report : IsReportOf model r)
-    → IsPermutation (filter (is_by model.end) (flat_map (copies model.radio) report.last.log))
+CopiesAreGiven = (faults : List Fault) (model : NetModel) (r : ReportModel) (report : IsReportWith faults model r)
+    → IsPermutation (filter (is_by model.end) (all_copies faults model.radio report.last.log))
     (flat_map (λ turn. turn.given) (turns report.run))
 
 abbrev pub IsGivenInTime : TurnTaken → Type 0
@@ -64,7 +71,7 @@ IsGivenInTime turn = AllByRecursion (λ (copy : RadioCopy). (copy.at ≡ turn.mo
 
 -- the copies that a turn gets are for its mote, and arrive at its moment
 abbrev pub CopiesComeInTime : Type 0
-CopiesComeInTime = (model : NetModel) (r : ReportModel) (report : IsReportOf model r)
+CopiesComeInTime = (faults : List Fault) (model : NetModel) (r : ReportModel) (report : IsReportWith faults model r)
     → AllByRecursion IsGivenInTime (turns report.run)
 
 -- a copy for this mote that arrives at this moment
@@ -78,6 +85,6 @@ IsGivenAll sent turn = turn.given ≡ in_order (filter (is_copy_for turn.moment 
 -- if the medium has no error and has a place for each mote, a turn gets all copies of the log for its mote and its
 -- moment
 abbrev pub TurnsAreGivenAll : Type 0
-TurnsAreGivenAll = (model : NetModel) (r : ReportModel) (report : IsReportOf model r) → medium_fault model.radio ≡ None
+TurnsAreGivenAll = (faults : List Fault) (model : NetModel) (r : ReportModel) (report : IsReportWith faults model r) → medium_fault model.radio ≡ None
     → length model.radio.places ≡ length model.motes
-    → AllByRecursion (IsGivenAll (flat_map (copies model.radio) report.last.log)) (turns report.run)
+    → AllByRecursion (IsGivenAll (all_copies faults model.radio report.last.log)) (turns report.run)

@@ -14,8 +14,9 @@ use Rattle.mote_net.specs.Report.{line_model}
 use Rattle.serial_run.specs.declared.engine.Engine.{Engine}
 use Rattle.window_laws.specs.Agenda.{mote_of, is_wake_of, wake_items}
 use Rattle.net_agenda.specs.Buckets.{HoldsItems}
-use Rattle.net_agenda.specs.NetSystem.{system_of, tree_at}
-use Rattle.serial_run.specs.NetRun.{packet_with_fates}
+use Rattle.net_agenda.specs.NetSystem.{tree_at}
+use Rattle.radio_faults.specs.declared.fault.Fault.{Fault}
+use Rattle.serial_run.specs.FaultRun.{net_with, packet_with}
 use Rattle.serial_run.specs.OnTime.{CanTurn}
 use Rattle.window_laws.specs.NetStep.{NetState, turn_at}
 use Rattle.program_tree.specs.Code as code
@@ -27,11 +28,11 @@ OneNode n motes net k = (d : Mote) → node_in (tree_at n k) (slice_index_or mot
 abbrev pub OneTrace : List (Vec Line Global) → NetState Node Line → (mote : ℕ) → Type 0
 OneTrace traces net k = (d : Vec Line Global) → (slice_index_or traces k d).items ≡ net.traces k
 
--- the engine's motes, traces, log and agenda represent this state of the net
-pub record IsEngineAt (n : NetModel) (engine : Engine) (net : NetState Node Line) : Type 0 where
+-- the engine's motes, traces, log and agenda represent this state of the net with these faults
+pub record IsEngineAt (faults : List Fault) (n : NetModel) (engine : Engine) (net : NetState Node Line) : Type 0 where
   pub nodes : (k : ℕ) → k < length n.motes → OneNode n engine.motes.items net k
   pub traces : (k : ℕ) → k < length n.motes → OneTrace engine.traces.items net k
-  pub log : map line_model engine.log.items ≡ map (packet_with_fates n.radio) net.log
+  pub log : map line_model engine.log.items ≡ map (packet_with faults n.radio) net.log
   pub agenda : HoldsItems engine.agenda.buckets net.agenda
 
 -- there are as many motes and as many traces as the net has motes
@@ -47,9 +48,9 @@ pub record KeepsWakes (n : NetModel) (net : NetState Node Line) : Type 0 where
 
 -- if the engine represents a state of the net before the turn, and the agenda of this state has the motes' wakes
 -- (`KeepsWakes`), then after the turn the engine represents the net's next state
-abbrev pub TurnLeads : NetModel → (moment mote : ℕ) → Engine → Engine → Type 0
-TurnLeads n moment mote old new = (state : NetState Node Line) → IsEngineAt n old state → KeepsWakes n state
-    → IsEngineAt n new (turn_at (system_of n) moment mote state)
+abbrev pub TurnLeads : List Fault → NetModel → (moment mote : ℕ) → Engine → Engine → Type 0
+TurnLeads faults n moment mote old new = (state : NetState Node Line) → IsEngineAt faults n old state
+    → KeepsWakes n state → IsEngineAt faults n new (turn_at (net_with faults n) moment mote state)
 
 -- the mote at this index has not failed, and its last turn, if there was one, was before this moment
 abbrev pub CanTurnAt : code.Tree → (moment : ℕ) → List Mote → (mote : ℕ) → Type 0

@@ -17,40 +17,41 @@ use Rattle.window_laws.specs.NetStep.{NetState, Run, Done, Turn}
 use Rattle.window_laws.specs.Windows.{LoneMote, first_mote, IsJoined, IsLeft, Windows}
 use Rattle.net_agenda.specs.Buckets.{Buckets, HoldsItems}
 use Rattle.net_agenda.specs.Items.{AreSameItems, WakesDiffer, items_of}
-use Rattle.net_agenda.specs.NetSystem.{system_of}
+use Rattle.radio_faults.specs.declared.fault.Fault.{Fault}
 use Rattle.mote_net.specs.Report.{ReportModel}
-use Rattle.serial_run.specs.NetRun.{packet_with_fates, IsReportOf}
+use Rattle.serial_run.specs.FaultRun.{net_with, packet_with, IsReportWith}
 
 -- a net has at most one report
 abbrev pub ReportIsOne : Type 0
-ReportIsOne = (model : NetModel) (a b : ReportModel) → IsReportOf model a → IsReportOf model b → b ≡ a
+ReportIsOne = (faults : List Fault) (model : NetModel) (a b : ReportModel) → IsReportWith faults model a
+    → IsReportWith faults model b → b ≡ a
 
 -- If a net's medium has no error and has a place for each mote, the net runs forward. Each wake is later than the turn
 -- that sets it, and each copy needs at least the lookahead, which is above 0, to arrive. Every `Net` has such a
 -- medium.
 abbrev pub NetsRunForward : Type 0
-NetsRunForward = (model : NetModel) → medium_fault model.radio ≡ None → length model.radio.places ≡ length model.motes
-    → RunsForward (system_of model)
+NetsRunForward = (faults : List Fault) (model : NetModel) → medium_fault model.radio ≡ None → length model.radio.places ≡ length model.motes
+    → RunsForward (net_with faults model)
 
 -- a net whose medium has no error and has a place for each mote has a report
 abbrev pub ReportIsThere : Type 0
-ReportIsThere = (model : NetModel) → medium_fault model.radio ≡ None → length model.radio.places ≡ length model.motes
-    → (r : ReportModel) × IsReportOf model r
+ReportIsThere = (faults : List Fault) (model : NetModel) → medium_fault model.radio ≡ None → length model.radio.places ≡ length model.motes
+    → (r : ReportModel) × IsReportWith faults model r
 
 -- the packets that the motes sent, sorted by moment, sender and number
-pub record IsMediumLog (model : NetModel) (motes : (number : ℕ) → LoneMote Node Line) (log : List Sent) : Type 0 where
+pub record IsMediumLog (faults : List Fault) (model : NetModel) (motes : (number : ℕ) → LoneMote Node Line) (log : List Sent) : Type 0 where
   pub joined : List Sent
-  pub is_joined : IsJoined (system_of model) motes joined
+  pub is_joined : IsJoined (net_with faults model) motes joined
   pub same : IsPermutation joined log
   pub sorted : IsSortedBy is_sooner log
 
 -- the report of a run in which each mote runs by itself: the lines of each mote, the packets of all motes as a log,
 -- and the number of copies left
-abbrev pub report_by : (model : NetModel) → (motes : (number : ℕ) → LoneMote Node Line) → (log : List Sent)
+abbrev pub report_by : (faults : List Fault) → (model : NetModel) → (motes : (number : ℕ) → LoneMote Node Line) → (log : List Sent)
     → (rest : List RadioCopy) → ReportModel
-report_by model motes log rest = record {
+report_by faults model motes log rest = record {
   traces = map (λ number. (motes number).lines) (up_to (length model.motes));
-  log = map (packet_with_fates model.radio) log;
+  log = map (packet_with faults model.radio) log;
   left = length rest;
 }
 
@@ -60,18 +61,18 @@ report_by model motes log rest = record {
 -- lines of each mote, the medium's log sorted by moment, sender and number, and the number of copies that arrive after
 -- the end.
 abbrev pub WindowsCommuteInNets : Type 0
-WindowsCommuteInNets = (model : NetModel) → medium_fault model.radio ≡ None
+WindowsCommuteInNets = (faults : List Fault) (model : NetModel) → medium_fault model.radio ≡ None
     → length model.radio.places ≡ length model.motes
     → (motes : (number : ℕ) → LoneMote Node Line)
-    → Windows (system_of model) 0 (suc model.end) (first_mote (system_of model)) motes
-    → (log : List Sent) → IsMediumLog model motes log → (rest : List RadioCopy)
-    → IsLeft (system_of model) model.end motes rest
-    → IsReportOf model (report_by model motes log rest)
+    → Windows (net_with faults model) 0 (suc model.end) (first_mote (net_with faults model)) motes
+    → (log : List Sent) → IsMediumLog faults model motes log → (rest : List RadioCopy)
+    → IsLeft (net_with faults model) model.end motes rest
+    → IsReportWith faults model (report_by faults model motes log rest)
 
 -- in the lines of each mote, events are delivered in the order in which they were accepted, without gaps (those left
 -- at the end aren't delivered), nothing follows a halt, and a process starts only if it isn't listed
 abbrev pub TracesHandOn : Type 0
-TracesHandOn = (model : NetModel) (r : ReportModel) (report : IsReportOf model r) (k : ℕ) → k < length model.motes
+TracesHandOn = (faults : List Fault) (model : NetModel) (r : ReportModel) (report : IsReportWith faults model r) (k : ℕ) → k < length model.motes
     → IsInOrder (report.last.traces k)
 
 -- the items in the buckets of an agenda are the items of the list that the buckets represent
@@ -90,10 +91,10 @@ OneWake items = (mote : ℕ) → length (filter (is_wake_of mote) items) ≤ 1
 
 -- before each turn of a run and at its end, there is at most one wake for each mote
 abbrev pub AlwaysOneWake : Type 0
-AlwaysOneWake = (model : NetModel) (r : ReportModel) (report : IsReportOf model r)
+AlwaysOneWake = (faults : List Fault) (model : NetModel) (r : ReportModel) (report : IsReportWith faults model r)
     → AllByRecursion OneWake (agendas report.run)
 
 -- so before each turn, and at the end, no mote has two wakes at one moment
 abbrev pub WakesAlwaysDiffer : Type 0
-WakesAlwaysDiffer = (model : NetModel) (r : ReportModel) (report : IsReportOf model r)
+WakesAlwaysDiffer = (faults : List Fault) (model : NetModel) (r : ReportModel) (report : IsReportWith faults model r)
     → AllByRecursion WakesDiffer (agendas report.run)

@@ -1,10 +1,10 @@
 pub mod Counted
 pub mod Ended
+pub mod FaultLaws
+pub mod FaultRun
 pub mod Laws
-pub mod NetFaults
 pub mod NetRun
 pub mod OnTime
 pub mod RunErrors
 pub mod Stamps
-pub mod UnusedLinks
 pub mod IsInState

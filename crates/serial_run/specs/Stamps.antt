@@ -5,14 +5,15 @@ use Rattle.radio_packet.specs.declared.sent.Sent.{Sent}
 use Rattle.kernel_laws.specs.Stamps.{AreNumberedFrom}
 use Rattle.mote_laws.specs.Stamps.{NeverGoBack}
 use Rattle.mote_net.specs.Net.{NetModel}
+use Rattle.radio_faults.specs.declared.fault.Fault.{Fault}
 use Rattle.mote_net.specs.Report.{ReportModel}
 use Rattle.window_laws.specs.System.{System}
 use Rattle.window_laws.specs.NetStep.{NetState, Run, Done, Turn, sends_of, turned_at}
-use Rattle.serial_run.specs.NetRun.{IsReportOf}
+use Rattle.serial_run.specs.FaultRun.{IsReportWith}
 
 -- no line of a trace is earlier than the line before it
 abbrev pub TracesNeverGoBack : Type 0
-TracesNeverGoBack = (model : NetModel) (r : ReportModel) → IsReportOf model r → All NeverGoBack r.traces
+TracesNeverGoBack = (faults : List Fault) (model : NetModel) (r : ReportModel) → IsReportWith faults model r → All NeverGoBack r.traces
 
 -- the packets that this mote sent
 abbrev pub sent_by : (mote : ℕ) → List Sent → List Sent
@@ -20,7 +21,7 @@ sent_by mote sends = filter (λ x. x.sender == mote) sends
 
 -- in the medium's log the packets of each mote are numbered 0, 1, 2 and so on, in order
 abbrev pub LogCountsUp : Type 0
-LogCountsUp = (model : NetModel) (r : ReportModel) → IsReportOf model r → (mote : ℕ)
+LogCountsUp = (faults : List Fault) (model : NetModel) (r : ReportModel) → IsReportWith faults model r → (mote : ℕ)
     → AreNumberedFrom 0 (sent_by mote (map (λ p. p.sent) r.log))
 
 -- in each turn of a run the packets already have the moment and the mote with which they are stamped
@@ -31,4 +32,4 @@ AreStamped {system = system} {net = net} (Turn moment mote least le rest) =
     let turned = turned_at system moment mote net in (sends_of moment mote turned ≡ turned.sends) × AreStamped rest
 
 abbrev pub SendsAreStamped : Type 0
-SendsAreStamped = (model : NetModel) (r : ReportModel) (report : IsReportOf model r) → AreStamped report.run
+SendsAreStamped = (faults : List Fault) (model : NetModel) (r : ReportModel) (report : IsReportWith faults model r) → AreStamped report.run

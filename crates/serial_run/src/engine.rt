@@ -1,16 +1,16 @@
 //! A net during its run with faults: its motes, their traces, the medium's log, and the pending events.
 
-ghost use Rattle.std.specs.Prelude.{◌≡◌, ◌<◌, ◌≤◌, ◌^◌, length, OnOk, IfOk};
+ghost use Rattle.std.specs.Prelude.{◌≡◌, ◌<◌, ◌≤◌, ◌^◌, List, length, OnOk, IfOk};
 ghost use Rattle.program_tree.specs.Program.{tree_of};
 ghost use Rattle.mote_node.specs.Public.{turn_out_of};
 ghost use Rattle.kernel_laws.specs.Stamps.{PacketsBear};
 ghost use Rattle.mote_net.specs.Meaning.{net_of};
+ghost use Rattle.radio_faults.specs.declared.fault.Fault.{Fault};
 ghost use Rattle.net_agenda.specs.Buckets.{wake_but_at};
 ghost use Rattle.net_agenda.specs.NetSystem.{system_of, tree_at};
 ghost use Rattle.window_laws.specs.NetStep.{boot};
 ghost use Rattle.serial_run.specs.IsInState.{CanTurnAt, HasNumberAt, IsEngineAt, IsWakeAt, IsWhole, OneTakesTurn};
 ghost use Rattle.serial_run.specs.IsInState.{TurnLeads};
-ghost use Rattle.serial_run.specs.NetFaults.{net_with};
 
 use crate::sends::send_all;
 use mote_net::{LogLine, Net};
@@ -84,13 +84,13 @@ fn wake_at(motes: &[Mote], number: u16) -> Option<u64>
 }
 
 impl Engine {
-    /// The net before its first turn: each mote wakes at 0.
+    /// The net before its first turn, with any faults: each mote wakes at 0.
     ///
     /// # Errors
     /// `AllocError` if an allocation fails.
     pub fn boot(alloc: Global, net: &Net) -> Result<Engine, AllocError>
         ensures in_state { let model = net_of net.now in IfOk result
-            (λ engine. IsEngineAt model engine (boot (system_of model))) }
+            (λ engine. (faults : List Fault) → IsEngineAt faults model engine (boot (system_of model))) }
         ensures is_whole { let model = net_of net.now in IfOk result (λ engine. IsWhole model engine) }
     {
         let mut engine = Engine {
@@ -127,7 +127,7 @@ impl Engine {
         requires is_whole { IsWhole (net_of net.now) self.old }
         requires ready { CanTurnAt (tree_at (net_of net.now) number) moment self.old.motes.items number }
         requires numbered { HasNumberAt (tree_at (net_of net.now) number) self.old.motes.items number }
-        ensures in_state { OnOk result (TurnLeads (net_with faults.now (net_of net.now)) moment number
+        ensures in_state { OnOk result (TurnLeads faults.now (net_of net.now) moment number
             self.old self.new) }
         ensures is_whole { OnOk result (IsWhole (net_of net.now) self.new) }
     {

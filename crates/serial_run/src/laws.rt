@@ -3,10 +3,10 @@
 
 ghost use Rattle.serial_run.specs.Counted.{CopiesAreGiven, CopiesComeInTime, FatesTellLeft};
 ghost use Rattle.serial_run.specs.Counted.{LateCopiesStay, LeftIsCounted, TurnsAreGivenAll};
+ghost use Rattle.serial_run.specs.FaultLaws.{LossTablesAgree, OrderMeansNothing, SomeAreUnsent, UnsentIsNothing};
 ghost use Rattle.serial_run.specs.Laws.{AlwaysOneWake, BucketsHoldItems, NetsRunForward, ReportIsOne};
 ghost use Rattle.serial_run.specs.Laws.{ReportIsThere, TracesHandOn, WakesAlwaysDiffer, WindowsCommuteInNets};
 ghost use Rattle.serial_run.specs.Stamps.{LogCountsUp, SendsAreStamped, TracesNeverGoBack};
-ghost use Rattle.serial_run.specs.UnusedLinks.{SomeLinksAreUnused, UnusedLinksMayBreak};
 
 use net_agenda::Agenda;
 
@@ -101,14 +101,24 @@ pub fn sends_are_stamped()
     ensures sends_are_stamped { SendsAreStamped }
 {}
 
-/// If all copies on some links are lost in the run of a net with faults, those links may break too: the report stays the
-/// same. A link is also unused if its sender sends nothing.
-pub fn unused_links_may_break()
-    ensures unused_links_may_break { UnusedLinksMayBreak }
+/// With broken links and silent motes, a net has the report of the net whose medium loses every packet on the broken links
+/// (as if the scenario had these losses), and otherwise the same packets.
+pub fn loss_tables_agree()
+    ensures loss_tables_agree { LossTablesAgree }
 {}
 
-/// In a small report, the links of copies that are lost are unused, as are the links from motes that send nothing. The
-/// link of a copy that arrives isn't.
-pub fn some_links_are_unused()
-    ensures some_links_are_unused { SomeLinksAreUnused }
+/// The order of faults means nothing.
+pub fn order_means_nothing()
+    ensures order_means_nothing { OrderMeansNothing }
+{}
+
+/// A fault that names no copy in a report, but those that are lost anyway, may be added: the report stays the same.
+pub fn unsent_is_nothing()
+    ensures unsent_is_nothing { UnsentIsNothing }
+{}
+
+/// In a small report, faults of the copy that is lost, of motes that send nothing and of packets that aren't sent name no
+/// copy. Each fault of the copy that arrives does.
+pub fn some_are_unsent()
+    ensures some_are_unsent { SomeAreUnsent }
 {}

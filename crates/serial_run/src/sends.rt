@@ -1,13 +1,12 @@
 //! Packets that are sent in a medium with faults: their copies go on the agenda, and the medium logs their fates.
 
 ghost use Rattle.std.specs.Prelude.{◌≡◌, ◌<◌, ◌≤◌, ◌^◌, ◌++◌, length, map, OnOk};
-ghost use Rattle.std.specs.List.{flat_map, AllByRecursion};
-ghost use Rattle.radio_medium.specs.Medium.{copies};
-ghost use Rattle.radio_faults.specs.Faults.{radio_with};
+ghost use Rattle.std.specs.List.{AllByRecursion};
 ghost use Rattle.window_laws.specs.Agenda.{Packet};
 ghost use Rattle.net_agenda.specs.Changes.{AddsItems};
 ghost use Rattle.mote_net.specs.Report.{line_model};
-ghost use Rattle.serial_run.specs.NetRun.{packet_with_fates};
+ghost use Rattle.serial_run.specs.Counted.{all_copies};
+ghost use Rattle.serial_run.specs.FaultRun.{packet_with};
 
 use mote_net::LogLine;
 use net_agenda::Agenda;
@@ -30,9 +29,9 @@ pub fn send_all(
     requires sendable { AllByRecursion
         (λ sent. (sent.sender < length medium.now.places) × (sent.at ≤ 2 ^ 40)) sends.now }
     ensures agenda { OnOk result (AddsItems agenda.old.buckets agenda.new.buckets
-        (map Packet (flat_map (copies (radio_with faults.now medium.now)) sends.now))) }
+        (map Packet (all_copies faults.now medium.now sends.now))) }
     ensures log { OnOk result (map line_model log.new.items ≡ map line_model log.old.items
-        ++ map (packet_with_fates (radio_with faults.now medium.now)) sends.now) }
+        ++ map (packet_with faults.now medium.now) sends.now) }
 {
     for sent in sends {
         let fates = fates_with(medium, faults, sent)?;

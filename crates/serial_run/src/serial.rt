@@ -5,7 +5,7 @@ ghost use Rattle.kernel_laws.specs.Going.{IsInOrder};
 ghost use Rattle.mote_net.specs.Meaning.{net_of};
 ghost use Rattle.net_agenda.specs.NetSystem.{system_of};
 ghost use Rattle.mote_net.specs.Report.{report_of};
-ghost use Rattle.serial_run.specs.NetFaults.{net_with};
+ghost use Rattle.serial_run.specs.FaultRun.{IsReportWith};
 ghost use Rattle.serial_run.specs.NetRun.{IsReportOf};
 ghost use Rattle.window_laws.specs.NetStep.{boot};
 ghost use Rattle.serial_run.specs.IsInState.{IsEngineAt, IsWhole};
@@ -20,9 +20,9 @@ use std::alloc::{AllocError, Global};
 /// Takes turns until no event is pending at or before the end.
 fn run_to_end(engine: &mut Engine, net: &Net, faults: &[Fault]) -> Result<(), AllocError>
     requires is_whole { IsWhole (net_of net.now) engine.old }
-    requires boot { let model = net_of net.now in IsEngineAt model engine.old (boot (system_of model)) }
+    requires boot { let model = net_of net.now in IsEngineAt faults.now model engine.old (boot (system_of model)) }
     ensures is_whole { OnOk result (IsWhole (net_of net.now) engine.new) }
-    ensures ended { OnOk result (HasEnded (net_with faults.now (net_of net.now)) engine.new) }
+    ensures ended { OnOk result (HasEnded faults.now (net_of net.now) engine.new) }
 {
     let end = net.end();
     // Called only for its clause `no_fault`, which the proof needs.
@@ -36,12 +36,14 @@ fn run_to_end(engine: &mut Engine, net: &Net, faults: &[Fault]) -> Result<(), Al
     Ok(())
 }
 
-/// Runs a net with faults on one thread, and returns the report: that of the same net in the medium with these faults.
+/// Runs a net with faults on one thread, and returns the report. Its log has the fates with the faults: a copy that a
+/// fault loses is lost, as one that the medium loses, and a late copy has its later moment.
 ///
 /// # Errors
-/// `AllocError` if an allocation fails.
+/// `AllocError` if an allocation fails, or if a copy is so late that its moment doesn't fit into 64 bits. The latter takes
+/// more than 4,294,967,000 faults of one copy.
 pub fn run_with_faults(alloc: Global, net: &Net, faults: &[Fault]) -> Result<Report, AllocError>
-    ensures report { IfOk result (λ r. IsReportOf (net_with faults.now (net_of net.now)) (report_of r)) }
+    ensures report { IfOk result (λ r. IsReportWith faults.now (net_of net.now) (report_of r)) }
     // There is a trace for each mote.
     ensures traces { IfOk result (λ r. vec_len r.traces ≡ length (net_of net.now).motes) }
     // Each trace delivers events in the order in which they were accepted, nothing follows a halt in it, and a process
@@ -71,7 +73,6 @@ pub fn run_with_faults(alloc: Global, net: &Net, faults: &[Fault]) -> Result<Rep
 ///
 /// # Errors
 /// Only `Memory`.
-#[tactic(auto, using(crate::proofs::Reports::without_faults))]
 pub fn run_serial(alloc: Global, net: &Net) -> Result<Report, RunError>
     ensures report { IfOk result (λ r. IsReportOf (net_of net.now) (report_of r)) }
     // The clauses `traces` and `handed_on` of `run_with_faults`.

@@ -1,5 +1,5 @@
 -- The text written for the report of a scenario's net, and the reason why a text was refused.
-use Rattle.std.proofs.Common.{◌≡◌, ℕ, List, ◌++◌, Option, Result, Ok, Err, ap, sym, ◌∙◌, subst}
+use Rattle.std.proofs.Common.{◌≡◌, ℕ, List, [], ◌++◌, Option, Result, Ok, Err, ap, sym, ◌∙◌, subst}
 use Rattle.net_scenario.specs.Laws.{OneNet}
 use Rattle.mote_net.specs.Net.{NetModel}
 use Rattle.net_scenario.specs.Reading.{TellsNet}
@@ -47,7 +47,7 @@ some_bytes way bytes old new (Err e) h = tt
 -- two reports of one net have the same text
 same_text : ReportIsOne → (m n : NetModel) (r s : ReportModel) → m ≡ n → IsReportOf m r → IsReportOf n s → report_text m r ≡ report_text n s
 same_text one m n r s same ran run =
-    ap (λ net. report_text net r) same ∙ ap (report_text n) (one n s r run (subst (λ net. IsReportOf net r) same ran))
+    ap (λ net. report_text net r) same ∙ ap (report_text n) (one [] n s r run (subst (λ net. IsReportOf net r) same ran))
 
 same_report : OneNet → ReportIsOne → (bytes old a b : List ℕ) → Reported bytes (λ text. a ≡ old ++ text) → Reported bytes (λ text. b ≡ old ++ text) → a ≡ b
 same_report one_net one_run bytes old a b x y =

@@ -1,5 +1,5 @@
 -- The net of each scenario's text has a report.
-use Rattle.std.proofs.Common.{◌≡◌, codes, length, None, sym, ap, ◌∙◌}
+use Rattle.std.proofs.Common.{◌≡◌, codes, [], length, None, sym, ap, ◌∙◌}
 use Rattle.std.proofs.lemmas.List.{length-map}
 use Rattle.radio_medium.specs.Medium.{medium_fault}
 use Rattle.net_scenario.specs.Document.{tables_at}
@@ -16,4 +16,4 @@ scenario_has_report there text n tells =
     let places : length n.radio.places ≡ length n.motes =
     ap (λ (x : NetModel). length x.radio.places) is.matches
     ∙ (length-map motes _ ∙ (sym (length-map motes _) ∙ sym (ap (λ (x : NetModel). length x.motes) is.matches))) in
-    there n fault places
+    there [] n fault places

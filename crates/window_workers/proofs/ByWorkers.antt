@@ -52,7 +52,7 @@ module _ (n : NetModel) (fault : medium_fault n.radio ≡ None) (placed : length
   all_left = length (coming (system_of n) fine (suc n.end) at.motes)
 
   by_windows : (log : List Packet) (is : IsLogOf n (logs_of ended) log) → IsReportOf n (reported_of (map (λ number. (at.motes number).lines) (up_to (length n.motes))) (map (packet_with_fates n.radio) is.sorted) all_left)
-  by_windows log is = windows_commute n fault placed at.motes at.led is.sorted (record {
+  by_windows log is = windows_commute [] n fault placed at.motes at.led is.sorted (record {
     joined = logs_of ended;
     is_joined = is_joined n fine owners group at ended ends;
     same = is.same;
@@ -86,7 +86,7 @@ module _ (n : NetModel) (fault : medium_fault n.radio ≡ None) (placed : length
   packets_are r report =
       let by = is_report n fine owners group at ended ends in
       ap logged_packets report.matches
-      ∙ (sent_packets n report.last.log
+      ∙ (sent_packets [] n report.last.log
       ∙ (ap (λ net. net.log) (run_is_one (system_of n) n.end by.run report.run) ∙ sym by.log_is))
 
   crossed_to : (r : ReportModel) → IsReportOf n r → (v : ℕ) → v < length group.inboxes.items → (taker : TakerView) → slice_get group.takers.items v ≡ Some taker → CrossedTo n owners (logged_packets r) v taker
@@ -116,4 +116,4 @@ pub all_hand_on : (n : NetModel) (r : Report) → IsReportOf n (report_of r) →
 all_hand_on n r report =
     All-from_recursion (λ (v : Vec Line Global). IsInOrder v.items) r.traces.items
     (each_mapped IsInOrder trace_lines_in r.traces.items (subst (Each IsInOrder) (sym (ap (λ (t : ReportModel). t.traces) report.matches)) (every_map IsInOrder report.last.traces (up_to (length n.motes))
-    (every_weaker (λ k. k < length n.motes) (λ k. IsInOrder (report.last.traces k)) (λ k h. traces_hand_on n (report_of r) report k h) (up_to (length n.motes)) (below_all (length n.motes))))))
+    (every_weaker (λ k. k < length n.motes) (λ k. IsInOrder (report.last.traces k)) (λ k h. traces_hand_on [] n (report_of r) report k h) (up_to (length n.motes)) (below_all (length n.motes))))))

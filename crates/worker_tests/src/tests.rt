@@ -1,6 +1,7 @@
 //! Most tests write their observations into one text, and a shared function compares this text once. So a test owns
 //! few values when it ends early: owning many values there would make its proof expensive.
 
+mod faults;
 mod few_bytes;
 mod inboxes;
 mod many_motes;

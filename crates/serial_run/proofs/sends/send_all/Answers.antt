@@ -2,8 +2,9 @@ use Rattle.std.proofs.Common.{◌≡◌, ◌∙◌, ◌++◌, ◌∷◌, ◌+◌
 use Rattle.std.specs.List.{filter_map, flat_map}
 use Rattle.std.proofs.lemmas.List.{map-append, take_all, take_more}
 use Rattle.std.proofs.lemmas.List.Concat.{flat_map-append}
-use Rattle.radio_medium.specs.Medium.{copies, copy_of}
-use Rattle.radio_faults.specs.Faults.{radio_with}
+use Rattle.radio_medium.specs.Medium.{copies, copy_of, fates}
+use Rattle.radio_faults.specs.Faults.{copies_with}
+use Rattle.radio_faults.proofs.Copies.{fates_tell_copies}
 use Rattle.radio_packet.specs.declared.copy.RadioCopy.{RadioCopy}
 use Rattle.radio_packet.specs.declared.fate.Fate.{Fate}
 use Rattle.radio_packet.specs.declared.sent.Sent.{Sent}
@@ -11,7 +12,8 @@ use Rattle.window_laws.specs.Agenda.{Item, Packet}
 use Rattle.net_agenda.specs.Buckets.{HoldsItems}
 use Rattle.mote_net.specs.declared.report.LogLine.{LogLine}
 use Rattle.mote_net.specs.Report.{line_model, Packet as OfReport}
-use Rattle.serial_run.specs.NetRun.{packet_with_fates}
+use Rattle.serial_run.specs.FaultRun.{packet_with}
+use Rattle.serial_run.specs.Counted.{all_copies}
 use Rattle.serial_run.proofs.sends.send_all.Goals as goal
 
 abbrev none : Sent
@@ -30,7 +32,9 @@ pub loop-sent-preserved : goal.loop-sent-preserved
 unfolding copies
 loop-sent-preserved c =
     let inv = c.loop-sent.invariant in
-    let radio = radio_with c.args.faults.now c.args.medium.now in
+    let faults = c.args.faults.now in
+    let radio = c.args.medium.now in
+    let made : Sent → List RadioCopy = λ sent. copies_with faults (copies radio sent) in
     let sends = c.args.sends.now in
     let i = c.loop-sent.sent-index in
     let sent = get_or sends i none in
@@ -39,18 +43,19 @@ loop-sent-preserved c =
     let lines = map line_model c.loop-sent.log.items in
     record {
       agenda = λ items holds.
-          let all = items ++ map Packet (flat_map (copies radio) (take i sends)) in
+          let all = items ++ map Packet (flat_map made (take i sends)) in
           subst (λ l. HoldsItems c.put_fates.new.self.buckets l)
-          (ap (λ (fates : List Fate). all ++ map Packet (filter_map (copy_of sent) fates)) (c.deref.ensures.value ∙ matches) ∙ sends_more (copies radio) items sends i none c.loop-sent-test.true)
+          (ap (λ (fates : List Fate). all ++ map Packet (filter_map (copy_of sent) fates)) (c.deref.ensures.value ∙ matches)
+          ∙ (ap (λ (l : List RadioCopy). all ++ map Packet l) (fates_tell_copies faults sent (fates radio sent)) ∙ sends_more made items sends i none c.loop-sent-test.true))
           (c.in_ok-put_fates.ensures.adds all (inv.agenda items holds));
       log =
           ap (map line_model) c.in_ok-push.ensures.items
           ∙ (map-append line_model c.loop-sent.log.items (line ∷ [])
           ∙ (ap (λ (fates : List Fate). lines ++ record { sent = sent; fates = fates } ∷ []) matches
-          ∙ log_more (packet_with_fates radio) (map line_model c.args.log.now.items) lines sends i none c.loop-sent-test.true inv.log));
+          ∙ log_more (packet_with faults radio) (map line_model c.args.log.now.items) lines sends i none c.loop-sent-test.true inv.log));
     }
 
 pub returns-clause-agenda : goal.returns-clause-agenda
 returns-clause-agenda c = λ items holds.
-    subst (λ l. HoldsItems c.loop-sent.agenda.buckets (items ++ map Packet (flat_map (copies (radio_with c.args.faults.now c.args.medium.now)) l))) (take_all c.loop-sent.sent-index c.args.sends.now c.loop-sent-test.false)
+    subst (λ l. HoldsItems c.loop-sent.agenda.buckets (items ++ map Packet (all_copies c.args.faults.now c.args.medium.now l))) (take_all c.loop-sent.sent-index c.args.sends.now c.loop-sent-test.false)
     (c.loop-sent.invariant.agenda items holds)

@@ -6,75 +6,71 @@ use Rattle.net_agenda.specs.NetSystem.{system_of}
 use Rattle.window_laws.specs.NetStep.{turn_at}
 use Rattle.window_laws.proofs.Ahead.{turn_ahead}
 use Rattle.net_agenda.proofs.Ranks.{left_falls}
-use Rattle.net_agenda.proofs.Systems.{system_is}
+use Rattle.serial_run.proofs.ByWindows.{nets_run_forward}
 use Rattle.serial_run.proofs.OnTime.{least_can_turn}
 use Rattle.serial_run.proofs.Reached.{reached_first, reached_next, inside_least, numbered_at, ended_past, ended_empty}
-use Rattle.radio_faults.proofs.Valid.{faults_keep_the_medium}
-use Rattle.serial_run.specs.NetFaults.{net_with}
-use Rattle.serial_run.proofs.Boots.{boots}
+use Rattle.serial_run.specs.FaultRun.{net_with}
 use Rattle.serial_run.proofs.serial.run_to_end.Goals as goal
 
 pub turns-init : goal.turns-init
 turns-init c =
     let n = net_of c.args.net.now in
     let engine = c.args.engine.now in
-    record { whole = c.requires.is_whole; reached = reached_first (net_with c.args.faults.now n) engine (boots c.args.faults.now n engine c.requires.boot) }
+    record { whole = c.requires.is_whole; reached = reached_first c.args.faults.now n engine c.requires.boot }
 
 pub turn-requires-clause-mote_exists : goal.turn-requires-clause-mote_exists
 turn-requires-clause-mote_exists c =
     let at = c.turns.invariant.reached in
-    inside_least (net_with c.args.faults.now (net_of c.args.net.now)) c.in-Some.moment c.in-Some.number at.state at.kept (c.in-Some.ensures.least at.state.agenda at.in_state.agenda)
+    inside_least (net_of c.args.net.now) c.in-Some.moment c.in-Some.number at.state at.kept (c.in-Some.ensures.least at.state.agenda at.in_state.agenda)
 
 pub turn-requires-clause-ready : goal.turn-requires-clause-ready
 turn-requires-clause-ready c =
-    let n = net_with c.args.faults.now (net_of c.args.net.now) in
+    let n = net_of c.args.net.now in
     let at = c.turns.invariant.reached in
     let t = c.in-Some.moment in
     let m = c.in-Some.number in
     let least = c.in-Some.ensures.least at.state.agenda at.in_state.agenda in
-    least_can_turn n at.at t m c.turns.engine at.state at.in_state at.on_time least (inside_least n t m at.state at.kept least)
+    least_can_turn c.args.faults.now n at.at t m c.turns.engine at.state at.in_state at.on_time least (inside_least n t m at.state at.kept least)
 
 pub turn-requires-clause-numbered : goal.turn-requires-clause-numbered
 turn-requires-clause-numbered c =
     let at = c.turns.invariant.reached in
     let least = c.in-Some.ensures.least at.state.agenda at.in_state.agenda in
-    numbered_at (net_with c.args.faults.now (net_of c.args.net.now)) c.turns.engine c.in-Some.number at (inside_least (net_with c.args.faults.now (net_of c.args.net.now)) c.in-Some.moment c.in-Some.number at.state at.kept least)
+    numbered_at c.args.faults.now (net_of c.args.net.now) c.turns.engine c.in-Some.number at (inside_least (net_of c.args.net.now) c.in-Some.moment c.in-Some.number at.state at.kept least)
 
 pub turns-smaller : goal.turns-smaller
 unfolding system_of
 turns-smaller c =
-    let n = net_with c.args.faults.now (net_of c.args.net.now) in
+    let n = net_of c.args.net.now in
     let at = c.turns.invariant.reached in
     let t = c.in-Some.moment in
     let m = c.in-Some.number in
-    let radio = (net_of c.args.net.now).radio in
-    let fault : medium_fault n.radio ≡ None = faults_keep_the_medium radio c.args.faults.now (ap medium_fault (sym c.medium.ensures.value) ∙ c.lookahead-ahead.ensures.no_fault) in
+    let fault : medium_fault n.radio ≡ None = ap medium_fault (sym c.medium.ensures.value) ∙ c.lookahead-ahead.ensures.no_fault in
     let placed : length n.radio.places ≡ length n.motes = ap (λ (r : Radio). length r.places) (sym c.medium.ensures.value) ∙ c.medium.ensures.placed in
     let least = c.in-Some.ensures.least at.state.agenda at.in_state.agenda in
     let next = c.in_ok-turn.ensures.in_state at.state at.in_state at.kept in
-    left_falls (length n.motes) c.end-end.result t m (turn_at (system_of n) t m at.state).agenda (first_key c.turns.engine.agenda.buckets) (first_key c.turn.new.self.agenda.buckets)
+    left_falls (length n.motes) c.end-end.result t m (turn_at (net_with c.args.faults.now n) t m at.state).agenda (first_key c.turns.engine.agenda.buckets) (first_key c.turn.new.self.agenda.buckets)
     c.turn.new.self.agenda.buckets (sym c.in-Some.ensures.first) (inside_least n t m at.state at.kept least) c.if-moment-end.false
-    (turn_ahead (system_of n) (system_is n fault placed) t m at.state least.is_first) next.agenda refl
+    (turn_ahead (net_with c.args.faults.now n) (nets_run_forward c.args.faults.now n fault placed) t m at.state least.is_first) next.agenda refl
 
 pub turns-preserved : goal.turns-preserved
 turns-preserved c =
-    let n = net_with c.args.faults.now (net_of c.args.net.now) in
+    let n = net_of c.args.net.now in
     let at = c.turns.invariant.reached in
-    let radio = (net_of c.args.net.now).radio in
-    let fault : medium_fault n.radio ≡ None = faults_keep_the_medium radio c.args.faults.now (ap medium_fault (sym c.medium.ensures.value) ∙ c.lookahead-ahead.ensures.no_fault) in
+    let fault : medium_fault n.radio ≡ None = ap medium_fault (sym c.medium.ensures.value) ∙ c.lookahead-ahead.ensures.no_fault in
     let placed : length n.radio.places ≡ length n.motes = ap (λ (r : Radio). length r.places) (sym c.medium.ensures.value) ∙ c.medium.ensures.placed in
     record {
       whole = c.in_ok-turn.ensures.is_whole;
-      reached = reached_next n (system_is n fault placed) c.turns.engine c.turn.new.self c.in-Some.moment c.in-Some.number c.end-end.result c.end-end.ensures.value at
+      reached = reached_next c.args.faults.now n (nets_run_forward c.args.faults.now n fault placed) c.turns.engine c.turn.new.self c.in-Some.moment c.in-Some.number c.end-end.result c.end-end.ensures.value at
           (c.in-Some.ensures.least at.state.agenda at.in_state.agenda) c.if-moment-end.false c.in_ok-turn.ensures.in_state;
     }
 
 pub returns-then-moment-end-clause-ended : goal.returns-then-moment-end-clause-ended
 returns-then-moment-end-clause-ended c =
     let at = c.turns.invariant.reached in
-    ended_past (net_with c.args.faults.now (net_of c.args.net.now)) c.turns.engine c.in-Some.moment c.in-Some.number c.end-end.result c.end-end.ensures.value at (c.in-Some.ensures.least at.state.agenda at.in_state.agenda) c.if-moment-end.true
+    ended_past c.args.faults.now (net_of c.args.net.now) c.turns.engine c.in-Some.moment c.in-Some.number c.end-end.result c.end-end.ensures.value at (c.in-Some.ensures.least at.state.agenda at.in_state.agenda) c.if-moment-end.true
 
 pub returns-in_default-clause-ended : goal.returns-in_default-clause-ended
 returns-in_default-clause-ended c =
     let at = c.turns.invariant.reached in
-    ended_empty (net_with c.args.faults.now (net_of c.args.net.now)) c.turns.engine at (c.in_default.ensures.least at.state.agenda at.in_state.agenda)
+    ended_empty c.args.faults.now (net_of c.args.net.now) c.turns.engine at (c.in_default.ensures.least at.state.agenda at.in_state.agenda)

@@ -28,7 +28,7 @@ loop-number-preserved c =
 
 pub returns-clause-in_state : goal.returns-clause-in_state
 unfolding system_of
-returns-clause-in_state c =
+returns-clause-in_state c = λ faults.
     let n = net_of c.args.net.now in
     let inv = c.loop-number.invariant in
     let all : c.loop-number.number ≡ length n.motes = omega (arith, c.motes-number-end.ensures.value, c.loop-number-test.false, c.loop-number.auto.number-end) in

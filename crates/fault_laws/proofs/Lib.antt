@@ -1,0 +1,4 @@
+pub mod Forward
+pub mod Order
+pub mod Prefix
+pub mod Runs

@@ -1,0 +1,56 @@
+-- Laws of nets with faults.
+use Rattle.std.specs.Prelude.{◌≡◌, ℕ, ◌<◌, ◌≤◌, false, List, [], ◌∷◌, IsPermutation}
+use Rattle.std.specs.List.{AllByRecursion}
+use Rattle.radio_packet.specs.declared.copy.RadioCopy.{RadioCopy}
+use Rattle.radio_packet.specs.declared.fate.Fate.{Fate}
+use Rattle.radio_packet.specs.declared.sent.Sent.{Sent}
+use Rattle.radio_faults.specs.declared.fault.Fault.{Fault}
+use Rattle.radio_faults.specs.Faults.{copies_with, fates_with, names}
+use Rattle.window_laws.specs.System.{System}
+use Rattle.window_laws.specs.Forward.{RunsForward}
+use Rattle.window_laws.specs.NetStep.{NetState}
+use Rattle.fault_laws.specs.WithFaults.{with_faults, RunsWith, PassesThrough}
+
+-- without faults the net is the same
+abbrev pub NoFaults : {S L : Type 0} → System S L → Type 0
+NoFaults system = with_faults [] system ≡ system
+
+-- with faults a net runs forward as before
+abbrev pub FaultsRunForward : {S L : Type 0} → System S L → Type 0
+FaultsRunForward system = (faults : List Fault) → RunsForward system → RunsForward (with_faults faults system)
+
+-- these faults make the same of the copies of this packet
+abbrev pub MakeTheSame : {S L : Type 0} → System S L → (some others : List Fault) → Sent → Type 0
+MakeTheSame system some others sent = copies_with some (system.copies sent) ≡ copies_with others (system.copies sent)
+
+-- the run with some faults is that with others if both make the same of the copies of each packet that it sends
+abbrev pub CopiesDecide : {S L : Type 0} → System S L → Type 0
+CopiesDecide {S} {L} system = (some others : List Fault) (end : ℕ) (last : NetState S L) → RunsWith some system end last
+    → AllByRecursion (MakeTheSame system some others) last.log → RunsWith others system end last
+
+abbrev pub IsUnnamed : Fault → RadioCopy → Type 0
+IsUnnamed fault copy = names fault copy.sender copy.number copy.to ≡ false
+
+-- a fault may be added that names no copy which the other faults leave of the packets of the run
+abbrev pub UnsentIsNothing : {S L : Type 0} → System S L → Type 0
+UnsentIsNothing {S} {L} system = (faults : List Fault) (fault : Fault) (end : ℕ) (last : NetState S L)
+    → RunsWith faults system end last
+    → AllByRecursion (λ sent. AllByRecursion (IsUnnamed fault) (copies_with faults (system.copies sent))) last.log
+    → RunsWith (fault ∷ faults) system end last
+
+-- faults in another order make the same of all copies, and of all fates
+pub record OrderMeansNothing : Type 0 where
+  pub of_copies : (some others : List Fault) → IsPermutation some others → (copies : List RadioCopy)
+      → copies_with some copies ≡ copies_with others copies
+  pub of_fates : (some others : List Fault) → IsPermutation some others → (sent : Sent) (fates : List Fate)
+      → fates_with some sent fates ≡ fates_with others sent fates
+
+-- If two lists of faults make the same of each packet that the run with the first ones sends before a moment, then both
+-- runs pass through the same state at each earlier moment.
+abbrev pub PrefixLaw : {S L : Type 0} → System S L → Type 0
+PrefixLaw {S} {L} system = (some others : List Fault) (end moment : ℕ) (one other : NetState S L)
+    → RunsWith some system end one → RunsWith others system end other
+    → AllByRecursion (λ sent. sent.at < moment → MakeTheSame system some others sent) one.log
+    → (earlier : ℕ) → earlier < moment → earlier ≤ end
+    → (state : NetState S L) × PassesThrough some system earlier state end one
+    × PassesThrough others system earlier state end other

@@ -1,0 +1,26 @@
+-- The run of a net with faults, and its report.
+use Rattle.std.specs.Prelude.{List}
+use Rattle.trace_lines.specs.declared.line.Line.{Line}
+use Rattle.radio_packet.specs.declared.sent.Sent.{Sent}
+use Rattle.mote_node.specs.Turn.{Node}
+use Rattle.radio_medium.specs.Medium.{Radio, fates}
+use Rattle.radio_faults.specs.declared.fault.Fault.{Fault}
+use Rattle.radio_faults.specs.Faults.{fates_with}
+use Rattle.mote_net.specs.Net.{NetModel}
+use Rattle.mote_net.specs.Report.{Packet, ReportModel}
+use Rattle.window_laws.specs.System.{System}
+use Rattle.fault_laws.specs.WithFaults.{with_faults}
+use Rattle.net_agenda.specs.NetSystem.{system_of}
+use Rattle.serial_run.specs.NetRun.{IsReportBy}
+
+-- a packet with the fates that its copies have with these faults
+abbrev pub packet_with : List Fault → Radio → Sent → Packet
+packet_with faults radio sent = record { sent = sent; fates = fates_with faults sent (fates radio sent) }
+
+-- the motes of a net, and its medium with these faults
+abbrev pub net_with : List Fault → NetModel → System Node Line
+net_with faults model = with_faults faults (system_of model)
+
+-- this is the report of the net's run with these faults
+abbrev pub IsReportWith : List Fault → NetModel → ReportModel → Type 0
+IsReportWith faults model r = IsReportBy (net_with faults model) (packet_with faults model.radio) model r

@@ -1,0 +1,129 @@
+//! Runs with faults, whose reports were worked out by hand.
+
+use net_scenario::{Net, read_scenario};
+use radio_faults::Fault;
+use serial_run::{Report, run_with_faults};
+use std::alloc::{AllocError, Global};
+use std::test::Fail;
+use test_helpers::same_text;
+use trace_lines::What;
+
+/// Mote 0 sends a packet at 0, and prints the answer. Mote 1 prints the packet, and answers. A packet needs 2 moments.
+const JOIN: &str = "\
+    version = 1\n\
+    end = 40\n\
+    [medium]\n\
+    range = 10\n\
+    base = 2\n\
+    per = 1000\n\
+    [programs]\n\
+    j = \"process j; autostart j; receiver j; code j { body { send 1; yield_until is(packet); print data; } }\"\n\
+    r = \"process r; autostart r; receiver r; code r { body { while 1 { yield; if is(packet) { print data; \
+    send 9; } } } }\"\n\
+    [[mote]]\n\
+    x = 0\n\
+    y = 0\n\
+    program = \"j\"\n\
+    [[mote]]\n\
+    x = 5\n\
+    y = 0\n\
+    program = \"r\"\n";
+
+/// The first packet of mote 0, on its way to mote 1, and that of mote 1, on its way to mote 0.
+const JOIN_IS_LOST: Fault = Fault::Lost {
+    sender: 0,
+    number: 0,
+    to: 1,
+};
+const ANSWER_IS_LOST: Fault = Fault::LostToAll {
+    sender: 1,
+    number: 0,
+};
+
+/// The same packets, so much later.
+const fn join_is_late(by: u32) -> Fault {
+    Fault::Late {
+        sender: 0,
+        number: 0,
+        to: 1,
+        by,
+    }
+}
+
+const fn answer_is_late(by: u32) -> Fault {
+    Fault::Late {
+        sender: 1,
+        number: 0,
+        to: 0,
+        by,
+    }
+}
+
+/// Writes down the lines `print` of a mote: the mote, the moment and the value.
+fn write_prints(text: &mut String, report: &Report, mote: usize) -> Result<(), AllocError> {
+    if let Some(trace) = report.traces.get(mote) {
+        for line in trace {
+            if let What::Print(_, value) = line.what {
+                write!(text, "{mote} {} {value}; ", line.at)?;
+            }
+        }
+    }
+    Ok(())
+}
+
+/// Writes down the fates of the packets: the sender, the packet's number, the receiver, and the moment of arrival.
+fn write_log(text: &mut String, report: &Report) -> Result<(), AllocError> {
+    for packet in &report.medium {
+        for fate in &packet.fates {
+            write!(
+                text,
+                "{}.{} {} {:?}; ",
+                packet.sent.sender, packet.sent.number, fate.to, fate.at
+            )?;
+        }
+    }
+    write!(text, "left {}|", report.left)
+}
+
+/// Writes down what is printed and sent in the run with these faults.
+fn write_run(alloc: Global, net: &Net, faults: &[Fault], text: &mut String) -> Result<(), AllocError> {
+    let report = run_with_faults(alloc, net, faults)?;
+    write_prints(text, &report, 0)?;
+    write_prints(text, &report, 1)?;
+    write_log(text, &report)
+}
+
+fn write_losses(alloc: Global, net: &Net, text: &mut String) -> Result<(), AllocError> {
+    write_run(alloc, net, &[], text)?;
+    write_run(alloc, net, &[JOIN_IS_LOST], text)?;
+    write_run(alloc, net, &[Fault::Link(0, 1)], text)?;
+    write_run(alloc, net, &[ANSWER_IS_LOST], text)?;
+    write_run(alloc, net, &[Fault::Silent(1)], text)
+}
+
+fn write_delays(alloc: Global, net: &Net, text: &mut String) -> Result<(), AllocError> {
+    write_run(alloc, net, &[answer_is_late(30)], text)?;
+    write_run(alloc, net, &[join_is_late(30), join_is_late(8)], text)?;
+    write_run(alloc, net, &[join_is_late(39)], text)?;
+    write_run(alloc, net, &[join_is_late(3), ANSWER_IS_LOST], text)
+}
+
+/// A lost JOIN is never repeated. A late copy that arrives at the end is received, and after the end it is left.
+#[test]
+fn reports_with_faults(rt: HostRuntime) -> Result<(), Fail> {
+    let net = read_scenario(rt.alloc(), JOIN)?;
+    let mut text = String::new(rt.alloc());
+    write_losses(rt.alloc(), &net, &mut text)?;
+    same_text(
+        text.as_str(),
+        "0 4 9; 1 2 1; 0.0 1 Some(2); 1.0 0 Some(4); left 0|0.0 1 None; left 0|0.0 1 None; left 0|\
+         1 2 1; 0.0 1 Some(2); 1.0 0 None; left 0|1 2 1; 0.0 1 Some(2); 1.0 0 None; left 0|",
+    )?;
+    let mut text = String::new(rt.alloc());
+    write_delays(rt.alloc(), &net, &mut text)?;
+    same_text(
+        text.as_str(),
+        "0 34 9; 1 2 1; 0.0 1 Some(2); 1.0 0 Some(34); left 0|1 40 1; 0.0 1 Some(40); 1.0 0 Some(42); left 1|\
+         0.0 1 Some(41); left 1|1 5 1; 0.0 1 Some(5); 1.0 0 None; left 0|",
+    )
+}
