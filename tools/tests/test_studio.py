@@ -3,7 +3,6 @@ import http.client
 import json
 import os
 import signal
-import struct
 import subprocess
 import sys
 import threading
@@ -227,13 +226,8 @@ class Answering(Room):
         self.assertEqual(status, 200)
         return data
 
-    def run_text(self, text: str, **words: Any) -> Any:
-        data = self.ask('run', text=text, name='net.toml', **words)
-        length, = struct.unpack('<I', data[:4])
-        return json.loads(data[4:4 + length])
-
-    def judge(self, number: int, saved: str = NET) -> Any:
-        return json.loads(self.ask('judge', number=number, where='folder', name='net.toml', saved=saved))
+    def answer(self, what: str, text: str, **words: Any) -> Any:
+        return json.loads(self.ask(what, text=text, where='folder', name='net.toml', saved=NET, **words))
 
     def test_an_error_of_the_studio_itself_is_an_answer_too(self) -> None:
         """Without an answer the page would take the studio for lost, connect again, and ask the same, for ever."""
@@ -281,63 +275,62 @@ class Answering(Room):
 
     def test_questions_that_are_none_are_told_so(self) -> None:
         path = '/%s/' % self.server.token
-        self.assertEqual(self.request('POST', path + 'run', ['x'])[0], 400)
-        self.assertIn('refused', json.loads(self.ask('nothing')))
-        self.assertIn('refused', json.loads(self.ask('run')))
-        self.assertIn('refused', json.loads(self.ask('run', text='\ud800', name='x')))
-        self.assertIn('refused', json.loads(self.ask('export', number=99, title='x')))
+        self.assertEqual(self.request('POST', path + 'warn', ['x'])[0], 400)
+        for what in 'nothing', 'warn', 'export':
+            self.assertIn('refused', json.loads(self.ask(what)))
+        self.assertIn('refused', json.loads(self.ask('warn', text='\ud800', name='x')))
 
-    def test_a_run_is_judged(self) -> None:
-        said = self.judge(self.run_text(NET.replace('print 1', 'print 4'))['number'])
-        self.assertEqual([it['holds'] for it in said['checks']['marks']], [False, True, True])
+    def test_a_run_has_warnings(self) -> None:
+        said = self.answer('warn', NET)
         self.assertIn('timer-never-set', [it['name'] for it in said['warnings']])
-        self.assertTrue(self.judge(99)['gone'])
+        self.assertEqual(said['fields'], {})
+        self.assertIn('refused', self.answer('warn', NET.replace('print 1', 'print none')))
 
     def test_a_run_has_the_fields_of_its_declared_format(self) -> None:
         self.put('net.expect.toml', 'expect = ["mote 1 receives with seq 2"]\nfields = { seq = "value / 3" }')
-        found = self.run_text(NET, where='folder')
-        self.assertEqual(found['run']['fields'], {'1': ' (seq 0)', '5': ' (seq 1)', '6': ' (seq 2)'})
-        self.assertTrue(self.judge(found['number'])['checks']['marks'][0]['holds'])
-        self.put('net.expect.toml', 'no TOML')
-        self.assertNotIn('fields', self.run_text(NET, where='folder')['run'])
+        self.assertEqual(self.answer('warn', NET)['fields'], {'1': ' (seq 0)', '5': ' (seq 1)', '6': ' (seq 2)'})
+        claims = self.answer('expectations', NET)['items'][0]['claims']
+        self.assertEqual(claims, ['mote 1: at least 1 line "recv value 6 to 8"'])
 
-    def test_advice_on_a_stopped_run_ends_with_a_newer_text_or_at_the_limit(self) -> None:
+    def test_advice_on_a_stopped_run_ends_at_the_limit(self) -> None:
         runs = self.server.session.runs
         with mock.patch('motesim.studio.session.busiest', return_value=' It loops.') as busiest:
-            said = self.ask('advise', text=NET, number=runs.ask())
-            self.assertEqual(json.loads(said), {'does': ' It loops.'})
-            goes_on = busiest.call_args.kwargs['goes_on']
-            self.assertTrue(goes_on())
-            runs.ask()
-            self.assertFalse(goes_on())
+            self.assertEqual(self.answer('advise', NET), {'does': ' It loops.'})
+            self.assertTrue(busiest.call_args.kwargs['goes_on']())
             runs.limits = LIMITS._replace(seconds=0)
-            self.ask('advise', text=NET, number=runs.newest)
+            self.answer('advise', NET)
             self.assertFalse(busiest.call_args.kwargs['goes_on']())
 
-    def test_a_fault_has_its_place_and_the_words_of_explain(self) -> None:
-        fault = self.run_text(NET.replace('print 1', 'print nothing'))['fault']
-        self.assertEqual((fault['line'], fault['place']), ('motesim: program talk fault 3 line 8', [17, 10, 17]))
+    def test_a_fault_has_its_place_the_words_of_explain_and_the_corrected_text(self) -> None:
+        fault = self.answer('explain', NET.replace('print 1', 'print nothing'), line='motesim: program talk fault 3 line 8')
+        self.assertEqual(fault['place'], [17, 10, 17])
         self.assertTrue(any(line.startswith('UnknownName: ') for line in fault['words']))
         self.assertTrue(any(line.startswith('Allowed here: ') for line in fault['words']))
-        self.assertEqual(self.run_text('x = ')['fault']['line'], 'motesim: scenario fault 1')
+        for new, corrected in ('print (1);', NET), ('goto out;', None):
+            fault = self.answer('explain', NET.replace('print 1;', new), line='motesim: program talk fault 2 line 8')
+            self.assertEqual(fault['corrected'], corrected)
 
-    def test_a_fault_has_the_corrected_text_if_it_is_known(self) -> None:
-        wrong = NET.replace('print 1;', 'print (1);')
-        self.assertEqual(self.run_text(wrong)['fault']['corrected'], NET)
-        self.assertIsNone(self.run_text(NET.replace('print 1;', 'goto out;'))['fault']['corrected'])
+    def test_a_text_has_the_expectations_of_its_change_with_their_claims(self) -> None:
+        said = self.answer('expectations', NET)
+        self.assertEqual([(it['words'], it['claims']) for it in said['items'][:1]], [
+            ('mote 1 prints talker 1', ['mote 1: at least 1 line "print process talker value 1"'])])
+        self.assertEqual((said['about'], said['file']['name']), ('', 'net.expect.toml'))
+        said = self.answer('expectations', NET.replace('print 1', 'print 9'))
+        self.assertEqual(([it['words'] for it in said['items']], said['about']), (['mote 1 prints talker 9'], '(another value)'))
+        self.put('net.expect.toml', 'expect = ["the medium writes \'4 0\'"]')
+        item, = self.answer('expectations', NET)['items']
+        self.assertEqual((item['claims'], item['remark']), ([], 'tools/expect decides this: no claim: claims have no whole lines of the medium'))
+        self.put('net.expect.toml', 'no TOML')
+        self.assertIn('TOML', self.answer('expectations', NET)['items'][0]['remark'])
 
-    def test_a_changed_text_is_judged_by_the_sentences_of_its_change(self) -> None:
-        text = NET.replace('print 1', 'print 9')
-        checks = self.judge(self.run_text(text)['number'])['checks']
-        self.assertEqual((checks['about'], checks['fault']), ('another value', ''))
-        self.assertEqual([(it['sentence'], it['holds']) for it in checks['marks']], [('mote 1 prints talker 9', True)])
-        self.assertEqual([it['remark'] for it in checks['marks']], [''])
-
-    def test_a_remark_is_below_a_sentence_that_needs_no_evidence(self) -> None:
-        self.file.with_suffix('.expect.toml').write_text('expect = ["no mote sends from 90 to 99"]')
-        checks = self.judge(self.run_text(NET)['number'])['checks']
-        self.assertEqual([(it['holds'], it['remark']) for it in checks['marks']], [
-            (True, 'the run ends at 60, before the interval of this expectation, which begins at 90')])
+    def test_expectations_are_written_beside_the_file_if_they_can_be_read(self) -> None:
+        file = self.answer('expectations', NET)['file']
+        source = file['text'].replace('expect = [', 'expect = ["no mote halts", ', 1)
+        words = {'source': source, 'stamp': file['stamp'], 'returns': False, 'mark': False}
+        self.assertIn('nonsense', self.answer('expect', NET, **{**words, 'source': 'expect = ["nonsense"]'})['refused'])
+        self.assertEqual(self.answer('expect', NET, **words), {})
+        self.assertEqual((self.room / 'net.expect.toml').read_text(), source)
+        self.assertIn('changed elsewhere', self.answer('expect', NET, **words)['refused'])
 
 
 class Searching(unittest.TestCase):

@@ -90,10 +90,10 @@ class Page(InStudio):
 
     def test_zoom_place_and_selection_stay(self) -> None:
         self.open()
-        self.value('(m.act("+"), m.act("+"), pane.zoomLanes(1.5), find("recv 6"))')
+        self.value('(m.act("+"), m.act("+"), pane.zoomLanes(1.5), find("mote 1 recv 6"))')
         view = '[m.time.begin, m.time.scale, pane.lane, pane.top, m.play.now, run.text(m.chosen.line)]'
         before = self.value(view)
-        self.assertEqual(before[-1], '23 recv 0 1 6')
+        self.assertEqual(before[-1], '3 recv 0 1 6')
         self.put(NET.replace('print 1;', 'print 1; print 7;'))
         self.wait('Array.from(run.w).includes(7)')
         self.settled()
@@ -119,27 +119,10 @@ class Page(InStudio):
         self.put(NET)
         self.wait('m.panes.length === 1 && by("fault").hidden')
 
-    @mock.patch('motesim.runner.process.PATIENCE', 1)
-    def test_a_run_is_stopped_by_a_button_and_at_its_limit(self) -> None:
-        self.open()
-        self.put('# never_ends\n' + NET)
-        self.wait('!by("stop").hidden')
-        self.press('stop')
-        self.said('You stopped the run.')
-        self.assertTrue(self.value('by("stop").hidden'))
-        runs = self.server.session.runs
-        runs.limits = LIMITS._replace(seconds=2)
-        self.put('# never_ends again\n' + NET)
-        self.said('stopped: no answer in 2 seconds. Start tools/studio with a larger --seconds')
-        runs.limits = LIMITS
-        self.assertTrue(self.value('document.body.classList.contains("stale")'))
-        self.put('# ends\n' + NET)
-        self.wait('!document.body.classList.contains("stale")')
-
     def test_it_begins_at_the_first_difference_from_another_scenario(self) -> None:
         self.open(against=NET.replace('send 6;', 'send 9;'))
         self.wait('m.differs.first && m.chosen.line >= 0')
-        self.assertEqual(self.value('[m.differs.first.at, run.at[m.chosen.line], text]'), [20, 20, NET])
+        self.assertEqual(self.value('[m.differs.first.at, run.at[m.chosen.line], text]'), [0, 0, NET])
 
     def test_what_is_hardly_meant_is_warned_of(self) -> None:
         self.open()
@@ -149,24 +132,37 @@ class Page(InStudio):
         self.put(NET.replace('etimer beat;', ''))
         self.wait('!by("warnings").innerText.includes("beat")')
 
+    def checks(self) -> Any:
+        """Which expectations hold, as the tab says."""
+        return self.value('by("tab-checks").textContent.split(" · ")[0]')
+
     def test_checks_are_those_of_the_text_and_lead_to_the_line(self) -> None:
         self.open()
-        self.assertEqual(self.tab('checks'), ['Checks 3/3', 'good'])
+        self.wait('by("tab-checks").textContent.startsWith("Checks 3/3")')
         self.press('tab-checks')
-        self.put('# never_ends\n' + NET)
-        self.assertEqual(self.tab('checks'), ['Checks', ''])
-        self.assertIn('These results are of an earlier text.', self.shown('checks'))
+        self.assertIn('mote 1 receives exactly 2', self.shown('held'))
         self.put(NET.replace('print 1;', 'print 1; print 2;'))
         self.wait('by("tab-checks").textContent === "Checks 2/3"')
-        self.assertNotIn('earlier text', self.shown('checks'))
-        self.value('document.querySelector("#checks .broken button").click()')
+        self.value('document.querySelector("#held .broken button").click()')
         self.assertEqual(self.value('[run.text(m.chosen.line), run.moteOf(m.chosen.line)]'), ['0 print talker 2', 0])
+
+    def test_expectations_are_written_into_the_file_and_claims_into_the_text(self) -> None:
+        self.open()
+        self.press('tab-checks')
+        self.write('expect-asked', 'no mote halts')
+        self.wait('by("tab-checks").textContent.startsWith("Checks 4/4")')
+        self.assertIn('"no mote halts"', (self.room / 'net.expect.toml').read_text())
+        self.write('expect-asked', 'no mote hlts')
+        self.said('hlts')
+        self.write('expect-asked', 'the net: exactly 6 packets sent')
+        self.wait('by("tab-checks").textContent.startsWith("Checks 5/5")')
+        self.assertIn('\n# expect: the net: exactly 6 packets sent\n', self.value('text'))
 
     def test_a_change_is_made_by_a_button_and_judged_by_its_own_sentences(self) -> None:
         self.open()
         self.assertEqual(self.shown('try'), 'Try: another value')
         self.press('try')
-        self.wait('by("tab-checks").textContent === "Checks 1/1" && m.differs.first')
+        self.wait('by("tab-checks").textContent.startsWith("Checks 1/1") && m.differs.first')
         self.assertIn('print 9', self.value('text'))
 
     def search(self, *kinds: str) -> None:
@@ -183,12 +179,12 @@ class Page(InStudio):
         self.assertEqual(self.value('m.faults.found.broken'), ['mote 1 receives exactly 2'])
         self.assertEqual(self.value('m.faults.found.found.map(it => it.faults)'),
                          [['link 0 to 1 loses everything'], ['mote 0 is silent']])
-        self.assertEqual(self.tab('faults'), ['Faults 1', 'bad'])
+        self.assertEqual(self.tab('faults'), ['Search 1', 'bad'])
         self.assertIn('all 4 single faults: 4 run', self.shown('faults'))
         self.press_in('faults-found', 'link 0 to 1')
-        self.wait('m.differs.first && m.differs.first.at === 10')
+        self.wait('m.differs.first && m.differs.first.at === 0')
         self.assertIn('every = 1\n', self.value('text'))
-        self.assertEqual(self.tab('faults'), ['Faults', ''])
+        self.assertEqual(self.tab('faults'), ['Search', ''])
         self.assertIn('These results are of an earlier text.', self.shown('faults'))
         self.press('revert')
         self.settled()
@@ -203,12 +199,12 @@ class Page(InStudio):
         self.open()
         self.search('links')
         self.wait('m.faults.found')
-        self.assertEqual(self.tab('faults'), ['Faults ✓', 'good'])
+        self.assertEqual(self.tab('faults'), ['Search ✓', 'good'])
         self.put(NET.replace('x = 8', 'x = 80'))
         self.settled()
         self.search('links')
         self.wait('m.faults.found && !m.faults.found.runs')
-        self.assertEqual(self.tab('faults'), ['Faults', ''])
+        self.assertEqual(self.tab('faults'), ['Search', ''])
         self.assertIn('Nothing was searched', self.shown('faults'))
 
     def test_a_changed_text_stops_the_search(self) -> None:
@@ -331,7 +327,8 @@ class Causes(InStudio):
         """No line breaks it, so a click shows what came near."""
         self.open()
         self.press('tab-checks')
-        self.value('document.querySelector("#checks .broken button").click()')
+        self.wait('document.querySelector("#held .broken button")')
+        self.value('document.querySelector("#held .broken button").click()')
         self.waits('why', 'was never reached')
         self.assertEqual(self.value('by("why-asked").value'), 'mote 0 prints flood 1')
 

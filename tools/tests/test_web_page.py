@@ -300,7 +300,7 @@ class Page(InPage):
         long = FLOODING.replace('end = 160', 'end = 4000').replace('set next 40', 'set next 1').replace(
             'if (newest < 3) {', 'newest = 0; while (newest < 2000) { newest = (newest + 1); print newest; } if 1 {')
         self.assertEqual(self.in_worker(long), {
-            'number': 1, 'columns': False, 'limit': 'The report is longer than 64 megabytes, so the run was stopped.'})
+            'columns': False, 'limit': 'The report is longer than 64 megabytes, so the run was stopped.'})
 
     def test_lanes_are_as_high_as_their_box_after_each_edit(self) -> None:
         self.open()

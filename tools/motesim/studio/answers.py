@@ -1,4 +1,4 @@
-"""The results of a run for the page: its error, its warnings, and the sentences that hold."""
+"""What the page asks about a text: its error, its warnings, and what it must show."""
 from __future__ import annotations
 
 from typing import Any, NamedTuple
@@ -8,8 +8,7 @@ from motesim.explain.say import in_words
 from motesim.explain.warnings import warnings
 from motesim.faults import Fault
 from motesim.judge import expectations
-from motesim.judge.finder import Finder
-from motesim.judge.names import names_of
+from motesim.judge.claims import Claims, NoClaim
 from motesim.judge.several import read_all
 from motesim.report import Report
 from motesim.report.run import Run
@@ -83,26 +82,35 @@ def part_for(text: str, saved: str, parts: list[expectations.Part]) -> expectati
     return parts[0]
 
 
-def checks(done: Finished, saved: str, expected: tuple[str, str] | None) -> dict[str, Any] | None:
-    """The expectations of the text: for each sentence a mark that says whether it holds, with the row of the report
-    that breaks it."""
+def expected_of(text: str, saved: str, expected: tuple[str, str] | None) -> dict[str, Any]:
+    """The expectations of a text, each with the claims that it means. One that claims can't say, or a file with an
+    error, has a remark instead."""
     if expected is None:
-        return None
+        return {'items': [], 'about': ''}
     name, source = expected
-    found: dict[str, Any] = {'name': name, 'about': '', 'marks': [], 'fault': ''}
     try:
-        part = part_for(done.text, saved, expectations.parts_of(source, name))
-        return {**found, 'about': part.name if part.replace else '', 'marks': marks(part, done)}
+        part = part_for(text, saved, expectations.parts_of(source, name))
+        return {'items': items_of(text, part), 'about': '(%s)' % part.name if part.replace else ''}
     except Fault as error:
-        return {**found, 'fault': str(error)}
+        return {'items': [{'words': name, 'claims': [], 'remark': str(error)}], 'about': ''}
 
 
-def marks(part: expectations.Part, done: Finished) -> list[dict[str, Any]]:
-    """A mark for each sentence of a part, and one for its report, if it has one."""
-    sentences = read_all(part.sentences, names_of(done.scenario))
-    verdicts = expectations.of_report(part, sentences, Finder(done.run.report, done.scenario))
-    return [{'sentence': it.sentence, 'holds': it.holds, 'required': number < part.required, 'row': it.row,
-             'more': it.more, 'remark': it.remark} for number, it in enumerate(verdicts)]
+def items_of(text: str, part: expectations.Part) -> list[dict[str, Any]]:
+    """The sentences of a part with their claims."""
+    known, names = expectations.known_of(text, part.fields)
+    if known is None:
+        raise Fault('the text is no scenario, so no claims can be about it')
+    claims, items = Claims(known), list[dict[str, Any]]()
+    for number, (words, sentence) in enumerate(zip(part.sentences, read_all(part.sentences, names))):
+        remark = '(required)' if number < part.required else ''
+        try:
+            its = [it.text for it in claims.of(sentence)]
+        except NoClaim as why:
+            its, remark = [], 'tools/expect decides this: %s' % why
+        items.append({'words': ' '.join(words.split()), 'claims': its, 'remark': remark})
+    if part.report is not None:
+        items.append({'words': 'the whole report', 'claims': [], 'remark': 'tools/expect compares it'})
+    return items
 
 
 def fields_of(expected: tuple[str, str] | None) -> tuple[Field, ...]:

@@ -170,6 +170,15 @@ class Desk:
         self.write(path, data)
         return stamp_of(data)
 
+    def save_expectations(self, document: dict[str, Any], text: str, stamp: str) -> None:
+        """Writes the expectations next to a document that may be saved."""
+        if not self.may_save(document):
+            raise Fault('the studio writes expectations only next to its own file: save this scenario first')
+        path = self.path('folder', document['name'].removesuffix('.toml') + '.expect.toml')
+        if stamp_of(self.data(path)) != stamp:
+            raise Fault('%s was changed elsewhere since it was read here; its expectations are shown after the next run' % path.name)
+        self.write(path, text.encode('utf-8'))
+
     def save_new(self, document: dict[str, Any], name: str) -> str:
         """Writes a document into a new file of the folder. Afterwards the document may be saved there."""
         name = name if name.endswith('.toml') else name + '.toml'

@@ -12,17 +12,20 @@ import json
 import secrets
 import socket
 import sys
+from collections.abc import Callable
 from http.server import BaseHTTPRequestHandler, ThreadingHTTPServer
 from pathlib import Path
 from typing import Any
 
 from motesim.faults import Fault
+from motesim.runner.module import file_of
 from motesim.studio.session import HTML, JSON, Session, as_json
-from motesim.timeline.bundle import modules_of
+from motesim.timeline.bundle import bundle, modules_of
 from motesim.timeline.html import MARK, TEMPLATE, style
 
 FOLDER = Path(__file__).resolve().parent.parent
-ENTRY = FOLDER / 'studio/page/studio.js'
+ENTRY, WORKER = FOLDER / 'studio/page/studio.js', FOLDER / 'web/page/worker.js'
+RUN = file_of('motesim').with_name('run_module.js')
 SCRIPT = '<script type="module" src="studio/page/studio.js"></script>'
 JAVASCRIPT = 'text/javascript; charset=utf-8'
 LONGEST_QUESTION = 8 << 20
@@ -30,7 +33,7 @@ HEADERS = {
     'Cache-Control': 'no-store', 'Referrer-Policy': 'no-referrer', 'X-Content-Type-Options': 'nosniff',
     'X-Frame-Options': 'DENY', 'Cross-Origin-Resource-Policy': 'same-origin',
     'Cross-Origin-Opener-Policy': 'same-origin',
-    'Content-Security-Policy': "default-src 'none'; script-src 'self'; style-src 'self' 'unsafe-inline'; "
+    'Content-Security-Policy': "default-src 'none'; script-src 'self' 'wasm-unsafe-eval'; worker-src blob:; style-src 'self' 'unsafe-inline'; "
                                "img-src 'self' data: blob:; connect-src 'self'; base-uri 'none'; form-action 'none'; "
                                "frame-ancestors 'none'",
 }
@@ -40,6 +43,18 @@ HEADERS = {
 def modules() -> dict[str, bytes]:
     """The modules of the page by their addresses, which are their paths in the package."""
     return {path.relative_to(FOLDER).as_posix(): text.encode('utf-8') for path, text in modules_of(ENTRY).items()}
+
+
+def worker() -> bytes:
+    """The script of the page's workers."""
+    return (RUN.read_text('utf-8') + bundle(WORKER)).encode('utf-8')
+
+
+# Other files of the page: their kinds, and functions that return them.
+FILES: dict[str, tuple[str, Callable[[], bytes]]] = {
+    'motesim.wasm': ('application/wasm', lambda: file_of('motesim').read_bytes()),
+    'motecheck.wasm': ('application/wasm', lambda: file_of('motecheck').read_bytes()),
+    'motesim.html': (HTML, lambda: file_of('motesim').with_suffix('.html').read_bytes()), 'worker.js': (JAVASCRIPT, worker)}
 
 
 def page() -> bytes:
@@ -179,4 +194,6 @@ class Server(ThreadingHTTPServer):
         name = name.partition('?')[0]
         if name == '':
             return HTML, page()
+        if name in FILES:
+            return FILES[name][0], FILES[name][1]()
         return (JAVASCRIPT, modules()[name]) if name in modules() else None

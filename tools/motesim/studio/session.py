@@ -6,7 +6,6 @@ from __future__ import annotations
 
 import functools
 import json
-import struct
 import threading
 import time
 from collections import OrderedDict
@@ -14,20 +13,19 @@ from typing import Any, Callable, NamedTuple
 
 from motesim.explain.within import busiest
 from motesim.faults import Fault
-from motesim.report import ReportFault
-from motesim.scenario import ScenarioFault
+from motesim.judge.expectations import parts_of
 from motesim.search.faults import KINDS
 from motesim.studio import answers
-from motesim.studio.desk import Changed, Desk, Document
+from motesim.studio.desk import Changed, Desk, Document, stamp_of
 from motesim.studio.examples import offered
-from motesim.studio.runs import LimitMet, Runs, Superseded
+from motesim.studio.runs import Runs, Superseded
 from motesim.studio.searches import OF_PAGE, Searches, wanted_of
-from motesim.timeline.columns import Columns, table_of
+from motesim.timeline.columns import fields_of
 from motesim.timeline.html import page_of
 from motesim.why.studio import Causes
 
 MOST_KEPT = 4
-JSON, BYTES, HTML = 'application/json', 'application/octet-stream', 'text/html; charset=utf-8'
+JSON, HTML = 'application/json', 'text/html; charset=utf-8'
 
 
 class Answered(NamedTuple):
@@ -38,13 +36,6 @@ class Answered(NamedTuple):
 
 def as_json(value: object) -> Answered:
     return Answered(JSON, json.dumps(value).encode('utf-8'))
-
-
-def framed(table: dict[str, Any], columns: bytes) -> Answered:
-    """A table, and after it the columns of a run, each at an offset that is a multiple of 4."""
-    head = json.dumps(table).encode('utf-8')
-    head += b' ' * (-len(head) % 4)
-    return Answered(BYTES, struct.pack('<I', len(head)) + head + columns)
 
 
 def _text(asked: dict[str, Any], name: str) -> str:
@@ -65,12 +56,13 @@ class Session:
         self.desk, self.runs = desk, runs
         self.searches = Searches(runs.limits)
         self.against = against
-        self.kept: OrderedDict[int, answers.Finished] = OrderedDict()
+        self.kept: OrderedDict[str, answers.Finished] = OrderedDict()
+        self.newest, self.ticket = '', 0
         self.lock = threading.Lock()
         self.work = threading.Lock()
         self.does: dict[str, Callable[[dict[str, Any]], Answered]] = {
-            'begin': self.begin, 'open': self.open, 'run': self.run, 'stop': self.stop, 'advise': self.advise,
-            'judge': self.judge, 'save': self.save, 'export': self.export, 'search': self.search,
+            'begin': self.begin, 'open': self.open, 'explain': self.explain, 'advise': self.advise, 'warn': self.warn,
+            'expectations': self.expected, 'expect': self.expect, 'save': self.save, 'export': self.export, 'search': self.search,
             'searched': self.searched, 'stop-search': self.stop_search, 'counter-example': self.counter_example,
             'shrink': self.shrink}
         self.causes = Causes()
@@ -94,7 +86,7 @@ class Session:
         """The content of the page when it opens."""
         files = [] if self.desk.folder == self.desk.examples else self.desk.names('folder')
         return as_json({**self.opened(self.desk.first()), **offered(), 'files': files, 'folder': str(self.desk.folder),
-                        'against': self.against, 'kinds': [[kind, KINDS[kind][1]] for kind in OF_PAGE]})
+                        'against': self.against, 'seconds': self.runs.limits.seconds, 'kinds': [[kind, KINDS[kind][1]] for kind in OF_PAGE]})
 
     def open(self, asked: dict[str, Any]) -> Answered:
         return as_json(self.opened(self.desk.read(_text(asked, 'where'), _text(asked, 'name'))))
@@ -119,62 +111,61 @@ class Session:
 
     # Runs.
 
-    def run(self, asked: dict[str, Any]) -> Answered:
-        """Runs a text. Returns its columns, its error, the limit that it reached, or a note that a newer text has
-        arrived."""
-        text, ticket = _text(asked, 'text'), self.runs.ask()
-        data = text.encode('utf-8')
-        try:
-            got = self.runs.run(ticket, data)
-            with self.work:
-                self.runs.check(ticket)
-                if got.status:
-                    line = got.fault.decode('utf-8', 'backslashreplace').rstrip('\n')
-                    return framed({'fault': answers.fault(text, line)}, b'')
-                fields = answers.fields_of(self.expectations(asked))
-                done = answers.finished(ticket, text, got.report, _text(asked, 'name'), fields)
-                self.runs.check(ticket)
-                columns = Columns(done.run.report)
-        except Superseded:
-            return framed({'superseded': True}, b'')
-        except LimitMet as fault:
-            return framed({'limit': str(fault), 'number': ticket}, b'')
-        except (ReportFault, ScenarioFault) as fault:
-            return framed({'limit': 'This run cannot be shown: %s' % fault}, b'')
-        self.keep(done)
-        return framed({'number': ticket, 'run': table_of(done.run, columns)}, columns.joined())
-
-    def stop(self, asked: dict[str, Any]) -> Answered:
-        """Stops the run."""
-        self.runs.ask()
-        return as_json({})
+    def explain(self, asked: dict[str, Any]) -> Answered:
+        """An error in words, with its place and the corrected text."""
+        return as_json(answers.fault(_text(asked, 'text'), _text(asked, 'line')))
 
     def advise(self, asked: dict[str, Any]) -> Answered:
-        """What a run that was stopped at a limit does so often, unless a newer text arrives meanwhile."""
+        """What a run that was stopped at a limit does so often."""
         until = time.monotonic() + self.runs.limits.seconds
-        does = busiest(_text(asked, 'text').encode('utf-8'), goes_on=lambda: (
-            self.runs.newest == asked.get('number') and time.monotonic() < until))
-        return as_json({'does': does})
+        return as_json({'does': busiest(_text(asked, 'text').encode('utf-8'), goes_on=lambda: time.monotonic() < until)})
 
-    def keep(self, done: answers.Finished) -> None:
-        """Keeps the last runs."""
+    def done(self, asked: dict[str, Any]) -> answers.Finished:
+        """The run of a text, which is kept; a run of another text is stopped."""
+        text = _text(asked, 'text')
         with self.lock:
-            self.kept[done.number] = done
-            while len(self.kept) > MOST_KEPT:
-                self.kept.popitem(last=False)
+            if text in self.kept:
+                self.kept.move_to_end(text)
+                return self.kept[text]
+            if text != self.newest:
+                self.newest, self.ticket = text, self.runs.ask()
+            ticket = self.ticket
+        with self.work:
+            if text not in self.kept:
+                got = self.runs.run(ticket, text.encode('utf-8'))
+                if got.status:
+                    raise Fault('the text has an error, so it has no run')
+                fields = answers.fields_of(self.expectations(asked))
+                made = answers.finished(ticket, text, got.report, str(asked.get('name', '')), fields)
+                with self.lock:
+                    self.kept[text] = made
+                    while len(self.kept) > MOST_KEPT:
+                        self.kept.popitem(last=False)
+            return self.kept[text]
 
-    def kept_run(self, number: object) -> answers.Finished | None:
-        with self.lock:
-            return self.kept.get(number) if type(number) is int else None
-
-    def judge(self, asked: dict[str, Any]) -> Answered:
-        """The warnings of a run, and the expectations that hold."""
-        done = self.kept_run(asked.get('number'))
-        if done is None:
+    def warn(self, asked: dict[str, Any]) -> Answered:
+        """The warnings about a run, and the fields of its values."""
+        try:
+            done = self.done(asked)
+        except Superseded:
             return as_json({'gone': True})
         with self.work:
-            return as_json({'warnings': answers.warned(done), 'checks': answers.checks(
-                done, _text(asked, 'saved'), self.expectations(asked))})
+            return as_json({'warnings': answers.warned(done), 'fields': fields_of(done.run).get('fields', {})})
+
+    def expected(self, asked: dict[str, Any]) -> Answered:
+        """What a text must show, and the file that says so."""
+        found = self.expectations(asked)
+        file = None if found is None else {'name': found[0], 'text': found[1], 'stamp': stamp_of(found[1].encode('utf-8'))}
+        return as_json({**answers.expected_of(_text(asked, 'text'), _text(asked, 'saved'), found), 'file': file})
+
+    def expect(self, asked: dict[str, Any]) -> Answered:
+        """Writes the expectations of a document, if all of them can be read."""
+        source, document = _text(asked, 'source'), self.document(asked)
+        name = document['name'].removesuffix('.toml') + '.expect.toml'
+        for part in parts_of(source, name)[:1]:
+            answers.items_of(_text(asked, 'text'), part)
+        self.desk.save_expectations(document, source, _text(asked, 'stamp'))
+        return as_json({})
 
     def expectations(self, asked: dict[str, Any]) -> tuple[str, str] | None:
         try:
@@ -183,19 +174,14 @@ class Session:
             return None
 
     def cause(self, what: str, asked: dict[str, Any]) -> Answered:
-        """The answer to a question about the causes of a kept run."""
-        done = self.kept_run(asked.get('number'))
-        if done is None:
-            return as_json({'said': 'The studio no longer has this run. Change the text, and ask again.'})
+        """The answer to a question about the causes of a run."""
+        done = self.done(asked)
         return as_json(self.causes.answer(what, done.number, done.run, asked))
 
     def export(self, asked: dict[str, Any]) -> Answered:
         """The page of a run in one file, the same that tools/timeline writes."""
-        done = self.kept_run(asked.get('number'))
-        if done is None:
-            raise Fault('The studio no longer has this run. Change the text, and export again.')
         title = _text(asked, 'title').removesuffix('.toml')
-        return Answered(HTML, ''.join(page_of(title, [done.named(title)])).encode('utf-8'))
+        return Answered(HTML, ''.join(page_of(title, [self.done(asked).named(title)])).encode('utf-8'))
 
     # Searches for faults.
 

@@ -120,7 +120,7 @@ def _of_scenario(scenario: Scenario | None) -> dict[str, Any]:
     }
 
 
-def _fields_of(run: Run) -> dict[str, dict[int, str]]:
+def fields_of(run: Run) -> dict[str, dict[int, str]]:
     """The fields of each value that a mote printed or sent, if the format of packets is declared."""
     fields = run.scenario.fields if run.scenario else ()
     values = {*run.report.log.value, *run.report.trace.of['print']['value']} if fields else ()
@@ -133,7 +133,7 @@ def table_of(run: Run, columns: Columns) -> dict[str, Any]:
     return {
         'name': run.name, 'end': max(end, _last_moment(run.report)), 'left': run.report.left,
         'programs': columns.programs, 'processes': columns.processes, 'events': columns.events,
-        'columns': columns.table(), **_of_scenario(run.scenario), **_fields_of(run),
+        'columns': columns.table(), **_of_scenario(run.scenario), **fields_of(run),
     }
 
 

@@ -5,12 +5,20 @@ import {byId, element, makeButton, onSubmit, table} from '../../timeline/page/do
 import {page} from '../../timeline/page/stage.js';
 import {count} from '../../timeline/page/words.js';
 import {attempt, change} from '../../web/page/web.js';
-import {labelTab, markEarlier} from './checks.js';
 
 const {faults} = page, POLL = 300, SHOWN_SETS = 12, FIRST_KINDS = ['links', 'motes'];
 /** What can be done with a set of faults: the name (that of the faults if there is none), the question, the purpose. */
 const CHANGES = [['', 'counter-example', 'Change the text so that it has this fault'],
   ['Shrink', 'shrink', 'Replace the text by the smallest scenario in which this fault breaks the expectation']];
+
+function labelTab(words, className = '') { Object.assign(byId('tab-faults'), {textContent: words, className}); }
+
+/** Marks what is shown as the results of an earlier text. */
+function markEarlier(box) {
+  if (!box.childNodes.length || box.classList.contains('earlier')) return;
+  box.classList.add('earlier');
+  box.prepend(element('p', 'These results are of an earlier text.', [], {className: 'of-earlier'}));
+}
 
 export function beginFaults(kinds) {
   page.reactions.opened.push(() => {
@@ -20,7 +28,7 @@ export function beginFaults(kinds) {
   page.reactions.outdated.push(() => {
     stopSearch('The text was changed, so the search was stopped.');
     if (!faults.found) return;
-    labelTab('faults', 'Faults');
+    labelTab('Search');
     markEarlier(byId('faults-found'));
   });
   byId('faults-kinds').append(...kinds.map(([kind, words]) => element('label', '', [
@@ -34,7 +42,7 @@ function showSearch(isGoing, words) {
   faults.isGoing = isGoing;
   byId('faults-search').textContent = isGoing ? 'Stop' : 'Search';
   byId('faults-state').textContent = words;
-  labelTab('faults', isGoing ? 'Faults …' : 'Faults');
+  labelTab(isGoing ? 'Search …' : 'Search');
 }
 
 async function searchNow() {
@@ -85,8 +93,8 @@ function forgetFaults() {
 /** Shows the coverage of the search, and a table of the broken and the kept expectations. */
 function showFound({said, covered, runs, holds, broken, found}) {
   const isWhole = runs > 0 && Object.values(covered).every(it => it.all);
-  if (broken.length) labelTab('faults', `Faults ${broken.length}`, 'bad');
-  else if (isWhole) labelTab('faults', 'Faults ✓', 'good');
+  if (broken.length) labelTab(`Search ${broken.length}`, 'bad');
+  else if (isWhole) labelTab('Search ✓', 'good');
   const kept = holds.map(sentence => element('tr', '', [element('td', '✓ holds'), element('td', sentence)],
     {className: 'holds'}));
   byId('faults-found').replaceChildren(...said.map(line => element('p', line)), runs ?

@@ -2,7 +2,7 @@
 // Files of the studio: opening, saving, and the page of the run as one file.
 import {byId, handOut, makeButton, stored} from '../../timeline/page/dom.js';
 import {page} from '../../timeline/page/stage.js';
-import {attempt, change, open, say, setOpened} from '../../web/page/web.js';
+import {attempt, change, open, say, setOpened, setOutcome} from '../../web/page/web.js';
 
 const {web} = page;
 
@@ -18,10 +18,10 @@ const keepDraft = text => isDirty() ? stored(it => it.setItem(draftName(), text)
 function offerDraft(document, isAgain) {
   const draft = stored(it => it.getItem(draftName()));
   if (isAgain || draft === null || draft === web.history.text) return;
-  say(`This browser has a text of ${web.document.name} that was not saved.`, '', [], [
+  setOutcome(`This browser has a text of ${web.document.name} that was not saved.`, '', [], [
     ['Take it', () => change(draft, 'edit')], ['Forget it', () => {
       forgetDraft();
-      say('The text is that of the file.');
+      setOutcome('The text is that of the file.');
     }]]);
 }
 
@@ -62,7 +62,7 @@ function saveAs() {
 
 async function exportPage() {
   const {name} = web.document;
-  const made = await attempt(() => page.backend.ask('export', {number: web.number, title: name}));
+  const made = await attempt(() => page.backend.ask('export', {...web.document, text: web.shown, title: name}));
   if (made) handOut(name.replace(/\.toml$/, '.html'), [made], 'text/html');
 }
 

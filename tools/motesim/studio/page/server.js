@@ -1,33 +1,49 @@
 // @ts-check
-// What the studio's page asks, answered by its server.
-import {Run, columnsIn} from '../../timeline/page/data.js';
-import {indexRun} from '../../timeline/page/index.js';
+// What the studio's page asks: runs and verdicts in the page's own workers, and all else from its server.
 import {Refused, page} from '../../timeline/page/stage.js';
+import {Alone} from '../../web/page/alone.js';
+import {withSentence} from '../../web/page/edits.js';
 
 const LOST = 'The studio doesn\'t answer. Start it again, and open its page: the browser keeps your text.';
 
-/** @implements {Backend}
- * @typedef {import('../../timeline/page/stage.js').Backend} Backend */
-export class Server {
-  isStopped = false;
+/** A module of the server, compiled.
+ * @param {string} name */
+const compiled = async name => WebAssembly.compile(await (await fetch(name)).arrayBuffer());
+
+export class Server extends Alone {
+  /** The file of the expectations that are shown: its name, text and stamp; null if there is none. */
+  expected = /** @type {any} */ (null);
+
+  /** The server, with its modules and the script of its workers. */
+  static async begin() {
+    return new Server(compiled('motesim.wasm'), () => compiled('motecheck.wasm'), await (await fetch('worker.js')).text(), {});
+  }
 
   async run(asked) {
-    this.isStopped = false;
-    const got = await this.ask('run', asked), length = new DataView(got).getUint32(0, true);
-    const {run: table, ...answer} = JSON.parse(new TextDecoder().decode(new Uint8Array(got, 4, length)));
-    if (answer.superseded && this.isStopped) return {limit: 'You stopped the run.'};
-    if (!table) return answer;
-    const run = new Run(table, columnsIn(table, got.slice(4 + length)));
-    await indexRun(run);
-    return {...answer, run};
+    const got = await super.run(asked);
+    if (got.fault) got.fault = await this.ask('explain', {text: asked.text, line: got.fault.line});
+    if (!got.limit) return got;
+    const {does} = await this.ask('advise', {text: asked.text}).catch(() => ({does: ''}));
+    return does ? {limit: got.limit + does} : got;
   }
 
-  stop() {
-    this.isStopped = true;
-    return this.ask('stop', {});
+  /** The expectations of the file beside the document, with the claims that they mean for a text. */
+  async expectations(document, text) {
+    const {items, about, file} = await this.ask('expectations', {...document, text, saved: page.web.saved});
+    this.expected = file;
+    return items.map(it => ({...it, remark: it.remark || about}));
   }
 
-  /** Asks for a value, or for the bytes of a run or a page. */
+  /** Adds an expectation to the file beside the document; a claim, or one of another document, to its text. */
+  async expect(words) {
+    const {web} = page;
+    if (words.includes(': ')) return words;
+    const source = withSentence(this.expected?.text || '', words);
+    await this.ask('expect', {...web.document, text: web.history.text, source, stamp: this.expected?.stamp || ''});
+    return '';
+  }
+
+  /** Asks for a value, or for the bytes of a page. */
   async ask(what, asked) {
     let answer, got;
     try {

@@ -8,7 +8,7 @@ import {attempt} from '../../web/page/web.js';
  * has changed. */
 async function showState({run}) {
   if (byId('state').hidden) return;
-  const {chosen, play, web: {number}} = page, mote = Math.max(0, chosen.mote);
+  const {chosen, play, web: {number, shown}} = page, mote = Math.max(0, chosen.mote);
   const line = chosen.line >= 0 ? chosen.line : run.lineAt(mote, Math.floor(play.now) + 1) - 1;
   const row = run.numberOf(line, mote), asked = `${number} ${row}`, box = byId('state-rows');
   if (page.state === asked) return;
@@ -17,7 +17,7 @@ async function showState({run}) {
     byId('state-at').textContent = `Mote ${mote} has done nothing yet.`;
     return box.replaceChildren();
   }
-  const state = await attempt(() => page.backend.ask('state', {number, row}));
+  const state = await attempt(() => page.backend.ask('state', {text: shown, row}));
   if (!state || page.state !== asked) return;
   byId('state-at').replaceChildren(element('strong', `Mote ${mote} at moment ${run.at[line]}`),
     `, after line ${row} of the report: `, element('code', run.text(line)));
@@ -30,7 +30,7 @@ async function showStatement({run}) {
   const {chosen: {times, line, mote}, web} = page;
   if (page.marked === times) return;
   page.marked = times;
-  const asked = {number: web.number, row: run.numberOf(line, mote)};
+  const asked = {text: web.shown, row: run.numberOf(line, mote)};
   const found = line >= 0 && await page.backend.ask('statement', asked).catch(() => null);
   if (page.chosen.times === times) web.pad.lightRow(found ? found.statement : -1);
 }

@@ -7,7 +7,7 @@ import {showTab} from '../../timeline/page/tabs.js';
 import {sayWhy, showChain} from '../../timeline/page/why.js';
 import {attempt} from '../../web/page/web.js';
 
-const ask = asked => page.backend.ask('why', {number: page.web.number, ...asked});
+const ask = asked => page.backend.ask('why', {text: page.web.shown, ...asked});
 
 /** The hops of a chain that the server found, with their lines in the run. */
 const hopsOf = ({chain}) => chain.map(({line: row, how, for: wait, ...hop}) =>
@@ -39,7 +39,7 @@ export async function askQuestion(question) {
 }
 
 export function beginWhy() {
-  page.chainOf = chainOf;
+  Object.assign(page, {chainOf, askQuestion});
   onSubmit('why-form', () => askQuestion(byId('why-asked').value.trim()));
   byId('why').append(byId('why-chain'));
 }

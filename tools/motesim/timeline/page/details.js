@@ -118,7 +118,8 @@ function turnParts(pane, line, mote, k) {
   const lines = numbers(first, Math.min(to, first + MOST_LISTED));
   const why = Object.assign(makeButton('Why is this line here?', () => page.askWhy(pane, line)),
     {id: 'ask-why', title: 'The chain of its causes (W)'});
-  return [element('p', '', [why]), element(k >= 0 ? 'h3' : 'h2', `Mote ${mote} at moment ${run.at[line]}: its turn`),
+  return [element('p', '', [why, ...page.expectsOf ? page.expectsOf(pane, line) : []]),
+    element(k >= 0 ? 'h3' : 'h2', `Mote ${mote} at moment ${run.at[line]}: its turn`),
     list('ol', lines.map(it => traceButton(pane, it,
       run.silent[it] ? 'a timer that sends in other runs, and not in this one' : ''))),
     element('p', to - from > lines.length ? `${to - from - lines.length} lines of this turn are not listed.` : ''),

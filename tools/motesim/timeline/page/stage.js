@@ -8,8 +8,9 @@ import {History} from './history.js';
  * @typedef {{run?: import('./data.js').Run, number?: number, took?: number, limit?: string, superseded?: boolean,
  *   fault?: {line: string, words: string[], place: number[]|null, corrected?: string|null}}} Answer */
 /** What a page asks: a server, or the page itself, which only runs.
- * @typedef {{run: (asked: any) => Promise<Answer>, stop: () => any,
- *   ask: (what: string, asked: any) => any}} Backend */
+ * @typedef {{run: (asked: any) => Promise<Answer>, stop: () => any, ask: (what: string, asked: any) => any,
+ *   check: (text: string, claims: string[], options?: string) => Promise<any>, endSurvey: () => void,
+ *   expectations: (document: any, text: string) => Promise<any[]>, expect: (words: string) => Promise<string>}} Backend */
 
 const none = /** @type {any} */ (null), list = () => /** @type {any[]} */ ([]);
 const does = () => /** @type {((...its: any[]) => any)[]} */ ([]);
@@ -52,11 +53,19 @@ export const page = {
   edit: none,
   chainOf: none,
   askWhy: none,
+  expectsOf: none,
+  askQuestion: none,
 
-  /** Functions that are called when the results that are shown become those of an earlier text; when the results of
-   * a run are there; when a document was opened, or is shown again (`isAgain`); when its text is kept; and when the
+  /** What must hold, with its verdicts, for which text; how long one run of them took; what the surveys of single
+   * faults and of pairs found; the sentence about them; whether the page goes to the next break;
+   * and the words of what needn't hold with faults. */
+  checks: {items: list(), text: '', took: 0, survey: none, pairs: none, words: '', is: '', follows: false,
+    without: new Set()},
+
+  /** Functions that are called when the results that are shown become those of an earlier text; when a run is shown;
+   * when a document was opened, or is shown again (`isAgain`); when its text is kept; and when the
    * reader leaves the page. */
-  reactions: {outdated: does(), judged: does(), opened: does(), kept: does(), left: does()},
+  reactions: {outdated: does(), ran: does(), opened: does(), kept: does(), left: does()},
   /** The state that is shown, and the selection whose statement is marked. */
   state: '', marked: 0,
   faults: {number: 0, found: none, isGoing: false, timer: 0},
@@ -65,8 +74,9 @@ export const page = {
    * `part` is the open tab of the text. `asked` counts the runs that were asked for, `ran` is the last of them that
    * ended, `number` the backend's number of the run that is shown, and `judged` of the one whose results are; `fresh`
    * is true until the first run of a text. */
-  web: {pad: none, history: new History(), document: none, saved: '', intro: '', example: none, part: 'part-program',
-    timer: 0, keepTimer: 0, asked: 0, ran: 0, number: 0, judged: 0, fresh: true, fault: none, folder: ''},
+  web: {pad: none, history: new History(), document: none, saved: '', shown: '', intro: '', example: none, part: 'part-program',
+    timer: 0, keepTimer: 0, asked: 0, ran: 0, number: 0, judged: 0, fresh: true, fault: none, folder: '', outcome: {words: '', is: '', buttons: list(),
+    offers: list()}},
 };
 
 /** Something that a backend refuses to do. The message is for the reader. */

@@ -1,11 +1,14 @@
 // @ts-check
-// What the page asks, answered in the page itself: runs in a Worker with the module, and all else from their columns.
+// What the page asks, answered in the page itself: runs, verdicts and surveys in workers with the modules, and all else
+// from the columns of runs.
 import {Run} from '../../timeline/page/data.js';
 import {indexRun} from '../../timeline/page/index.js';
 import {Refused} from '../../timeline/page/stage.js';
+import {Bench} from './bench.js';
 import {placeOfFault, ruleOf, scenarioOf} from './scenario.js';
 
-const SLOW = 'The run took longer than 5 seconds, so it was stopped.';
+/** The milliseconds after which a survey is ended. */
+const LONGEST_SURVEY = 120000;
 
 /** @implements {Backend}
  * @typedef {import('../../timeline/page/stage.js').Backend} Backend */
@@ -13,54 +16,58 @@ export class Alone {
   number = 0;
   /** The milliseconds after which a run is ended. */
   most = 5000;
-  worker = /** @type {Worker|null} */ (null);
-  /** Ends the run that goes on, with its worker. */
-  end = /** @type {(answer: any) => void} */ (() => {});
+  checker = /** @type {Promise<WebAssembly.Module>|null} */ (null);
 
-  /** @param {Promise<WebAssembly.Module>} module @param {string} script the worker's
-   * @param {Record<string, string>} rules those that errors break */
-  constructor(module, script, rules) {
+  /** @param {Promise<WebAssembly.Module>} module @param {() => Promise<WebAssembly.Module>} checker that of
+   * `motecheck`, when it is needed @param {string} script the worker's @param {Record<string, string>} rules those that
+   * errors break */
+  constructor(module, checker, script, rules) {
     this.module = module;
+    this.loadChecker = checker;
     this.rules = rules;
     this.script = URL.createObjectURL(new Blob([script], {type: 'text/javascript'}));
+    this.front = new Bench(this.script);
+    this.back = new Bench(this.script);
   }
 
-  /** Runs a text; a run that goes on is ended. */
+  /** Runs a text; a run that goes on is ended, and so is a survey of an earlier text. */
   async run({text, name}) {
     const number = ++this.number;
-    this.end({superseded: true});
+    for (const it of [this.front, this.back]) it.end({superseded: true});
     const module = await this.module;
     if (number !== this.number) return {superseded: true};
-    const got = await new Promise(done => {
-      const worker = this.worker ||= new Worker(this.script);
-      const timer = setTimeout(() => this.end({limit: SLOW}), this.most);
-      const finish = answer => {
-        clearTimeout(timer);
-        this.end = () => {};
-        done(answer);
-      };
-      this.end = answer => {
-        worker.terminate();
-        this.worker = null;
-        finish(answer);
-      };
-      worker.onmessage = ({data}) => finish(data);
-      worker.onerror = event => this.end({limit: `The run failed in this browser: ${event.message}`});
-      worker.postMessage({module, number, text});
-    });
+    const got = await this.front.ask({module, text, isReport: true}, this.most), {line} = got;
     if (got.superseded || got.limit) return got;
-    const {line} = got;
     if (line) return {fault: {line, words: ruleOf(this.rules, line), place: placeOfFault(text, line)}};
     const run = new Run({name, ...got.table, ...scenarioOf(text)}, got.columns);
     await indexRun(run);
     return number === this.number ? {run, number, took: got.took} : {superseded: true};
   }
 
-  stop() {
-    this.number++;
-    this.end({limit: 'You stopped the run.'});
+  /** What `motecheck` answers to claims about a text; with options, its survey.
+   * @param {string} text @param {string[]} claims */
+  async check(text, claims, options = '') {
+    const {number} = this, module = await (this.checker ||= this.loadChecker());
+    if (number !== this.number) return {superseded: true};
+    return (options ? this.back : this.front).ask({module, text: [options, claims.join('\n'), text].join('\0')},
+      options ? LONGEST_SURVEY : this.most);
   }
 
-  /** @returns {Promise<any>} */
-  async ask() { throw new Refused('Only the studio answers this.'); }
+  endSurvey() { this.back.end({superseded: true}); }
+
+  /** What must hold of a text besides its own claims. @param {any} document @param {string} text
+   * @returns {Promise<any[]>} */
+  async expectations(document, text) { return []; }
+
+  /** Keeps an expectation that the reader writes: a claim that belongs into the text; '' if it is kept elsewhere.
+   * @param {string} words @returns {Promise<string>} */
+  async expect(words) { return words; }
+
+  stop() {
+    this.number++;
+    this.front.end({limit: 'You stopped the run.'});
+  }
+
+  /** @param {string} what @param {any} asked @returns {Promise<any>} */
+  async ask(what, asked) { throw new Refused('Only the studio answers this.'); }
 }

@@ -136,6 +136,15 @@ const EDITS = {
   },
 };
 
+/** The text of a file of expectations with another one. @param {string} source @param {string} sentence */
+export function withSentence(source, sentence) {
+  const {tables, place} = readToml(source), all = tables.expect || [], words = JSON.stringify(sentence);
+  const list = place('expect')?.value, last = list && place('expect', all.length - 1)?.value;
+  if (!list) return `expect = [\n  ${words},\n]\n${source}`;
+  const at = last ? last[1] : list[0] + 1;
+  return `${source.slice(0, at)}${last ? ',' : ''}\n  ${words}${last ? '' : ',\n'}${source.slice(at)}`;
+}
+
 /** The text that an edit makes of another, and its effect in words.
  * @param {string} source @param {any} wish */
 export function edit(source, wish) {

@@ -5,7 +5,7 @@ import {byId, element, makeButton} from '../../timeline/page/dom.js';
 /** The first sentence of the comment at the head of a text. */
 export function firstSentence(text) {
   const [comment] = /^(#.*\n)*/.exec(text) || [''];
-  return (/^.*?[.](?= |$)/.exec(comment.replace(/^#+ ?/gm, '').replace(/\n/g, ' ').replace(/`/g, '')) || [''])[0];
+  return (/^.*?[.](?= |$)/.exec(comment.replace(/^# (expect|faults): .*\n/gm, '').replace(/^#+ ?/gm, '').replace(/\n/g, ' ').replace(/`/g, '')) || [''])[0];
 }
 
 /** Fills the dialog of the examples: with cards of those that have a title. `choose` is called with the chosen one, and

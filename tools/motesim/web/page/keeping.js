@@ -6,7 +6,7 @@ import {page} from '../../timeline/page/stage.js';
 import {digits} from '../../timeline/page/words.js';
 
 const DRAFTS = 'motesim draft', SESSION = 'motesim session', MOST_DRAFTS = 6, MOST_STEPS = 40;
-const FORMAT = 'deflate-raw', LONGEST_TEXT = 1 << 20;
+const HTML = 'motesim.html', FORMAT = 'deflate-raw', LONGEST_TEXT = 1 << 20;
 /** Links that are longer than this get lost in chats and mails. */
 const LONGEST_LINK = 8000;
 
@@ -49,11 +49,14 @@ function sessionHere() {
   return {steps: found.steps.map(step => ({...step, run: null, of: found.documents[step.of]})), now: found.now};
 }
 
+/** True in the studio, whose own address is of no use to others. */
+const isServed = () => document.body.classList.contains('served');
+
 /** The address of this page with a text; null if it is too long for chats and mails.
  * @param {string} text @returns {Promise<string|null>} */
 async function linkTo(text) {
   const letters = (await packed(text, FORMAT)).replace(/\+/g, '-').replace(/\//g, '_').replace(/=+$/, '');
-  return letters.length > LONGEST_LINK ? null : `${location.href.split('#')[0]}#t=1.${letters}`;
+  return letters.length > LONGEST_LINK ? null : `${isServed() ? HTML : location.href.split('#')[0]}#t=1.${letters}`;
 }
 
 /** The text in the part of an address behind `#`; null if it has none. Fails if a text is cut off, or of another form.
@@ -85,12 +88,13 @@ export async function keepInAddress(text) {
   }
 }
 
-/** Hands out this page with a text in it. */
-function savePage(text, name) {
+/** Hands out this page, or in the studio that without a server, with a text in it. */
+async function savePage(text, name) {
+  const html = isServed() ? await (await fetch(HTML)).text() : delivered;
   const inside = JSON.stringify({text, name}).replace(/</g, '\\u003c');
-  const begin = delivered.indexOf('>', delivered.indexOf('<script id="saved"')) + 1;
-  const end = delivered.indexOf('</' + 'script>', begin);
-  handOut(name.replace(/(\.toml)?$/, '.html'), [delivered.slice(0, begin), inside, delivered.slice(end)], 'text/html');
+  const begin = html.indexOf('>', html.indexOf('<script id="saved"')) + 1;
+  const end = html.indexOf('</' + 'script>', begin);
+  handOut(name.replace(/(\.toml)?$/, '.html'), [html.slice(0, begin), inside, html.slice(end)], 'text/html');
 }
 
 export async function showSharing(text, name) {
@@ -98,6 +102,7 @@ export async function showSharing(text, name) {
   const bare = await linkTo(text), link = bare && line >= 0 ? `${bare}&line=${pane.run.numberOf(line, mote)}` : bare;
   byId('sharing-said').textContent = !link ?
     'This scenario is too long for a link in a chat or a mail: send the file, or this page saved with it.' :
+    isServed() ? 'Put this behind the address at which others open motesim.html, or send them that page, saved with your text.' :
     location.protocol === 'file:' ?
       'This page was opened from a file of this machine, so others can\'t open the link: send this page, which is saved ' +
       'with your text. On a web server, its link carries the whole scenario.' :

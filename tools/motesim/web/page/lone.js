@@ -6,6 +6,7 @@ import {openAsAddressed} from '../../timeline/page/main.js';
 import {unpacked} from '../../timeline/page/packing.js';
 import {page} from '../../timeline/page/stage.js';
 import {Alone} from './alone.js';
+import {beginChecks} from './checks.js';
 import {drafts, keepDraft, keepInAddress, keepSession, textToOpen} from './keeping.js';
 import {begin, open, openExample, say} from './web.js';
 
@@ -15,10 +16,12 @@ let isLeaving = false;
 
 async function start() {
   const data = JSON.parse(byId('data').textContent);
-  const module = unpacked(byId('module').textContent, 'gzip').then(
+  const compiled = id => unpacked(byId(id).textContent, 'gzip').then(
     bytes => WebAssembly.compile(/** @type {BufferSource} */ (bytes)));
+  const backend = new Alone(compiled('module'), () => compiled('checker'), byId('worker').textContent, data.rules);
   page.chainOf = chainOf;
-  const [first] = begin(new Alone(module, byId('worker').textContent, data.rules), data, drafts);
+  const [first] = begin(backend, data, drafts);
+  beginChecks();
   page.reactions.kept.push(text => {
     const {document, saved} = page.web;
     keepDraft(text, document, saved);

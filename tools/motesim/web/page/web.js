@@ -35,6 +35,19 @@ export function say(words, is = '', buttons = [], offers = []) {
   byId('offers').replaceChildren(...offers.map(([name, does]) => makeButton(name, does)));
 }
 
+/** Says what a run showed, and before that what the checks say of it. */
+export function sayOutcome() {
+  const {words, is, buttons, offers} = web.outcome, {checks} = page;
+  say([checks.words, checks.words && is === 'same' ? '' : words].filter(Boolean).join(' '), checks.is || is, buttons, offers);
+}
+
+/** Keeps what a run showed, and says it.
+ * @param {string} words @param {string[]} buttons @param {[string, () => void][]} offers */
+export function setOutcome(words, is = '', buttons = [], offers = []) {
+  web.outcome = {words, is, buttons, offers};
+  sayOutcome();
+}
+
 /** The button that goes back, if there is a text before. */
 const reverting = () => web.history.before ? ['revert'] : [];
 
@@ -54,7 +67,7 @@ export async function attempt(work) {
 function sayIntro() {
   const {example, intro, history, document} = web;
   if (example) byId('try').textContent = example.try;
-  say(example?.about || [intro, firstSentence(history.text)].filter(Boolean).join(' ') || `This is ${document.name}.`, '',
+  setOutcome(example?.about || [intro, firstSentence(history.text)].filter(Boolean).join(' ') || `This is ${document.name}.`, '',
     example?.replace ? ['try'] : []);
 }
 
@@ -176,7 +189,7 @@ async function runNow() {
   document.body.classList.toggle('stale', !answer?.run);
   if (answer?.run) await showRun(answer, step);
   else if (answer?.fault) showFault(answer.fault);
-  else if (answer) await showLimit(answer, step.text);
+  else if (answer) showLimit(answer);
   page.ready = true;
   if (!page.panes.length) byId('about').textContent = 'No run yet';
 }
@@ -209,13 +222,10 @@ function markFault(place = null, words = '') {
   web.pad.mark(place);
 }
 
-/** Says that a run was stopped, and then, if the backend finds it out, what the run does so often. */
-async function showLimit({limit, number}, text) {
-  const {asked} = web;
+/** Says that a run was stopped. */
+function showLimit({limit}) {
   markFault();
-  say(`${limit} Does a loop repeat without waiting?`, 'bad', reverting());
-  const found = number && await attempt(() => page.backend.ask('advise', {text, number}));
-  if (found?.does && asked === web.asked) say(limit + found.does, 'bad', reverting());
+  say(`${limit} Does a loop repeat without waiting, or is the net too large?`, 'bad', reverting());
 }
 
 async function showRun({run, number, took}, step) {
@@ -231,15 +241,13 @@ async function showRun({run, number, took}, step) {
     (took === undefined ? '' : `, ${Math.max(1, Math.round(took))} ms`);
   if (web.fresh) beginShow();
   else if (found && before.text !== step.text) {
-    say(effectInWords(run, before.run, found), found.same ? 'same' : 'differs', [found.first && 'show', 'revert']);
+    setOutcome(effectInWords(run, before.run, found), found.same ? 'same' : 'differs', [found.first && 'show', 'revert']);
     // (the button that was pressed is hidden now)
     if (document.activeElement === document.body && step.how === 'try') byId('revert').focus();
   } else sayIntro();
   drawAll();
-  if (!page.reactions.judged.length) return;
-  const results = await attempt(() => page.backend.ask('judge', {...web.document, text: '', number, saved: web.saved}));
-  if (results && !results.gone && number === web.number) react('judged', results);
-  web.judged = number;
+  web.shown = step.text;
+  react('ran', step.text, number);
 }
 
 /** Shows an opened text from its beginning; a wave runs over the net of an example. */

@@ -1,0 +1,114 @@
+"""Checks in the page without a server: what must hold, kept in the text; the faults that break it; and both by link."""
+from __future__ import annotations
+
+import json
+from typing import Any
+
+from here import TOP
+from in_page import FLOODING, InPage, fragment
+
+GOAL = 'each of motes 1 to 24: the lines "print process flood" have in order of time exactly the values 1, 2, 3'
+CHECKED = '# expect: %s\n%s' % (GOAL, FLOODING)
+NEWS = (TOP / 'examples/news.toml').read_text()
+# The examples that motesim runs.
+EXAMPLES = [it.read_text() for it in sorted((TOP / 'examples').glob('*.toml'))
+            if not it.name.endswith('.expect.toml') and it.name != 'wrong.toml']
+
+
+class Checks(InPage):
+    def tab(self) -> Any:
+        return self.value('by("tab-checks").textContent')
+
+    def surveyed(self) -> None:
+        self.wait('m.checks.survey && !by("tried").textContent.includes("…")')
+
+    def test_what_must_hold_is_suggested_kept_in_the_text_and_taken_back(self) -> None:
+        self.open()
+        self.press('tab-checks')
+        self.press_in('suggested', 'every mote but 0 prints just flood 1, 2, 3')
+        self.surveyed()
+        self.assertIn('# expect: %s\n' % GOAL, self.value('text'))
+        self.assertEqual(self.tab(), 'Checks 1/1 · 3 faults break it')
+        self.assertRegex(self.value('by("tried").textContent'), r'^105 faults tried, [\d,]+ ms: 3 break it\.$')
+        self.assertIn('everything holds, but link 0 to 5, mote 0 or mote 5 alone can break it.', self.said())
+        self.undo()
+        self.wait('by("tab-checks").textContent === "Checks"')
+        self.assertEqual(self.value('text'), FLOODING)
+
+    def test_suggestions_hold_for_all_examples(self) -> None:
+        self.open()
+        for text in EXAMPLES:
+            self.put(text)
+            self.wait('web.shown === %s' % json.dumps(text))
+            self.wait('by("suggested").querySelectorAll("button").length')
+            claims = self.value('[...by("suggested").querySelectorAll("button")].map(it => it.title)')
+            self.put(''.join('# expect: %s\n' % it for it in claims) + text)
+            self.wait('m.checks.items.length === %d' % len(set(claims)))
+            self.assertEqual(self.value('m.checks.items.flatMap(it => it.verdicts).filter(it => !it.holds)'), [], text[:80])
+
+    def test_a_fault_becomes_a_part_of_the_run_and_says_why(self) -> None:
+        self.open(fragment(CHECKED))
+        self.surveyed()
+        self.press('tab-checks')
+        self.press_in('breaking', 'link 0 to 5')
+        self.wait('by("why-chain").textContent.includes("packet 1 of mote 0 to mote 5, sent at 80, was lost on the way")')
+        self.assertIn('every = 1\n', self.value('text'))
+        self.assertIn('Mote 1 doesn\'t print 2, as it did at 89', self.value('by("why-chain").textContent'))
+        self.assertTrue(self.said().startswith('Broken: every mote but 0 prints just flood 1, 2, 3.'))
+        self.assertEqual(self.value('run.text(m.chosen.line)'), '80 send 1 2')
+        self.undo()
+        self.wait('!text.includes("every = 1\\n") && m.checks.survey')
+
+    def test_pairs_are_tried_when_asked_for_and_end_at_the_next_key(self) -> None:
+        self.open(fragment('# faults: links\n' + CHECKED))
+        self.surveyed()
+        self.press('tab-checks')
+        self.press('try-pairs')
+        self.wait('m.checks.pairs')
+        self.assertEqual(self.value('m.checks.pairs.sets.length'), 6)
+        self.assertIn('link 2 to 1 + link 6 to 1', self.value('by("breaking").textContent'))
+        self.press('part-all')
+        self.value('by("text").focus()')
+        self.press('try-pairs') if self.value('!by("try-pairs").hidden') else None
+        self.browser.type('#\n')
+        self.assertEqual(self.value('[m.checks.pairs, m.backend.back.worker === null || true]'), [None, True])
+
+    def test_a_broken_check_leads_to_its_line(self) -> None:
+        self.open(fragment('# expect: each of motes 0 to 24: at most 2 lines "send"\n' + FLOODING))
+        self.wait('m.checks.items.length')
+        self.assertEqual(self.tab(), 'Checks 0/1')
+        self.press('tab-checks')
+        self.value('by("held").querySelector(".broken button").click()')
+        self.assertEqual(self.value('[m.chosen.mote, run.words(m.chosen.line)]'), [0, 'send 2 3'])
+
+    def test_a_line_is_expected_of_its_mote_or_of_all(self) -> None:
+        self.open()
+        self.value('find("mote 24 prints")')
+        self.browser.key('w', 'KeyW', 87)
+        for words, claim in (('of mote 24', 'mote 24: at least 1 line "print process flood value 1"'),
+                             ('of all motes', 'each of motes 1 to 24: at least 1 line "print process flood value 1"')):
+            self.press_in('details', words)
+            self.wait('text.includes(%s)' % json.dumps('# expect: ' + claim))
+
+    def test_a_claim_is_typed_and_one_that_can_not_be_read_says_where(self) -> None:
+        self.open()
+        self.press('tab-checks')
+        for words in 'the net: exactly 75 packets sent', 'mote 1: exactly 3 lines "snd"':
+            self.value('(it => { it.value = %s; it.form.requestSubmit(); })(by("expect-asked"))' % json.dumps(words))
+        self.wait('m.checks.items.length === 2')
+        self.assertEqual(self.tab(), 'Checks 1/2')
+        self.assertIn('can\'t be read from here on: snd"', self.value('by("held").textContent').replace('"snd', 'snd'))
+
+    def test_an_exercise_says_when_it_is_right(self) -> None:
+        """News on a grid, which a single lost link must not stop: the wrong condition is corrected by typing."""
+        wrong = NEWS.replace('(is(packet) && (from < (self + 3)))', '(is(packet) && (from < self))')
+        self.assertNotEqual(wrong, NEWS)
+        goal = '# expect: each of motes 1 to 8: at least 1 line "print process news value 7"\n# faults: links\n'
+        self.open(fragment(goal + wrong))
+        self.surveyed()
+        self.assertRegex(self.said(), r'^Not yet: everything holds, but .* can break it\.')
+        self.value('(it => { it.focus(); const at = it.value.indexOf("(from < self)"); '
+                   'it.setSelectionRange(at, at + 13); })(by("text"))')
+        self.browser.type('(from < (self + 3))')
+        self.wait('by("said").textContent.startsWith("Right: everything holds, and none of 40 single faults breaks it.")')
+        self.assertEqual(self.tab(), 'Checks 1/1')
