@@ -5,6 +5,9 @@ scenario NAME.toml:
 
     expect = ["mote 6 prints flood 1 by 60", "no mote halts", "every mote but 0 receives at least 3"]
 
+Claims in the comments at the head of the scenario, `# expect: CLAIM`, are expected too, unless a file or --expect is
+given.
+
 The scenario is run. For each expectation a line says whether it holds. If it doesn't, further lines have the reason,
 and the first line of the report that breaks it. docs/use/TESTING.md has all forms of expectations. The last
 line is `N passed, M failed`.
@@ -41,18 +44,26 @@ def parser() -> Words:
 def main() -> int:
     asked = parser().parse_intermixed_args()
     from motesim.explain.within import limits_of, runs_within
-    from motesim.judge.expectations import beside, claims_shown, expect
+    from motesim.judge.expectations import beside, claims_shown, expect, text_of
+    from motesim.judge.own_claims import expect_own, own_claims
     scenario = Path(asked.scenario)
     expectations = Path(asked.expectations) if asked.expectations else beside(scenario)
     if asked.expectations and asked.expect:
         raise Fault('the expectations are in a file or in --expect, not in both')
-    if not (asked.expectations or asked.expect) and scenario.exists() and not expectations.exists():
+    is_own = not (asked.expectations or asked.expect) and scenario.exists()
+    text = text_of(scenario) if is_own and not asked.claims else ''
+    claims, passed, failed = own_claims(text), 0, 0
+    if is_own and not expectations.exists() and not claims:
         raise Fault('there is no file %s next to %s: name another one, tools/expect SCENARIO EXPECTATIONS, or use --expect' % (
             expectations, scenario))
     if asked.claims:
         print('\n'.join(claims_shown(scenario, expectations, asked.expect)))
         return 0
-    passed, failed = expect(scenario, expectations, run=runs_within(asked.scenario, asked), limits=limits_of(asked),
-                            given=asked.expect)
+    if not claims or expectations.exists():
+        passed, failed = expect(scenario, expectations, run=runs_within(asked.scenario, asked), limits=limits_of(asked),
+                                given=asked.expect)
+    if claims:
+        held, broken = expect_own(scenario, text, claims, limits_of(asked))
+        passed, failed = passed + held, failed + broken
     print('%d passed, %d failed' % (passed, failed))
     return 1 if failed else 0
