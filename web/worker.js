@@ -6,7 +6,12 @@
 // Last is the byte 0, and the exit status in 4 bytes.
 'use strict';
 const fs = require('fs');
+const v8 = require('v8');
 const {readBytes, runProgram, writeAll} = require(__dirname + '/in_node.js');
+
+// Most runs end before a function has earned the time of the optimizing compiler. (If node doesn't know this name, it
+// goes on as before.)
+v8.setFlagsFromString('--wasm-tiering-budget=50000000');
 
 const END = 0, ANSWER = 1;
 
