@@ -3,11 +3,11 @@ from __future__ import annotations
 
 from collections.abc import Iterator
 
-FATES = {'received': 'copies that the mote received',
+FATES = {'received': 'copies that were received',
          'lost': 'copies that the medium lost',
          'overflowed': 'copies that arrived while eight packets were waiting',
          'collided': 'copies that arrived together with others',
-         'halted': 'copies that arrived after the mote had halted',
+         'halted': 'copies that arrived at a halted mote',
          'left': 'copies that would have arrived after the end'}
 COPIES = {'copies': 'copies of packets on their way to it, each of which is also in the column of its fate', **FATES,
           'ratio': "`received`, divided by the number of copies that aren't `left`"}
@@ -30,7 +30,7 @@ FLOWS = {'origin': 'the mote at which messages began',
          'least': 'the least number of moments from the beginning of a message to its first delivery at a mote',
          'middle': 'their median', 'most': 'the greatest number of these moments'}
 INTERVALS = {'from': 'the first moment', 'to': 'the last moment', 'sent': 'packets that were sent',
-             **{name: what.replace('the mote', 'a mote') for name, what in FATES.items()},
+             **FATES,
              'ratio': "`received`, divided by the copies that weren't `left`",
              'delay': 'moments that the received copies were on their way, on average',
              'posted': 'events that queues accepted', 'refused': 'events that full queues refused',

@@ -14,7 +14,7 @@ from motesim.judge.verdicts import breaks
 from motesim.why.chain import Hop, chain, path_of
 from motesim.why.diverge import diverged
 from motesim.why.miss import misses
-from motesim.why.question import Asked, Asker, Missing
+from motesim.why.question import Asked, Asker, Missing, Unasked
 from motesim.why.say import (about, chain_as_json, heading, misses_as_json, of_path, on_values, rows_of_chain,
                              rows_of_misses, rows_of_state, rows_of_two, rows_of_values, state_as_json, values_as_json,
                              words_of)
@@ -104,7 +104,14 @@ def show_other(asker: Asker, missing: Missing, asked: argparse.Namespace) -> Non
 def show_why(source: Source, asked: argparse.Namespace) -> int:
     """Shows a chain, or the near misses."""
     asker = Asker(source)
-    found = answered(asker, asked)
+    try:
+        found = answered(asker, asked)
+    except Unasked as unasked:
+        if not unasked.holds:
+            raise
+        print(json.dumps({'question': asked.question, 'holds': True, 'about': str(unasked)}, indent=1) if asked.json
+              else unasked)
+        return 0
     if not isinstance(found, Asked):
         near = misses(asker, found)
         print(json.dumps({'question': asked.question, **misses_as_json(source, found, near)}, indent=1) if asked.json

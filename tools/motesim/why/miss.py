@@ -17,6 +17,7 @@ from motesim.report import Line, Packet
 from motesim.why.fate import Fate, fate_of
 from motesim.why.question import Asker, Missing
 from motesim.why.source import At, Source
+from motesim.why.spread import Spread, spread_of
 
 MOST_COPIES, MOST_OTHERS = 8, 3
 WHOLE: Span = 0, None
@@ -85,7 +86,7 @@ class Miss(NamedTuple):
     0. `is_wanted` says whether it is about exactly the line or the packet that the sentence wants."""
     kind: str
     mote: int
-    facts: Moved | Unheard | Untaken | Absent | Away | Passed | Waiting | None
+    facts: Moved | Unheard | Spread | Untaken | Absent | Away | Passed | Waiting | None
     row: int = 0
     is_wanted: bool = False
 
@@ -126,6 +127,7 @@ class _Misses:
             yield from (absent, *self.halted())
             return
         yield from self.unheard()
+        yield from self.spread()
         yield from self.halted()
         yield from self.copies()
         yield from self.process()
@@ -160,6 +162,12 @@ class _Misses:
         if wanted is None or (self.kind == 'recv' and len(self.pattern) < 4):
             return set()
         return self.asker.finder.links.values(wanted, self.mote)
+
+    def spread(self) -> Iterator[Miss]:
+        """How far the wanted value came, if it was never on its way to this mote."""
+        values = self.values() if self.sender is None else set[int]()
+        if self.kind in ('print', 'send', 'recv') and (found := spread_of(self.source, values, self.mote, self.end)):
+            yield Miss('spread', self.mote, *found, is_wanted=True)
 
     def copies(self) -> Iterator[Miss]:
         """The last copies that this mote didn't get, up to the last moment: those with a wanted value, or, if there are

@@ -40,12 +40,14 @@ class Asked:
     lost        the motes for which the medium lost copies of the line's packet, if the sentence is about such copies
     medium_row  the line of the medium that the question names, if it does: `where` sent its packet
     is_last     all motes have to fulfil the sentence, and this one is the last that does
+    is_answer   the question is an expectation, and not a line
     """
     where: At
     why: str = ''
     lost: tuple[int, ...] = ()
     medium_row: int = 0
     is_last: bool = False
+    is_answer: bool = False
 
     @property
     def holds(self) -> bool:
@@ -173,7 +175,7 @@ class Asker:
         if where is None:
             raise Unasked(NO_LINE, True)
         is_last = isinstance(it, Does) and it.motes.kind == 'each' and len(self.finder.chosen(it.motes)) > 1
-        return Asked(where, lost=self.losses(where, it), is_last=is_last)
+        return Asked(where, lost=self.losses(where, it), is_last=is_last, is_answer=True)
 
     def line(self, row: int | None) -> At | None:
         """The line of a trace in a row of the report, or the line that sent the packet of a row of the medium."""

@@ -19,6 +19,7 @@ from motesim.why.fate import Fate
 from motesim.why.miss import Absent, Away, Miss, Moved, Passed, Unheard, Untaken, Waiting
 from motesim.why.question import Asked, Missing
 from motesim.why.source import At, Source
+from motesim.why.spread import Onward, Spread
 from motesim.why.state import State, Wait, call_now, wait_of
 from motesim.why.watch import Given
 
@@ -28,6 +29,8 @@ MOST_MET = 3
 # The calls that have their own line; and the most calls without a line that a reason names.
 HAVE_LINES, MOST_CALLS = ('take', 'init', 'boot'), 8
 MOST_LINES = 6
+OUTCOME_WORDS = {'received': 'arrived', 'lost': 'was lost', 'overflowed': 'found the radio full', 'collided': 'collided',
+                 'halted': 'came to a halted mote', 'left': 'was left at the end'}
 WAITS = {'left': 'has left', 'unstarted': 'is not started', 'called': 'is being called',
          'begins': 'begins at its next call'}
 FATES = {
@@ -301,6 +304,8 @@ def of_miss(source: Source, miss: Miss) -> str:
                 'early' if miss.kind == 'early' else 'late, because the expectation allows up to %d' % it.limit)
         case Unheard() as it:
             return 'it cannot hear mote %d: %s' % (it.sender, unheard(source.scenario, miss.mote, it.sender))
+        case Spread():
+            return of_spread(source, miss.mote, miss.facts)
         case Untaken(packet, fate):
             return 'packet %d of mote %d, with the value %d%s, was sent at %d: %s' % (
                 packet.number, packet.sender, packet.value, in_fields(source.scenario.fields, packet.value), packet.at,
@@ -321,6 +326,29 @@ def of_miss(source: Source, miss: Miss) -> str:
             return words + ('; its condition was tested %s in this time, and was never true' % times(it.tests)
                             if it.tests else ', and nothing called it in this time')
     return '; '.join(['it halted at %d' % source.traces.lines(miss.mote)[-1].at, *used_up(source, miss.mote)])
+
+
+def of_spread(source: Source, mote: int, it: Spread) -> str:
+    """How far a value came: the nearest mote that sent it, and what became of its copies for nearer motes."""
+    said = 'the value %d%s came as far as mote %d, which sent it %s%s' % (
+        it.value, in_fields(source.scenario.fields, it.value), it.sender, times(it.times),
+        ', at %d' % it.last if it.times == 1 else ', the last time at %d' % it.last)
+    if not it.copies:
+        return '%s; no packet of mote %d can reach mote %d, also not through others' % (said, it.sender, mote)
+    return '; '.join([said, *(of_onward(source, copies) for copies in it.copies)])
+
+
+def of_onward(source: Source, it: Onward) -> str:
+    """What became of the copies for a mote."""
+    total, last = sum(number for _, number in it.outcomes), of_fate(source, it.last)
+    if it.last.is_received or it.last.what in ('taken', 'waiting'):
+        return 'mote %d received it, and sent it no further' % it.to
+    if total == 1:
+        return 'the copy for mote %d: %s' % (it.to, last)
+    if len(it.outcomes) == 1:
+        return 'each copy for mote %d %s; the last: %s' % (it.to, OUTCOME_WORDS[it.outcomes[0][0]], last)
+    return 'of %d copies for mote %d, %s; the last: %s' % (
+        total, it.to, ', '.join('%d %s' % (number, OUTCOME_WORDS[what]) for what, number in it.outcomes), last)
 
 
 def of_passed(program: Program, it: Passed) -> str:
@@ -422,7 +450,8 @@ def about(source: Source, it: Asked) -> str:
     packet = 'this line sent the packet of `%s`, in the log of the medium' % source.traces.report.row(
         it.medium_row) if it.medium_row else ''
     last = 'mote %d is the last of them' % it.where.mote if it.is_last else ''
-    return '; '.join(filter(None, [packet, last, it.why, *(
+    holds = 'the expectation holds, and this line shows it' if it.is_answer and it.holds else ''
+    return '; '.join(filter(None, [packet, holds, last, it.why, *(
         'the copy for mote %d: the medium lost it, because it loses %s' % (to, rule_of(source, it.where.mote, to))
         for to in it.lost)]))
 
