@@ -1,8 +1,7 @@
-//! The canonical text of a program, and the law that a program declares everything that it names. The crate
-//! `program_reader` has the reader of programs, and `program_tree` has their trees.
+//! The canonical text of a program. The crate `program_reader` has the reader of programs, and `program_tree` has their
+//! trees.
 #![tactic(auto)]
 
-pub mod name_laws;
 mod printer;
 mod spelling;
 mod unparse;

@@ -7,7 +7,6 @@ mod blocks;
 mod canonical;
 mod inboxes;
 mod kernels;
-mod looked_up;
 mod medium;
 mod motes;
 mod protothreads;

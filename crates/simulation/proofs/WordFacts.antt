@@ -1,16 +1,11 @@
 -- The meaning of the matches and errors that `clap` returns for the command.
-use Rattle.std.proofs.Common.{◌≡◌, ◌==◌, ℕ, List, [], ◌∷◌, Option, Some, None, true, false, ap, refl, codes, option_map, subst, ◌∙◌}
+use Rattle.std.proofs.Common.{◌≡◌, ℕ, List, [], ◌∷◌, Option, Some, None, true, ap, refl, codes, option_map, subst, ◌∙◌}
 use Rattle.clap.specs.Words.{App, Row, Rule, Text, one_of, first_of, fault_of, is_simple, matches_of}
 use Rattle.clap.specs.Faults.{is_simple_and_free}
 use Rattle.clap.proofs.OnLiterals.{clap_on_literals}
 use Rattle.clap.specs.declared.error.kind.ErrorKind.TheVariants as kind
 use Rattle.window_workers.specs.declared.sync.SyncKind.TheVariants as sync
 use Rattle.simulation.specs.Words.{AskedIn, AsksFor, Choices, IsMotesim, ReadsCount, ReadsWorkers, app_with, cut_of, sync_of}
-use Rattle.clap.specs.Lexer.{long_of, short_of, short_of_rest}
-use Rattle.clap.specs.Walk.{Held, Step, Waiting, Walk, after_step, idle, long_or_other, option, plain_word, positional}
-use Rattle.clap.specs.Walk.{short_or_plain, subcommand_met, subcommand_or_other, trailing, walked}
-use Rattle.std.specs.Str.{bytes_eq}
-use Rattle.std.proofs.Common.{Bool, cond, option_and_then}
 use Rattle.simulation.specs.declared.command_line.Asked.{Asked}
 use Rattle.simulation.specs.declared.options.CutKind.TheVariants as cut
 
@@ -69,37 +64,3 @@ help_asked cuts syncs prog = refl
 too_many : (cuts syncs : Choices) (prog : Text) → fault_of (app_with cuts syncs) (prog ∷ codes "--workers=17" ∷ []) ≡ kind.ValueValidation ∷ []
 unfolding clap_on_literals
 too_many cuts syncs prog = refl
-
--- ---- a word that doesn't begin with a hyphen
-
-pub no_dashes : (b : ℕ) (bs : Text) → (b == 45) ≡ false → bytes_eq (b ∷ bs) (45 ∷ 45 ∷ []) ≡ false
-no_dashes b bs not_hyphen = rw not_hyphen refl
-
-pub no_long : (b : ℕ) (bs : Text) → (b == 45) ≡ false → long_of (b ∷ bs) ≡ None
-no_long b bs not_hyphen = rw not_hyphen refl
-
-pub no_short : (b : ℕ) (bs : Text) → (b == 45) ≡ false → short_of (b ∷ bs) ≡ None
-no_short b bs not_hyphen = ap (λ (t : Bool). option_and_then short_of_rest (cond t (Some bs) None)) not_hyphen
-
--- the word isn't a flag
-pub plain_met : (c : List Rule) (waiting : Waiting) (position : ℕ) (h : Held) (b : ℕ) (bs : Text) → (b == 45) ≡ false
-    → subcommand_or_other c None waiting position (b ∷ bs) h ≡ plain_word c waiting (b ∷ bs) h
-plain_met c waiting position h b bs not_hyphen =
-    ap (λ (t : Bool). cond t (h, trailing position) (long_or_other c waiting (b ∷ bs) (long_of (b ∷ bs)) h)) (no_dashes b bs not_hyphen)
-    ∙ (ap (λ o. long_or_other c waiting (b ∷ bs) o h) (no_long b bs not_hyphen)
-    ∙ ap (λ o. short_or_plain c waiting (b ∷ bs) o h) (no_short b bs not_hyphen))
-
-pub no_name : (waiting : Waiting) (word : Text) → subcommand_met [] waiting word ≡ None
-no_name idle word = refl
-no_name (option id) word = refl
-no_name positional word = refl
-
-pub plain_step : (c : List Rule) (h : Held) (waiting : Waiting) (position : ℕ) (b : ℕ) (bs : Text) → (b == 45) ≡ false
-    → walked c [] (record { held = h; waiting = waiting; position = position; is_trailing = false; stopped = None }) (b ∷ bs)
-    ≡ after_step c (b ∷ bs) (record { held = h; waiting = waiting; position = position; is_trailing = false; stopped = None })
-    (plain_word c waiting (b ∷ bs) h).0 (plain_word c waiting (b ∷ bs) h).1
-unfolding walked
-plain_step c h waiting position b bs not_hyphen =
-    let w : Walk = record { held = h; waiting = waiting; position = position; is_trailing = false; stopped = None } in
-    ap (λ (m : Held × Step). after_step c (b ∷ bs) w m.0 m.1)
-    (ap (λ o. subcommand_or_other c o waiting position (b ∷ bs) h) (no_name waiting (b ∷ bs)) ∙ plain_met c waiting position h b bs not_hyphen)

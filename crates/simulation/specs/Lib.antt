@@ -6,4 +6,3 @@ pub mod Laws
 pub mod Reads
 pub mod Simulation
 pub mod Words
-pub mod Written

@@ -1,6 +1,5 @@
-//! Laws of the definitions. Each is a theorem, stated as the contract of a function that is empty or only calls other
-//! laws.
-ghost use Rattle.simulation.specs.Laws.{OneReport, ScenarioHasReport, CommandLineRoundTrip};
+//! Laws of the definitions. Each is a theorem, stated as the contract of a function that only calls other laws.
+ghost use Rattle.simulation.specs.Laws.{OneReport, ScenarioHasReport};
 
 use net_scenario::laws::at_most_one_net;
 use window_workers::laws::{report_is_one, report_is_there};
@@ -20,9 +19,3 @@ pub fn scenario_has_report()
 {
     report_is_there();
 }
-
-/// The round trip of the command line: the arguments that are written for a file and options, without workers or with
-/// 1 to 16, ask for exactly this file and these options, and have no error.
-pub fn command_line_round_trip()
-    ensures round_trip { CommandLineRoundTrip }
-{}

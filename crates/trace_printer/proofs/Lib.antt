@@ -1,12 +1,8 @@
 pub mod Crossing
 pub mod Digits
-pub mod NamedCases
 pub mod Pieces
-pub mod ProgramNames
 pub mod Puts
-pub mod ReportParts
 pub mod Rounds
-pub mod Separated
 pub mod Shares
 pub mod ShortNumbers
 pub mod TraceLines

@@ -1,6 +1,3 @@
-pub mod Laws
-pub mod Named
-pub mod NamedCases
 pub mod Output
 pub mod Page
 pub mod Parts

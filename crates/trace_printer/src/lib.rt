@@ -3,7 +3,6 @@
 
 mod by_workers;
 mod error;
-pub mod laws;
 mod lines;
 mod names;
 mod numbered;

@@ -1,9 +1,0 @@
-pub mod Blocks
-pub mod Calls
-pub mod Declared
-pub mod FreshNames
-pub mod Nets
-pub mod States
-pub mod Texts
-pub mod Threads
-pub mod Turns
