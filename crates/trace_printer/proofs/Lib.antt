@@ -3,7 +3,6 @@ pub mod Digits
 pub mod Pieces
 pub mod Puts
 pub mod Rounds
-pub mod Shares
 pub mod ShortNumbers
 pub mod TraceLines
 pub mod Written

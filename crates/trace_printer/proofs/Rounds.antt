@@ -1,16 +1,16 @@
--- Parts of the traces' text, one after another.
-use Rattle.std.proofs.Common.{◌≡◌, ℕ, ◌+◌, ◌-◌, ◌≤◌, List, [], ◌∷◌, ◌++◌, take, drop, refl, ap, sym, ◌∙◌, arith}
+-- Pages of consecutive lines, one after another.
+use Rattle.std.proofs.Common.{◌≡◌, ℕ, zero, suc, ◌+◌, ◌-◌, ◌*◌, ◌<◌, ◌≤◌, List, [], ◌∷◌, ◌++◌, length, take, drop, slice_index_or, Result, Ok, IfOk, refl, ap, sym, subst, ◌∙◌, arith}
 use Rattle.std.proofs.Common.{append-nil, take-append-drop, Option}
 use Rattle.std.specs.Io.KnownBytes.{Appends}
-use Rattle.std.specs.List.{concat, flat_map, AllZip, AllByRecursion as Each}
+use Rattle.std.specs.List.{concat}
 use Rattle.std.proofs.lemmas.List.Folds.{concat-append}
+use Rattle.std.proofs.Math.ListN.{drop_of_length-le}
 use Rattle.trace_printer.specs.Output.{AppendsFront}
+use Rattle.std.specs.declared.alloc.AllocError.{AllocError}
 use Rattle.trace_printer.specs.Page.{Written}
+use Rattle.trace_printer.specs.Parts.{ArePages}
 use Rattle.trace_printer.specs.TraceLines.{part_text}
 use Rattle.trace_printer.proofs.TraceLines.{drop_drop, part_sum}
-use Rattle.trace_printer.specs.declared.part.Part.{Part}
-use Rattle.trace_printer.specs.declared.part.Traces.{Traces}
-use Rattle.trace_printer.specs.Parts.{Adjoin, HasTraces, IsPut, texts_of_lines, page_of}
 
 -- a text is written to its end
 pub written_all : (a b : Option (List ℕ)) (text : List ℕ) → Appends a b text → Written a b text []
@@ -20,37 +20,29 @@ written_all a b text h = record { done = text; whole = sym (append-nil text); ap
 pub written_front_of : (a b : Option (List ℕ)) (text : List ℕ) → AppendsFront a b text → (rest : List ℕ) × Written a b text rest
 written_front_of a b text (front, byte, rest, split, more) = (byte ∷ rest, record { done = front; whole = split; appended = more })
 
--- one more part
-pub adjoin_push : (first next last : ℕ) (ps : List Part) (p : Part) → Adjoin first ps next → p.skip ≡ next → p.page ≡ [] → last ≡ next + p.count → Adjoin first (ps ++ p ∷ []) last
-adjoin_push first next last [] p h from page is = (from ∙ sym h, page, ap (λ n. n + p.count) h ∙ sym is)
-adjoin_push first next last (x ∷ ps) p h from page is = (h.0, h.1, adjoin_push (first + x.count) next last ps p h.2 from page is)
+-- the lines of the pages from page i on are those of page i, and then those of the pages after it
+pub next_page : (lines : List (List ℕ)) (skip size n i : ℕ) → i < n
+    → part_text lines (skip + i * size) ((n - i) * size) ≡ part_text lines (skip + i * size) size ++ part_text lines (skip + (i + 1) * size) ((n - (i + 1)) * size)
+next_page lines skip size n i inside =
+    let left : n - i ≡ suc (n - (i + 1)) = omega (arith, inside) in
+    let more : suc (n - (i + 1)) * size ≡ size + (n - (i + 1)) * size = grind arith in
+    let sum : (n - i) * size ≡ size + (n - (i + 1)) * size = rw left more in
+    let place : skip + i * size + size ≡ skip + (i + 1) * size = grind arith in
+    ap (part_text lines (skip + i * size)) sum ∙ part_sum lines (skip + i * size) size ((n - (i + 1)) * size)
+    ∙ ap (λ k. part_text lines (skip + i * size) size ++ part_text lines k ((n - (i + 1)) * size)) place
 
-adjoin_le : (first last : ℕ) (ps : List Part) → Adjoin first ps last → first ≤ last
-adjoin_le first last [] h = omega (arith, h)
-adjoin_le first last (p ∷ ps) h = omega (arith, adjoin_le (first + p.count) last ps h.2)
-
--- the pages of the parts are still empty
-pub adjoin_ready : (t : Traces) (first last : ℕ) (ps : List Part) → HasTraces t → Adjoin first ps last → Each (λ p. HasTraces t × (p.page ≡ [])) ps
-adjoin_ready t first last [] has h = tt
-adjoin_ready t first last (p ∷ ps) has h = ((has, h.1), adjoin_ready t (first + p.count) last ps has h.2)
-
--- the pages of adjoining parts
-pub put_text : (t : Traces) (first last n : ℕ) (ps qs : List Part) → Adjoin first ps last → last ≡ first + n → AllZip (IsPut t) ps qs → flat_map page_of qs ≡ part_text (texts_of_lines t) first n
-put_text t first last n [] [] h is put =
-    let none : n ≡ 0 = omega (arith, h) in
-    rw none refl
-put_text t first last n [] (q ∷ qs) h is put = absurd put
-put_text t first last n (p ∷ ps) [] h is put = absurd put
-put_text t first last n (p ∷ ps) (q ∷ qs) h is put =
-    let low = adjoin_le (first + p.count) last ps h.2 in
-    let sum : n ≡ p.count + (n - p.count) = omega (arith, low, is) in
-    let rest = put_text t (first + p.count) last (n - p.count) ps qs h.2 (omega (arith, low, is)) put.1 in
-    let this : q.page ≡ part_text (texts_of_lines t) first p.count = put.0 ∙ ap (λ k. part_text (texts_of_lines t) k p.count) h.0 in
-    ap (λ (l : List ℕ). l ++ flat_map page_of qs) this ∙ ap (λ (l : List ℕ). part_text (texts_of_lines t) first p.count ++ l) rest
-    ∙ sym (part_sum (texts_of_lines t) first p.count (n - p.count)) ∙ ap (part_text (texts_of_lines t) first) (sym sum)
+-- a page that was made has its lines
+pub page_at : (lines : List (List ℕ)) (skip size : ℕ) (pages : List (Result (List ℕ) AllocError)) (i : ℕ) (item : Result (List ℕ) AllocError) (page : List ℕ)
+    → ArePages lines skip size pages → i < length pages → slice_index_or pages i item ≡ item → item ≡ Ok page → page ≡ part_text lines (skip + i * size) size
+page_at lines skip size pages i item page are inside is made =
+    subst (λ (r : Result (List ℕ) AllocError). IfOk r (λ p. p ≡ part_text lines (skip + i * size) size)) (is ∙ made) (are i item inside)
 
 -- the next `count` lines, and then the lines after them
 pub rest_next : (lines : List (List ℕ)) (skip count : ℕ) → concat (drop skip lines) ≡ part_text lines skip count ++ concat (drop (skip + count) lines)
 rest_next lines skip count =
     ap concat (sym (take-append-drop count (drop skip lines))) ∙ concat-append (take count (drop skip lines)) (drop count (drop skip lines))
     ∙ ap (λ (l : List (List ℕ)). part_text lines skip count ++ concat l) (drop_drop skip count lines)
+
+-- no line is left after the last one
+pub rest_none : (lines : List (List ℕ)) (skip : ℕ) → length lines ≤ skip → concat (drop skip lines) ≡ []
+rest_none lines skip past = ap concat (drop_of_length-le lines past)

@@ -8,47 +8,47 @@ ghost use Rattle.trace_printer.specs.Writes.{Writes};
 ghost use Rattle.trace_printer.specs.Page.{Prints};
 ghost use Rattle.trace_printer.specs.ReportText.{report_text};
 ghost use Rattle.trace_printer.specs.TraceLines.{net_lines};
-ghost use Rattle.trace_printer.specs.Parts.{HasTraces, texts_of_lines};
 
 use crate::error::PrintError;
 use crate::numbered::count_lines;
 use crate::page::Page;
-use crate::part::Traces;
 use crate::report::{write_end, write_report};
+use crate::report_lines::{Numbered, ReportLines};
 use crate::round::write_round;
 use mote_net::{LogLine, Net, Report};
 use std::alloc::Global;
 use std::io::Write;
-use std::sync::Wait;
 use std::thread::Threads;
 use trace_lines::Line;
 
-/// The largest number of lines that all workers together format in one round. Their text is a few mebibytes long.
-const ROUND: usize = 65_536;
+/// The number of lines of a worker's page in one round. Their text is some 200 kilobytes long.
+const SIZE: usize = 8_192;
+
+/// A report with more lines is written by one thread. No memory has room for so many lines.
+const MOST: usize = usize::MAX / 2;
 
 /// The smallest number of lines for which workers are started.
 const MANY: usize = 16_384;
 
-/// Writes all lines of the traces and of the medium, round by round. There are `lines` of them.
-fn write_traces<R: Threads + Wait + Sync, W: Write>(
+/// Writes all lines, round by round. There are `all` of them.
+fn write_all<R: Threads + Sync, T: Numbered + Sync, W: Write>(
     rt: &R,
     alloc: Global,
     workers: u16,
-    traces: &Traces<'_>,
-    lines: usize,
+    lines: &T,
+    all: usize,
     writer: &mut W,
 ) -> Result<(), PrintError>
     requires positive { 1 ≤ workers }
-    requires traces { HasTraces traces.now }
-    requires all { length (texts_of_lines traces.now) ≡ lines }
-    ensures prints { let text = concat (texts_of_lines traces.now)
+    requires all { length (T.texts lines.now) ≡ all }
+    requires bounded { all < 2 ^ 63 }
+    ensures prints { let text = concat (T.texts lines.now)
         in Prints (W.contents writer.old) (W.contents writer.new) [] [] result text }
 {
     let mut skip = 0;
-    'rounds: while skip < lines {
-        let count = (lines - skip).min(ROUND);
-        write_round(rt, alloc, workers, traces, skip, count, writer)?;
-        skip += count;
+    'rounds: while skip < all {
+        write_round(rt, alloc, workers, lines, skip, SIZE, writer)?;
+        skip += usize::from(workers) * SIZE;
     }
     Ok(())
 }
@@ -58,20 +58,20 @@ fn write_traces<R: Threads + Wait + Sync, W: Write>(
 fn many_lines(workers: u16, traces: &[Vec<Line>], log: &[LogLine]) -> Option<usize>
     ensures lines { (net : NetModel) → length traces.now ≡ length net.motes
         → IfSome result (λ count. length (net_lines net (map trace_lines_in traces.now)) ≡ count) }
-    ensures all { IfSome result (λ count. count + length log.now + 1 < 2 ^ 64) }
+    ensures all { IfSome result (λ count. count + length log.now + 1 < 2 ^ 63) }
 {
     if workers < 2 {
         return None;
     }
     match count_lines(traces) {
-        Some(lines) if lines >= MANY && lines < usize::MAX - log.len() => Some(lines),
+        Some(lines) if lines >= MANY && lines < MOST.saturating_sub(log.len()) => Some(lines),
         _ => None,
     }
 }
 
 /// Writes a report with workers. The report's traces have `lines` lines. The page for the report's last line is made
 /// first.
-fn write_by<R: Threads + Wait + Sync, W: Write>(
+fn write_by<R: Threads + Sync, W: Write>(
     rt: &R,
     alloc: Global,
     workers: u16,
@@ -83,19 +83,14 @@ fn write_by<R: Threads + Wait + Sync, W: Write>(
     requires positive { 1 ≤ workers }
     requires traces { vec_len report.now.traces ≡ length (net_of net.now).motes }
     requires lines { length (net_lines (net_of net.now) (report_of report.now).traces) ≡ lines }
-    requires all { lines + vec_len report.now.medium + 1 < 2 ^ 64 }
+    requires all { lines + vec_len report.now.medium + 1 < 2 ^ 63 }
     ensures writes { let text = report_text (net_of net.now) (report_of report.now)
         in Writes (W.contents writer.old) (W.contents writer.new) result text }
 {
     let mut page = Page::new(alloc)?;
-    let traces = Traces {
-        net,
-        traces: &report.traces,
-        lines,
-        medium: &report.medium,
-    };
     let all = lines + report.medium.len() + 1;
-    write_traces(rt, alloc, workers, &traces, all, writer)?;
+    let shown = ReportLines { net, report, lines };
+    write_all(rt, alloc, workers, &shown, all, writer)?;
     write_end(writer, &mut page, report.left)
 }
 
@@ -108,7 +103,7 @@ fn write_by<R: Threads + Wait + Sync, W: Write>(
 /// # Errors
 /// `Write` if the writer failed or took no byte; `Memory` if an allocation failed. A proper prefix of the text has
 /// then been written.
-pub fn write_report_by<R: Threads + Wait + Sync, W: Write>(
+pub fn write_report_by<R: Threads + Sync, W: Write>(
     rt: &R,
     alloc: Global,
     workers: u16,

@@ -13,8 +13,7 @@ ghost use Rattle.trace_printer.specs.Words.{line_of};
 
 use crate::lines::{put_head, put_medium, put_packet, put_trace_line};
 use crate::page::Page;
-use crate::part::Traces;
-use mote_net::{LogLine, Net};
+use mote_net::{LogLine, Net, Report};
 use program_tree::Program;
 use std::alloc::AllocError;
 use trace_lines::Line;
@@ -140,22 +139,25 @@ fn put_medium_part(
     put_packets(page, some_of(log, 0, count - 1))
 }
 
-/// Appends at most `count` of all lines, after the first `skip`. The lines of the motes are first, and those of the
-/// medium follow.
+/// Appends at most `count` of all lines of a report, after the first `skip`. The lines of the motes are first; there
+/// are `lines` of them. Those of the medium follow.
 ///
 /// # Errors
 /// If an allocation failed.
 pub fn put_all_part(
     page: &mut Page,
-    traces: &Traces<'_>,
+    net: &Net,
+    report: &Report,
+    lines: usize,
     skip: usize,
     count: usize,
 ) -> Result<(), AllocError>
-    requires has_traces { HasTraces traces.now }
-    ensures appended { OnOk result (page.new ≡ page.old ++ part_text (texts_of_lines traces.now) skip count) }
+    requires has_traces { HasTraces (net_of net.now) report.now lines }
+    ensures appended { let texts = texts_of_lines (net_of net.now) report.now
+        in OnOk result (page.new ≡ page.old ++ part_text texts skip count) }
 {
-    put_part(page, traces.net, traces.traces, skip, count)?;
-    let left = count.saturating_sub(traces.lines.saturating_sub(skip));
-    let before = skip.saturating_sub(traces.lines);
-    put_medium_part(page, traces.medium, before, left)
+    put_part(page, net, &report.traces, skip, count)?;
+    let left = count.saturating_sub(lines.saturating_sub(skip));
+    let before = skip.saturating_sub(lines);
+    put_medium_part(page, &report.medium, before, left)
 }

@@ -67,16 +67,6 @@ impl Page {
         self.len >= FULL
     }
 
-    /// Makes an empty page without allocating anything.
-    pub fn empty(alloc: Global) -> Page
-        ensures empty { result ≡ [] }
-    {
-        Page {
-            bytes: Vec::new(alloc),
-            len: 0,
-        }
-    }
-
     /// Writes the page. After an error, a proper prefix of the page has been written.
     ///
     /// # Errors

@@ -1,110 +1,93 @@
-//! One round: this thread divides lines into one part for each worker, each worker writes its part to a page, and this
-//! thread writes the pages.
-ghost use Rattle.std.specs.Prelude.{◌≡◌, ◌<◌, ◌≤◌, ◌+◌, ◌^◌, [], IfOk};
-ghost use Rattle.std.specs.List.{flat_map, AllByRecursion as Each};
+//! One round: each worker writes the next lines to a page of its own, in a thread of its own. Then this thread writes
+//! the pages.
+ghost use Rattle.std.specs.Prelude.{◌≡◌, ◌<◌, ◌+◌, ◌*◌, ◌^◌, ℕ, List, [], length, vec_len, IfOk};
 ghost use Rattle.trace_printer.specs.Page.{Prints};
 ghost use Rattle.trace_printer.specs.TraceLines.{part_text};
-ghost use Rattle.trace_printer.specs.Parts.{Adjoin, HasTraces, IsEvenPart, texts_of_lines, page_of};
+ghost use Rattle.trace_printer.specs.Parts.{ArePages};
 
 use crate::error::PrintError;
-use crate::numbered::put_all_part;
-use crate::output::WriteFault;
 use crate::page::Page;
-use crate::part::{Part, Traces};
-use fork_join::{WorkerError, fork_join};
+use crate::report_lines::Numbered;
 use std::alloc::{AllocError, Global};
 use std::io::Write;
-use std::sync::Wait;
+use std::thread;
 use std::thread::Threads;
 
-/// Divides `count` lines, after the first `skip`, into one part for each worker. The lengths of the parts differ by at
-/// most one.
-fn cut(alloc: Global, workers: u16, skip: usize, count: usize) -> Result<Vec<Part>, AllocError>
-    requires positive { 1 ≤ workers }
-    requires end_bounded { skip + count < 2 ^ 64 }
-    ensures adjoin { IfOk result (λ parts. Adjoin skip parts.items (skip + count)) }
-    ensures even { IfOk result (λ parts. Each (IsEvenPart count workers) parts.items) }
+/// Makes a page with at most `count` of the lines, after the first `skip`.
+fn page_of<T: Numbered>(
+    alloc: Global,
+    lines: &T,
+    skip: usize,
+    count: usize,
+) -> Result<Page, AllocError>
+    ensures text { IfOk result (λ page. page ≡ part_text (T.texts lines.now) skip count) }
 {
-    let mut parts = Vec::with_capacity(alloc, usize::from(workers))?;
-    let mut begin = skip;
-    let mut left = count;
-    for others in 0..workers {
-        let lines = left / usize::from(workers - others);
-        parts.push(Part::new(alloc, begin, lines))?;
-        begin += lines;
-        left -= lines;
-    }
-    Ok(parts)
+    let mut page = Page::new(alloc)?;
+    lines.put(&mut page, skip, count)?;
+    Ok(page)
 }
 
-/// Starts a thread for each part, which writes the part to its page. Returns the parts.
-fn put<R: Threads + Wait + Sync>(
+/// Makes a page for each worker, each with the next `size` lines after the first `skip`.
+fn pages_of<R: Threads + Sync, T: Numbered + Sync>(
     rt: &R,
     alloc: Global,
     workers: u16,
-    traces: &Traces<'_>,
+    lines: &T,
     skip: usize,
-    count: usize,
-) -> Result<Vec<Part>, WorkerError>
-    requires positive { 1 ≤ workers }
-    requires traces { HasTraces traces.now }
-    requires end_bounded { skip + count < 2 ^ 64 }
-    ensures text { IfOk result (λ parts. flat_map page_of parts.items
-        ≡ part_text (texts_of_lines traces.now) skip count) }
+    size: usize,
+) -> Result<Vec<Result<Page, AllocError>>, AllocError>
+    requires end_bounded { skip + workers * size < 2 ^ 64 }
+    ensures pages { IfOk result (λ pages. ArePages (T.texts lines.now) skip size pages.items) }
+    ensures len { IfOk result (λ pages. vec_len pages ≡ workers) }
 {
-    let parts = cut(alloc, workers, skip, count)?;
-    fork_join(rt, alloc, parts, traces)
+    thread::map_indices(
+        rt,
+        alloc,
+        usize::from(workers),
+        &|worker: usize| -> Result<Page, AllocError>
+            requires { (worker * size < 2 ^ 64) × (skip + worker * size < 2 ^ 64) }
+            ensures { IfOk result (λ page. page
+                ≡ part_text (T.texts lines.entry.now) (skip + worker * size) size) }
+        { page_of(alloc, lines, skip + worker * size, size) },
+    )
 }
 
-/// Writes each page.
-fn write_pages<W: Write>(writer: &mut W, parts: &[Part]) -> Result<(), WriteFault>
-    ensures prints { Prints (W.contents writer.old) (W.contents writer.new) [] [] result (flat_map page_of parts.now) }
+/// Writes the pages, one after another.
+fn write_pages<W: Write>(
+    writer: &mut W,
+    pages: &[Result<Page, AllocError>],
+) -> Result<(), PrintError>
+    ensures prints { (lines : List (List ℕ)) (skip size : ℕ) → ArePages lines skip size pages.now
+        → Prints (W.contents writer.old) (W.contents writer.new) [] [] result
+        (part_text lines skip (length pages.now * size)) }
 {
-    for part in parts {
-        part.page.write(writer)?;
+    for page in pages {
+        match page {
+            Ok(page) => page.write(writer)?,
+            Err(_) => return Err(PrintError::Memory),
+        }
     }
     Ok(())
 }
 
-/// Writes the lines without another thread: to one page, and then to the writer.
-fn write_alone<W: Write>(
-    alloc: Global,
-    traces: &Traces<'_>,
-    skip: usize,
-    count: usize,
-    writer: &mut W,
-) -> Result<(), PrintError>
-    requires has_traces { HasTraces traces.now }
-    ensures prints { let text = part_text (texts_of_lines traces.now) skip count
-        in Prints (W.contents writer.old) (W.contents writer.new) [] [] result text }
-{
-    let mut page = Page::empty(alloc);
-    put_all_part(&mut page, traces, skip, count)?;
-    Ok(page.write(writer)?)
-}
-
-/// Writes `count` lines of the traces and the medium, after the first `skip`. If an allocation of a worker fails, or
-/// its thread can't be started, this thread writes all lines itself.
+/// Writes the lines after the first `skip`, as many as `workers` pages of `size` lines
+/// have.
 ///
 /// # Errors
 /// `Write` if the writer failed or took no byte; `Memory` if an allocation failed.
-pub fn write_round<R: Threads + Wait + Sync, W: Write>(
+pub fn write_round<R: Threads + Sync, T: Numbered + Sync, W: Write>(
     rt: &R,
     alloc: Global,
     workers: u16,
-    traces: &Traces<'_>,
+    lines: &T,
     skip: usize,
-    count: usize,
+    size: usize,
     writer: &mut W,
 ) -> Result<(), PrintError>
-    requires positive { 1 ≤ workers }
-    requires traces { HasTraces traces.now }
-    requires end_bounded { skip + count < 2 ^ 64 }
-    ensures prints { let text = part_text (texts_of_lines traces.now) skip count
+    requires end_bounded { skip + workers * size < 2 ^ 64 }
+    ensures prints { let text = part_text (T.texts lines.now) skip (workers * size)
         in Prints (W.contents writer.old) (W.contents writer.new) [] [] result text }
 {
-    match put(rt, alloc, workers, traces, skip, count) {
-        Ok(parts) => Ok(write_pages(writer, &parts)?),
-        Err(_) => write_alone(alloc, traces, skip, count, writer),
-    }
+    let pages = pages_of(rt, alloc, workers, lines, skip, size)?;
+    write_pages(writer, &pages)
 }

@@ -1,26 +1,30 @@
-use Rattle.std.proofs.Common.{◌+◌, ◌++◌, [], drop, ap, sym, ◌∙◌, arith}
-use Rattle.std.specs.List.{flat_map}
+use Rattle.std.proofs.Common.{◌+◌, ◌-◌, ◌*◌, ◌++◌, ◌∙◌, [], length, ap, sym, arith}
 use Rattle.std.proofs.lemmas.Result.{err_from_is_err_and}
-use Rattle.trace_printer.proofs.Pieces.{flat_map-drop}
+use Rattle.trace_printer.specs.TraceLines.{part_text}
 use Rattle.trace_printer.proofs.Written.{printed_next, stopped_next}
-use Rattle.trace_printer.specs.declared.part.Part.{Part}
-use Rattle.trace_printer.specs.Parts.{page_of}
-use Rattle.trace_printer.proofs.Rounds.{written_all, written_front_of}
+use Rattle.trace_printer.proofs.Rounds.{next_page, page_at, written_all, written_front_of}
 use Rattle.trace_printer.proofs.round.write_pages.Goals as goal
 
-pub returns-in_err-write : goal.returns-in_err-write
-returns-in_err-write g c = record {
-  prints =
+pub returns-in_err-write-in-Ok : goal.returns-in_err-write-in-Ok
+returns-in_err-write-in-Ok g c = record {
+  prints = λ lines skip size are.
+      let i = c.loop-page.page-index in
+      let n = length c.args.pages.now in
       let p = err_from_is_err_and c.from_residual.result c.from_residual.ensures.1 in
-      let i = c.loop-part.part-index in
-      rw p.1 (stopped_next _ _ _ _ [] c.part-item.result.page (flat_map page_of (drop (i + 1) c.args.parts.now)) _ c.loop-part.invariant
-      (flat_map-drop page_of c.args.parts.now i c.part-item.result (omega arith) ∙ ap (λ (q : Part). q.page ++ flat_map page_of (drop (i + 1) c.args.parts.now)) (sym c.part-item.is))
-      (written_front_of _ _ _ c.in_err-write.ensures.writes));
+      let page = page_at lines skip size c.args.pages.now i c.page-item.result c.in-Ok.page are (omega arith) (sym c.page-item.is) c.in-Ok.is in
+      let left = part_text lines (skip + (i + 1) * size) ((n - (i + 1)) * size) in
+      rw p.1 (stopped_next _ _ _ (part_text lines skip (n * size)) [] c.in-Ok.page left _ (c.loop-page.invariant lines skip size are)
+      (next_page lines skip size n i (omega arith) ∙ ap (λ t. t ++ left) (sym page)) (written_front_of _ _ _ c.in_err-write-in-Ok.ensures.writes));
 }
 
-pub loop-part-preserved : goal.loop-part-preserved
-loop-part-preserved g c =
-    let i = c.loop-part.part-index in
-    printed_next _ _ _ _ [] [] c.part-item.result.page (flat_map page_of (drop (i + 1) c.args.parts.now)) _ c.loop-part.invariant
-    (flat_map-drop page_of c.args.parts.now i c.part-item.result (omega arith) ∙ ap (λ (q : Part). q.page ++ flat_map page_of (drop (i + 1) c.args.parts.now)) (sym c.part-item.is))
-    (written_all _ _ _ c.in_ok-write.ensures.writes)
+pub returns-in-Err : goal.returns-in-Err
+returns-in-Err g c = record { prints = λ lines skip size are. (_, c.loop-page.invariant lines skip size are) }
+
+pub loop-page-preserved : goal.loop-page-preserved
+loop-page-preserved g c lines skip size are =
+    let i = c.loop-page.page-index in
+    let n = length c.args.pages.now in
+    let page = page_at lines skip size c.args.pages.now i c.page-item.result c.in-Ok.page are (omega arith) (sym c.page-item.is) c.in-Ok.is in
+    let left = part_text lines (skip + (i + 1) * size) ((n - (i + 1)) * size) in
+    printed_next _ _ _ (part_text lines skip (n * size)) [] [] c.in-Ok.page left _ (c.loop-page.invariant lines skip size are)
+    (next_page lines skip size n i (omega arith) ∙ ap (λ t. t ++ left) (sym page)) (written_all _ _ _ c.in_ok-write-in-Ok.ensures.writes)
