@@ -15,7 +15,7 @@ from typing import Any
 import pytest
 from differences import answer, check_answer
 from motesim.runner import Answer
-from motesim.runner.programs import is_compiled
+from motesim.runner.programs import is_compiled, is_module
 
 CASES = Path(__file__).parent / 'cases'
 INPUTS, EXPECTED = ('.toml', '.make', '.runs'), ('.expected', '.stderr', '.status')
@@ -76,7 +76,7 @@ class Case:
         """The answer of a run with the size of stack that the case asks for."""
         stack = self.read('.stack').decode().strip()
         # (a binary without a proof has checks that need more stack)
-        if stack and not is_compiled(program):
+        if stack and not (is_compiled(program) or is_module(program)):
             limited = 'ulimit -s "$0" && exec "$@"'
             return answer(Path('/bin/sh'), scenario, '-c', limited, stack, str(program), *arguments)
         return answer(program, scenario, *arguments)
@@ -97,12 +97,21 @@ def pytest_generate_tests(metafunc: pytest.Metafunc) -> None:
     metafunc.parametrize('case', map(Case, chosen), ids=[str(it.relative_to(CASES)) for it in chosen])
 
 
+def is_for_module(words: list[str]) -> bool:
+    """Returns whether the module takes these arguments: a file, and no options."""
+    given = words[1:] if words[:1] == ['--'] else words
+    return len(given) < 2 and (given != words or not given or given[0] == '-' or not given[0].startswith('-'))
+
+
 def test_case(case: Case, program: Path, tmp_path: Path) -> None:
     case.check_files()
     file = tmp_path / 'scenario.toml'
+    runs = [it for it in case.runs() if is_for_module(it) or not is_module(program)]
+    if not runs:
+        pytest.skip('node runs the module, which takes a file, and no options')
     for name, scenario, expected in case.scenarios():
         file.write_bytes(scenario)
-        for words in case.runs():
+        for words in runs:
             given = NO_SCENARIO if '{}' in words else scenario
             found = case.answer(program, given, *(str(file) if word == '{}' else word for word in words))
             check_answer(' '.join(filter(None, [case.path.name, name, *words])), expected, found)
