@@ -32,7 +32,7 @@ from typing import NamedTuple
 from motesim.command import command
 from motesim.faults import Fault
 from motesim.runner import Limits, Runner, pool
-from motesim.runner.programs import TOP, program_path
+from motesim.runner.programs import TOP, is_module, program_path
 from motesim.search.net import loss_steps, mote_steps, net_of, number_steps, program_steps
 from motesim.scenario import Scenario, ScenarioFault
 from motesim.words import words_of
@@ -225,9 +225,12 @@ def main() -> int:
                        help='the folder for the scenarios whose reports differ (.)')
     asked = words.parse_args()
     compilers()
-    runner = Runner(program=program_path(), limits=LIMITS)
+    program = program_path()
+    # (node's module has no workers)
+    with_workers = not (asked.one_thread or is_module(program))
+    runner = Runner(program=program, limits=LIMITS)
     with tempfile.TemporaryDirectory(prefix='differential-') as name:
-        work = Comparison(HostRuns(Path(name)), runner, not asked.one_thread)
+        work = Comparison(HostRuns(Path(name)), runner, with_workers)
         work.check()
         if asked.scenario:
             items, is_random = items_of_files(asked.scenario), False
