@@ -61,9 +61,18 @@ def row_of(name: str, data: bytes) -> str:
 
 def build_wheel(folder: str, settings: object = None, metadata: object = None) -> str:
     """Writes the wheel into a folder, and returns its name; pip calls this."""
+    return write_wheel(folder, [(at, path.read_bytes(), path.stat().st_mode & 0o777) for at, path in contents()])
+
+
+def build_editable(folder: str, settings: object = None, metadata: object = None) -> str:
+    """The same for `pip install -e`: the wheel has only the place of the package in this tree."""
+    return write_wheel(folder, [('motesim.pth', ('%s\n' % (TOP / 'tools')).encode(), 0o644)])
+
+
+def write_wheel(folder: str, files: list[tuple[str, bytes, int]]) -> str:
+    """Writes a wheel with these files: for each, its name, its bytes and its mode."""
     name, its = 'motesim-%s-py3-none-any.whl' % VERSION, 'motesim-%s.dist-info/' % VERSION
-    files = [(at, path.read_bytes(), path.stat().st_mode & 0o777) for at, path in contents()]
-    files += [(its + at, data, 0o644) for at, data in about().items()]
+    files = [*files, *((its + at, data, 0o644) for at, data in about().items())]
     rows = ''.join(row_of(at, data) for at, data, _ in files) + its + 'RECORD,,\n'
     with zipfile.ZipFile(Path(folder) / name, 'w', zipfile.ZIP_DEFLATED) as wheel:
         for at, data, mode in [*files, (its + 'RECORD', rows.encode(), 0o644)]:
