@@ -1,4 +1,4 @@
-"""The kinds of files: programs, plans and the results of sweeps; and files that are only for teachers."""
+"""The kinds of files: programs and plans; and files that are only for teachers."""
 from __future__ import annotations
 
 import re
@@ -6,10 +6,9 @@ import re
 # A program begins with a declaration, below comments.
 PROGRAM = re.compile(r'\ufeff?(?:\s|//[^\n]*+\n)*+(?:process|receiver|autostart|event|semaphore)[ \t]++[A-Za-z]')
 
-# A plan has places, and neither a version nor motes. The first line of results names the plan.
+# A plan has places, and neither a version nor motes.
 PLACES = re.compile(rb'^[ \t]*(?:\[\[?[ \t]*places[ \t]*\]|places[ \t]*=)', re.M)
 OF_SCENARIO = re.compile(rb'^[ \t]*(?:\[\[?[ \t]*mote[ \t]*\]|(?:mote|version)[ \t]*=)', re.M)
-RESULTS = re.compile(rb'#\{"plan": ')
 
 # The name of a file or folder that students shouldn't see: one of its words begins like this.
 FOR_TEACHERS = re.compile(r'(?:.*[^a-z])?(?:solution|hidden|answer|grades|marks|key\.csv\Z)', re.S | re.I)
@@ -23,11 +22,6 @@ def is_for_teachers(name: str) -> bool:
 def has_plan(data: bytes) -> bool:
     """Returns whether a text has the tables of a plan, and not those of a scenario."""
     return PLACES.search(data) is not None and OF_SCENARIO.search(data) is None
-
-
-def begins_as_results(data: bytes) -> bool:
-    """Returns whether a text begins like the results of a sweep."""
-    return RESULTS.match(data) is not None
 
 
 def is_program_file(name: str, data: bytes) -> bool:
