@@ -28,11 +28,9 @@ class Deciding(Room):
         with mock.patch.dict(os.environ, MOTECHECK=str(TOP / 'web/motecheck'), MOTESIM=str(TOP / 'web/motesim')), \
                 mock.patch('sys.argv', ['expect', str(scenario), *words]), \
                 contextlib.redirect_stdout(out), contextlib.redirect_stderr(err):
-            try:
-                status = expect.main()
-            except SystemExit as end:
-                status = int(end.code or 0)
-        return status, out.getvalue() + err.getvalue()
+            with self.assertRaises(SystemExit) as ended:
+                expect.main()
+        return int(ended.exception.code or 0), out.getvalue() + err.getvalue()
 
     def test_a_scenario_without_a_file_has_its_own_claims(self) -> None:
         self.assertEqual(self.expect('# expect: %s\n%s' % (HOLDS, NET)), (0, 'holds   %s\n1 passed, 0 failed\n' % HOLDS))

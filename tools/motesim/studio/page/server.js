@@ -34,6 +34,9 @@ export class Server extends Alone {
     return items.map(it => ({...it, remark: it.remark || about}));
   }
 
+  /** The server has explained the error already. */
+  async mend() { return null; }
+
   /** Adds an expectation to the file beside the document; a claim, or one of another document, to its text. */
   async expect(words) {
     const {web} = page;

@@ -10,6 +10,7 @@ import {History} from './history.js';
 /** What a page asks: a server, or the page itself, which only runs.
  * @typedef {{run: (asked: any) => Promise<Answer>, stop: () => any, ask: (what: string, asked: any) => any,
  *   check: (text: string, claims: string[], options?: string) => Promise<any>, endSurvey: () => void,
+ *   words?: any, mend?: (text: string, fault: any) => Promise<any>,
  *   expectations: (document: any, text: string) => Promise<any[]>, expect: (words: string) => Promise<string>}} Backend */
 
 const none = /** @type {any} */ (null), list = () => /** @type {any[]} */ ([]);
@@ -74,7 +75,7 @@ export const page = {
    * `part` is the open tab of the text. `asked` counts the runs that were asked for, `ran` is the last of them that
    * ended, `number` the backend's number of the run that is shown, and `judged` of the one whose results are; `fresh`
    * is true until the first run of a text. */
-  web: {pad: none, history: new History(), document: none, saved: '', shown: '', intro: '', example: none, part: 'part-program',
+  web: {pad: none, history: new History(), document: none, saved: '', shown: '', took: 0, intro: '', example: none, part: 'part-program',
     timer: 0, keepTimer: 0, asked: 0, ran: 0, number: 0, judged: 0, fresh: true, fault: none, folder: '', outcome: {words: '', is: '', buttons: list(),
     offers: list()}},
 };

@@ -5,6 +5,7 @@ import {Run} from '../../timeline/page/data.js';
 import {indexRun} from '../../timeline/page/index.js';
 import {Refused} from '../../timeline/page/stage.js';
 import {Bench} from './bench.js';
+import {mend} from './mend.js';
 import {placeOfFault, ruleOf, scenarioOf} from './scenario.js';
 
 /** The milliseconds after which a survey is ended. */
@@ -16,6 +17,8 @@ export class Alone {
   number = 0;
   /** The milliseconds after which a run is ended. */
   most = 5000;
+  /** The words of the notation. */
+  words = /** @type {any} */ (null);
   checker = /** @type {Promise<WebAssembly.Module>|null} */ (null);
 
   /** @param {Promise<WebAssembly.Module>} module @param {() => Promise<WebAssembly.Module>} checker that of
@@ -51,6 +54,18 @@ export class Alone {
     if (number !== this.number) return {superseded: true};
     return (options ? this.back : this.front).ask({module, text: [options, claims.join('\n'), text].join('\0')},
       options ? LONGEST_SURVEY : this.most);
+  }
+
+  /** The fault of a text with a correction, if there is a likely one that motesim accepts; otherwise null. */
+  async mend(text, fault) {
+    const {number} = this, module = await this.module;
+    const found = await mend(text, fault, this.words, async other => {
+      if (number !== this.number) return undefined;
+      const got = await this.front.ask({module, text: other}, this.most);
+      return got.superseded || got.limit ? undefined : got.line || null;
+    });
+    return found && number === this.number ? {...fault, words: [found.words, ...fault.words].filter(Boolean), place: found.place,
+      corrected: found.text} : null;
   }
 
   endSurvey() { this.back.end({superseded: true}); }

@@ -34,7 +34,7 @@ export async function judge(text, number) {
   const decided = await decide(text, items.flatMap(it => it.claims));
   if (!decided || isOld()) return;
   checks.items = items.map(it => ({...it, verdicts: it.claims.map(claim => decided.verdicts.get(claim))}));
-  Object.assign(checks, {text, took: decided.took, survey: null, pairs: null});
+  Object.assign(checks, {text, took: Math.min(decided.took, web.took), survey: null, pairs: null});
   showHeld(run);
   showFaults();
   sayVerdict();

@@ -1,6 +1,7 @@
 // @ts-check
 // What the page needs of a scenario besides its run: places and losses, and where its programs are in the text.
-import {readToml} from './toml.js';
+import {lineAndColumn} from './text.js';
+import {NoToml, readToml} from './toml.js';
 
 /** The parts of a scenario, which motesim takes, for the page of its run. */
 export function scenarioOf(text) {
@@ -26,8 +27,66 @@ export function programsOf(text) {
 
 const OF_PROGRAM = /^motesim: program (\S+) fault (\d+) line (\d+)$/;
 
-/** The place of an error of motesim in the text, as [row, begin, end] from 0; null if its line names none. */
+/** The row and the columns at which a text isn't TOML any more; null if it is. @returns {[number, number, number]|null} */
+export function placeOfNoToml(text) {
+  try {
+    readToml(text);
+    return null;
+  } catch (fault) {
+    if (!(fault instanceof NoToml)) throw fault;
+    const [row, column] = lineAndColumn(text, fault.at);
+    return [row, column, column + 1];
+  }
+}
+
+/** The place of a program's name that the scenario doesn't have; null if there is none. */
+function placeOfNoProgram(text) {
+  const {tables, place} = readToml(text), names = Object.keys(tables.programs || {}), motes = tables.mote || [];
+  const mote = motes.findIndex(it => !names.includes(it.program)), at = mote >= 0 && place('mote', mote, 'program')?.value;
+  return at ? stretchOf(text, at) : null;
+}
+
+/** The keys of each table that may be there, those with numbers, and those that must be there. */
+const TABLES = {
+  '': {may: ['version', 'end', 'medium', 'programs', 'mote', 'loss', 'queue'], numbers: ['version', 'end'], must: ['end', 'medium', 'programs', 'mote']},
+  medium: {may: ['range', 'base', 'per', 'collide'], numbers: ['range', 'base', 'per'], must: ['range', 'base', 'per']},
+  mote: {may: ['x', 'y', 'program'], numbers: ['x', 'y'], must: ['x', 'y', 'program']},
+  loss: {may: ['from', 'to', 'every'], numbers: ['from', 'to', 'every'], must: ['from', 'to', 'every']},
+};
+const MOST_NUMBER = 1e6;
+
+/** The place of the first key that is unknown (3), or of another kind (4) or size (5); or of the first table that lacks
+ * one (2), or has another one instead. */
+function placeInTables(text, number) {
+  const {tables, place} = readToml(text), members = name => Array.isArray(tables[name]) ? tables[name].map((it, i) => [name, it, [name, i]]) : [];
+  const all = [['', tables, []], ['medium', tables.medium || {}, ['medium']], ...members('mote'), ...members('loss')];
+  const first = (find, part) => {
+    for (const [name, table, path] of all) {
+      const key = Object.keys(table).find(it => find(it, table[it], TABLES[name])), at = key !== undefined && place(...path, key)?.[part];
+      if (at) return stretchOf(text, at);
+    }
+    return null;
+  };
+  const unknown = () => first((key, _, {may}) => !may.includes(key), 'key');
+  if (number === 3) return unknown();
+  if (number === 4) return first((key, value, {numbers}) => numbers.includes(key) && typeof value !== 'number', 'value');
+  if (number === 5) return first((key, value, {numbers}) => numbers.includes(key) && Math.abs(value) > MOST_NUMBER, 'value');
+  const [, , path] = all.find(([name, table]) => TABLES[name].must.some(key => !Object.hasOwn(table, key))) || [];
+  return unknown() || path && place(...path) && stretchOf(text, place(...path).key);
+}
+
+/** Two offsets in a row of a text, as a place. @returns {[number, number, number]} */
+function stretchOf(text, [from, to]) {
+  const [row, column] = lineAndColumn(text, from);
+  return [row, column, Math.max(column + 1, column + to - from)];
+}
+
+/** The place of an error of motesim in the text, as [row, begin, end] from 0; null if it isn't known. */
 export function placeOfFault(text, line) {
+  if (line.endsWith('scenario fault 1')) return placeOfNoToml(text);
+  if (line.endsWith('scenario fault 6')) return placeOfNoProgram(text);
+  const [, kind] = /scenario fault ([2345])$/.exec(line) || [];
+  if (kind) return placeInTables(text, Number(kind));
   const [, name, , number] = OF_PROGRAM.exec(line) || [], program = programsOf(text).find(it => it.name === name);
   const row = program ? text.slice(0, program.begin).split('\n').length + Number(number) - 2 : -1;
   const written = text.split('\n')[row];

@@ -1,8 +1,13 @@
 // @ts-check
 // A scenario's text as TOML: its values, and the places of its keys, values and tables.
 
-/** The text isn't TOML. */
-export class NoToml extends Error {}
+/** The text isn't TOML, from an offset on. */
+export class NoToml extends Error {
+  constructor(at) {
+    super();
+    this.at = at;
+  }
+}
 
 const NUMBER = /^([+-]?(0|[1-9][0-9]*)|0(x[0-9a-fA-F]+|o[0-7]+|b[01]+))$/;
 const ESCAPE = /\\(?:u([0-9a-fA-F]{4})|U([0-9a-fA-F]{8})|[ \t]*\r?\n\s*|(.))/g;
@@ -21,7 +26,7 @@ class Reader {
   constructor(text) { this.text = text; }
 
   /** @returns {never} */
-  fail() { throw new NoToml(); }
+  fail() { throw new NoToml(this.at); }
 
   take(pattern) {
     pattern.lastIndex = this.at;

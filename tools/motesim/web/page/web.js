@@ -188,7 +188,7 @@ async function runNow() {
   byId('stop').hidden = true;
   document.body.classList.toggle('stale', !answer?.run);
   if (answer?.run) await showRun(answer, step);
-  else if (answer?.fault) showFault(answer.fault);
+  else if (answer?.fault) attempt(() => showFault(answer.fault, step.text));
   else if (answer) showLimit(answer);
   page.ready = true;
   if (!page.panes.length) byId('about').textContent = 'No run yet';
@@ -200,7 +200,15 @@ function lineInWords(row) {
   return isShown ? `line ${shown + 1}` : `line ${row + 1} of all text`;
 }
 
-function showFault(fault) {
+/** Shows an error, and then its correction, if the backend finds one. */
+async function showFault(fault, text) {
+  const {asked} = web;
+  drawFault(fault);
+  const better = fault.corrected || !page.backend.mend ? null : await page.backend.mend(text, fault);
+  if (better && asked === web.asked) drawFault(better);
+}
+
+function drawFault(fault) {
   const {line, words, place, corrected} = web.fault = fault;
   markFault(place, [...words, line].join('\n'));
   byId('fault-place').hidden = !place;
@@ -246,7 +254,7 @@ async function showRun({run, number, took}, step) {
     if (document.activeElement === document.body && step.how === 'try') byId('revert').focus();
   } else sayIntro();
   drawAll();
-  web.shown = step.text;
+  Object.assign(web, {shown: step.text, took});
   react('ran', step.text, number);
 }
 
@@ -311,7 +319,7 @@ export function begin(backend, {cards, texts, words}, drafts = () => /** @type {
   const others = Object.keys(texts).filter(file => !cards.some(it => it.file === file)).map(file => ({file}));
   const examples = [...cards, ...others].map(it => ({...it, text: texts[it.file]}));
   readColours();
-  page.backend = backend;
+  page.backend = Object.assign(backend, {words});
   page.goToLine = line => goTo(line - 1, 0, (web.history.text.split('\n')[line - 1] || '').length);
   web.pad = new Pad(text => change(text, 'typed'), words);
   beginButtons();

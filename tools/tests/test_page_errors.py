@@ -1,0 +1,45 @@
+"""Errors in the page without a server: the word, the place and the correction, which motesim accepts."""
+from __future__ import annotations
+
+import json
+
+from in_page import FLOODING, InPage
+
+# What is written instead of a part of the program or of the tables; the words of the error; and the place that is marked.
+ERRORS = [
+    ('send newest', 'send newst', 'Did you mean `newest`?', 'newst'),
+    ('if (self == 0)', 'if (self = 0)', '`=` assigns, and `==` compares.', '='),
+    ('newest = (newest + 1);', 'newest = newest + 1;', 'Each operation is in parentheses.', None),
+    ('print newest;', 'print newest', 'A statement ends with `;`.', None),
+    ('(newest < 3)', '(newest < 3', 'A parenthesis isn\'t closed.', None),
+    ('var newest = 0;', 'int newest = 0;', 'A variable is declared by `var`.', 'int'),
+    ('program = "flood"', 'program = "floood"', 'Did you mean `flood`?', 'floood'),
+    ('program = "flood"', 'program = "flood', 'A quote isn\'t closed.', None),
+    ('range = ', 'rnge = ', 'Did you mean `range`?', 'rnge'),
+]
+
+
+class Errors(InPage):
+    def test_each_has_its_word_its_place_and_a_correction(self) -> None:
+        self.open()
+        for old, new, words, marked in ERRORS:
+            wrong = FLOODING.replace(old, new, 1)
+            self.assertNotEqual(wrong, FLOODING)
+            self.put(wrong)
+            self.wait('by("fault").textContent.includes(%s)' % json.dumps(words))
+            if marked:
+                self.assertEqual(self.value('(([row, from, to]) => text.split("\\n")[row].slice(from, to))(web.fault.place)'), marked)
+            self.press('fault-correct')
+            self.wait('by("fault").hidden && !document.body.classList.contains("stale")')
+            self.assertEqual(self.value('text.replace(/\\s+$/gm, "")'), '\n'.join(
+                it.rstrip() for it in FLOODING.split('\n')).rstrip('\n'), new)
+            self.undo()
+            self.undo()
+
+    def test_a_text_that_is_no_toml_has_its_place(self) -> None:
+        self.open()
+        self.press('part-all')
+        self.put(FLOODING.replace('end = 160', 'end = = 160'))
+        self.wait('!by("fault").hidden')
+        row = FLOODING[:FLOODING.index('end = 160')].count('\n') + 1
+        self.assertIn('in line %d' % row, self.said())
