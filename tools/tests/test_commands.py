@@ -2,9 +2,11 @@
 import re
 import subprocess
 import sys
+import tempfile
 import unittest
+from pathlib import Path
 
-from here import TOOLS, call, text_of
+from here import TOOLS, TOP, call, text_of
 from motesim.home import VERBS
 from motesim.commands import export, search, shrink, studio, sweep
 from motesim.experiments import asked
@@ -53,6 +55,33 @@ class Commands(unittest.TestCase):
             done = call(*words)
             line = '%s: %s (--help lists the options)\n' % (words[0], said)
             self.assertEqual((done.returncode, done.stdout, done.stderr), (2, '', line))
+
+    def test_the_same_words_mean_the_same_in_all_tools(self) -> None:
+        net, holds, broken = str(TOP / 'examples/flooding.toml'), 'mote 6 prints flood 1', 'mote 6 halts'
+        for words, status, said in ((('expect', net, '--expect', holds), 0, '1 passed, 0 failed'),
+                                    (('expect', net, '--expect', holds, '--expect', broken), 1, '1 passed, 1 failed'),
+                                    (('why', net, '--expect', holds, '--short'), 0, 'mote 6, line 221 of the report'),
+                                    (('why', '--json', net, '--expect', broken), 1, '"holds": false'),
+                                    (('log', net, '--expect', holds), 0, '46    6  221  print flood 1'),
+                                    (('log', '--csv', net, holds), 0, 'moment'),
+                                    (('summary', '--csv', net, '--motes'), 0, 'mote,program,sent'),
+                                    (('log', net, holds, '--expect', holds), 2, 'this command takes only one expectation'),
+                                    (('expect', net, net, '--expect', holds), 2, 'in a file or in --expect, not in both'),
+                                    (('sweep', 'a.toml', '--vary', 'a=1'), 2, '--vary; did you mean --param?'),
+                                    (('search', net, '--bytes', '9'), 2, '--bytes; did you mean --report?')):
+            with self.subTest(words):
+                done = call(*words)
+                self.assertEqual(done.returncode, status, done)
+                self.assertIn(said, done.stdout + done.stderr)
+
+    def test_a_table_goes_to_the_file_that_follows(self) -> None:
+        with tempfile.TemporaryDirectory() as room:
+            for form in 'csv', 'json':
+                words = 'summary', str(TOP / 'examples/flooding.toml'), '--motes', '--' + form
+                whole = call(*words, cwd=room)
+                done = call(*words, 'net.' + form, cwd=room)
+                self.assertEqual((done.returncode, done.stdout, done.stderr), (0, 'net.%s\n' % form, whole.stderr))
+                self.assertEqual(Path(room, 'net.' + form).read_text(), whole.stdout)
 
     def test_defaults_are_those_of_the_libraries(self) -> None:
         self.assertEqual((search.SECONDS, search.REPORT << 20, shrink.SECONDS), (LIMITS.seconds, LIMITS.report, LIMITS.seconds))
