@@ -11,15 +11,18 @@ use Rattle.survey.specs.declared.broken.Broken.{Broken}
 use Rattle.survey.specs.declared.broken.Survey.{Survey}
 use Rattle.survey.specs.declared.search.Limits.{Limits}
 
+abbrev pub packet_text : (sender number : ℕ) → List ℕ
+packet_text sender number = codes "packet " ++ decimal number ++ codes " of mote " ++ decimal sender
+
+abbrev pub way_text : (to : ℕ) → List ℕ
+way_text to = codes " on the way to mote " ++ decimal to
+
 abbrev pub fault_text : Fault → List ℕ
 fault_text (Link s r) = codes "link " ++ decimal s ++ codes " to " ++ decimal r ++ codes " is broken"
 fault_text (Silent m) = codes "mote " ++ decimal m ++ codes " is silent"
-fault_text (Lost s n r) =
-    codes "packet " ++ decimal n ++ codes " of mote " ++ decimal s ++ codes " is lost on the way to mote " ++ decimal r
-fault_text (LostToAll s n) = codes "packet " ++ decimal n ++ codes " of mote " ++ decimal s ++ codes " is lost"
-fault_text (Late s n r by) =
-    codes "packet " ++ decimal n ++ codes " of mote " ++ decimal s ++ codes " is " ++ decimal by
-    ++ codes " late on the way to mote " ++ decimal r
+fault_text (Lost s n r) = packet_text s n ++ (codes " is lost" ++ way_text r)
+fault_text (LostToAll s n) = packet_text s n ++ codes " is lost"
+fault_text (Late s n r by) = packet_text s n ++ (codes " is " ++ (decimal by ++ (codes " late" ++ way_text r)))
 
 abbrev pub next_fault : Fault → List ℕ
 next_fault f = codes " and " ++ fault_text f

@@ -3,7 +3,7 @@ ghost use Rattle.std.specs.Prelude.{◌≡◌, ◌++◌, Some, slice_index_or, s
 ghost use Rattle.std.specs.List.{flat_map};
 ghost use Rattle.radio_faults.specs.declared.fault.Fault.TheVariants.{Silent};
 ghost use Rattle.net_survey.specs.Chosen.{faults_at};
-ghost use Rattle.net_survey.specs.SurveyText.{fault_text, next_fault, set_text};
+ghost use Rattle.net_survey.specs.SurveyText.{fault_text, next_fault, packet_text, set_text, way_text};
 
 use radio_faults::Fault;
 use std::alloc::{AllocError, Global};
@@ -13,6 +13,35 @@ use std::fmt;
 #[derive(Clone, Copy)]
 pub struct FaultText(pub Fault);
 
+/// A packet in words.
+#[derive(Clone, Copy)]
+struct PacketText {
+    sender: u16,
+    number: u64,
+}
+
+/// The way to a mote in words.
+#[derive(Clone, Copy)]
+struct WayText(u16);
+
+impl fmt::Display for PacketText {
+    ghost output = { λ t. Some (packet_text t.sender t.number) };
+
+    fn fmt<W: fmt::Write>(&self, f: &mut fmt::Formatter<W>) -> fmt::Result {
+        let PacketText { sender, number } = *self;
+        write!(f, "packet {number} of mote {sender}")
+    }
+}
+
+impl fmt::Display for WayText {
+    ghost output = { λ t. Some (way_text t.0) };
+
+    fn fmt<W: fmt::Write>(&self, f: &mut fmt::Formatter<W>) -> fmt::Result {
+        let WayText(to) = *self;
+        write!(f, " on the way to mote {to}")
+    }
+}
+
 impl fmt::Display for FaultText {
     ghost output = { λ t. Some (fault_text t.0) };
 
@@ -20,22 +49,25 @@ impl fmt::Display for FaultText {
         match self.0 {
             Fault::Link(from, to) => write!(f, "link {from} to {to} is broken"),
             Fault::Silent(mote) => write!(f, "mote {mote} is silent"),
-            Fault::Lost { sender, number, to } => write!(
-                f,
-                "packet {number} of mote {sender} is lost on the way to mote {to}"
-            ),
+            Fault::Lost { sender, number, to } => {
+                let packet = PacketText { sender, number };
+                let way = WayText(to);
+                write!(f, "{packet} is lost{way}")
+            }
             Fault::LostToAll { sender, number } => {
-                write!(f, "packet {number} of mote {sender} is lost")
+                let packet = PacketText { sender, number };
+                write!(f, "{packet} is lost")
             }
             Fault::Late {
                 sender,
                 number,
                 to,
                 by,
-            } => write!(
-                f,
-                "packet {number} of mote {sender} is {by} late on the way to mote {to}"
-            ),
+            } => {
+                let packet = PacketText { sender, number };
+                let way = WayText(to);
+                write!(f, "{packet} is {by} late{way}")
+            }
         }
     }
 }
