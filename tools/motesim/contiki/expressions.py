@@ -6,11 +6,11 @@ to a uint16_t needs no cast, but a sum that is compared needs one.
 """
 from __future__ import annotations
 
-from collections.abc import Callable
 from dataclasses import dataclass
 from typing import NamedTuple
 
 from motesim.contiki.names import Names
+from motesim.notation.operators import calculated
 from motesim.notation.printer import written
 from motesim.notation.tree import Expression, Not, Operation, Test, word
 
@@ -93,17 +93,6 @@ def with_sign(made: Made) -> Made:
     if made.level == ATOM and is_constant(made):
         return Made('%dU' % made.low, ATOM, made.low, made.high, 'unsigned')
     return Made('(uint16_t)%s' % made.inside(UNARY), UNARY, made.low, made.high)
-
-
-def calculated(operator: str, left: int, right: int) -> int:
-    """The value of an operation."""
-    values: dict[str, Callable[[], int]] = {
-        '+': lambda: left + right, '-': lambda: left - right, '*': lambda: left * right,
-        '/': lambda: left // right if right else 0, '%': lambda: left % right if right else 0,
-        '==': lambda: left == right, '!=': lambda: left != right, '<': lambda: left < right,
-        '<=': lambda: left <= right, '>': lambda: left > right, '>=': lambda: left >= right,
-        '&&': lambda: left != 0 and right != 0, '||': lambda: left != 0 or right != 0}
-    return int(values[operator]()) & MOST
 
 
 def range_of(operator: str, left: Made, right: Made) -> tuple[int, int]:

@@ -1,19 +1,16 @@
 """Warnings about values: tests that always have the same result, and results that don't fit into 16 bits."""
 from __future__ import annotations
 
-from collections.abc import Callable, Iterator
+from collections.abc import Iterator
 
 from motesim.explain.warned import Warned, of_token
+from motesim.notation.operators import ARITHMETIC, VALUES
 from motesim.notation.tree import Code, Expression, Operation, Program, Statement, Value
 from motesim.notation.printer import written
 from motesim.notation.tree import expressions_of, is_number
 
-VALUES = 65_536
 ORDER = ('<', '<=', '>', '>=')
 MIRRORED = {'<': '>', '>': '<', '<=': '>=', '>=': '<='}
-CALCULATES: dict[str, Callable[[int, int], int]] = {
-    '+': lambda a, b: a + b, '-': lambda a, b: a - b, '*': lambda a, b: a * b,
-    '/': lambda a, b: a // b if b else 0, '%': lambda a, b: a % b if b else 0}
 # Tests of a difference that are true if both sides differ, and those that are true only if they are equal.
 ABOVE, AT_MOST = (('>', '0'), ('>=', '1')), (('<=', '0'), ('<', '1'))
 
@@ -46,10 +43,10 @@ def exact(it: Expression, fixed: dict[str, int]) -> int | None:
     """The value of a calculation with numbers, before it is cut to 16 bits; None if it isn't known."""
     if isinstance(it, Value):
         return int(it.token.text) if is_number(it) else fixed.get(it.token.text)
-    if not isinstance(it, Operation) or it.token.text not in CALCULATES:
+    if not isinstance(it, Operation) or it.token.text not in ARITHMETIC:
         return None
     left, right = exact(it.left, fixed), exact(it.right, fixed)
-    return None if left is None or right is None else CALCULATES[it.token.text](left % VALUES, right % VALUES)
+    return None if left is None or right is None else ARITHMETIC[it.token.text](left % VALUES, right % VALUES)
 
 
 def of_test(name: str, it: Operation) -> Iterator[Warned]:

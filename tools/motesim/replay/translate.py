@@ -13,6 +13,7 @@ from typing import Any, NamedTuple
 from motesim.faults import Fault
 from motesim.notation import tree
 from motesim.notation.grammar import OPERATORS
+from motesim.notation.operators import divided, remainder
 from motesim.notation.reader import read_program
 from motesim.scenario.in_programs import ProgramPlace
 from motesim.terminal import one_line
@@ -116,14 +117,6 @@ class Program:
         if self.place is None:
             return 'line %d%s' % (line, ' of program %s' % one_line(self.other) if self.other else '')
         return 'line %d (%s:%d)' % (line, self.place.file, self.place.above + line)
-
-
-def divided(a: int, b: int) -> int:
-    return a // b if b else 0
-
-
-def remainder(a: int, b: int) -> int:
-    return a % b if b else 0
 
 
 class _Translator:

@@ -7,21 +7,18 @@ Expectations may then say `with origin 5, seq 324`, and the tools show the field
 from __future__ import annotations
 
 import ast
-import operator
 import re
-from collections.abc import Callable, Mapping, Sequence
+from collections.abc import Mapping, Sequence
 from functools import cache
 from typing import NamedTuple
 
 from motesim.faults import Fault
+from motesim.notation.operators import VALUES, calculated
 
-VALUES = 1 << 16
 NAME = re.compile('[a-z][a-z0-9_]*')
 # The kinds of lines whose last word is a packet's value or a printed one.
 KINDS = ('print', 'send', 'recv')
-SIGNS: dict[type, Callable[[int, int], int]] = {
-    ast.Add: operator.add, ast.Sub: operator.sub, ast.Mult: operator.mul, ast.Div: operator.floordiv,
-    ast.Mod: operator.mod}
+SIGNS = {ast.Add: '+', ast.Sub: '-', ast.Mult: '*', ast.Div: '/', ast.Mod: '%'}
 FORM = 'field `%s` is not a formula: write numbers, `value`, + - * / %% and parentheses, as in "value / 1024"'
 
 
@@ -48,10 +45,7 @@ def all_of(formula: str) -> tuple[int, ...]:
 
 def _calculated(it: ast.expr, value: int) -> int:
     if isinstance(it, ast.BinOp) and type(it.op) in SIGNS:
-        left, right = _calculated(it.left, value), _calculated(it.right, value)
-        # (as in a program: a division by 0 yields 0, and results have 16 bits)
-        is_by_zero = not right and isinstance(it.op, (ast.Div, ast.Mod))
-        return 0 if is_by_zero else SIGNS[type(it.op)](left, right) % VALUES
+        return calculated(SIGNS[type(it.op)], _calculated(it.left, value), _calculated(it.right, value))
     if isinstance(it, ast.Name) and it.id == 'value':
         return value
     if isinstance(it, ast.Constant) and type(it.value) is int and it.value < VALUES:
