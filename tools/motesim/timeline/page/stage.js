@@ -9,7 +9,7 @@ import {History} from './history.js';
  *   fault?: {line: string, words: string[], place: number[]|null, corrected?: string|null}}} Answer */
 /** What a page asks: a server, or the page itself, which only runs.
  * @typedef {{run: (asked: any) => Promise<Answer>, stop: () => any, ask: (what: string, asked: any) => any,
- *   check: (text: string, claims: string[], options?: string) => Promise<any>, endSurvey: () => void,
+ *   check: (text: string, claims: string[], options?: string[]) => Promise<any>, endSurvey: () => void,
  *   words?: any, mend?: (text: string, fault: any) => Promise<any>,
  *   expectations: (document: any, text: string) => Promise<any[]>, expect: (words: string) => Promise<string>}} Backend */
 

@@ -17,6 +17,7 @@ export class Alone {
   number = 0;
   /** The milliseconds after which a run is ended. */
   most = 5000;
+  isOneLine = false;
   /** The words of the notation. */
   words = /** @type {any} */ (null);
   checker = /** @type {Promise<WebAssembly.Module>|null} */ (null);
@@ -48,12 +49,16 @@ export class Alone {
   }
 
   /** What `motecheck` answers to claims about a text; with options, its survey.
-   * @param {string} text @param {string[]} claims */
-  async check(text, claims, options = '') {
+   * @param {string} text @param {string[]} claims @param {string[]} options */
+  async check(text, claims, options = []) {
     const {number} = this, module = await (this.checker ||= this.loadChecker());
     if (number !== this.number) return {superseded: true};
-    return (options ? this.back : this.front).ask({module, text: [options, claims.join('\n'), text].join('\0')},
-      options ? LONGEST_SURVEY : this.most);
+    const ask = words => (options.length ? this.back : this.front).ask(
+      {module, text: [words, claims.join('\n'), text].join('\0')}, options.length ? LONGEST_SURVEY : this.most);
+    // (a module takes its arguments one a line behind its name, or, as the first one did, in one line)
+    const got = this.isOneLine ? null : await ask(['motecheck', ...options].join('\n'));
+    this.isOneLine ||= got?.line === 'motecheck: options fault';
+    return this.isOneLine ? ask(options.join(' ')) : got;
   }
 
   /** The fault of a text with a correction, if there is a likely one that motesim accepts; otherwise null. */

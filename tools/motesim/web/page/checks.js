@@ -13,15 +13,17 @@ import {KINDS, claimsIn, claimsOfLine, faultOf, faultsIn, patternOf, suggestions
   withClaim, withFaults, withoutClaim, wordsOf} from './claims.js';
 import {edit} from './edits.js';
 import {whyMissing} from './missing.js';
-import {attempt, change, sayOutcome} from './web.js';
+import {attempt, change, say, sayOutcome} from './web.js';
 
 const {web, checks} = page;
+/** The kinds of faults that are tried if the text names none. */
+const USUAL = KINDS.slice(0, 2).map(([name]) => name);
 /** The milliseconds that single faults may need to be tried without being asked for; and the sets that are shown. */
 const AT_ONCE = 8000, MOST_SETS = 60, TICK = 100;
 const NOTE = 'The module in this page decides this. What is proved is about the native motecheck.';
 
 /** The names of the kinds of faults that are tried. */
-const kindsNow = () => faultsIn(web.history.text) || KINDS.map(([name]) => name);
+const kindsNow = () => faultsIn(web.history.text) || USUAL;
 
 const isBroken = ({holds}) => !holds;
 
@@ -144,13 +146,13 @@ function expectsOf(pane, line) {
 
 // What breaks it.
 
-const optionsOf = most => `${KINDS.filter(([name]) => kindsNow().includes(name)).map(([, option]) => option).join('')}--at-most ${most} --runs ${
-  2 ** 32}`;
+const optionsOf = most => [...KINDS.filter(([name]) => kindsNow().includes(name)).flatMap(([, ...options]) => options), '--at-most',
+  String(most), '--runs', String(2 ** 32)];
 
 /** How many faults there are of the kinds that are tried. */
 function faultsNow() {
   const {run} = page.panes[0], sizes = {links: run.hearers.reduce((sum, it) => sum + it.length, 0), 'silent motes': run.begins.length};
-  return kindsNow().reduce((sum, name) => sum + sizes[name], 0);
+  return kindsNow().reduce((sum, name) => sum + (sizes[name] ?? run.copies), 0);
 }
 
 const runsOf = most => most === 1 ? faultsNow() : faultsNow() * (faultsNow() + 1) / 2;
@@ -205,6 +207,7 @@ function take(faults) {
     const {link, mote = -1} = faultOf(words);
     return link ? [link] : (hearers[mote] || []).map(to => [mote, to]);
   });
+  if (!links.length) return say('This fault can\'t be written into the text.');
   checks.follows = true;
   change(links.reduce((text, [from, to]) => edit(text, {what: 'lose', from, to, every: 1}).text, web.history.text), 'fault');
 }

@@ -5,8 +5,8 @@ import {HALT, PRINT, RECV, SEND} from '../../timeline/page/data.js';
 import {count, digits} from '../../timeline/page/words.js';
 import {readToml} from './toml.js';
 
-/** The kinds of faults that can be tried: the name, and the option of `motecheck`. */
-export const KINDS = [['links', '--links '], ['silent motes', '--silent ']];
+/** The kinds of faults that can be tried: the name, and the options of `motecheck`. */
+export const KINDS = [['links', '--links'], ['silent motes', '--silent']];
 const EXPECT = '# expect: ', FAULTS = '# faults: ', MOST_VALUES = 24, MOST_SUGGESTED = 5;
 
 /** The comments and blank rows at the head of a text. */
