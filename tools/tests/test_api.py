@@ -1,17 +1,10 @@
-"""The public calls, from a clone and as an installed package."""
+"""The public calls."""
 import os
-import subprocess
-import sys
-import tempfile
-import unittest
-from pathlib import Path
 from unittest import mock
 
-from here import TOOLS, Room, scenario_of, text_of
+from here import Room, scenario_of, text_of
 import motesim
-from motesim import packages
 from stub import programs_of, write_stub
-from skips import long
 
 SCENARIO = scenario_of('process a; autostart a; code a { body { print 7; } }', (0, 0), (10, 0), (20, 0))
 PLAN = text_of('api.plan.toml')

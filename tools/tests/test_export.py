@@ -1,11 +1,10 @@
 """Exports, each read back by the program that it is for, where that is installed."""
 import json
 import os
-import re
 import subprocess
 from collections import Counter
 
-from here import SECONDS, TOOLS, TOP, Room, call, rows_of, text_of
+from here import SECONDS, TOOLS, TOP, Room, call, text_of
 from motesim.export import pcapng, perfetto, times
 from motesim.report import Report
 from skips import interpreter_with, need

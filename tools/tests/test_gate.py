@@ -4,7 +4,6 @@ import re
 import shutil
 import signal
 import subprocess
-import unittest
 from pathlib import Path
 from types import SimpleNamespace
 from typing import Any

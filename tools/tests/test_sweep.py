@@ -2,7 +2,6 @@
 import csv
 import gc
 import os
-import re
 import signal
 import subprocess
 import sys
