@@ -33,7 +33,7 @@ and 100). With `name = MEASURE` the column of a measure gets this name. The meas
                                 message needs a line from only one of the motes
   python: measures.py:energy    the result of your function in a file next to the plan; its argument is the run
 
-docs/use/EXPERIMENTS.md shows a sweep from its beginning to a plot, and docs/use/EXPERIMENTS.md describes all measures.
+docs/use/EXPERIMENTS.md shows a sweep from its beginning to a plot, and describes all measures.
 
 The tool ends with status 0, with 1 if a row has an error or lacks a measure, with 2 if nothing could be done, and with
 130 after Ctrl-C.

@@ -16,6 +16,7 @@ from motesim.faults import Fault, in_words
 from motesim.files import NotWritten, write_whole
 from motesim.home import EXAMPLES
 from motesim.report.run import refuse_others
+from motesim.scenario.encodings import decoded
 from motesim.scenario.kinds import is_for_teachers
 
 LONGEST = 1_048_576
@@ -68,10 +69,7 @@ def bytes_of(text: str, returns: bool, mark: bool) -> bytes:
 
 def document(where: str, name: str, data: bytes) -> Document:
     """A file's text. If all lines of the file end with CR and LF, the text has only LF."""
-    try:
-        text = data.decode('utf-8')
-    except UnicodeDecodeError:
-        raise Fault('%s is not UTF-8 (tools/explain %s says more)' % (name, name)) from None
+    text = decoded(name, data)
     mark, text = text.startswith(MARK), text.removeprefix(MARK)
     returns = '\r\n' in text and text.count('\r\n') == text.count('\n') == text.count('\r')
     return Document(where, name, text.replace('\r\n', '\n') if returns else text, stamp_of(data), returns, mark)
