@@ -232,10 +232,11 @@ def itself(work: Any) -> Any:
 
 
 def run_each(work: Callable[[Any], Any], items: Iterable[Any], processes: int,
-             is_over: Callable[[], bool] = lambda: False, **how: Any) -> Generator[Done[Any, Any], None, None]:
+             is_over: Callable[[], bool] = lambda: False, seconds: float = math.inf
+             ) -> Generator[Done[Any, Any], None, None]:
     """The results of work that one pool does for one series of items."""
-    with pool(itself, work, processes, seconds=how.pop('seconds', math.inf)) as workers:
-        yield from workers.results(items, is_over, **how)
+    with pool(itself, work, processes, seconds=seconds) as workers:
+        yield from workers.results(items, is_over)
 
 
 class Batches(Programs):
@@ -244,15 +245,6 @@ class Batches(Programs):
             found = list(run_each(squared, range(200), processes))
             self.assertEqual(sorted((it.item, it.result, it.fault) for it in found),
                              [(n, n * n, '') for n in range(200)])
-
-    def test_in_order_where_that_is_asked(self) -> None:
-        def work(item: int) -> int:
-            # (the first item of the first worker ends last of the first three)
-            if item == 0:
-                until(lambda: (self.room / '1').exists() and (self.room / '2').exists())
-            self.put(str(item))
-            return item
-        self.assertEqual([it.result for it in run_each(work, range(60), 3, ordered=True)], list(range(60)))
 
     def test_no_items(self) -> None:
         self.assertEqual(list(run_each(squared, [], 2)), [])

@@ -13,7 +13,7 @@ from typing import Any, Generic, NamedTuple
 
 from motesim import packages
 from motesim.faults import Fault
-from motesim.runner.pools import Done, Item, Result, Shared, in_order, tried
+from motesim.runner.pools import Done, Item, Result, Shared, tried
 from motesim.runner.programs import ProgramFault, program_path
 from motesim.runner.versions import program_digest
 
@@ -99,28 +99,25 @@ class Cluster(Generic[Item, Result]):
                 file.write(source, str(source.relative_to(PACKAGE.parent)))
         return str(path)
 
-    def results(self, items: Iterable[Item], is_over: Callable[[], bool] = lambda: False,
-                ordered: bool = False) -> Iterator[Done[Item, Result]]:
+    def results(self, items: Iterable[Item], is_over: Callable[[], bool] = lambda: False) -> Iterator[Done[Item, Result]]:
         try:
-            found = self._numbered(enumerate(items), is_over)
-            yield from in_order(found) if ordered else (done for _, done in found)
+            yield from self._results(iter(items), is_over)
         except Fault:
             raise
         except Exception as fault:
             raise Fault('the Dask cluster at %s: %s: %s' % (self.address, type(fault).__name__, fault)) from None
 
-    def _numbered(self, items: Iterator[tuple[int, Item]], is_over: Callable[[], bool]
-                  ) -> Iterator[tuple[int, Done[Item, Result]]]:
+    def _results(self, items: Iterator[Item], is_over: Callable[[], bool]) -> Iterator[Done[Item, Result]]:
         # (in a list, because Dask would treat the members of a tuple as arguments)
         there, = self.client.scatter([self.given], broadcast=True)
         ahead = AHEAD * max(1, len(self.client.scheduler_info()['workers']))
-        going: dict[Any, list[tuple[int, Item]]] = {}
+        going: dict[Any, list[Item]] = {}
         ended = 0
         while True:
             # (first short lists, so that all workers get some)
             length = min(MOST_AT_A_TIME, 1 + ended // ahead)
             while len(going) < ahead and not is_over() and (some := list(itertools.islice(items, length))):
-                going[self.client.submit(run_there, there, [it for _, it in some], pure=False)] = some
+                going[self.client.submit(run_there, there, some, pure=False)] = some
             if not going:
                 return
             try:
@@ -128,6 +125,6 @@ class Cluster(Generic[Item, Result]):
             except TimeoutError:
                 continue
             for future in done:
-                for (number, item), answer in zip(going.pop(future), future.result(), strict=True):
+                for item, answer in zip(going.pop(future), future.result(), strict=True):
                     ended += 1
-                    yield number, Done(item, *answer)
+                    yield Done(item, *answer)

@@ -5,18 +5,19 @@ much memory; several threads have several hosts.
 """
 from __future__ import annotations
 
+import contextlib
 import json
 import os
 import struct
 import subprocess
 from collections.abc import Callable, Iterable, Iterator, Mapping
+from pathlib import Path
 
-from motesim.home import WEB
 from motesim.runner import ending
 from motesim.runner.process import Limits, Running
+from motesim.runner.programs import worker_of
 from motesim.runner.usage import memory_of, processor_seconds_of
 
-WORKER = WEB / 'worker.js'
 # The streams of a program, and the end of its run.
 END, REPORT = 0, 1
 HEAD = struct.Struct('<BI')
@@ -26,17 +27,20 @@ MUCH = 400 << 20
 _idle: list[subprocess.Popen[bytes]] = []
 
 
-def begin(name: str, words: Iterable[str], files: Mapping[str, bytes]) -> subprocess.Popen[bytes]:
-    """The host of a run that has begun."""
-    head = json.dumps({'program': name, 'words': list(words), 'files': [(it, len(data)) for it, data in files.items()]})
+def begin(program: Path, words: Iterable[str], files: Mapping[str, bytes]) -> subprocess.Popen[bytes]:
+    """The host of a run that has begun, of the module that this script runs."""
+    called = ['node', str(worker_of(program))]
+    head = json.dumps({'program': program.resolve().name, 'words': list(words),
+                       'files': [(it, len(data)) for it, data in files.items()]})
     asked = b''.join([struct.pack('<I', len(head)), head.encode('ascii'), *files.values()])
-    while _idle:
-        # (a host may have been ended since its last run)
-        host = _idle.pop()
-        if _is_told(host, asked):
-            return host
+    for host in [it for it in _idle if it.args == called]:
+        # (another thread may have taken it, and it may have been ended since its last run)
+        with contextlib.suppress(ValueError):
+            _idle.remove(host)
+            if _is_told(host, asked):
+                return host
     host = ending.started(lambda: subprocess.Popen(
-        ['node', str(WORKER)], bufsize=0, stdin=subprocess.PIPE, stdout=subprocess.PIPE, stderr=subprocess.DEVNULL,
+        called, bufsize=0, stdin=subprocess.PIPE, stdout=subprocess.PIPE, stderr=subprocess.DEVNULL,
         process_group=ending.group()))
     if not _is_told(host, asked):
         raise OSError(0, 'node doesn\'t run it')
@@ -83,9 +87,9 @@ def frames(pieces: Iterable[bytes]) -> Iterator[tuple[int, bytes | int]]:
 class OfModule(Running):
     """The run of a module, in a process of node that makes other runs too."""
 
-    def __init__(self, name: str, scenario: bytes, words: Iterable[str], files: Mapping[str, bytes], limits: Limits,
+    def __init__(self, program: Path, scenario: bytes, words: Iterable[str], files: Mapping[str, bytes], limits: Limits,
                  asks_end: Callable[[], bool]):
-        super().__init__(begin(name, words, {'/dev/stdin': scenario, **files}), limits, asks_end)
+        super().__init__(begin(program, words, {'/dev/stdin': scenario, **files}), limits, asks_end)
         self._before = processor_seconds_of(self.pid)
         self._is_whole = False
 

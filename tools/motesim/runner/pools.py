@@ -40,10 +40,9 @@ class Pool(Protocol[Item, Result]):
     def __exit__(self, *fault: object) -> None:
         """Ends the workers of this machine at once, with their runs, or forgets those of a cluster."""
 
-    def results(self, items: Iterable[Item], is_over: Callable[[], bool] = lambda: False,
-                ordered: bool = False) -> Iterator[Done[Item, Result]]:
-        """The results of the items, in the order in which they arrive, or `ordered` like the items. Items are read
-        when workers become free. Once `is_over()` is true, no further items are read; those that workers have end."""
+    def results(self, items: Iterable[Item], is_over: Callable[[], bool] = lambda: False) -> Iterator[Done[Item, Result]]:
+        """The results of the items, in the order in which they arrive. Items are read when workers become free. Once
+        `is_over()` is true, no further items are read; those that workers have end."""
 
 
 def pool(prepare: Callable[[Shared], Callable[[Item], Result]], shared: Shared, processes: int | None = None,
@@ -80,14 +79,3 @@ def until(is_over: Callable[[], bool], items: Iterable[Item]) -> Iterator[Item]:
             yield next(rest)
         except StopIteration:
             return
-
-
-def in_order(found: Iterable[tuple[int, Done[Item, Result]]]) -> Iterator[Done[Item, Result]]:
-    """The results in the order of their numbers."""
-    kept: dict[int, Done[Item, Result]] = {}
-    following = 0
-    for number, done in found:
-        kept[number] = done
-        while following in kept:
-            yield kept.pop(following)
-            following += 1

@@ -23,7 +23,7 @@ from typing import IO, Literal, NamedTuple
 
 from motesim import runner
 from motesim.runner import ending
-from motesim.runner.programs import ProgramFault, is_module, program_path
+from motesim.runner.programs import ProgramFault, program_path, worker_of
 from motesim.runner.usage import memory_of, processor_seconds_of
 
 MEGABYTE = 1 << 20
@@ -243,8 +243,8 @@ class Runner:
         """Begins a run of a scenario. Words that are names of `files` name files with these bytes."""
         path = self.program or program_path()
         try:
-            if is_module(path):
-                return runner.OfModule(path.resolve().name, scenario, words, files, self.limits, self.asks_end)
+            if worker_of(path):
+                return runner.OfModule(path, scenario, words, files, self.limits, self.asks_end)
             return OfBinary(path, scenario, words, files, self.limits, self.asks_end)
         except (OSError, ValueError) as fault:
             why = fault.strerror if isinstance(fault, OSError) else fault

@@ -192,6 +192,13 @@ def nothing_runs(name: str = PROGRAM) -> str:
 
 
 @functools.lru_cache(maxsize=8)
+def worker_of(program: Path) -> Path | None:
+    """The script with which node makes many runs of a module; None for a program that isn't the script of a module."""
+    there = program.resolve()
+    worker = there.with_name('worker.js')
+    return worker if there.name in SOURCES and worker.is_file() else None
+
+
 def is_module(program: Path) -> bool:
     """Returns whether a program is the script that runs the WebAssembly module."""
     return program.resolve() in [script_of(name).resolve() for name in SOURCES]

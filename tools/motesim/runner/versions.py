@@ -6,7 +6,7 @@ from functools import lru_cache
 from hashlib import sha256
 from pathlib import Path
 
-from motesim.runner.programs import is_compiled, is_module, is_proved, module_program, program_of_sources
+from motesim.runner.programs import is_compiled, is_module, is_proved, module_program, program_of_sources, worker_of
 from motesim.version import KIT, VERSION
 
 ANOTHER = 'another with the SHA-256'
@@ -29,7 +29,10 @@ def program_version(program: Path) -> str:
 
 
 def program_digest(program: Path) -> str:
-    """The first 16 digits of the SHA-256 of a binary; its bytes are read once, unless they change."""
+    """The first 16 digits of the SHA-256 of a binary, or of the module that a script runs; the bytes are read once,
+    unless they change."""
+    if worker_of(program):
+        program = program.resolve().with_suffix('.wasm')
     about = program.stat()
     return _digest(program, about.st_size, about.st_mtime_ns)
 

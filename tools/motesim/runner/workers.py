@@ -13,7 +13,7 @@ from types import FrameType
 from typing import TYPE_CHECKING, Any, Generic, TypeVar
 
 from motesim.runner.ending import share_group
-from motesim.runner.pools import Done, Item, Result, Shared, fault_of, in_order, tried, until
+from motesim.runner.pools import Done, Item, Result, Shared, fault_of, tried, until
 
 if TYPE_CHECKING:
     from multiprocessing.connection import Connection
@@ -131,15 +131,9 @@ class Workers(Generic[Item, Result]):
         for worker in self.workers:
             worker.end()
 
-    def results(self, items: Iterable[Item], is_over: Callable[[], bool] = lambda: False,
-                ordered: bool = False) -> Iterator[Done[Item, Result]]:
-        found = self.numbered(until(is_over, items))
-        return in_order(found) if ordered else (done for _, done in found)
-
-    def numbered(self, items: Iterable[Item]) -> Iterator[tuple[int, Done[Item, Result]]]:
-        """The results in the order in which they arrive, with the numbers of their items."""
+    def results(self, items: Iterable[Item], is_over: Callable[[], bool] = lambda: False) -> Iterator[Done[Item, Result]]:
         from multiprocessing.connection import wait
-        self.items = enumerate(items)
+        self.items = enumerate(until(is_over, items))
         while self.feed():
             by_channel: dict[Any, _Worker] = {it.channel: it for it in self.workers if it.given}
             for channel in wait(list(by_channel), TICK):
@@ -185,10 +179,10 @@ class Workers(Generic[Item, Result]):
                 # (the worker has died; this is noticed when its answer is read)
                 pass
 
-    def done(self, number: int, result: Result | None, fault: str) -> tuple[int, Done[Item, Result]]:
-        return number, Done(self.held.pop(number), result, fault)
+    def done(self, number: int, result: Result | None, fault: str) -> Done[Item, Result]:
+        return Done(self.held.pop(number), result, fault)
 
-    def drop(self, worker: _Worker, fault: str) -> tuple[int, Done[Item, Result]]:
+    def drop(self, worker: _Worker, fault: str) -> Done[Item, Result]:
         """Ends a worker: the item on which it worked gets the fault, and its other items are sent to workers again."""
         worker.end()
         self.workers.remove(worker)
