@@ -7,7 +7,7 @@ from typing import Any, TypeVar
 
 from motesim import packages
 from motesim.faults import Fault
-from motesim.report.run import program_path
+from motesim.runner.programs import PROGRAM, program_path
 
 
 Test = TypeVar('Test')
@@ -36,10 +36,10 @@ def need(name: str, package: str) -> None:
         raise unittest.SkipTest('%s is not installed: on Debian `apt-get install %s` installs it' % (name, package))
 
 
-def need_built() -> None:
-    """The built motesim."""
+def need_built(*names: str) -> None:
+    """The built motesim, or other programs."""
     try:
-        program_path()
+        for name in names or [PROGRAM]:
+            program_path(name)
     except Fault as fault:
         raise unittest.SkipTest(str(fault))
-

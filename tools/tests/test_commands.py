@@ -11,8 +11,10 @@ from motesim.home import VERBS
 from motesim.commands import export, search, shrink, studio, sweep
 from motesim.experiments import asked
 from motesim.export.command import ENDS
+from motesim.runner.programs import CHECKER, PROGRAM
 from motesim.search.work import LIMITS
 from motesim.studio import runs
+from skips import need_built
 
 # (an installation has more verbs: in a clone, ./run runs a scenario)
 COMMANDS = [it for it in VERBS if it not in ('completion', 'run')]
@@ -57,6 +59,7 @@ class Commands(unittest.TestCase):
             self.assertEqual((done.returncode, done.stdout, done.stderr), (2, '', line))
 
     def test_the_same_words_mean_the_same_in_all_tools(self) -> None:
+        need_built(PROGRAM, CHECKER)
         net, holds, broken = str(TOP / 'examples/flooding.toml'), 'mote 6 prints flood 1', 'mote 6 halts'
         for words, status, said in ((('expect', net, '--expect', holds), 0, '1 passed, 0 failed'),
                                     (('expect', net, '--expect', holds, '--expect', broken), 1, '1 passed, 1 failed'),
@@ -75,6 +78,7 @@ class Commands(unittest.TestCase):
                 self.assertIn(said, done.stdout + done.stderr)
 
     def test_a_table_goes_to_the_file_that_follows(self) -> None:
+        need_built()
         with tempfile.TemporaryDirectory() as room:
             for form in 'csv', 'json':
                 words = 'summary', str(TOP / 'examples/flooding.toml'), '--motes', '--' + form
