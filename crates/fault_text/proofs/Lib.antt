@@ -1,0 +1,4 @@
+pub mod Numbers
+pub mod Again
+pub mod LineLaws
+pub mod OneList

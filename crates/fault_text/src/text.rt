@@ -1,0 +1,69 @@
+//! Writes faults.
+ghost use Rattle.std.specs.Prelude.{Some};
+ghost use Rattle.fault_text.specs.FaultText.{fault_text, packet_text, way_text};
+
+use radio_faults::Fault;
+use std::fmt;
+
+/// A fault in words.
+#[derive(Clone, Copy)]
+pub struct FaultText(pub Fault);
+
+/// A packet in words.
+#[derive(Clone, Copy)]
+struct PacketText {
+    sender: u16,
+    number: u64,
+}
+
+/// The way to a mote in words.
+#[derive(Clone, Copy)]
+struct WayText(u16);
+
+impl fmt::Display for PacketText {
+    ghost output = { λ t. Some (packet_text t.sender t.number) };
+
+    fn fmt<W: fmt::Write>(&self, f: &mut fmt::Formatter<W>) -> fmt::Result {
+        let PacketText { sender, number } = *self;
+        write!(f, "packet {number} of mote {sender}")
+    }
+}
+
+impl fmt::Display for WayText {
+    ghost output = { λ t. Some (way_text t.0) };
+
+    fn fmt<W: fmt::Write>(&self, f: &mut fmt::Formatter<W>) -> fmt::Result {
+        let WayText(to) = *self;
+        write!(f, " on the way to mote {to}")
+    }
+}
+
+impl fmt::Display for FaultText {
+    ghost output = { λ t. Some (fault_text t.0) };
+
+    fn fmt<W: fmt::Write>(&self, f: &mut fmt::Formatter<W>) -> fmt::Result {
+        match self.0 {
+            Fault::Link(from, to) => write!(f, "link {from} to {to} is broken"),
+            Fault::Silent(mote) => write!(f, "mote {mote} is silent"),
+            Fault::Lost { sender, number, to } => {
+                let packet = PacketText { sender, number };
+                let way = WayText(to);
+                write!(f, "{packet} is lost{way}")
+            }
+            Fault::LostToAll { sender, number } => {
+                let packet = PacketText { sender, number };
+                write!(f, "{packet} is lost")
+            }
+            Fault::Late {
+                sender,
+                number,
+                to,
+                by,
+            } => {
+                let packet = PacketText { sender, number };
+                let way = WayText(to);
+                write!(f, "{packet} is {by} late{way}")
+            }
+        }
+    }
+}

@@ -1,0 +1,83 @@
+//! Reads the words of a line.
+ghost use Rattle.std.specs.Prelude.{◌≡◌, map, IfOk};
+ghost use Rattle.fault_text.specs.FaultLines.{delay_of, mote_of, nearest, nearest_of, number_of, words_of};
+
+use radio_faults::Fault;
+use std::alloc::{AllocError, Global};
+
+/// Returns the words of a line.
+pub fn words_of(alloc: Global, line: &[u8]) -> Result<Vec<&[u8]>, AllocError>
+    ensures words { IfOk result (λ words. map (λ word. word.now) words.items ≡ words_of line.now) }
+{
+    line.split(|byte| *byte == b' ').collect(alloc)
+}
+
+/// Returns the number that the digits of a word write, if it fits.
+fn number_of(word: &[u8]) -> u64
+    ensures value { result ≡ number_of word.now }
+{
+    let mut number = 0u64;
+    for byte in word {
+        number = number
+            .saturating_mul(10)
+            .saturating_add(u64::from(byte.saturating_sub(b'0')));
+    }
+    number
+}
+
+/// Returns the number of a mote that a word writes, if it fits.
+fn mote_of(word: &[u8]) -> u16
+    ensures value { result ≡ mote_of word.now }
+{
+    let number = number_of(word);
+    if number < 65535 { number as u16 } else { 65535 }
+}
+
+/// Returns the number of moments that a word writes, if it fits.
+fn delay_of(word: &[u8]) -> u32
+    ensures value { result ≡ delay_of word.now }
+{
+    let number = number_of(word);
+    if number < 4_294_967_295 {
+        number as u32
+    } else {
+        4_294_967_295
+    }
+}
+
+/// Returns the fault of this packet that has as many words behind the packet, with their numbers.
+fn nearest_of(sender: u16, number: u64, words: &[&[u8]]) -> Option<Fault>
+    ensures value { result ≡ nearest_of sender number (map (λ word. word.now) words.now) }
+{
+    match words {
+        [_, _] => Some(Fault::LostToAll { sender, number }),
+        [_, _, _, _, _, _, _, to] => Some(Fault::Lost {
+            sender,
+            number,
+            to: mote_of(to),
+        }),
+        [_, by, _, _, _, _, _, _, to] => Some(Fault::Late {
+            sender,
+            number,
+            to: mote_of(to),
+            by: delay_of(by),
+        }),
+        _ => None,
+    }
+}
+
+/// Returns the fault that has as many words, with the numbers of these words.
+pub fn nearest(words: &[&[u8]]) -> Option<Fault>
+    ensures value { result ≡ nearest (map (λ word. word.now) words.now) }
+{
+    match words {
+        [_, mote, _, _] => Some(Fault::Silent(mote_of(mote))),
+        [_, from, _, to, _, _] => Some(Fault::Link(mote_of(from), mote_of(to))),
+        [_, number, _, _, sender, more @ ..] => nearest_of(
+            mote_of(sender),
+            number_of(number),
+            more,
+        ),
+        _ => None,
+    }
+}
