@@ -20,6 +20,7 @@ from motesim.notation.faults import RULES as PROGRAM_RULES
 from motesim.runner.programs import TOP
 from motesim.scenario.faults import RULES as SCENARIO_RULES
 from motesim.studio.examples import offered
+from motesim.studio.reference import reference
 from motesim.timeline.bundle import bundle
 from motesim.timeline.html import MARK, TEMPLATE, style
 
@@ -60,7 +61,7 @@ def packed(module: bytes) -> str:
 def make_page(module: bytes, checker: bytes) -> str:
     """The text of the page, with the modules of `motesim` and of `motecheck`."""
     fill = {
-        'TITLE': 'motesim', 'KIND': 'lone', 'STYLE': style(), 'DATA': data(), 'POLICY': POLICY,
+        'HELP': reference(), 'TITLE': 'motesim', 'KIND': 'lone', 'STYLE': style(), 'DATA': data(), 'POLICY': POLICY,
         'MODULE': packed(module), 'CHECKER': packed(checker),
         'WORKER': script(PAGE / 'worker.js', RUN.read_text('utf-8')), 'SCRIPT': '<script>\n%s\n</script>' % script(PAGE / 'lone.js'),
     }

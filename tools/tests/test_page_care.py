@@ -184,3 +184,15 @@ class Answers(InPage):
         self.press('add')
         self.key('Escape')
         self.assertEqual(self.value('[by("add").getAttribute("aria-pressed"), m.ground.adding]'), ['false', False])
+
+    def test_help_has_the_notation_and_the_claims(self) -> None:
+        self.open()
+        self.press('help')
+        self.wait('by("reference").open')
+        shown = self.value('by("reference").innerText')
+        for words in 'returns YIELDED once, and continues at the next call', 'one operator per pair of parentheses', 'GROUP   =', \
+                'if (x == 1) { y = 1; } else { if (x == 2)':
+            self.assertIn(words, shown)
+        self.assertNotRegex(shown, r'\]\(|\\\|')
+        self.key('Escape')
+        self.wait('!by("reference").open')

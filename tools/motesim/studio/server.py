@@ -19,6 +19,7 @@ from typing import Any
 
 from motesim.faults import Fault
 from motesim.runner.module import file_of
+from motesim.studio.reference import reference
 from motesim.studio.session import HTML, JSON, Session, as_json
 from motesim.timeline.bundle import bundle, modules_of
 from motesim.timeline.html import MARK, TEMPLATE, style
@@ -61,7 +62,7 @@ def page() -> bytes:
     """The page."""
     # (a browser that knows all modules from the beginning needn't find one after another)
     loads = ''.join('<link rel="modulepreload" href="%s">\n' % name for name in modules())
-    fill = {'TITLE': 'motesim studio', 'KIND': 'served', 'STYLE': style(), 'POLICY': loads, 'SCRIPT': SCRIPT}
+    fill = {'HELP': reference(), 'TITLE': 'motesim studio', 'KIND': 'served', 'STYLE': style(), 'POLICY': loads, 'SCRIPT': SCRIPT}
     return MARK.sub(lambda mark: fill.get(mark[1], ''), TEMPLATE.read_text('utf-8')).encode('utf-8')
 
 

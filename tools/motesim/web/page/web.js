@@ -279,6 +279,7 @@ function beginButtons() {
   for (const [id, does] of Object.entries({
     undo: () => go(-1), redo: () => go(1), try: makeTry, stop: () => page.backend.stop(),
     share: () => showSharing(web.history.text, web.document.name),
+    help: () => byId('reference').showModal(),
     revert() {
       go(-1);
       byId('try').focus();
