@@ -276,7 +276,7 @@ class Batches(Programs):
                     signal.pause()
             return item
         found, clock = {}, mock.Mock(monotonic=mock.Mock(return_value=0))
-        with mock.patch.multiple('motesim.runner.workers', time=clock, MOST_AHEAD=1):
+        with mock.patch('motesim.runner.workers.time', clock):
             for it in run_each(work, range(40), 2, seconds=9):
                 found[it.item] = it.result, it.fault
                 # (all others are done)
