@@ -2,6 +2,7 @@
 import contextlib
 import math
 import os
+import shutil
 import signal
 import subprocess
 import sys
@@ -196,7 +197,7 @@ class Modules(unittest.TestCase):
         # (one that dies between two runs costs none)
         idle = self.host()
         os.kill(idle, signal.SIGKILL)
-        until(lambda: not is_alive(idle))
+        os.waitid(os.P_PID, idle, os.WEXITED | os.WNOWAIT)
         self.host()
 
     def test_stopping_a_run_that_has_ended_leaves_the_process(self) -> None:
@@ -204,6 +205,16 @@ class Modules(unittest.TestCase):
         running.wait()
         running.stop()
         self.assertEqual(self.host(), running.pid)
+
+    def test_the_scripts_of_another_tree_have_a_process_of_their_own(self) -> None:
+        with tempfile.TemporaryDirectory() as folder:
+            there = Runner(Path(shutil.copytree(script_of('motesim').parent, folder, dirs_exist_ok=True)) / 'motesim')
+            pids = set[int]()
+            for runner in there, self.runner, there, self.runner:
+                running = runner.start(SMALL)
+                self.assertEqual(running.wait().report, self.runner.report(SMALL))
+                pids.add(running.pid)
+            self.assertEqual(len(pids), 2)
 
     def test_a_long_report_passes(self) -> None:
         report = Runner(script_of('motesim')).report(LONG)
