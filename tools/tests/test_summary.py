@@ -7,8 +7,12 @@ from here import text_of
 from motesim.explain.of_nets import of_moments
 from motesim.faults import Fault
 from motesim.report import Report
+from motesim.report.run import Run
 from motesim.scenario import Scenario
+from motesim.summary.columns import FLOWS, INTERVALS, LINKS, MOTES
+from motesim.summary.counts import summary
 from motesim.summary.flows import Message, flow_rows, flow_rows_by, read_flow
+from motesim.summary.series import Series
 from sessions import TABLES, Table
 
 TEXTS = Table(TABLES / 'summary.toml').texts
@@ -16,6 +20,14 @@ REPORT = TEXTS['report']
 SCENARIO = text_of('talkers.toml')
 WITH_PROCESSES = SCENARIO.replace('talker = ""', 'talker = "process a, b; code a"').replace(
     'hearer = ""', 'hearer = "process hearer; // process no;"')
+
+
+def test_the_tables_have_the_columns_that_the_help_and_the_page_describe() -> None:
+    report, scenario = Report.parse(REPORT), Scenario.parse(SCENARIO)
+    motes, net, links = summary(Run('small', report, scenario))
+    for rows, columns in (([*motes, net], ['mote', 'program', *MOTES]), (links, [*LINKS]),
+                          (flow_rows(report, None, 'print hearer'), [*FLOWS]), ([*Series(report, 5).rows()], [*INTERVALS])):
+        assert rows and all([*row] == columns for row in rows)
 
 
 def test_values_of_a_flow_are_those_in_both_ranges() -> None:
