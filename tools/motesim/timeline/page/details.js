@@ -11,7 +11,7 @@ import {choose, page} from './stage.js';
 import {revealMoment} from './time.js';
 import {count} from './words.js';
 
-const MOST_LISTED = 120, FIRST_LINES = 40, MOST_NAMED = 30;
+const MOST_LISTED = 120, LAST_LINES = 40, MOST_NAMED = 30;
 
 function traceButton(pane, line, what = '') {
   const {run} = pane;
@@ -127,15 +127,16 @@ function turnParts(pane, line, mote, k) {
     element('p', '', [makeButton(`All of mote ${mote}`, () => chooseMote(pane, mote))])];
 }
 
-/** A mote: its program, its place, the motes that it hears, and its first lines. */
+/** A mote: its program, its place, the motes that it hears, and its last lines up to the moment that is shown. */
 function moteParts(pane, mote) {
   const {run} = pane, hears = run.hearers[mote], first = run.traceStart[mote];
   const place = run.places ? `It is at ${run.places[mote].join(', ')}. ` : '';
   const which = hears.length <= MOST_NAMED ? `: ${hears.join(', ')}` : '';
-  const lines = numbers(first, Math.min(run.traceStart[mote + 1], first + FIRST_LINES));
+  const behind = Math.max(run.lineAt(mote, Math.floor(page.play.now) + 1), Math.min(first + 1, run.traceStart[mote + 1]));
+  const lines = numbers(Math.max(first, behind - LAST_LINES), behind);
   return [element('h2', `Mote ${mote}, which runs ${run.programs[run.begins[mote]]}`),
     element('p', place + (hears.length ? `It hears ${count(hears.length, 'mote')}${which}.` : 'It hears nobody.')),
-    element('h3', 'Its first lines'), list('ol', lines.map(line => traceButton(pane, line)))];
+    element('h3', `Its last lines up to moment ${Math.floor(page.play.now)}`), list('ol', lines.map(line => traceButton(pane, line)))];
 }
 
 /** Selects the line before or after the selected one (`by`), or the same moment some `lanes` below; if nothing is
