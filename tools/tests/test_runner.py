@@ -216,6 +216,16 @@ class Modules(unittest.TestCase):
                 pids.add(running.pid)
             self.assertEqual(len(pids), 2)
 
+    def test_a_node_that_can_not_run_it_is_told(self) -> None:
+        with tempfile.TemporaryDirectory() as folder, mock.patch.dict(os.environ):
+            old = Path(folder) / 'node'
+            old.write_text('#!/bin/sh\nhead -c 20 >/dev/null\nexit 1\n')
+            old.chmod(0o755)
+            os.environ['PATH'] = folder + os.pathsep + os.environ['PATH']
+            web = Path(shutil.copytree(script_of('motesim').parent, Path(folder) / 'web'))
+            self.assertEqual(Runner(web / 'motesim').answer(b''), (
+                1, b'', b'motesim: node ended without an answer; the module needs node 18 or newer'))
+
     def test_a_long_report_passes(self) -> None:
         report = Runner(script_of('motesim')).report(LONG)
         self.assertEqual(report.count(b' a timer 0\n'), 50 * 2000)

@@ -21,6 +21,7 @@ from motesim.runner.usage import memory_of, processor_seconds_of
 # The streams of a program, and the end of its run.
 END, REPORT = 0, 1
 HEAD = struct.Struct('<BI')
+NO_ANSWER = 'node ended without an answer; the module needs node 18 or newer'
 # The bytes of memory of a host that isn't used again.
 MUCH = 400 << 20
 
@@ -43,7 +44,7 @@ def begin(program: Path, words: Iterable[str], files: Mapping[str, bytes]) -> su
         called, bufsize=0, stdin=subprocess.PIPE, stdout=subprocess.PIPE, stderr=subprocess.DEVNULL,
         process_group=ending.group()))
     if not _is_told(host, asked):
-        raise OSError(0, 'node doesn\'t run it')
+        raise OSError(0, NO_ANSWER)
     return host
 
 
@@ -106,6 +107,8 @@ class OfModule(Running):
         else:
             ending.end(self._process)
             self._status = self._process.returncode or self._status
+            if self._status > 0:
+                self._fault += b'motesim: ' + NO_ANSWER.encode()
 
 
 def _forget() -> None:

@@ -207,7 +207,7 @@ class OfBinary(Running):
             for name, data in files.items():
                 names[name] = made.enter_context(_file_with(data, tempfile.NamedTemporaryFile)).name
             process = ending.started(lambda: subprocess.Popen(
-                ['motesim', *(names.get(it, it) for it in words)], executable=str(path.resolve()), stdin=given,
+                [path.name, *(names.get(it, it) for it in words)], executable=str(path.resolve()), stdin=given,
                 stdout=subprocess.PIPE, stderr=subprocess.PIPE, bufsize=0, process_group=ending.group()))
             self._made = made.pop_all()
         super().__init__(process, limits, asks_end)
