@@ -6,12 +6,14 @@ another process, or the command setpriv.
 import os
 import shlex
 import shutil
+import signal
 import subprocess
 import sys
+import urllib.request
 from pathlib import Path
 
 import pytest
-from here import TOOLS, TOP, scenario_of
+from here import SECONDS, TOOLS, TOP, scenario_of
 from skips import need
 
 # Runs a tool, given by its path and words, without these.
@@ -71,6 +73,19 @@ def room(tmp_path: Path) -> Path:
     return tmp_path
 
 
+def called(command: str) -> list[str]:
+    return [sys.executable, '-Bc', HIDES, *shlex.split('%s/%s' % (TOOLS, command))]
+
+
+def environment(room: Path) -> dict[str, str]:
+    bare = room / 'bin'
+    bare.mkdir()
+    for name in 'node', 'env', 'sh':
+        (bare / name).symlink_to(str(shutil.which(name)))
+    return {'PATH': str(bare), 'HOME': str(room), 'MOTESIM_SEEN': os.environ['MOTESIM_SEEN'],
+            'MOTESIM': str(TOP / 'web/motesim'), 'MOTECHECK': str(TOP / 'web/motecheck')}
+
+
 @pytest.mark.parametrize('command, status, said', [
     ('run_program news.toml', 0, 'left 0'), ('run_program wrong.toml', 1, 'Did you mean `print`?'),
     ('expect news.toml', 0, '0 failed'), ('summary news.toml', 0, 'received'), ('explain news.toml', 0, 'no error'),
@@ -80,12 +95,19 @@ def room(tmp_path: Path) -> Path:
     ('grade solutions news.expect.toml --jobs 2', 0, 'anna'), ('motecheck --links news.toml claims', 0, 'covered')])
 def test_a_tool_needs_nothing_that_only_linux_has(command: str, status: int, said: str, room: Path) -> None:
     (room / 'claims').write_text('mote 1: at least 1 line "print process news"\n')
-    bare = room / 'bin'
-    bare.mkdir()
-    for name in 'node', 'env', 'sh':
-        (bare / name).symlink_to(str(shutil.which(name)))
-    done = subprocess.run([sys.executable, '-Bc', HIDES, *shlex.split('%s/%s' % (TOOLS, command))], cwd=room, text=True,
-                          capture_output=True, env={
-                              'PATH': str(bare), 'HOME': str(room), 'MOTESIM_SEEN': os.environ['MOTESIM_SEEN'],
-                              'MOTESIM': str(TOP / 'web/motesim'), 'MOTECHECK': str(TOP / 'web/motecheck')})
+    done = subprocess.run(called(command), cwd=room, env=environment(room), text=True, capture_output=True)
     assert (done.returncode, said in done.stdout + done.stderr) == (status, True), done.stdout + done.stderr
+
+
+def test_the_studio_needs_nothing_that_only_linux_has(room: Path) -> None:
+    with subprocess.Popen(called('studio news.toml --no-open'), cwd=room, env=environment(room), text=True,
+                          stdout=subprocess.PIPE, stderr=subprocess.PIPE) as studio:
+        assert studio.stdout
+        address = studio.stdout.readline().strip()
+        with urllib.request.urlopen(address) as page:
+            assert page.status == 200
+        asked = urllib.request.Request(address + 'begin', b'{}', {'Content-Type': 'application/json'})
+        with urllib.request.urlopen(asked) as answer:
+            assert b'process news' in answer.read()
+        studio.send_signal(signal.SIGINT)
+        assert studio.wait(SECONDS) == 0
