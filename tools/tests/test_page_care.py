@@ -121,7 +121,7 @@ class Texts(InPage):
         self.open()
         self.value('(() => { const {history} = web; for (let i = 0; i < 6; i++) { history.take("text " + i, "edit"); '
                    'history.keep(history.step, {at: new Uint8Array(50e6)}); } })()')
-        self.assertEqual(self.value('web.history.steps.map(it => Boolean(it.run)).slice(-6)'), [False] * 4 + [True] * 2)
+        self.assertEqual(self.value('web.history.steps.map(it => Boolean(it.run)).slice(-6)'), [False] * 5 + [True])
 
     def test_a_closing_brace_goes_back_to_its_block(self) -> None:
         self.open()

@@ -3,10 +3,11 @@
 
 /** Milliseconds within which what is typed, or moved by keys, belongs to one step; and the bytes of the runs that are
  * kept. */
-const PAUSE = 1200, MOST_BYTES = 120e6, JOINED = ['typed', 'moved'];
+const PAUSE = 1200, MOST_BYTES = 60e6, JOINED = ['typed', 'moved'];
 
-/** The bytes of the columns of a run. */
-const bytesOf = run => Object.values(run).reduce((sum, it) => sum + (it?.byteLength || 0), 0);
+/** The bytes of the columns of a run, and of its lists of prints. */
+const bytesOf = run => Object.values(run).reduce((sum, it) => sum + (it?.byteLength || 0),
+  8 * (run.prints || []).reduce((sum, it) => sum + it.length, 0));
 
 /** A step: a text, how it came to be, and what was opened `of` which it is.
  * @typedef {{text: string, run: any, how: string, at: number, of: any}} Step */

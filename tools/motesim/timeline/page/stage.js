@@ -59,9 +59,10 @@ export const page = {
 
   /** What must hold, with its verdicts, for which text; how long one run of them took; what the surveys of single
    * faults and of pairs found; the sentence about them; whether the page goes to the next break;
-   * and the words of what needn't hold with faults. */
+   * and the words of what needn't hold with faults, and
+   * whether the reader has chosen them. */
   checks: {items: list(), text: '', took: 0, survey: none, pairs: none, words: '', is: '', follows: false,
-    without: new Set()},
+    without: new Set(), chosen: false},
 
   /** Functions that are called when the results that are shown become those of an earlier text; when a run is shown;
    * when a document was opened, or is shown again (`isAgain`); when its text is kept; and when the

@@ -103,9 +103,18 @@ function itemOf({words, claims, verdicts, isOwn, remark = ''}) {
 /** Leaves an expectation out of the surveys of faults, or takes it in again; and surveys anew. */
 function leaveOut(words) {
   if (!checks.without.delete(words)) checks.without.add(words);
+  checks.chosen = true;
   Object.assign(checks, {survey: null, pairs: null});
   showFaults();
   if (canSurvey()) survey(1);
+}
+
+/** Leaves out what most single faults break: it says how a run goes, and not what it is for. Not in an exercise, and not
+ * if the reader has chosen. */
+function leaveOutPins({sets, faults}) {
+  if (checks.chosen || faultsIn(checks.text) !== null) return;
+  const pins = checks.items.filter(({claims}) => 2 * sets.filter(set => set.claims.some(it => claims.includes(it))).length > faults);
+  if (pins.length < checks.items.length) for (const {words} of pins) checks.without.add(words);
 }
 
 /** The claims that must also hold with a fault. */
@@ -175,7 +184,12 @@ async function survey(most) {
   bar.hidden = true;
   if (got.answer === undefined) byId('tried').textContent = got.limit || got.line;
   else {
-    checks[most === 1 ? 'survey' : 'pairs'] = {...surveyIn(got.answer), took: performance.now() - begin, took1: got.took};
+    const found = surveyIn(got.answer);
+    if (most === 1) leaveOutPins(found);
+    const claims = surveyed();
+    found.sets = found.sets.filter(set => set.claims.some(it => claims.includes(it)));
+    checks[most === 1 ? 'survey' : 'pairs'] = {...found, took: performance.now() - begin};
+    showHeld(page.panes[0].run);
     showFaults();
     sayVerdict();
     redraw();
@@ -194,7 +208,9 @@ function showFaults() {
     makeButton(`✗ ${faults.map(short).join(' + ')}`, () => take(faults), {title: `It breaks: ${claims.join('\n')}`})));
   const more = (found?.sets.length || 0) - MOST_SETS;
   if (more > 0) byId('breaking').append(` and ${digits(more)} more`);
-  byId('checks-note').textContent = checks.items.length ? NOTE : '';
+  const {size} = checks.without;
+  byId('checks-note').textContent = `${size ? `${count(size, 'expectation')} without a tick ${size > 1 ? 'are' : 'is'} not counted. ` : ''}${
+    checks.items.length ? NOTE : ''}`;
   if (found?.sets.length) label(`${byId('tab-checks').textContent.split(' · ')[0]} · ${count(found.sets.length, 'fault')} break${
     found.sets.length === 1 ? 's' : ''} it`, 'bad');
 }
@@ -279,6 +295,7 @@ export function beginChecks() {
       if (claim) expect(claim); else await judge(web.shown, web.number);
     });
   });
+  page.reactions.opened.push(() => Object.assign(checks, {without: new Set(), chosen: false}));
   page.reactions.ran.push((text, number) => attempt(() => judge(text, number)));
   page.reactions.outdated.push(() => {
     page.backend.endSurvey();
