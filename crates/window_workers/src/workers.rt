@@ -38,8 +38,7 @@ use worker_cut::Cut;
 use worker_window::Gate;
 
 /// Makes the workers' report at the end, and returns it with their inboxes. `owners` is the worker of each mote.
-fn make_report<R: Threads + Wait + Sync>(
-    rt: &R,
+fn make_report(
     alloc: Global,
     owners: &[u16],
     group: WorkerGroup,
@@ -66,7 +65,7 @@ fn make_report<R: Threads + Wait + Sync>(
     };
     let ended = end_all(alloc, shares)?;
     let left = left_of_all(&ended, &pairs)?;
-    let (medium, rest) = medium_log(rt, alloc, ended)?;
+    let (medium, rest) = medium_log(alloc, ended)?;
     let traces = joined_traces(alloc, owners, rest)?;
     let report = Report {
         traces,
@@ -142,7 +141,7 @@ where
         return Err(RunError::Memory);
     };
     let group = run_by_kind(rt, alloc, net, owners, cut.longest, sync, gate, group)?;
-    make_report(rt, alloc, owners, group)
+    make_report(alloc, owners, group)
 }
 
 /// Runs a net with one worker for each inbox, and returns its report. Copies from a mote of one worker to a mote of

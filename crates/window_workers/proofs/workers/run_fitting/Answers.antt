@@ -69,8 +69,8 @@ pub run_by_kind-requires-clause-kind : goal.run_by_kind-requires-clause-kind
 run_by_kind-requires-clause-kind g c κs within =
     subst (Each (IsForKind c.args.sync)) (sym (c.in-Ok-new.ensures.inboxes.1 ∙ c.in-Ok.ensures.takers)) (seconds_have (IsForKind c.args.sync) c.args.pairs.items c.requires.kind)
 
-pub make_report-requires-clause-at_end : goal.make_report-requires-clause-at_end
-make_report-requires-clause-at_end g c κs within = (net_of c.args.net.now, c.in_ok-group.ensures.at_end)
+pub make_report-requires : goal.make_report-requires
+make_report-requires g c = record { at_end = (net_of c.args.net.now, c.in_ok-group.ensures.at_end) }
 
 pub returns-clause-report : goal.returns-clause-report
 returns-clause-report g c =
