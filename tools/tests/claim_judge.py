@@ -38,8 +38,8 @@ class Line(NamedTuple):
     parts: dict[str, str]
 
     @property
-    def value(self) -> int:
-        return int(self.parts['value'])
+    def value(self) -> int | None:
+        return int(self.parts['value']) if 'value' in self.parts else None
 
     def is_after(self, other: Line) -> bool:
         """Two lines of the same moment are ordered only if they belong to the same mote."""
@@ -109,11 +109,14 @@ class ClaimJudge:
 
 
 class Tried(NamedTuple):
-    """A test, or a case, by its text: whether it holds; the line too many, if it doesn't; and the line by which it does."""
+    """A test, or a case, by its text: whether it holds; the line too many, if it doesn't; the line by which it does; and
+    the missing and the superfluous values."""
     text: str
     holds: bool
     spare: Line | None = None
     shown: Line | None = None
+    missing: tuple[int, ...] = ()
+    superfluous: tuple[int, ...] = ()
 
 
 class Reader:
@@ -121,8 +124,9 @@ class Reader:
 
     def __init__(self, judge: ClaimJudge, text: str) -> None:
         self.judge, self.text, self.at, self.own = judge, text, 0, list[int]()
-        # The lines that a test counts, if it counts lines, and its limits.
+        # The lines that a test counts, if it counts lines, and its limits; and the values that it names.
         self.lines, self.least, self.most = Lines(), 0, LAST
+        self.missing, self.superfluous = list[int](), list[int]()
 
     def take(self, form: str) -> re.Match[str] | None:
         found = re.compile(form).match(self.text, self.at)
@@ -151,7 +155,8 @@ class Reader:
         assert self.at == len(self.text), self.text[self.at:]
         least, most = quantity or (len(cases),) * 2
         holding = [subject + case.text + place_of(case.shown) for subject, case, _ in cases if case.holds]
-        missing = [subject + test.text + place_of(test.spare, ', is one too many') for subject, _, test in cases if test]
+        missing = [subject + test.text + place_of(test.spare, ', is one too many') + listed('missing', test.missing)
+                   + listed('superfluous', test.superfluous) for subject, _, test in cases if test]
         if len(holding) < least:
             return 'not for ' + missing[0] if missing else 'it wants more cases than it has'
         return 'also for ' + holding[most] if len(holding) > most else ''
@@ -173,9 +178,11 @@ class Reader:
     def tried(self) -> Tried:
         """A test. Lines are counted mote by mote."""
         begin, self.lines, self.most, self.least = self.at, Lines(), LAST, 0
+        self.missing, self.superfluous = [], []
         holds = self.test()
         return Tried(self.text[begin:self.at], holds, *(next(iter(its), None) for its in (
-            self.lines[self.most:], self.lines[self.least - 1:] if self.least else [])))
+            self.lines[self.most:], self.lines[self.least - 1:] if self.least else [])),
+            tuple(self.missing), tuple(self.superfluous))
 
     def test(self) -> bool:
         if self.take('every line '):
@@ -185,11 +192,15 @@ class Reader:
             self.lines, self.most = [it for it in lines if it not in fit], 0
             return not self.lines
         if self.take('the last line '):
-            lines = sorted(self.deed(), key=lambda it: (it.at, it.mote, it.place))
+            last = in_time(self.deed())[-1:]
+            if self.take(' has the value of the last line '):
+                return self.same_values(last, in_time(self.deed())[-1:]) and bool(last)
             wanted = numbers_in(self.need(' has the value ' + NUMBERS)[1])
-            return bool(lines) and lines[-1].value in wanted
+            return bool(last) and last[0].value in wanted
         if self.take('the lines '):
-            return self.values(sorted(self.deed(), key=lambda it: (it.at, it.mote, it.place)))
+            return self.values(self.deed())
+        if self.take('each value of the lines '):
+            return self.each_value(self.deed())
         if ratio := self.take(r'(\d+) times the number of '):
             low = int(ratio[1]) * self.number()
             is_less, times = self.need(r' is (at most|less than) (\d+) times the number of ').groups()
@@ -201,12 +212,40 @@ class Reader:
         return self.least <= self.number() <= self.most
 
     def values(self, lines: Lines) -> bool:
-        order, listed = self.need(' have in (any order|order of time) exactly the values ' + VALUES).groups()
-        sets = [numbers_in(it.removeprefix('any of ')) for it in listed.split(', ')]
-        found = [it.value for it in lines]
+        order = self.need(' have in (any order|order of time) exactly ')[1]
+        if self.take('the values of the lines '):
+            others = self.deed()
+            is_same = self.same_values(lines, others)
+            return is_same if order == 'any order' else [it.value for it in in_time(lines)] == [
+                it.value for it in in_time(others)]
+        found = [it.value for it in in_time(lines)]
+        if self.take('no values'):
+            sets = []
+        else:
+            sets = [numbers_in(it.removeprefix('any of ')) for it in self.need('the values ' + VALUES)[1].split(', ')]
         if order == 'any order':
-            return Counter(found) == Counter(it for its in sets for it in its)
+            wanted = [it for its in sets for it in its]
+            self.differ(values_in(lines), wanted)
+            return Counter(found) == Counter(wanted)
         return len(found) == len(sets) and all(value in its for value, its in zip(found, sets))
+
+    def same_values(self, lines: Lines, others: Lines) -> bool:
+        """Whether two lists of lines have the same values, each as often."""
+        self.differ(values_in(lines), values_in(others))
+        return Counter(it.value for it in lines) == Counter(it.value for it in others)
+
+    def differ(self, found: list[int], wanted: list[int]) -> None:
+        self.missing, self.superfluous = beyond(wanted, found), beyond(found, wanted)
+
+    def each_value(self, lines: Lines) -> bool:
+        self.need(' is the value of ')
+        least, most = self.limits()
+        self.need(' lines? ')
+        others = Counter(it.value for it in self.deed())
+        its = list(dict.fromkeys(reversed(values_in(lines))))[::-1]
+        self.missing = [it for it in its if others[it] < least]
+        self.superfluous = [it for it in its if others[it] > most]
+        return all(least <= others[it.value] <= most for it in lines)
 
     def number(self) -> int:
         if self.take('lines? in the report'):
@@ -277,6 +316,28 @@ class Reader:
         moments, where = self.need(r' within (\d+) moments? (after|before) some line ').groups()
         order, events = Within(int(moments), where == 'after'), self.deed()
         return [line for line in lines if any(order.admits(line, event) for event in events)]
+
+
+def in_time(lines: Lines) -> Lines:
+    return sorted(lines, key=lambda it: (it.at, it.mote, it.place))
+
+
+def values_in(lines: Lines) -> list[int]:
+    return [it.value for it in lines if it.value is not None]
+
+
+def beyond(numbers: list[int], others: list[int]) -> list[int]:
+    """The first of the numbers that are more of a kind than the others have."""
+    left, found = Counter(numbers) - Counter(others), list[int]()
+    for it in numbers:
+        if left[it] > 0:
+            left[it] -= 1
+            found.append(it)
+    return found
+
+
+def listed(label: str, values: tuple[int, ...]) -> str:
+    return '; %s: %s' % (label, ', '.join(map(str, values))) if values else ''
 
 
 def place_of(line: Line | None, more: str = '') -> str:

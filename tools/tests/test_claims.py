@@ -11,7 +11,8 @@ import unittest
 from itertools import permutations
 from pathlib import Path
 
-from claim_judge import answers_to
+from claim_judge import answers_to, judge_of
+from claim_texts import ClaimTexts
 from here import TOP, call, room_of
 from motesim.judge.claims import Claims, NoClaim
 from motesim.judge.names import names_of
@@ -28,7 +29,7 @@ from test_expect import RELAY as SCENARIO
 NOTES = ('# no claim', '# without a distance')
 TABLE = Path(__file__).with_name('claims.txt')
 CHECK = Path(os.environ.get('MOTECHECK', TOP / 'crates/motecheck/out/motecheck'))
-NETS, SENTENCES = range(int(os.environ.get('CLAIM_NETS', '12'))), 30
+NETS, SENTENCES, CLAIMS = range(int(os.environ.get('CLAIM_NETS', '12'))), 30, 100
 
 
 class Texts(unittest.TestCase):
@@ -90,6 +91,22 @@ class Verdicts(unittest.TestCase):
                 with self.subTest(seed=seed, sentence=words, claims=rows[begin:end]):
                     self.assertEqual(all(it.startswith('holds') for it in lines[begin:end]), holds)
         self.assertGreater(min(found), sum(found) / 4, 'too few expectations hold, or too few are broken')
+
+
+    def test_random_claims_have_the_answers_of_the_second_judge(self) -> None:
+        need_built()
+        found = [0, 0]
+        for seed in NETS:
+            chance = random.Random(seed)
+            text, motes = running_net_of(chance)
+            report = subprocess.run([program_path()], input=text, capture_output=True, text=True, check=True).stdout
+            lines = [it for its in judge_of(text.encode(), report).traces for it in its]
+            texts = ClaimTexts(chance, motes, [it.value for it in lines if it.value is not None])
+            rows = [texts.claim() for _ in range(CLAIMS)]
+            for line, wanted in zip(answers(self, text, rows), answers_to(rows, text.encode(), report), strict=True):
+                self.assertEqual(line, wanted, seed)
+                found[line.startswith('holds')] += 1
+        self.assertGreater(min(found), sum(found) / 10, 'too few claims hold, or too few are broken')
 
 
 class Surveys(unittest.TestCase):

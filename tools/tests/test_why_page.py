@@ -61,7 +61,7 @@ class Notes(unittest.TestCase):
         sentence = 'motes 1 and 2 together print just hops 1, 1, 1 in any order'
         self.assertEqual(self.note(sentence, 'lesson/start.toml'), Note(
             sentence, 'not for the net: the lines "print process hops" of motes 1 to 2 together have in any order exactly the '
-            'values 1, 1, 1, but there are 2'))
+            'values 1, 1, 1, but there are 2; missing: 1'))
         note = self.note('mote 1 prints just h 8, 9 in any order')
         self.assertEqual((note.lines[0].text, note.mote), ('mote 1: h had left at 7', 1))
 

@@ -27,13 +27,14 @@ fn answer(
     ensures answers_one { IfOk result (AnswersOne names.now (report_of report.now) claim.now) }
 {
     let said = write_claim(alloc, names, claim)?;
-    match break_of(claim, report) {
+    let broken = break_of(alloc, claim, report)?;
+    match broken {
         None => Ok(Answers {
             text: format!(in alloc; "holds: {said}\n")?,
             all_hold: true,
         }),
         Some(found) => {
-            let shown = write_break(alloc, names, claim, found)?;
+            let shown = write_break(alloc, names, claim, &found)?;
             Ok(Answers {
                 text: format!(in alloc; "broken: {said} -- {shown}\n")?,
                 all_hold: false,

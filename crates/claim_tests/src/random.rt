@@ -2,8 +2,8 @@
 
 use claim_text::{ClaimsError, read_claims, write_claim};
 use claims::{
-    Arrival, Case, Claim, Copies, Count, Deed, Kinds, Limits, Lines, Order, Packets, Pattern,
-    Ratio, Relation, Set, Span, Test, Watch,
+    Arrival, Case, Claim, Comparison, Copies, Count, Deed, Kinds, Limits, Lines, Order, Packets,
+    Pattern, Ratio, Relation, Set, Span, Test, Watch, Way,
 };
 use program_tree::{Names, Proc, Target};
 use std::alloc::{AllocError, Global};
@@ -296,6 +296,25 @@ impl Dice {
         Ok(Test::Last(deed, set))
     }
 
+    fn way(&mut self) -> Way {
+        match self.roll(4) {
+            0 => Way::Last,
+            1 => Way::InTime,
+            2 => Way::AnyOrder,
+            _ => Way::Each(self.limits()),
+        }
+    }
+
+    fn compared(&mut self, alloc: Global, own: u16) -> Result<Test, AllocError> {
+        let deed = self.deed(alloc, own)?;
+        let other = self.deed(alloc, own)?;
+        Ok(Test::Compared(Comparison {
+            deed,
+            way: self.way(),
+            other,
+        }))
+    }
+
     fn counted(&mut self, alloc: Global, own: u16) -> Result<Test, AllocError> {
         let count = self.count(alloc, own)?;
         Ok(Test::Count(count, self.limits()))
@@ -307,6 +326,7 @@ impl Dice {
             1 => self.in_order(alloc, own),
             2 => self.any_order(alloc, own),
             3 => self.last(alloc, own),
+            4 => self.compared(alloc, own),
             _ => self.counted(alloc, own),
         }
     }

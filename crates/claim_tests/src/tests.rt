@@ -4,8 +4,8 @@
 
 use claim_witness::{Break, break_of};
 use claims::{
-    Arrival, Case, Claim, Copies, Count, Deed, Found, Kinds, Limits, Lines, Order, Packets,
-    Pattern, Ratio, Relation, Set, Span, Test, Watch, holds,
+    Arrival, Case, Claim, Comparison, Copies, Count, Deed, Found, Kinds, Limits, Lines, Order,
+    Packets, Pattern, Ratio, Relation, Set, Span, Test, Watch, Way, holds,
 };
 use mote_net::{LogLine, Report};
 use program_tree::Proc;
@@ -340,11 +340,22 @@ fn write_line(text: &mut String, line: Option<Found>) {
     }
 }
 
+fn write_values(text: &mut String, label: &str, values: &[u64]) {
+    for value in values {
+        let _ = write!(text, " {label} {value}");
+    }
+}
+
 /// Writes down whether a claim holds, and otherwise where it is broken.
-fn write_answer(text: &mut String, report: &Report, claim: &Claim) {
+fn write_answer(
+    alloc: Global,
+    text: &mut String,
+    report: &Report,
+    claim: &Claim,
+) -> Result<(), AllocError> {
     let is_kept = holds(claim, report);
     let _ = write!(text, "{is_kept}");
-    match break_of(claim, report) {
+    match break_of(alloc, claim, report)? {
         None => {}
         Some(Break::Fewer) => {
             let _ = write!(text, " fewer");
@@ -352,6 +363,9 @@ fn write_answer(text: &mut String, report: &Report, claim: &Claim) {
         Some(Break::Missing(witness)) => {
             let _ = write!(text, " case {} test {}", witness.case, witness.broken.test);
             write_line(text, witness.broken.line);
+            let found = &witness.broken.difference;
+            write_values(text, "missing", found.missing.as_slice());
+            write_values(text, "superfluous", found.superfluous.as_slice());
         }
         Some(Break::Spare(spare)) => {
             let _ = write!(text, " spare {}", spare.case);
@@ -359,6 +373,7 @@ fn write_answer(text: &mut String, report: &Report, claim: &Claim) {
         }
     }
     let _ = write!(text, "|");
+    Ok(())
 }
 
 /// Writes down the answer to a claim on motes 1 and 2.
@@ -377,8 +392,7 @@ fn write_claim(
     };
     add_case(alloc, &mut claim.cases, 1, kinds, by, lines)?;
     add_case(alloc, &mut claim.cases, 2, kinds, by, lines)?;
-    write_answer(text, report, &claim);
-    Ok(())
+    write_answer(alloc, text, report, &claim)
 }
 
 #[test]
@@ -401,7 +415,7 @@ fn shows_where_a_claim_is_broken(rt: HostRuntime) -> Result<(), Fail> {
         limits: SOME,
         cases: Vec::new(rt.alloc()),
     };
-    write_answer(&mut text, &report, &none);
+    write_answer(rt.alloc(), &mut text, &report, &none)?;
     same_text(
         text.as_str(),
         "true|false case 1 test 0|false case 0 test 0 line 1 3 49|false spare 0 line 1 2 43|false fewer|",
@@ -510,4 +524,84 @@ fn counts_packets_and_copies(rt: HostRuntime) -> Result<(), Fail> {
     write_third(&mut text, &report, false);
     write_third(&mut text, &report, true);
     same_text(text.as_str(), "2 0 1 2 3 0 17 true false ")
+}
+
+/// Writes down whether the values of two deeds compare in a way, and which are missing or superfluous.
+fn write_compared(
+    alloc: Global,
+    text: &mut String,
+    report: &Report,
+    deed: Deed,
+    way: Way,
+    other: Deed,
+) -> Result<(), AllocError> {
+    let mut case = Case {
+        tests: Vec::new(alloc),
+    };
+    case.tests
+        .push(Test::Compared(Comparison { deed, way, other }))?;
+    let mut claim = Claim {
+        limits: SOME,
+        cases: Vec::new(alloc),
+    };
+    claim.cases.push(case)?;
+    write_answer(alloc, text, report, &claim)
+}
+
+fn all_of(alloc: Global, motes: &[u16], kinds: Kinds) -> Result<Deed, AllocError> {
+    deed(alloc, motes, ALL, kinds)
+}
+
+/// The motes receive 1, 2, 2 and 3 in the order of the moments, and send 1, 2 and 3. Motes 1 and 2 print 1 and 2.
+#[test]
+fn compares_lines_in_time(rt: HostRuntime) -> Result<(), Fail> {
+    let report = flooding(rt.alloc())?;
+    let alloc = rt.alloc();
+    let mut text = String::new(alloc);
+    let one = all_of(alloc, [0].as_slice(), receives())?;
+    let other = all_of(alloc, [2].as_slice(), receives())?;
+    write_compared(alloc, &mut text, &report, one, Way::Last, other)?;
+    let one = all_of(alloc, [1].as_slice(), receives())?;
+    let other = all_of(alloc, [0].as_slice(), receives())?;
+    write_compared(alloc, &mut text, &report, one, Way::Last, other)?;
+    let one = all_of(alloc, [0].as_slice(), prints())?;
+    let other = all_of(alloc, [0].as_slice(), prints())?;
+    write_compared(alloc, &mut text, &report, one, Way::Last, other)?;
+    let one = all_of(alloc, [2, 1].as_slice(), prints())?;
+    let other = all_of(alloc, [0, 1].as_slice(), sends())?;
+    write_compared(alloc, &mut text, &report, one, Way::InTime, other)?;
+    same_text(
+        text.as_str(),
+        "true|false case 0 test 0 missing 2 superfluous 3|false case 0 test 0|true|",
+    )
+}
+
+#[test]
+fn compares_values_in_any_order(rt: HostRuntime) -> Result<(), Fail> {
+    let report = flooding(rt.alloc())?;
+    let alloc = rt.alloc();
+    let mut text = String::new(alloc);
+    let one = all_of(alloc, [0, 1, 2].as_slice(), receives())?;
+    let other = all_of(alloc, [0, 1, 2].as_slice(), sends())?;
+    write_compared(alloc, &mut text, &report, one, Way::AnyOrder, other)?;
+    let one = all_of(alloc, [0, 1, 2].as_slice(), sends())?;
+    let other = all_of(alloc, [0, 1, 2].as_slice(), receives())?;
+    write_compared(alloc, &mut text, &report, one, Way::Each(SOME), other)?;
+    let one = all_of(alloc, [0, 1, 2].as_slice(), receives())?;
+    let other = all_of(alloc, [1, 2].as_slice(), prints())?;
+    write_compared(alloc, &mut text, &report, one, Way::Each(SOME), other)?;
+    let one = all_of(alloc, [0, 1, 2].as_slice(), receives())?;
+    let other = all_of(alloc, [2, 1, 0].as_slice(), receives())?;
+    write_compared(
+        alloc,
+        &mut text,
+        &report,
+        one,
+        Way::Each(AT_MOST_ONE),
+        other,
+    )?;
+    same_text(
+        text.as_str(),
+        "false case 0 test 0 superfluous 2|true|false case 0 test 0 missing 3|false case 0 test 0 superfluous 2|",
+    )
 }

@@ -46,6 +46,12 @@ the net: 1 times the number of copies left at the end is less than 4294967295 ti
 mote 3: the lines \"send\" have in any order exactly the values 1, 18446744073709551615\n\
 mote 3: the lines \"send\" have in any order exactly no values and the lines \"send\" have in order of time exactly no values\n\
 the net: the lines \"send\" of motes 1 to 3 together have in order of time exactly the values any of 1 or 3, none, 7, any of 4 to 9\n\
+# values of other lines\n\
+each of motes 1 to 3: the last line \"print process leader\" has the value of the last line \"print process leader\" of mote 0\n\
+mote 0: the lines \"print process flood\" have in order of time exactly the values of the lines \"send\" of mote 1\n\
+mote 0: the lines \"print process flood\" have in any order exactly the values of the lines \"send\" of motes 1 to 3 together\n\
+the net: each value of the lines \"send\" of motes 1 to 3 together is the value of exactly 1 line \"print process flood\" of mote 0\n\
+mote 0: each value of the lines \"print\" is the value of at most 1 line \"print\" and each value of the lines \"print\" is the value of at least 0 lines \"send\"\n\
 # limits of cases\n\
 at least 1 of these: no cases\n\
 each of these: no cases\n\
@@ -95,7 +101,7 @@ fn count_claims(alloc: Global, text: &str) -> Result<usize, ClaimsError> {
 fn accepts_texts(rt: HostRuntime) -> Result<(), Fail> {
     let mut text = String::new(rt.alloc());
     write_result(&mut text, &count_claims(rt.alloc(), ACCEPTED));
-    same_text(text.as_str(), "37|")
+    same_text(text.as_str(), "42|")
 }
 
 #[test]

@@ -1,14 +1,16 @@
 -- The text of breaks.
-use Rattle.std.specs.Prelude.{ℕ, ◌+◌, Option, Some, None, List, [], ◌++◌, codes, decimal, slice_get}
+use Rattle.std.specs.Prelude.{ℕ, ◌+◌, Option, Some, None, List, [], ◌∷◌, ◌++◌, codes, decimal, slice_get}
+use Rattle.std.specs.List.{flat_map}
 use Rattle.claims.specs.declared.trace.Found.{Found}
 use Rattle.claims.specs.declared.claim.Test.{Test}
 use Rattle.claims.specs.declared.claim.Case.{Case}
 use Rattle.claims.specs.declared.claim.Claim.{Claim}
+use Rattle.claim_witness.specs.declared.difference.Difference.{Difference}
 use Rattle.claim_witness.specs.declared.witness.BrokenTest.{BrokenTest}
 use Rattle.claim_witness.specs.declared.witness.Break.{Break}
 use Rattle.claim_witness.specs.declared.witness.Break.TheVariants.{Missing, Spare, Fewer}
 use Rattle.claim_text.specs.Subject.{mote_of_tests}
-use Rattle.claim_text.specs.TestText.{test_text, tests_text}
+use Rattle.claim_text.specs.TestText.{next_value, test_text, tests_text}
 
 -- the number of a line in the trace of its mote, from 1, and its moment
 abbrev pub place_text : Found → List ℕ
@@ -32,13 +34,21 @@ abbrev pub test_at : (names : List (List ℕ)) → (own : Option ℕ) → Option
 test_at names own None = codes "no such test"
 test_at names own (Some t) = test_text names own t
 
-abbrev pub missing_test : (names : List (List ℕ)) → (own : Option ℕ) → Option Test → Option Found → List ℕ
-missing_test names own test line =
-    codes "not for " ++ (subject_of own ++ (test_at names own test ++ beyond_text line))
+-- values behind a label, if there are any
+abbrev pub labelled : (label : List ℕ) → List ℕ → List ℕ
+labelled label [] = []
+labelled label (v ∷ vs) = label ++ (decimal v ++ flat_map next_value vs)
 
--- the test of the case that doesn't hold, and the first line too many
+abbrev pub difference_text : Difference → List ℕ
+difference_text d = labelled (codes "; missing: ") d.missing.items ++ labelled (codes "; superfluous: ") d.superfluous.items
+
+abbrev pub missing_test : (names : List (List ℕ)) → (own : Option ℕ) → Option Test → BrokenTest → List ℕ
+missing_test names own test b =
+    codes "not for " ++ (subject_of own ++ (test_at names own test ++ (beyond_text b.line ++ difference_text b.difference)))
+
+-- the test of the case that doesn't hold, the first line too many, and the missing and the superfluous values
 abbrev pub missing_text : (names : List (List ℕ)) → Case → BrokenTest → List ℕ
-missing_text names k b = missing_test names (mote_of_tests k.tests.items) (slice_get k.tests.items b.test) b.line
+missing_text names k b = missing_test names (mote_of_tests k.tests.items) (slice_get k.tests.items b.test) b
 
 -- a case too many, and the line with which its first test is met
 abbrev pub spare_text : (names : List (List ℕ)) → Case → Option Found → List ℕ

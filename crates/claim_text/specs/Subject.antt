@@ -5,7 +5,7 @@ use Rattle.claims.specs.declared.count.Count.{Count}
 use Rattle.claims.specs.declared.count.Count.TheVariants.{Lines, Packets, Copies, Left, Rows}
 use Rattle.claims.specs.declared.ratio.Ratio.{Ratio as RatioOfCode}
 use Rattle.claims.specs.declared.claim.Test.{Test}
-use Rattle.claims.specs.declared.claim.Test.TheVariants.{Count as CountOf, Ratio, Values, AnyOrder, Last}
+use Rattle.claims.specs.declared.claim.Test.TheVariants.{Count as CountOf, Ratio, Values, AnyOrder, Last, Compared}
 
 abbrev pub only_mote : List Watch → Option ℕ
 only_mote [] = None
@@ -33,6 +33,7 @@ mote_of_test (Ratio ratio) = mote_of_ratio ratio
 mote_of_test (Values deed sets) = only_mote deed.watches.items
 mote_of_test (AnyOrder deed values) = only_mote deed.watches.items
 mote_of_test (Last deed set) = only_mote deed.watches.items
+mote_of_test (Compared comparison) = only_mote comparison.deed.watches.items
 
 -- the only mote whose lines the first test is about, if there is one
 abbrev pub mote_of_tests : List Test → Option ℕ

@@ -9,9 +9,12 @@ use Rattle.claims.specs.declared.order.Order.{Order}
 use Rattle.claims.specs.declared.count.Count.{Count as CountOfCode}
 use Rattle.claims.specs.declared.count.Count.TheVariants.{Lines, Packets, Copies, Left, Rows}
 use Rattle.claims.specs.declared.ratio.Ratio.{Ratio as RatioOfCode}
+use Rattle.claims.specs.declared.compared.Way.{Way}
+use Rattle.claims.specs.declared.compared.Way.TheVariants as way
+use Rattle.claims.specs.declared.compared.Comparison.{Comparison}
 use Rattle.claims.specs.declared.claim.Test.{Test}
-use Rattle.claims.specs.declared.claim.Test.TheVariants.{Count, Ratio, Values, AnyOrder, Last}
-use Rattle.claim_text.specs.Numbers.{set_text, item_text}
+use Rattle.claims.specs.declared.claim.Test.TheVariants.{Count, Ratio, Values, AnyOrder, Last, Compared}
+use Rattle.claim_text.specs.Numbers.{noun, set_text, item_text}
 use Rattle.claim_text.specs.LimitsText.{limits_text, shown_number}
 use Rattle.claim_text.specs.DeedText.{deed_text}
 use Rattle.claim_text.specs.OrderText.{is_plain, order_text}
@@ -77,6 +80,22 @@ abbrev pub framed_deed : (names : List (List ℕ)) → (own : Option ℕ) → (b
     → List ℕ
 framed_deed names own before d behind = before ++ (deed_text names own d ++ behind)
 
+abbrev pub of_number : Limits → List ℕ
+of_number l = limits_text l ++ noun (shown_number l) (codes " line ") (codes " lines ")
+
+abbrev pub way_text : (names : List (List ℕ)) → (own : Option ℕ) → Deed → Way → List ℕ
+way_text names own d way.Last = framed_deed names own (codes "the last line ") d (codes " has the value of the last line ")
+way_text names own d way.InTime =
+    framed_deed names own (codes "the lines ") d (codes " have in order of time exactly the values of the lines ")
+way_text names own d way.AnyOrder =
+    framed_deed names own (codes "the lines ") d (codes " have in any order exactly the values of the lines ")
+way_text names own d (way.Each l) =
+    framed_deed names own (codes "each value of the lines ") d (codes " is the value of ") ++ of_number l
+
+-- what is said of the values of a deed, and the other deed
+abbrev pub compared_text : (names : List (List ℕ)) → (own : Option ℕ) → Comparison → List ℕ
+compared_text names own c = way_text names own c.deed c.way ++ deed_text names own c.other
+
 abbrev pub framed_set : (names : List (List ℕ)) → (own : Option ℕ) → (before : List ℕ) → Deed → (behind : List ℕ)
     → Set → List ℕ
 framed_set names own before d behind s = framed_deed names own before d behind ++ set_text s.spans.items
@@ -85,18 +104,15 @@ abbrev pub framed_sets : (names : List (List ℕ)) → (own : Option ℕ) → (b
     → List Set → List ℕ
 framed_sets names own before d behind ss = framed_deed names own before d behind ++ sets_text ss
 
-abbrev pub framed_values : (names : List (List ℕ)) → (own : Option ℕ) → (before : List ℕ) → Deed → (behind : List ℕ)
-    → List ℕ → List ℕ
-framed_values names own before d behind vs = framed_deed names own before d behind ++ values_text vs
-
 abbrev pub test_text : (names : List (List ℕ)) → (own : Option ℕ) → Test → List ℕ
 test_text names own (Count c l) = counted_text names own c l
 test_text names own (Ratio q) = ratio_text names own q
 test_text names own (Values d ss) =
     framed_sets names own (codes "the lines ") d (codes " have in order of time exactly ") ss.items
 test_text names own (AnyOrder d vs) =
-    framed_values names own (codes "the lines ") d (codes " have in any order exactly ") vs.items
+    framed_deed names own (codes "the lines ") d (codes " have in any order exactly ") ++ values_text vs.items
 test_text names own (Last d s) = framed_set names own (codes "the last line ") d (codes " has the value ") s
+test_text names own (Compared c) = compared_text names own c
 
 abbrev pub next_test : (names : List (List ℕ)) → (own : Option ℕ) → Test → List ℕ
 next_test names own t = codes " and " ++ test_text names own t

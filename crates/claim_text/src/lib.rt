@@ -18,7 +18,9 @@
 //!         | N " times the number of " COUNT (" is at most " | " is less than ") N " times the number of " COUNT
 //!         | "the lines " DEED " have in order of time exactly " ("the values " ITEM {", " ITEM} | "no values")
 //!         | "the lines " DEED " have in any order exactly " ("the values " N {", " N} | "no values")
-//!         | "the last line " DEED " has the value " SET
+//!         | "the last line " DEED " has the value " (SET | "of the last line " DEED)
+//!         | "the lines " DEED " have in " ("order of time" | "any order") " exactly the values of the lines " DEED
+//!         | "each value of the lines " DEED " is the value of " LIMITS " lines " DEED
 //! COUNT   = "lines " DEED [ORDER] | "packets sent" [" by" TO] [PERIOD] | "copies" [" to" TO] ARRIVAL
 //!         | "copies left at the end" | "lines in the report"                  in the singular behind the number 1
 //! ARRIVAL = " sent" [PERIOD] " and lost by the medium" | " lost by the medium or due by " N
@@ -36,7 +38,7 @@
 //! KIND    = the kind of a line in a trace or in the log of the medium, such as "print" or "lost"
 //! ```
 //!
-//! `N` is a number without leading zeros. Directly behind the number 1, `moments` is in the singular too.
+//! `N` is a number without leading zeros. Directly behind the number 1, `moments` and `lines` are in the singular too.
 //!
 //! Of the texts that the grammar allows for a claim, one is its text: neighbouring cases that differ in their mote
 //! alone are one group, neighbouring motes with one period too, and motes with consecutive numbers are a span. A claim
@@ -54,6 +56,7 @@ mod deed;
 mod entry;
 mod error;
 mod kinds;
+mod laws;
 mod limits;
 mod lines;
 mod numbers;
@@ -68,5 +71,6 @@ mod write;
 
 pub use broken::write_break;
 pub use error::ClaimsError;
+pub use laws::one_reason;
 pub use lines::read_claims;
 pub use write::write_claim;

@@ -32,6 +32,7 @@ fn mote_of_test(test: &Test) -> Option<u16>
             None => mote_of_count(&ratio.low),
         },
         Test::Values(deed, _) | Test::AnyOrder(deed, _) | Test::Last(deed, _) => only_mote(deed),
+        Test::Compared(comparison) => only_mote(&comparison.deed),
     }
 }
 

@@ -2,16 +2,16 @@
 ghost use Rattle.std.specs.Prelude.{◌≡◌};
 ghost use Rattle.claim_text.specs.Appends.{Appends};
 ghost use Rattle.claim_text.specs.TestText.{is_each, each_text, counted_text, times_text, relation_word, ratio_text};
-ghost use Rattle.claim_text.specs.TestText.{framed_deed, sets_text, values_text, framed_set, framed_sets};
-ghost use Rattle.claim_text.specs.TestText.{framed_values, test_text, tests_text};
+ghost use Rattle.claim_text.specs.TestText.{framed_deed, sets_text, values_text, of_number, way_text, compared_text};
+ghost use Rattle.claim_text.specs.TestText.{framed_set, framed_sets, test_text, tests_text};
 
 use crate::counted::put_count;
 use crate::deed::put_deed;
 use crate::limits::{put_limits, shown_number};
-use crate::numbers::{Written, put_item, put_set};
+use crate::numbers::{Written, noun, put_item, put_set};
 use crate::order::{is_plain, put_order};
 use crate::scope::Scope;
-use claims::{Count, Deed, Limits, Lines, Order, Ratio, Set, Test};
+use claims::{Comparison, Count, Deed, Limits, Lines, Order, Ratio, Set, Test, Way};
 
 /// Returns whether a test says that each line has an order: no line has the order turned round.
 fn is_each(order: &Order, limits: Limits) -> bool
@@ -123,6 +123,49 @@ fn put_framed_deed(
     text.push_str(behind)
 }
 
+fn put_of_number(text: &mut String, limits: Limits) -> Written
+    ensures appends { Appends result text.old text.new (of_number limits) }
+{
+    put_limits(text, limits)?;
+    text.push_str(noun(shown_number(limits), " line ", " lines "))
+}
+
+fn put_way(text: &mut String, scope: Scope<'_>, deed: &Deed, way: Way) -> Written
+    ensures appends { Appends result text.old text.new
+        (way_text scope.entry.names.now scope.entry.own deed.now way) }
+{
+    let (before, behind) = match way {
+        Way::Last => ("the last line ", " has the value of the last line "),
+        Way::InTime => (
+            "the lines ",
+            " have in order of time exactly the values of the lines ",
+        ),
+        Way::AnyOrder => (
+            "the lines ",
+            " have in any order exactly the values of the lines ",
+        ),
+        Way::Each(limits) => {
+            put_framed_deed(
+                text,
+                scope,
+                "each value of the lines ",
+                deed,
+                " is the value of ",
+            )?;
+            return put_of_number(text, limits);
+        }
+    };
+    put_framed_deed(text, scope, before, deed, behind)
+}
+
+fn put_compared(text: &mut String, scope: Scope<'_>, comparison: &Comparison) -> Written
+    ensures appends { Appends result text.old text.new
+        (compared_text scope.entry.names.now scope.entry.own comparison.now) }
+{
+    put_way(text, scope, &comparison.deed, comparison.way)?;
+    put_deed(text, scope, &comparison.other)
+}
+
 fn put_framed_sets(
     text: &mut String,
     scope: Scope<'_>,
@@ -136,21 +179,6 @@ fn put_framed_sets(
 {
     put_framed_deed(text, scope, before, deed, behind)?;
     put_sets(text, sets)
-}
-
-fn put_framed_values(
-    text: &mut String,
-    scope: Scope<'_>,
-    before: &str,
-    deed: &Deed,
-    behind: &str,
-    values: &[u64],
-) -> Written
-    ensures appends { Appends result text.old text.new
-        (framed_values scope.entry.names.now scope.entry.own before.now deed.now behind.now values.now) }
-{
-    put_framed_deed(text, scope, before, deed, behind)?;
-    put_values(text, values)
 }
 
 fn put_framed_set(
@@ -184,14 +212,11 @@ pub fn put_test(text: &mut String, scope: Scope<'_>, test: &Test) -> Written
             " have in order of time exactly ",
             sets.as_slice(),
         ),
-        Test::AnyOrder(deed, values) => put_framed_values(
-            text,
-            scope,
-            "the lines ",
-            deed,
-            " have in any order exactly ",
-            values.as_slice(),
-        ),
+        Test::AnyOrder(deed, values) => {
+            let behind = " have in any order exactly ";
+            put_framed_deed(text, scope, "the lines ", deed, behind)?;
+            put_values(text, values.as_slice())
+        }
         Test::Last(deed, set) => put_framed_set(
             text,
             scope,
@@ -200,6 +225,7 @@ pub fn put_test(text: &mut String, scope: Scope<'_>, test: &Test) -> Written
             " has the value ",
             set,
         ),
+        Test::Compared(comparison) => put_compared(text, scope, comparison),
     }
 }
 

@@ -25,7 +25,8 @@ pub(crate) fn spare_line(test: &Test, report: &Report) -> Option<Found>
         | Test::Ratio(_)
         | Test::Values(_, _)
         | Test::AnyOrder(_, _)
-        | Test::Last(_, _) => None,
+        | Test::Last(_, _)
+        | Test::Compared(_) => None,
     }
 }
 
@@ -48,7 +49,8 @@ fn shown_line(test: &Test, report: &Report) -> Option<Found>
         | Test::Ratio(_)
         | Test::Values(_, _)
         | Test::AnyOrder(_, _)
-        | Test::Last(_, _) => None,
+        | Test::Last(_, _)
+        | Test::Compared(_) => None,
     }
 }
 

@@ -1,25 +1,29 @@
 //! Where a claim is broken.
-ghost use Rattle.std.specs.Prelude.{◌≡◌, ◌<◌, Some, is_none, nat_le, IfSome};
+ghost use Rattle.std.specs.Prelude.{◌≡◌, ◌<◌, ◌≤◌, Some, is_none, nat_le, IfOk, IfSome};
 ghost use Rattle.mote_net.specs.Report.{report_of};
 ghost use Rattle.claims.specs.Limits.{is_at_most};
 ghost use Rattle.claims.specs.Claims.{case_holds, holding_in, holds_in};
 ghost use Rattle.claim_witness.specs.Witnesses.{is_kept};
 ghost use Rattle.claim_witness.specs.Shows.{Shows, ShowsTest};
 
+use crate::difference::Difference;
 use crate::shown::{shown_in, spare_line};
 use claims::{Case, Claim, Found, holding};
 use mote_net::Report;
+use std::alloc::{AllocError, Global};
 
-/// A test that doesn't hold: its place in its case, and the first line too many, counted mote by mote and not in time.
-/// The line is `None` if the test doesn't count lines, or if there aren't too many.
-#[derive(Clone, Copy)]
+/// A test that doesn't hold: its place in its case; the first line too many, counted mote by mote and not in time; and
+/// the values that are missing or superfluous. The line is `None` if the test doesn't count lines, or if there aren't too
+/// many.
+#[derive(Drop)]
 pub struct BrokenTest {
     pub test: usize,
     pub line: Option<Found>,
+    pub difference: Difference,
 }
 
-/// A case that doesn't hold: its place in its claim, and a test of it that doesn't hold.
-#[derive(Clone, Copy)]
+/// The first case that doesn't hold: its place in its claim, and the first test of it that doesn't hold.
+#[derive(Drop)]
 pub struct Witness {
     pub case: usize,
     pub broken: BrokenTest,
@@ -34,51 +38,58 @@ pub struct Spare {
 }
 
 /// The reason why a report breaks a claim.
-#[derive(Clone, Copy)]
+#[derive(Drop)]
 pub enum Break {
-    /// Too few cases hold. This one doesn't.
+    /// Too few cases hold. This is the first one that doesn't.
     Missing(Witness),
-    /// Too many cases hold. This is one of them.
+    /// Too many cases hold. This is the first one too many.
     Spare(Spare),
-    /// The claim wants more cases than it has.
+    /// All cases hold, but the claim wants more cases than it has.
     Fewer,
 }
 
 /// The first test of a case that doesn't hold.
-fn broken_test(case: &Case, report: &Report) -> Option<BrokenTest>
-    ensures none { is_none result ≡ case_holds case.now (report_of report.now) }
-    ensures shows { IfSome result (ShowsTest case.now (report_of report.now)) }
+fn broken_test(
+    alloc: Global,
+    case: &Case,
+    report: &Report,
+) -> Result<Option<BrokenTest>, AllocError>
+    ensures none { IfOk result (λ b. is_none b ≡ case_holds case.now (report_of report.now)) }
+    ensures shows { IfOk result (λ b. IfSome b (ShowsTest case.now (report_of report.now))) }
 {
     for (place, test) in case.tests.iter().enumerate() {
         if !test.holds(report) {
-            return Some(BrokenTest {
+            return Ok(Some(BrokenTest {
                 test: place,
                 line: spare_line(test, report),
-            });
+                difference: Difference::of(alloc, test, report)?,
+            }));
         }
     }
-    None
+    Ok(None)
 }
 
 /// The first case that doesn't hold, or that there are too few cases.
-fn one_missing(claim: &Claim, report: &Report) -> Break
+fn one_missing(alloc: Global, claim: &Claim, report: &Report) -> Result<Break, AllocError>
     requires too_few { holding_in claim.now (report_of report.now) < claim.now.limits.least }
-    ensures shows { Shows claim.now (report_of report.now) result }
+    ensures shows { IfOk result (Shows claim.now (report_of report.now)) }
 {
     for (place, case) in claim.cases.iter().enumerate() {
-        if let Some(broken) = broken_test(case, report) {
-            return Break::Missing(Witness {
+        let found = broken_test(alloc, case, report)?;
+        if let Some(broken) = found {
+            return Ok(Break::Missing(Witness {
                 case: place,
                 broken,
-            });
+            }));
         }
     }
-    Break::Fewer
+    Ok(Break::Fewer)
 }
 
 /// The first case that holds after so many others.
 fn spare_case(claim: &Claim, most: u64, report: &Report) -> Option<Break>
     requires most { claim.now.limits.most ≡ Some most }
+    requires enough { claim.now.limits.least ≤ holding_in claim.now (report_of report.now) }
     ensures none { is_kept result ≡ nat_le (holding_in claim.now (report_of report.now)) most }
     ensures shows { IfSome result (Shows claim.now (report_of report.now)) }
 {
@@ -99,6 +110,7 @@ fn spare_case(claim: &Claim, most: u64, report: &Report) -> Option<Break>
 
 /// The first case too many that holds.
 fn one_too_many(claim: &Claim, report: &Report) -> Option<Break>
+    requires enough { claim.now.limits.least ≤ holding_in claim.now (report_of report.now) }
     ensures none { is_kept result ≡ is_at_most (holding_in claim.now (report_of report.now)) claim.now.limits.most }
     ensures shows { IfSome result (Shows claim.now (report_of report.now)) }
 {
@@ -108,14 +120,17 @@ fn one_too_many(claim: &Claim, report: &Report) -> Option<Break>
     }
 }
 
-/// The reason why a report breaks a claim, or `None` if it keeps the claim.
-pub fn break_of(claim: &Claim, report: &Report) -> Option<Break>
-    ensures decides { is_kept result ≡ holds_in claim.now (report_of report.now) }
-    ensures shows { IfSome result (Shows claim.now (report_of report.now)) }
+/// Returns the reason why a report breaks a claim, or `None` if it keeps the claim.
+///
+/// # Errors
+/// `AllocError` if an allocation fails.
+pub fn break_of(alloc: Global, claim: &Claim, report: &Report) -> Result<Option<Break>, AllocError>
+    ensures decides { IfOk result (λ b. is_kept b ≡ holds_in claim.now (report_of report.now)) }
+    ensures shows { IfOk result (λ b. IfSome b (Shows claim.now (report_of report.now))) }
 {
     if (holding(claim, report) as u64) < claim.limits.least {
-        Some(one_missing(claim, report))
+        Ok(Some(one_missing(alloc, claim, report)?))
     } else {
-        one_too_many(claim, report)
+        Ok(one_too_many(claim, report))
     }
 }

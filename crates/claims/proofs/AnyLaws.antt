@@ -1,6 +1,6 @@
 -- Tests of which some element of a list passes one.
 use Rattle.std.proofs.Common.{◌≡◌, ◌∙◌, refl, sym, ap, ℕ, Bool, true, false, ◌&&◌, ◌||◌, not, List, [], ◌∷◌, drop, take, ⊎_elim}
-use Rattle.std.specs.List.{list_any}
+use Rattle.std.specs.List.{list_any, list_all}
 use Rattle.std.proofs.lemmas.Bool.{or_cases}
 use Rattle.std.proofs.lemmas.List.{take-append-drop}
 use Rattle.std.proofs.lemmas.List.Folds.{list_any-append}
@@ -40,3 +40,11 @@ any_in_drop p i xs h =
     ap (list_any p) (sym (take-append-drop i xs))
     ∙ list_any-append p (take i xs) (drop i xs)
     ∙ or_right (list_any p (take i xs)) (list_any p (drop i xs)) h
+
+both_ways : (a b : Bool) → (a && not b) ≡ not (not a || b)
+both_ways true b = refl
+both_ways false b = refl
+
+pub all_by_any : {A : Type 0} (p : A → Bool) (xs : List A) → list_all p xs ≡ not (list_any (λ x. not (p x)) xs)
+all_by_any p [] = refl
+all_by_any p (x ∷ xs) = ap (λ b. p x && b) (all_by_any p xs) ∙ both_ways (p x) (list_any (λ y. not (p y)) xs)

@@ -7,6 +7,7 @@ pub mod Traces
 pub mod Orders
 pub mod Values
 pub mod InTime
+pub mod Compared
 pub mod Lines
 pub mod PerMote
 pub mod Seen

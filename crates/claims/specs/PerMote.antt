@@ -1,5 +1,5 @@
 -- The lines of a deed at one mote. No public contract cites this file.
-use Rattle.std.specs.Prelude.{ℕ, Bool, true, ◌&&◌, List, filter, count_by}
+use Rattle.std.specs.Prelude.{ℕ, Bool, true, ◌&&◌, ◌==◌, not, if◌then◌else◌, List, filter, count_by}
 use Rattle.std.specs.List.{enumerate_from, list_any}
 use Rattle.mote_net.specs.Report.{ReportModel}
 use Rattle.claims.specs.declared.trace.Found.{Found}
@@ -7,10 +7,14 @@ use Rattle.claims.specs.declared.trace.Watch.{Watch}
 use Rattle.claims.specs.declared.trace.Deed.{Deed}
 use Rattle.claims.specs.declared.lines.Lines.{Lines}
 use Rattle.claims.specs.declared.values.Mark.{Mark}
-use Rattle.claims.specs.declared.values.Mark.TheVariants.{Any, EarlierThan, Value}
-use Rattle.claims.specs.Traces.{trace_at, found_at, lines_of_mote, shows}
+use Rattle.claims.specs.declared.values.Mark.TheVariants.{Any, EarlierThan, Value, SameValue}
+use Rattle.claims.specs.declared.compared.Place.{Place}
+use Rattle.claims.specs.declared.compared.Place.TheVariants.{After, Last}
+use Rattle.claims.specs.declared.compared.Comparison.{Comparison}
+use Rattle.claims.specs.Traces.{trace_at, found_at, lines_of_mote, lines_of, shows}
 use Rattle.claims.specs.Lines.{is_wanted}
-use Rattle.claims.specs.Values.{is_earlier, is_value}
+use Rattle.claims.specs.Values.{is_earlier, is_value, is_last}
+use Rattle.claims.specs.Compared.{has_same_value, rank, meets}
 
 -- whether a line of a mote passes a test
 abbrev pub any_in : (Found → Bool) → ReportModel → Deed → Watch → Bool
@@ -32,3 +36,18 @@ abbrev pub has_mark : Mark → Found → Bool
 has_mark Any f = true
 has_mark (EarlierThan l) f = is_earlier f l
 has_mark (Value v) f = is_value v f
+has_mark (SameValue l) f = has_same_value l f
+
+-- the line is at a place in time among the lines
+abbrev pub is_placed : List Found → Place → Found → Bool
+is_placed ls (After n) f = rank ls f == n
+is_placed ls Last f = is_last ls f
+
+-- the line has the value of another one, and is at a place in time
+abbrev pub is_like : List Found → Place → (other : Found) → Found → Bool
+is_like ls p other f = has_same_value other f && is_placed ls p f
+
+-- whether a line meets what is compared, or doesn't
+abbrev pub meets_so : Comparison → ReportModel → (is_so : Bool) → Found → Bool
+meets_so c r is_so a = (let is_met = meets c.way (lines_of r c.deed) (lines_of r c.other) a in
+    if is_so then is_met else not is_met)

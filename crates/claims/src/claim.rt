@@ -3,6 +3,7 @@ ghost use Rattle.std.specs.Prelude.{◌≡◌};
 ghost use Rattle.mote_net.specs.Report.{report_of};
 ghost use Rattle.claims.specs.Claims.{test_holds, case_holds, holding_in, holds_in};
 
+use crate::compared::Comparison;
 use crate::count::Count;
 use crate::limits::Limits;
 use crate::ratio::Ratio;
@@ -23,6 +24,8 @@ pub enum Test {
     AnyOrder(Deed, Vec<u64>),
     /// The value of the last line is in this set.
     Last(Deed, Set),
+    /// The values of the lines compare in some way with those of other lines.
+    Compared(Comparison),
 }
 
 /// A case: tests that all hold, or don't.
@@ -49,6 +52,7 @@ impl Test {
             Test::Values(deed, sets) => deed.have_values(report, sets.as_slice()),
             Test::AnyOrder(deed, values) => deed.have_in_any_order(report, values.as_slice()),
             Test::Last(deed, set) => deed.last_has(report, set),
+            Test::Compared(comparison) => comparison.holds(report),
         }
     }
 }

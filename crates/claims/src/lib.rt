@@ -2,6 +2,7 @@
 #![tactic(auto)]
 
 mod claim;
+mod compared;
 mod count;
 mod laws;
 mod limits;
@@ -18,6 +19,7 @@ mod values;
 mod what;
 
 pub use claim::{Case, Claim, Test, holding, holds};
+pub use compared::{Comparison, Way};
 pub use count::Count;
 pub use laws::{after_means_after_the_first, any_order_is_a_permutation, values_are_in_time};
 pub use limits::Limits;
@@ -27,5 +29,5 @@ pub use order::{Order, Relation};
 pub use pattern::Pattern;
 pub use ratio::Ratio;
 pub use set::{Set, Span};
-pub use trace::{Deed, Found, Watch};
+pub use trace::{Deed, Found, Watch, trace_of};
 pub use what::{Kinds, Said};

@@ -24,7 +24,8 @@ impl Found {
                 && (self.mote < other.mote || self.mote == other.mote && self.place < other.place)
     }
 
-    fn value(&self) -> Option<u64>
+    /// The value of the line, if it has one.
+    pub fn value(&self) -> Option<u64>
         ensures value { result ≡ value_of self.now }
     {
         Said::by(&self.line.what).value
@@ -52,12 +53,13 @@ fn count_equal(values: &[u64], number: u64) -> usize
     values.iter().filter(|value| **value == number).count()
 }
 
-/// Lines that are counted: any line, those earlier than a line, or those with a value.
+/// Lines that are counted: any line, those earlier than a line, those with a value, or those with the value of a line.
 #[derive(Clone, Copy)]
-enum Mark {
+pub(crate) enum Mark {
     Any,
     EarlierThan(Found),
     Value(u64),
+    SameValue(Found),
 }
 
 impl Mark {
@@ -68,6 +70,7 @@ impl Mark {
             Mark::Any => true,
             Mark::EarlierThan(other) => line.is_earlier(&other),
             Mark::Value(number) => line.is_value(number),
+            Mark::SameValue(other) => other.has_same_value(line),
         }
     }
 }
@@ -90,7 +93,7 @@ impl Deed {
             .count()
     }
 
-    fn count_marked(&self, report: &Report, mark: Mark) -> u128
+    pub(crate) fn count_marked(&self, report: &Report, mark: Mark) -> u128
         ensures value { result ≡ count_by (has_mark mark) (lines_of (report_of report.now) self.now) }
     {
         let mut count = 0;
@@ -213,7 +216,7 @@ impl Deed {
             .any(|watch| self.has_later_in(report, line, *watch))
     }
 
-    fn is_last(&self, report: &Report, line: &Found) -> bool
+    pub(crate) fn is_last(&self, report: &Report, line: &Found) -> bool
         ensures value { result ≡ is_last (lines_of (report_of report.now) self.now) line.now }
     {
         !self.has_later_somewhere(report, line)

@@ -1,6 +1,7 @@
 """Reads what breaks a claim, as `motecheck` writes it behind ` -- `: `write_break` of crates/claim_text has the grammar.
 
     not for mote 3: at most 2 lines "send" from 40 to 160; line 16 of mote 3, at 129, is one too many
+    not for mote 0: the lines "print" have in any order exactly the values 1, 2, 3; missing: 2, 3; superfluous: 7
     also for mote 1: at least 1 line "recv"; line 5 of mote 1, at 2
     it wants more cases than it has
 """
@@ -15,7 +16,8 @@ from motesim.runner import ProgramFault
 FEWER = 'it wants more cases than it has'
 FORM = re.compile(
     r'(?:(?P<not>not)|also) for (?P<subject>[^;:]+): (?P<tests>[^;]+)'
-    r'(?:; line (?P<line>\d+) of mote (?P<mote>\d+), at \d+(?(not), is one too many))?')
+    r'(?:; line (?P<line>\d+) of mote (?P<mote>\d+), at \d+(?(not), is one too many))?'
+    r'(?P<values>(?:; missing: [\d, ]+)?(?:; superfluous: [\d, ]+)?)')
 
 
 class UnknownBreak(ProgramFault):
@@ -32,11 +34,13 @@ class Break(NamedTuple):
     test   the test that doesn't hold; or the first one of a case too many, which holds (`is_spare`). None if there are
            fewer cases than the claim wants.
     line   the mote of the line that shows it, and its number in the trace from 1, if there is one
+    values  the missing and the superfluous values, in the words of motecheck, if it names any
     """
     words: str
     test: Test | None = None
     is_spare: bool = False
     line: tuple[int, int] | None = None
+    values: str = ''
 
 
 def read_break(text: str, claim: Claim) -> Break:
@@ -53,7 +57,7 @@ def read_break(text: str, claim: Claim) -> Break:
             if tests == (case.body() if is_spare else test.text(case.mote)):
                 words = 'also for %s: %s' % (subject, case.body(True)) if is_spare else 'not for %s: %s' % (
                     subject, test.text(case.mote, True))
-                return Break(_limits(claim, is_spare) + words, test, is_spare, line)
+                return Break(_limits(claim, is_spare) + words, test, is_spare, line, found['values'])
     raise UnknownBreak(text, claim)
 
 

@@ -53,6 +53,7 @@ def reason_of(it: Break, finder: Finder) -> Broken:
     why = it.words
     if numbers and None not in numbers:
         why += ', but there %s %s' % ('is' if numbers == [1] else 'are', ' and '.join(map(str, numbers)))
+    why += it.values
     row, shows = _shown(it, test, finder)
     if row or it.is_spare or test.deed is None:
         return Broken(why, row, None, kind, shows)

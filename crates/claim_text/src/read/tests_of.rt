@@ -1,11 +1,10 @@
 //! Reads tests.
-ghost use Rattle.std.specs.Prelude.{map};
 
 use crate::error::Unread;
 use crate::read::exactly;
 use crate::reader::{Item, Read, Reader};
 use crate::scope::Scope;
-use claims::{Count, Lines, Ratio, Test};
+use claims::{Comparison, Count, Deed, Lines, Ratio, Test, Way};
 
 impl Item for Test {
     fn read(reader: &mut Reader<'_>, scope: Scope<'_>, items: &mut Vec<Test>) -> Read<()> {
@@ -55,12 +54,21 @@ impl Reader<'_> {
         self.list_or(scope, "no values", "the values ", ", ")
     }
 
+    fn compared(&mut self, scope: Scope<'_>, deed: Deed, way: Way) -> Read<Test> {
+        let other = self.deed(scope)?;
+        Ok(Test::Compared(Comparison { deed, way, other }))
+    }
+
     fn listed(&mut self, scope: Scope<'_>) -> Read<Test> {
         let deed = self.deed(scope)?;
-        if self.take_either(
+        let in_time = self.take_either(
             " have in order of time exactly ",
             " have in any order exactly ",
-        )? {
+        )?;
+        if self.take("the values of the lines ") {
+            let way = if in_time { Way::InTime } else { Way::AnyOrder };
+            self.compared(scope, deed, way)
+        } else if in_time {
             Ok(Test::Values(deed, self.values(scope)?))
         } else {
             Ok(Test::AnyOrder(deed, self.values(scope)?))
@@ -70,7 +78,19 @@ impl Reader<'_> {
     fn last(&mut self, scope: Scope<'_>) -> Read<Test> {
         let deed = self.deed(scope)?;
         self.expect(" has the value ")?;
-        Ok(Test::Last(deed, self.set(scope)?))
+        if self.take("of the last line ") {
+            self.compared(scope, deed, Way::Last)
+        } else {
+            Ok(Test::Last(deed, self.set(scope)?))
+        }
+    }
+
+    fn each_value(&mut self, scope: Scope<'_>) -> Read<Test> {
+        let deed = self.deed(scope)?;
+        self.expect(" is the value of ")?;
+        let limits = self.limits()?;
+        self.take_either(" lines ", " line ")?;
+        self.compared(scope, deed, Way::Each(limits))
     }
 
     fn test(&mut self, scope: Scope<'_>) -> Read<Test> {
@@ -80,6 +100,8 @@ impl Reader<'_> {
             self.listed(scope)
         } else if self.take("the last line ") {
             self.last(scope)
+        } else if self.take("each value of the lines ") {
+            self.each_value(scope)
         } else if self.has_number() {
             self.ratio(scope)
         } else {

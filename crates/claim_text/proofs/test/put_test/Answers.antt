@@ -1,4 +1,4 @@
--- `put_test`: the last arm, whose set is a record.
+-- `put_test`: the arm whose set is a record.
 use Rattle.std.proofs.Common.{sym, subst}
 use Rattle.claims.specs.declared.claim.Test.{Test}
 use Rattle.claim_text.specs.Appends.{Appends}

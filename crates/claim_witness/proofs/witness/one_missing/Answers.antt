@@ -1,33 +1,36 @@
-use Rattle.std.proofs.Common.{◌≡◌, sym, subst, arith, true, List, length, count_by, ◌≤◌}
+use Rattle.std.proofs.Common.{◌≡◌, ◌∙◌, sym, subst, arith, true, List, ap, take}
 use Rattle.std.specs.Prelude.{IfSome}
+use Rattle.std.specs.List.{list_all}
+use Rattle.std.proofs.lemmas.List.{take_all}
 use Rattle.mote_net.specs.Report.{report_of}
 use Rattle.claims.specs.declared.claim.Case.{Case}
 use Rattle.claims.specs.Claims.{case_holds}
 use Rattle.claim_witness.specs.Shows.{ShowsTest}
-use Rattle.claim_witness.proofs.WitnessLaws.{item_there, count_from}
+use Rattle.claim_witness.proofs.WitnessLaws.{item_there, count_all}
 use Rattle.claim_witness.proofs.witness.one_missing.Goals as goal
 
 pub returns-in-Some : goal.returns-in-Some
-returns-in-Some c = record {
-  shows = (
-    c.requires.too_few,
-    record {
-      case = c.case-item.result;
-      there = item_there c.args.claim.now.cases.items c.deref-case-items.result.now c.loop-place.place c.case-item.result c.deref-case-items.ensures.value c.loop-place-test.true c.case-item.is;
-      shown = subst (λ o. IfSome o (ShowsTest c.case-item.result (report_of c.args.report.now))) c.in-Some.is c.broken_test.ensures.shows;
-    },
-  );
-}
-
-pub loop-place-preserved : goal.loop-place-preserved
-loop-place-preserved c =
+returns-in-Some c =
     let r = report_of c.args.report.now in
-    let holds : case_holds c.case-item.result r ≡ true = sym c.in_default.ensures.none in
-    omega (arith, c.loop-place.invariant, count_from (λ k. case_holds k r) c.deref-case-items.result.now c.loop-place.place c.case-item.result true c.loop-place-test.true c.case-item.is holds)
+    let us = c.deref-case-items.result.now in
+    let case = c.case-item.result in
+    record {
+      shows = (
+        c.requires.too_few,
+        record {
+          case = case;
+          there = item_there c.args.claim.now.cases.items us c.loop-place.place case c.deref-case-items.ensures.value c.loop-place-test.true c.case-item.is;
+          before = subst (λ (l : List Case). list_all (λ k. case_holds k r) (take c.loop-place.place l) ≡ true) c.deref-case-items.ensures.value c.loop-place.invariant;
+          shown = subst (λ o. IfSome o (ShowsTest case r)) c.in-Some.is c.in_ok-found.ensures.shows;
+        },
+      );
+    }
 
 pub returns : goal.returns
 returns c =
     let r = report_of c.args.report.now in
-    let all : length c.args.claim.now.cases.items ≤ count_by (λ k. case_holds k r) c.args.claim.now.cases.items =
-    subst (λ (l : List Case). length l ≤ count_by (λ k. case_holds k r) l) c.deref-case-items.ensures.value (omega (arith, c.loop-place.invariant)) in
-    record { shows = omega (arith, all, c.requires.too_few) }
+    let cases = c.args.claim.now.cases.items in
+    let all : list_all (λ k. case_holds k r) cases ≡ true =
+    subst (λ (l : List Case). list_all (λ k. case_holds k r) l ≡ true)
+    (take_all c.loop-place.place c.deref-case-items.result.now c.loop-place-test.false ∙ c.deref-case-items.ensures.value) c.loop-place.invariant in
+    record { shows = (all, omega (arith, count_all (λ k. case_holds k r) cases all, c.requires.too_few)) }
