@@ -123,6 +123,13 @@ class Texts(InPage):
                    'history.keep(history.step, {at: new Uint8Array(50e6)}); } })()')
         self.assertEqual(self.value('web.history.steps.map(it => Boolean(it.run)).slice(-6)'), [False] * 5 + [True])
 
+    def test_a_worker_that_read_a_long_report_is_ended(self) -> None:
+        self.open()
+        self.wait('m.backend.front.worker')
+        self.put(FLOODING.replace('end = 160', 'end = 500').replace('(is(packet) && (data > newest))', 'is(packet)').replace(
+            'newest < 3', 'newest < 60'))
+        self.wait('run.rows > 200000 && !m.backend.front.worker')
+
     def test_a_closing_brace_goes_back_to_its_block(self) -> None:
         self.open()
         self.press('part-all')

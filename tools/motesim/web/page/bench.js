@@ -1,6 +1,8 @@
 // @ts-check
 // Workers with the modules: one for the text that is shown, and one for long searches.
 
+/** The lines of a report after which a worker is ended. */
+const LONG = 200000;
 const SLOW = 'The run took longer than 5 seconds, so it was stopped.';
 
 /** A worker that answers one question at a time. */
@@ -29,7 +31,8 @@ export class Bench {
         this.worker = null;
         finish(answer);
       };
-      worker.onmessage = ({data}) => finish(data);
+      // (a worker that read a long report keeps its memory for a while)
+      worker.onmessage = ({data}) => data.columns?.at.length > LONG ? this.end(data) : finish(data);
       worker.onerror = event => this.end({limit: `The run failed in this browser: ${event.message}`});
       worker.postMessage(asked);
     });
