@@ -278,6 +278,17 @@ class Page(InStudio):
         self.browser.visit(page.as_uri(), 'window.motesim && motesim.ready')
         self.assertEqual(self.browser.run('motesim.panes[0].run.begins.length'), 3)
 
+    def test_a_link_is_one_to_the_page_without_a_server(self) -> None:
+        self.open()
+        self.press('share')
+        self.wait('by("link").value')
+        link = self.value('by("link").value')
+        self.assertTrue(link.startswith('motesim.html#t=1.'), link)
+        self.assertNotIn(self.server.token, link)
+        page = self.downloaded(self.room / 'net.html', 'save-page')
+        self.browser.visit(page.as_uri(), 'window.motesim && motesim.ready')
+        self.assertEqual(self.value('text'), NET)
+
     def test_it_fits_narrow_windows_and_all_has_a_name(self) -> None:
         self.open()
         for name in 'tab-why', 'tab-state', 'tab-log', 'tab-faults':
