@@ -7,7 +7,7 @@ from typing import Any, TypeVar
 
 from motesim import packages
 from motesim.faults import Fault
-from motesim.runner.programs import PROGRAM, program_path
+from motesim.runner.programs import CHECKER, PROGRAM, is_module, program_path
 
 
 Test = TypeVar('Test')
@@ -34,6 +34,11 @@ def need(name: str, package: str) -> None:
     """A command of a package."""
     if not shutil.which(name):
         raise unittest.SkipTest('%s is not installed: on Debian `apt-get install %s` installs it' % (name, package))
+
+
+def workers(number: int) -> list[str]:
+    """The arguments of a motecheck that shares its work among threads; none if it is the module, which has one."""
+    return [] if is_module(program_path(CHECKER)) else ['--workers', str(number)]
 
 
 def need_built(*names: str) -> None:

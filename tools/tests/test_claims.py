@@ -22,7 +22,7 @@ from motesim.runner.programs import CHECKER, module_program
 from motesim.scenario import Scenario
 from page_judge import PageJudge
 from page_sentences import Sentences, running_net_of
-from skips import need_built
+from skips import need_built, workers
 from test_expect import RELAY as SCENARIO
 
 # Sentences as comments, each with its claims, as the tool writes them for `SCENARIO` without the link from 2 to 3.
@@ -113,7 +113,7 @@ class Surveys(unittest.TestCase):
     def test_the_listed_links_are_those_whose_loss_breaks_the_claim(self) -> None:
         news = (TOP / 'examples/news.toml').read_text().replace('from < (self + 3)', 'from < self')
         claims = ['each of motes 1 to 8: the lines "print process news" have in order of time exactly the values 7']
-        alone, first, second, covered = answers(self, news, claims, '--links', '--workers', '2')
+        alone, first, second, covered = answers(self, news, claims, '--links', *workers(2))
         lost = [link for link in permutations(range(9), 2)
                 if answers(self, news + '[[loss]]\nfrom = %d\nto = %d\nevery = 1\n' % link, claims)[0].startswith('broken')]
         self.assertEqual(alone, 'broken: ' + claims[0])

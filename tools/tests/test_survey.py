@@ -9,7 +9,7 @@ from here import scenario_of, text_of
 from motesim.report import Report
 from motesim.runner import program_path
 from motesim.scenario import Scenario
-from skips import need_built
+from skips import need_built, workers
 from test_claims import CHECK, answers, need_motecheck
 
 # Each mote that hears a message for the first time prints it, and passes it on.
@@ -36,16 +36,16 @@ class FourNets(unittest.TestCase):
         for name, (places, program) in NETS.items():
             text = scenario_of(program, *places, end=100)
             claims = ['mote %d: at least 1 line "print value 7"' % mote for mote in range(len(places))]
-            for workers in (), ('--workers', '3'):
-                with self.subTest(net=name, workers=workers):
-                    found = answers(self, text, claims, '--links', '--silent', '--at-most', '2', *workers)
+            for shared in [], workers(3):
+                with self.subTest(net=name, workers=shared):
+                    found = answers(self, text, claims, '--links', '--silent', '--at-most', '2', *shared)
                     self.assertEqual(found, lines_of_survey(text, claims))
 
 
 class Options(unittest.TestCase):
     def test_options_of_a_survey_without_one_are_refused(self) -> None:
         need_motecheck(self)
-        for options in ('--at-most', '2'), ('--runs', '5'), ('--workers', '2', '--at-most', '1', '--runs', '5'):
+        for options in ('--at-most', '2'), ('--runs', '5'), (*workers(2), '--at-most', '1', '--runs', '5'):
             with self.subTest(options=options):
                 done = subprocess.run([CHECK, *options, 'net.toml', 'net.claims'], capture_output=True, text=True)
                 self.assertEqual((done.returncode, done.stdout), (2, ''))
