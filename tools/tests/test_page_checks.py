@@ -115,3 +115,12 @@ class Checks(InPage):
         self.browser.type('(from < (self + 3))')
         self.wait('by("said").textContent.startsWith("Right: everything holds, and none of 40 single faults breaks it.")')
         self.assertEqual(self.tab(), 'Checks 1/1')
+
+    def test_results_of_an_earlier_text_are_none_of_a_text_with_an_error(self) -> None:
+        self.open(fragment(CHECKED))
+        self.surveyed()
+        self.put(CHECKED.replace('send newest', 'send newst', 1))
+        self.wait('!by("fault").hidden')
+        self.assertEqual(self.tab(), 'Checks')
+        self.assertTrue(self.value('by("checks").classList.contains("earlier") && !m.checks.items.length'))
+        self.assertIn('has an error', self.said())

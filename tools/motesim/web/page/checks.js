@@ -75,6 +75,7 @@ const brokenNow = () => checks.items.flatMap(it => it.verdicts.filter(isBroken).
 const allHold = () => checks.items.length > 0 && !brokenNow().length;
 
 function showHeld(run) {
+  byId('checks').classList.remove('earlier');
   byId('held').replaceChildren(...checks.items.map(itemOf));
   const made = new Set(checks.items.flatMap(it => it.claims)), motes = run.begins.length;
   const offers = suggestions(run, checks.text).filter(claim => !made.has(claim));
@@ -299,6 +300,8 @@ export function beginChecks() {
   page.reactions.ran.push((text, number) => attempt(() => judge(text, number)));
   page.reactions.outdated.push(() => {
     page.backend.endSurvey();
+    label('Checks', '');
+    byId('checks').classList.add('earlier');
     Object.assign(checks, {items: [], survey: null, pairs: null, words: '', is: ''});
     byId('survey-progress').hidden = true;
   });

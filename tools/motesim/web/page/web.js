@@ -219,7 +219,7 @@ function drawFault(fault) {
 function sayFault() {
   const {place} = web.fault;
   say(`The text has an error${place ? ` in ${lineInWords(place[0])}` : ''}${
-    page.panes.length ? ': the last run is shown' : ''}.`, 'bad', reverting());
+    !page.panes.length ? '' : web.fresh ? ': the run that is shown is of the text before' : ': the last run is shown'}.`, 'bad', reverting());
 }
 
 /** Marks the place of an error, and shows the words about it; or that there is none. */
