@@ -15,10 +15,10 @@ IS_SENTENCE = re.compile('[a-z]{2}[:,]? |[ (][a-z]{2}|: *$')
 # The words of reports; and the words of texts of motesim and motecheck, of users, and of files and code.
 OF_REPORTS = set('mote medium left print send recv lost collide drop start leave take post full busy halt'.split())
 OF_OTHERS = {
-    'motesim', 'scenario fault', 'program fault line', 'motesim program fault line', 'broken', 'if', 'link to is broken mote is silent',
-    'covered all sets of at most of faults', 'and', 'never', 'no mote', 'else block', 'true false', 'script id saved',
-    'event semaphore process', 'export', 'export const function async function class', 'plan',
-    'at line column end of document'}
+    'motesim', 'scenario fault', 'program fault line', 'motesim program fault line', 'broken', 'if',
+    'link to is broken mote is silent', 'covered all sets of at most of faults', 'and', 'never', 'no mote', 'else block',
+    'true false', 'script id saved', 'event semaphore process', 'export', 'export const function async function class',
+    'plan', 'at line column end of document', 'static unsigned u int t u int bool char let const'}
 
 
 def sentences_in(row: str) -> list[str]:
