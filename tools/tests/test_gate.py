@@ -67,7 +67,8 @@ class Gate(Room):
         self.assertTrue(only | {'rt ci', 'wrong_bodies', 'check_module --build'} <= set(re.findall(r'[\w-]+(?: ci| --build)?', said)), said)
 
     def test_its_steps_end_with_it_however_it_ends(self) -> None:
-        for number, words in (signal.SIGTERM, ['--quick']), (signal.SIGKILL, ['--quick']), (signal.SIGKILL, []):
+        ends: list[tuple[int, list[str]]] = [(signal.SIGTERM, ['--quick']), (signal.SIGKILL, ['--quick']), (signal.SIGKILL, [])]
+        for number, words in ends:
             self.put_program('tools/dev/test_tools', 'setsid "$0.below" & setsid "$0.below"')
             self.put_program('tools/dev/test_tools.below', 'echo $$ >>"%s"; %s' % (self.put('begun'), HOLDS))
             path = '%s:%s' % (self.room / 'bin', os.environ['PATH'])

@@ -2,9 +2,10 @@
 from here import Room, call, rows_of, scenario_of
 
 # The tools that read a scenario, and what they need besides.
-TOOLS = {'compare': ['{}'], 'expect': ['--expect', 'no mote halts'], 'export': ['--to', 'csv', '-o', 'a'], 'log': [],
-         'search': ['--expect', 'no mote halts'], 'shrink': ['no mote halts'], 'summary': [], 'timeline': ['-o', 'a.html'],
-         'why': ['no mote halts']}
+TOOLS: dict[str, list[str]] = {
+    'compare': ['{}'], 'expect': ['--expect', 'no mote halts'], 'export': ['--to', 'csv', '-o', 'a'], 'log': [],
+    'search': ['--expect', 'no mote halts'], 'shrink': ['no mote halts'], 'summary': [], 'timeline': ['-o', 'a.html'],
+    'why': ['no mote halts']}
 # (a search reads plans, too)
 READ = {('search', 'a.plan.toml')}
 SCENARIO = scenario_of("process a; autostart a; code a { body { } }\n")
