@@ -32,6 +32,8 @@ POLICY = ('<meta http-equiv="Content-Security-Policy" content="default-src \'non
           '\'wasm-unsafe-eval\'; worker-src blob:; style-src \'unsafe-inline\'; img-src data: blob:; base-uri '
           '\'none\'; form-action \'none\'">')
 LONGEST = 720_000
+# The help of an option of `motecheck`: a module with it makes the reports too, and the page needs no other one.
+WRITES_REPORTS = b'Writes the report of the run'
 # (the browsers that the page needs have all of this language)
 MINIFY = ['esbuild', '--minify', '--target=es2022', '--log-level=error']
 NO_ESBUILD = 'this needs esbuild: on Debian `apt-get install esbuild` installs it'
@@ -62,7 +64,7 @@ def make_page(module: bytes, checker: bytes) -> str:
     """The text of the page, with the modules of `motesim` and of `motecheck`."""
     fill = {
         'HELP': reference(), 'TITLE': 'motesim', 'KIND': 'lone', 'STYLE': style(), 'DATA': data(), 'POLICY': POLICY,
-        'MODULE': packed(module), 'CHECKER': packed(checker),
+        'MODULE': '' if WRITES_REPORTS in checker else packed(module), 'CHECKER': packed(checker),
         'WORKER': script(PAGE / 'worker.js', RUN.read_text('utf-8')), 'SCRIPT': '<script>\n%s\n</script>' % script(PAGE / 'lone.js'),
     }
     return MARK.sub(lambda mark: fill[mark[1]], TEMPLATE.read_text('utf-8'))

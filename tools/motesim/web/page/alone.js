@@ -11,6 +11,9 @@ import {placeOfFault, ruleOf, scenarioOf} from './scenario.js';
 /** The milliseconds after which a survey is ended. */
 const LONGEST_SURVEY = 120000;
 
+/** The line of an error, as motesim writes it. @returns {string|undefined} */
+const lineOf = ({line}) => line?.replace(/^motecheck: /, 'motesim: ');
+
 /** @implements {Backend}
  * @typedef {import('../../timeline/page/stage.js').Backend} Backend */
 export class Alone {
@@ -24,8 +27,9 @@ export class Alone {
 
   /** @param {Promise<WebAssembly.Module>} module @param {() => Promise<WebAssembly.Module>} checker that of
    * `motecheck`, when it is needed @param {string} script the worker's @param {Record<string, string>} rules those that
-   * errors break */
-  constructor(module, checker, script, rules) {
+   * errors break @param {boolean} isOne whether `module` is that of `motecheck` too */
+  constructor(module, checker, script, rules, isOne = false) {
+    this.isOne = isOne;
     this.module = module;
     this.loadChecker = checker;
     this.rules = rules;
@@ -34,13 +38,16 @@ export class Alone {
     this.back = new Bench(this.script);
   }
 
+  /** What the module of runs reads for a text: the text, or if it is that of `motecheck`, what asks for a report. */
+  inputOf(text) { return this.isOne ? ['motecheck\n--report', '', text].join('\0') : text; }
+
   /** Runs a text; a run that goes on is ended, and so is a survey of an earlier text. */
   async run({text, name}) {
     const number = ++this.number;
     for (const it of [this.front, this.back]) it.end({superseded: true});
     const module = await this.module;
     if (number !== this.number) return {superseded: true};
-    const got = await this.front.ask({module, text, isReport: true}, this.most), {line} = got;
+    const got = await this.front.ask({module, text: this.inputOf(text), isReport: true}, this.most), line = lineOf(got);
     if (got.superseded || got.limit) return got;
     if (line) return {fault: {line, words: ruleOf(this.rules, line), place: placeOfFault(text, line)}};
     const run = new Run({name, ...got.table, ...scenarioOf(text)}, got.columns);
@@ -66,8 +73,8 @@ export class Alone {
     const {number} = this, module = await this.module;
     const found = await mend(text, fault, this.words, async other => {
       if (number !== this.number) return undefined;
-      const got = await this.front.ask({module, text: other}, this.most);
-      return got.superseded || got.limit ? undefined : got.line || null;
+      const got = await this.front.ask({module, text: this.inputOf(other)}, this.most);
+      return got.superseded || got.limit ? undefined : lineOf(got) || null;
     });
     return found && number === this.number ? {...fault, words: [found.words, ...fault.words].filter(Boolean), place: found.place,
       corrected: found.text} : null;

@@ -18,7 +18,9 @@ async function start() {
   const data = JSON.parse(byId('data').textContent);
   const compiled = id => unpacked(byId(id).textContent, 'gzip').then(
     bytes => WebAssembly.compile(/** @type {BufferSource} */ (bytes)));
-  const backend = new Alone(compiled('module'), () => compiled('checker'), byId('worker').textContent, data.rules);
+  // (a page may have one module for runs and checks)
+  const isOne = !byId('module').textContent.trim(), module = compiled(isOne ? 'checker' : 'module');
+  const backend = new Alone(module, () => isOne ? module : compiled('checker'), byId('worker').textContent, data.rules, isOne);
   page.chainOf = chainOf;
   const [first] = begin(backend, data, drafts);
   beginChecks();
