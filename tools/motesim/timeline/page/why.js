@@ -25,8 +25,8 @@ function show(title, texts, items, spoken) {
   byId('why-chain').hidden = false;
   byId('why-chain').replaceChildren(element('h2', title), ...texts.map(text => element('p', '', withPlaces(text))),
     list('ol', items), makeButton('Close', closeWhy));
-  const chain = byId('why-chain'), frame = chain.closest('#card, .panel');
-  frame.scrollTop += chain.getBoundingClientRect().top - frame.getBoundingClientRect().top - EDGE;
+  const chain = byId('why-chain'), frame = chain.closest('#card');
+  if (frame) frame.scrollTop += chain.getBoundingClientRect().top - frame.getBoundingClientRect().top - EDGE;
   byId('spoken').textContent = spoken;
   redraw();
 }
