@@ -30,7 +30,7 @@ class Value:
 
 @dataclass(frozen=True)
 class Deed:
-    """kind: print, send, recv, start, leave, halt or writes; or, for all lines `print`, just, set, only or finally."""
+    """kind: print, send, recv, start, leave, halt or writes; or, for all lines `print`, just, set, only, finally or same."""
     kind: str
     process: str = ''
     value: Value | None = None
@@ -56,19 +56,21 @@ class When:
 
 @dataclass(frozen=True)
 class Event:
-    """The lines of a deed, or of the sentence's deed; by some motes, or by those of the sentence."""
+    """The lines of a deed, or of the sentence's deed; by some motes, or by those of the sentence; at a time, or in the
+    sentence's."""
     motes: tuple[int, ...] | None
     deed: Deed | None
-    when: When = When()
+    when: When | None = When()
 
 
 @dataclass(frozen=True)
 class Times:
-    """How many lines: a number, or a multiple or a share of those of `other`."""
+    """How many lines: a number, or a multiple of those of `other`, or a number of those with each value of `other`."""
     compare: str
     number: int
     is_share: bool = False
     other: Event | None = None
+    is_each: bool = False
 
     def admits(self, count: int, whole: int) -> bool:
         return bool(COMPARES[self.compare](count * (100 if self.is_share else 1), self.number * whole))
@@ -104,7 +106,13 @@ class Things:
     when: When = When()
 
 
-Sentence = Does | Things
+@dataclass(frozen=True)
+class Or:
+    """One of these sentences holds."""
+    parts: tuple[Does | Things, ...]
+
+
+Sentence = Does | Things | Or
 
 
 class NoValue(Exception):
@@ -172,7 +180,7 @@ class PageJudge:
         words, kind = line.words, deed.kind
         if kind == 'writes':
             return any(words[:len(text.split())] == tuple(text.split()) for text in deed.texts)
-        if words[0] != ('print' if kind in ('just', 'set', 'only', 'finally') else kind):
+        if words[0] != ('print' if kind in ('just', 'set', 'only', 'finally', 'same') else kind):
             return False
         if deed.process and words[1] != deed.process or deed.sender is not None and int(words[1]) != deed.sender:
             return False
@@ -218,7 +226,10 @@ class PageJudge:
             allowed = self.values(deed.value, motes[0])
             return bool(values) and values[-1] in allowed and (deed.kind == 'finally' or len(values) == 1)
         other = it.order.event if it.order else it.times.other if it.times else None
-        others = [] if other is None else self.done(other.deed or deed, other.motes or motes, other.when)
+        others = [] if other is None else self.done(other.deed or deed, other.motes or motes, other.when or it.when)
+        if it.times and it.times.is_each:
+            its = [line.words[-1] for line in lines]
+            return all(it.times.admits(its.count(line.words[-1]), 1) for line in others)
         if it.order and it.order.kind == 'each':
             return self.each_time(self.done(deed, motes), [line for line in others if self.is_in(it.when, line)],
                                   it.order.moments)
@@ -239,10 +250,20 @@ class PageJudge:
     def motes_do(self, it: Does) -> bool:
         if it.kind == 'together':
             return self.does(it, it.motes)
+        if it.deed.kind == 'same':
+            return self.is_same(it)
         doing = [self.does(it, (mote,)) for mote in it.motes]
         if it.many:
             return it.many.admits(sum(doing), len(doing) if it.many.is_share else 1)
         return {'each': all(doing), 'no': not any(doing), 'some': any(doing)}[it.kind]
+
+    def is_same(self, it: Does) -> bool:
+        """Each mote has a last line, with one value."""
+        try:
+            its = [self.done(it.deed, (mote,), it.when) for mote in it.motes]
+        except NoValue:
+            return False
+        return all(its) and len({lines[-1].words[-1] for lines in its}) < 2
 
     def copies(self, it: Things) -> list[bool]:
         """For each copy or packet of these motes, whether it is counted. A share has no copies that are left."""
@@ -260,6 +281,8 @@ class PageJudge:
 
     def holds(self, it: Sentence) -> bool:
         """Returns whether a sentence holds: in each of its periods, if it has several."""
+        if isinstance(it, Or):
+            return any(map(self.holds, it.parts))
         parts = [replace(it, when=when) for when in it.when.parts()]
         return all(self.motes_do(part) if isinstance(part, Does) else self.counts(part) for part in parts)
 

@@ -2,8 +2,9 @@
 from __future__ import annotations
 
 import random
+from dataclasses import replace
 
-from page_judge import LAST, Deed, Does, Event, Order, Sentence, Things, Times, Value, When
+from page_judge import LAST, Deed, Does, Event, Or, Order, Sentence, Things, Times, Value, When
 
 END, SIDE, PROCESSES = 24, 10, ('a', 'b')
 VERBS = {'print': ('prints', 'printing'), 'send': ('sends', 'sending'), 'receive': ('receives', 'receiving'),
@@ -132,8 +133,6 @@ class Sentences:
         if kind in ('no', 'some'):
             return '%s mote%s' % (kind, but), Does(kind, left, nothing)
         number, many = self.share() if kind == 'share' else self.compare(3)
-        if many.is_share and self.is_so(.5):
-            return '%s of motes %s' % (number, text), Does('count', listed, nothing, many)
         return '%s %smotes%s' % (number, 'of ' * many.is_share, but), Does('count', left, nothing, many)
 
     def value(self) -> tuple[str, Value]:
@@ -229,15 +228,34 @@ class Sentences:
 
     def comparison(self) -> tuple[str, Times]:
         """A number of lines that is compared with another number."""
-        number, times = self.share() if self.is_so(.4) else self.compare(2)
+        number, times = self.compare(2)
         text, event = self.event(True, 'all motes together')
         when, its = self.when(has_parts=False)
         if self.is_so(.3):
             text, event = '%s %s' % (text, when), Event(event.motes, event.deed, its)
         elif self.is_so(.3):
             text, event = when, Event(None, None, its)
-        return '%s%s as often as %s' % (number, '' if times.is_share else ' times', text), Times(
-            times.compare, times.number, times.is_share, event)
+        return '%s times as often as %s' % (number, text), Times(times.compare, times.number, False, event)
+
+    def of_values(self) -> tuple[str, Sentence]:
+        """Numbers of lines with the same value, or the same last value."""
+        text, it = self.subject()
+        when, its = self.when(has_hops=it.kind != 'together')
+        if it.kind == 'each' and len(it.motes) > 1 and self.is_so(.3):
+            return '%s finally print the same a %s' % (text, when), replace(it, deed=Deed('same', 'a'), when=its)
+        (words, deed), (number, times) = self.valued(), self.compare(2)
+        (other, event), mote, (listed, motes) = self.valued(), self.mote(), self.some()
+        if self.is_so(.3):
+            return '%s %s %s %s times for each value' % (text, words, when, number), replace(
+                it, deed=deed, when=its, times=replace(times, other=Event(None, None, None), is_each=True))
+        who, own = self.chance.choice((('it', None), ('mote %d' % mote, (mote,)), ('motes %s together' % listed, motes)))
+        late, later = self.when(has_hops=False, has_parts=False)
+        return '%s %s %s %s times for each value that %s %s %s' % (text, words, when, number, who, other, late), replace(
+            it, deed=deed, when=its, times=replace(times, other=Event(own, event, later), is_each=True))
+
+    def valued(self) -> tuple[str, Deed]:
+        """A deed whose lines have values."""
+        return self.chance.choice((('prints a', Deed('print', 'a')), ('sends', Deed('send')), ('receives', Deed('recv'))))
 
     def does(self) -> tuple[str, Sentence]:
         text, it = self.subject()
@@ -277,5 +295,12 @@ class Sentences:
             text += ' ' + words
         return text, Things(kind, times, motes, when)
 
+    def one(self) -> tuple[str, Sentence]:
+        return self.things() if self.is_so(.2) else self.of_values() if self.is_so(.15) else self.does()
+
     def sentence(self) -> tuple[str, Sentence]:
-        return self.things() if self.is_so(.2) else self.does()
+        """A sentence, or several of them with `or`."""
+        found = [self.one() for _ in range(self.chance.choice((1, 1, 1, 1, 1, 2, 3)))]
+        if len(found) == 1 or any(isinstance(it, Does) and it.kind in ('no', 'count') for _, it in found):
+            return found[0]
+        return ', or '.join(text for text, _ in found), Or(tuple(it for _, it in found))

@@ -165,7 +165,7 @@ def test_the_line_of_a_question(question: str, kind: str, found: str) -> None:
     ('every mote but 0 prints flood within 0 of receiving', '24: 64 print flood 1', True, 'mote 24 is the last'),
     ('some mote prints flood 2', '5: 83 print flood 2', True, ''),
     ('mote 0 sends after mote 3 sends', '0: 40 send 0 1', False, 'every line "send" is after some line "send" of mote 3'),
-    ('mote 3 sends at least 80 % as often as mote 2', '3: 49 send 0 1', True, ''),
+    ('mote 3 sends at least once as often as mote 2', '3: 49 send 0 1', True, ''),
     ('mote 3 sends more than 2 times as often as mote 2', '3: 129 send 2 3', False, 'but there are 3 and 3')])
 def test_sentences_on_two_events(question: str, line: str, holds: bool, remark: str) -> None:
     run = run_of('flooding')

@@ -42,6 +42,12 @@ class Break(NamedTuple):
     line: tuple[int, int] | None = None
     values: str = ''
 
+    @property
+    def of_values(self) -> tuple[str, str]:
+        """The missing and the superfluous values."""
+        found = re.fullmatch(r'(?:; missing: ([\d, ]+))?(?:; superfluous: ([\d, ]+))?', self.values)
+        return ('', '') if found is None else (found[1] or '', found[2] or '')
+
 
 def read_break(text: str, claim: Claim) -> Break:
     """The break of a claim."""

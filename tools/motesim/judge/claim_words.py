@@ -109,12 +109,12 @@ class Test(NamedTuple):
     """A test of one mote, or of the net: a text with a place `%s` for each of its deeds.
 
     kind     number (of lines or other things), every (line has an order), ratio, values (in their order), set (values
-             in any order), last (value)
+             in any order), last (value), same (last values), each (value is that of so many lines)
     mote     the mote of the test, if its lines are those of one mote
     counted  what it counts, or the lines whose values it wants
     limits   of a number
     values   the wanted values of the lines, one after another
-    is_high  whether, in a ratio, the greater number is that of the sentence
+    is_high  whether the second of the things that are compared is that of the sentence
     """
     kind: str
     form: str
@@ -205,6 +205,19 @@ def ratio(low: Counted, low_times: int, high: Counted, high_times: int, is_stric
 
 def every_line(deed: Deed, order: str, event: Deed) -> Test:
     return Test('every', 'every line %s is' + order + ' %s', (deed, event), deed.mote, (lines_of(deed, order, event),))
+
+
+def same_last(deed: Deed, other: Deed) -> Test:
+    """The last lines have the same value."""
+    return Test('same', 'the last line %s has the value of the last line %s', (deed, other), deed.mote, (
+        lines_of(deed), lines_of(other)))
+
+
+def each_value(deed: Deed, limits: Limits, lines: Deed) -> Test:
+    """For each value of a deed's lines, the number of lines that have it is within the limits."""
+    shown = limits[0] if limits[1] is None else limits[1]
+    form = 'each value of the lines %%s is the value of %s %s %%s' % (limits_text(limits), of_number(shown, 'line', 'lines'))
+    return Test('each', form, (deed, lines), deed.mote, (lines_of(deed), lines_of(lines)), is_high=True)
 
 
 def with_values(kind: str, deed: Deed, values: Sequence[Set[int]]) -> Test:

@@ -11,13 +11,13 @@ from dataclasses import replace
 
 from motesim.faults import Fault
 from motesim.judge.claim_words import (
-    ALL, Case, Claim, Counted, Deed, Limits, OfNet, Test, every_line, limited, lines_of, period_text, ratio, set_text,
-    with_values,
+    ALL, Case, Claim, Counted, Deed, Limits, OfNet, Test, each_value, every_line, limited, lines_of, period_text, ratio,
+    same_last, set_text, with_values,
 )
 from motesim.judge.hearing import hearing
 from motesim.judge.links import Apart, Links, Span
 from motesim.judge.meaning import (
-    Copies, Count, Deed as Action, Does, Hears, Lines, MediumLine, Motes, Packets, Pattern, Refused, Relation,
+    Copies, Count, Deed as Action, Does, Hears, Lines, MediumLine, Motes, Or, Packets, Part, Pattern, Refused, Relation,
     Sentence, Value, Window, parts_of)
 from motesim.judge.names import processes_of
 from motesim.notation.grammar import SYSTEM
@@ -79,8 +79,12 @@ class Claims:
         self.apart, self.failing = [], failing
         if it in self.same and not failing:
             return self.same[it]
-        if type(it) in OF_TEXT:
+        if isinstance(it, (MediumLine, Refused)):
             raise NoClaim(OF_TEXT[type(it)])
+        return [self.one_of(it)] if isinstance(it, Or) else self.of_part(it)
+
+    def of_part(self, it: Part) -> list[Claim]:
+        """The claims of a sentence without `or`."""
         if isinstance(it, Hears):
             # (the scenario decides it: true or false of each run)
             wrong = [mote for mote in sorted(it.motes) if self.links.hears(mote, it.other) != it.can]
@@ -94,6 +98,20 @@ class Claims:
                     raise
                 return [self.does(replace(it, motes=replace(it.motes, kind=kind)))]
         return [Claim((1, 1), (Case(tuple(self.of_net(it))),))]
+
+    def one_of(self, it: Or) -> Claim:
+        """At least one of the parts holds: one of the cases of `some mote`, or the case of which all tests are those of
+        a part that holds for each of its motes."""
+        found, fewer = list[Case](), ''
+        for its in map(self.of_part, it.parts):
+            fewer = next((claim.fewer for claim in its if claim.fewer), fewer)
+            if len(its) == 1 and its[0].limits == (1, None):
+                found += its[0].cases
+            elif any(claim.limits[0] != claim.limits[1] for claim in its):
+                raise NoClaim('a part of an `or` that counts motes in each of several intervals')
+            elif all(claim.limits[0] == len(claim.cases) for claim in its):
+                found.append(Case(tuple(test for claim in its for case in claim.cases for test in case.tests)))
+        return Claim((1, None), tuple(found), fewer)
 
     # Lines
 
@@ -168,6 +186,9 @@ class Claims:
 
     def does(self, it: Does) -> Claim:
         chosen, cases, fewer = it.motes.chosen(self.scenario.motes), list[Case](), ''
+        if it.deed.way == 'same':
+            # (the others are compared with the first one)
+            chosen = chosen[1:] or chosen
         for unit in [chosen] if it.motes.kind == 'together' else [(mote,) for mote in chosen]:
             try:
                 cases.append(Case(tuple(self.tests(it, unit))))
@@ -182,12 +203,18 @@ class Claims:
         others = motes if other is None or other.motes is None else other.motes.chosen(self.scenario.motes)
         event = (other.deed if other else None) or it.deed
         found = list[Test]()
-        for span in self.links.spans(it.window, motes[0]):
+        for place, span in enumerate(self.links.spans(it.window, motes[0])):
             deed = self.deed(it.deed.patterns, motes, [span] * len(motes))
-            if it.than:
+            if it.deed.way == 'same':
+                first = it.motes.chosen(self.scenario.motes)[0]
+                its = self.links.spans(it.window, first)[place]
+                found.append(same_last(deed, self.deed(it.deed.patterns, [first], [its])))
+            elif it.than:
                 window = it.than.window
-                spans = [self.links.spans(window, mote)[0] for mote in others]
-                found += compared(it.count, lines_of(deed), lines_of(self.deed(event.patterns, others, spans)))
+                spans = [self.links.spans(window, mote)[0] if window else span for mote in others]
+                than = self.deed(event.patterns, others, spans)
+                found += [each_value(than, of_count(it.count), deed)] if it.than.is_each else compared(
+                    it.count, lines_of(deed), lines_of(than))
             elif it.relation and it.relation.kind == 'each':
                 lines = self.deed(it.deed.patterns, motes, [ALL] * len(motes))
                 found += self.answered(it.relation, lines, event, others, span)

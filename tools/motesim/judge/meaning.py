@@ -95,8 +95,8 @@ class Motes:
 class Deed:
     """An action of motes: lines of one of these patterns.
 
-    way     any, finally (the last such line has `value`), just (the values of all such lines are `values`, or only
-            `value`), set (in any order)
+    way     any, finally (the last such line has `value`), same (the last such lines of all motes have the same value),
+            just (the values of all such lines are `values`, or only `value`), set (in any order)
     """
     patterns: tuple[Pattern, ...]
     way: str = 'any'
@@ -106,10 +106,13 @@ class Deed:
 
 @dataclass(frozen=True)
 class Than:
-    """The other count in a comparison: that of other motes, of another action, or of another time."""
+    """The other lines in a comparison: those of other motes, of another action, or of another time. None: as in the
+    sentence. With `is_each`, lines with the same value are counted, for each value of the other lines.
+    """
     motes: Motes | None
     deed: Deed | None
-    window: Window
+    window: Window | None
+    is_each: bool = False
 
 
 @dataclass(frozen=True)
@@ -130,7 +133,8 @@ class Relation:
 
 @dataclass(frozen=True)
 class Does:
-    """Motes do something: a number of times, or so many times as often as others, or before or after another event."""
+    """Motes do something: a number of times, or so many times as often as others or for each of their values, or before
+    or after another event."""
     motes: Motes
     deed: Deed
     count: Count
@@ -184,7 +188,16 @@ class Refused:
     fault: str
 
 
-Sentence = Does | Copies | Packets | Lines | MediumLine | Hears | Refused
+Part = Does | Copies | Packets | Lines | Hears
+
+
+@dataclass(frozen=True)
+class Or:
+    """At least one of these sentences holds."""
+    parts: tuple[Part, ...]
+
+
+Sentence = Does | Copies | Packets | Lines | MediumLine | Hears | Refused | Or
 
 
 def parts_of(it: object) -> Iterator[object]:

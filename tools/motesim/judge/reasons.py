@@ -13,6 +13,9 @@ from motesim.judge.finder import Event, Finder, Row
 from motesim.judge.links import Span
 from motesim.judge.meaning import MediumLine, Refused, Sentence
 
+# The tests that compare the values of two deeds.
+OF_VALUES = ('same', 'each')
+
 
 class Lack(NamedTuple):
     """Motes that have too few lines in an interval: the number of lines that they have, and the wanted one."""
@@ -49,7 +52,7 @@ def reason_of(it: Break, finder: Finder) -> Broken:
     if test is None:
         return Broken(it.words, kind='fewer')
     kind = 'spare' if it.is_spare else test.kind
-    numbers = [] if it.is_spare else [finder.number(what) for what in test.counted]
+    numbers = [] if it.is_spare or test.kind in OF_VALUES else [finder.number(what) for what in test.counted]
     why = it.words
     if numbers and None not in numbers:
         why += ', but there %s %s' % ('is' if numbers == [1] else 'are', ' and '.join(map(str, numbers)))
@@ -69,13 +72,25 @@ def _shown(it: Break, test: Test, finder: Finder) -> tuple[int | None, str]:
     if it.line:
         return finder.row(*it.line), ('the line that meets it is' if it.is_spare else
                                       "the first that isn't is" if test.kind == 'every' else 'one too many is')
+    if test.kind == 'each':
+        return _of_values(it, test, finder)
     rows, most = finder.counted(test.own), test.limits[1]
-    if rows and (it.is_spare or test.kind == 'ratio'):
+    if rows and (it.is_spare or test.kind in ('ratio', 'same')):
         return rows[-1].row, 'the last such line is'
     if test.kind == 'number' and most is not None and len(rows) > most:
         return rows[most].row, 'one too many is'
     wrong = unwanted(rows, test) if test.values else None
     return (wrong.row, 'the first that differs is') if wrong else (None, '')
+
+
+def _of_values(it: Break, test: Test, finder: Finder) -> tuple[int | None, str]:
+    """The first line whose value too few lines have, or the last one of those that are too many."""
+    missing, superfluous = ({int(value) for value in part.split(', ') if value} for part in it.of_values)
+    few, many = ([line for line in finder.lines(deed) if line.line.value in values]
+                 for deed, values in zip(test.deeds, (missing, superfluous)))
+    if few:
+        return few[0].row, 'the first line whose value is missing is'
+    return (many[-1].row, 'the last of those that are too many is') if many else (None, '')
 
 
 def unwanted(lines: Sequence[Event | Row], test: Test) -> Event | Row | None:

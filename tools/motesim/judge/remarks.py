@@ -3,6 +3,8 @@ doesn't occur, about copies that can't collide or don't exist, or about no mote 
 decide."""
 from __future__ import annotations
 
+from dataclasses import replace
+
 from motesim.judge.claims import OF_TEXT
 from motesim.judge.finder import Finder
 from motesim.judge.links import Apart
@@ -12,6 +14,7 @@ NOT_PROVED = 'not proved: no claim can say it, so the tool compares texts'
 AFTER_THE_END = 'the run ends at %d, before the interval of this expectation, which begins at %d'
 OF_NO_MOTE = 'this expectation is about no mote, because `but` leaves out all of its motes, so it is %s in every run'
 NO_EVENT = '`%s` doesn\'t occur in this run, so this expectation checks no order'
+NO_VALUE = 'there is no value in this run with which this expectation compares, so it checks nothing'
 NO_COLLISIONS = 'the scenario has no `collide = true`, so no copy collides in any run'
 NO_LOSSES = 'no link of the scenario loses a packet, so no copy is lost in any run'
 NO_COPIES = 'no copy was due in this run, so this expectation checks nothing'
@@ -36,6 +39,8 @@ def remark_on(sentence: Sentence, finder: Finder) -> str:
         return AFTER_THE_END % (finder.scenario.end, sentence.window.begin)
     if isinstance(sentence, Copies) and sentence.count.is_part and not finder.due(sentence.motes):
         return NO_COPIES
+    if isinstance(sentence, Does) and sentence.than and sentence.than.is_each and not has_values(sentence, finder):
+        return NO_VALUE
     return of_events(sentence, finder) if isinstance(sentence, Does) else ''
 
 
@@ -53,6 +58,16 @@ def of_events(it: Does, finder: Finder) -> str:
     if not it.relation or any(events_of(it, finder, unit) for unit in units):
         return ''
     return NO_EVENT % it.relation.words
+
+
+def has_values(it: Does, finder: Finder) -> bool:
+    """True if there are lines of which a sentence counts those with the same value."""
+    assert it.than
+    than = replace(it, motes=it.than.motes or it.motes, deed=it.than.deed or it.deed, window=it.than.window or it.window)
+    try:
+        return any(finder.lines_of(than, (mote,)) for mote in finder.chosen(than.motes))
+    except Apart:
+        return False
 
 
 def events_of(it: Does, finder: Finder, motes: tuple[int, ...]) -> bool:

@@ -8,11 +8,12 @@ from __future__ import annotations
 
 import re
 from collections.abc import Callable, Sequence
+from dataclasses import replace
 from typing import TypeVar
 
 from motesim.judge.meaning import (
-    COMPARES, Copies, Count, Deed, Does, Hears, Lines, MediumLine, Motes, Packets, Pattern, Refused, Relation, Sentence,
-    Than, Value, Window)
+    COMPARES, Copies, Count, Deed, Does, Hears, Lines, MediumLine, Motes, Or, Packets, Part, Pattern, Refused,
+    Relation, Sentence, Than, Value, Window)
 from motesim.judge.names import Names
 from motesim.judge.sentence_fault import SentenceFault
 from motesim.notation.grammar import SYSTEM
@@ -24,6 +25,8 @@ NAME = re.compile('[a-z][a-z0-9_]*')
 BEHIND_DEED = ('at', 'by', 'before', 'after', 'between', 'in', 'from', 'exactly', 'more', 'fewer', 'once', 'twice',
                'within', 'with')
 TOKEN = re.compile(r"\s*('[^']*'|`[^`]*`|\d+|[A-Za-z_]\w*|[^\s])")
+# The kinds of lines that have a value.
+WITH_VALUE = {kind for kind, its in FIELDS.items() if its.endswith(('value', 'word'))}
 # The verbs of motes and of copies, in the form for many; and the outcomes of copies that have a verb.
 VERBS = ('print', 'send', 'receive', 'start', 'leave', 'halt', 'write')
 OUTCOMES = {'collide': 'collided', 'arrive': 'received', 'overflow': 'overflowed'}
@@ -47,7 +50,7 @@ class _Reader:
         found = list(TOKEN.finditer(text))
         self.words = [it[1] for it in found]
         self.places = [it.start(1) for it in found] + [len(text)]
-        self.at, self.furthest = 0, 0
+        self.at, self.furthest, self.begin = 0, 0, 0
         # (the places at which the sentence has the numbers of motes)
         self.named: list[tuple[int, int]] = []
         self.wanted: list[str] = []
@@ -103,6 +106,10 @@ class _Reader:
     def need(self, *phrases: str) -> str:
         return self.needed(self.accept(*phrases))
 
+    def is_or(self) -> bool:
+        """True if another sentence follows, one of which must hold."""
+        return self.word() == ',' and self.word(1).lower() == 'or'
+
     def is_verb(self, *verbs: str) -> str:
         """The verb that is next, in the form for many; an empty text if none of these is."""
         word = self.word().lower()
@@ -146,7 +153,7 @@ class _Reader:
         while True:
             begin = one(0)
             found += range(begin, one(begin) + 1) if self.accept('to') else [begin]
-            if not self.accept(',', 'and', *between):
+            if self.is_or() or not self.accept(',', 'and', *between):
                 return found
 
     def mote_list(self) -> frozenset[int]:
@@ -173,8 +180,8 @@ class _Reader:
 
     # How often and when
 
-    def count(self) -> Count | None:
-        """Reads the part of a sentence that says how many times."""
+    def count(self, has_share: bool = False) -> Count | None:
+        """Reads the part of a sentence that says how many times, or, if it `has_share`, how large a share."""
         compare = self.accept(*COMPARES)
         word = self.accept('once', 'twice')
         if word:
@@ -182,7 +189,7 @@ class _Reader:
         if not compare:
             return None
         number = self.number('a number')
-        return Count(compare, number, bool(self.accept('%', 'percent', 'per cent')))
+        return Count(compare, number, has_share and bool(self.accept('%')))
 
     def window(self) -> Window | None:
         """When."""
@@ -250,7 +257,7 @@ class _Reader:
                 raise self.fault()
             self.at += 1
             allowed &= field.values(self.number('a number', MOST_WORD))
-            if not self.accept(',', 'and'):
+            if self.is_or() or not self.accept(',', 'and'):
                 return Value('any', values=allowed)
 
     def process(self) -> str | None:
@@ -275,6 +282,8 @@ class _Reader:
         """The action of motes, from the verb on."""
         if self.accept('finally'):
             self.needed(self.verb('print'))
+            if self.accept('the same'):
+                return Deed((('print', self.needed(self.process())),), 'same')
             return Deed((('print', self.needed(self.process())),), 'finally', self.needed(self.value()))
         verb = self.needed(self.verb(*VERBS))
         if verb == 'print':
@@ -300,7 +309,7 @@ class _Reader:
         at = self.at
         deed = self.deed()
         if deed.way != 'any':
-            verb = self.words[at + 1 if deed.way == 'finally' else at]
+            verb = self.words[at + (deed.way in ('finally', 'same'))]
             raise self.fault_at(at, '%s, without `just` or `finally`' % verb)
         return deed
 
@@ -348,26 +357,32 @@ class _Reader:
             if can:
                 return Hears(motes.numbers, can == 'can hear mote', self.mote())
         never = motes.kind in ('each', 'together') and self.accept('never')
+        begin = self.at
         deed = self.plain_deed() if never else self.deed()
+        if deed.way == 'same' and (motes.kind != 'each' or motes.is_one):
+            raise self.fault_at(begin + 2, 'a process and a value; `the same` needs several motes, as in `all motes`')
         window, count, than = self.window(), None, None
         if deed.way == 'any' and not never:
             count = self.count()
         if count:
             self.accept('times', 'time')
+            at = self.at
             if self.accept('as often as'):
                 than = self.than()
-            elif count.is_part:
-                raise self.fault()
-        if window is None and than is None:
+            elif self.accept('for each value'):
+                than = replace(self.than() if self.accept('that') else Than(None, None, None), is_each=True)
+                if any(it[0] not in WITH_VALUE for it in deed.patterns + (than.deed or deed).patterns):
+                    raise self.fault_at(at, 'as often as', 'the end (only what motes print, send or receive has a value)')
+        if window is None and (than is None or than.window is None):
             window = self.window()
         relation = self.relation(deed) if deed.way == 'any' and than is None else None
         if relation and window is None:
             window = self.window()
         has_hops = window is not None and window.root is not None
         if relation and relation.kind == 'each' and (count or never or has_hops):
-            raise self.fault_at(self.words.index('within'), 'the end')
+            raise self.fault_at(self.words.index('within', self.begin), 'the end')
         if motes.kind == 'together' and (deed.value is not None or has_hops):
-            raise self.fault_at(self.words.index('together'), 'the verb, without `together`')
+            raise self.fault_at(self.words.index('together', self.begin), 'the verb, without `together`')
         is_counted = bool(never) or count is not None
         count = Count('at most', 0) if never else count or Count('at least', 1)
         return Does(motes, deed, count, window or Window(), than, relation, is_counted)
@@ -437,14 +452,33 @@ class _Reader:
         kind = self.need(*kinds)
         self.is_one = kind in ('mote', 'copy', 'packet')
         if kind in ('mote', 'motes'):
-            numbers = self.mote_list() if count.is_part and self.word().isdecimal() else None
-            return self.does(Motes('count', numbers, self.but(), count))
+            return self.does(Motes('count', None, self.but(), count))
         if kind in ('copy', 'copies'):
             return self.copies(count)
         self.need('is sent' if self.is_one else 'are sent')
         return Packets(count, self.window() or Window())
 
+    def sentences(self) -> Sentence:
+        """A sentence, or several with `, or` between them."""
+        parts = list[Part]()
+        while True:
+            it = self.sentence_here()
+            is_last = not self.accept(', or')
+            if is_last and not parts:
+                return it
+            parts.append(self.part_of_or(it))
+            if is_last:
+                return Or(tuple(parts))
+
+    def part_of_or(self, it: Sentence) -> Part:
+        """A sentence that has an `or` before or behind it. It can't be about a number of motes, or about a text."""
+        if isinstance(it, Does) and it.motes.kind not in ('no', 'count') or isinstance(it, (Copies, Packets, Lines, Hears)):
+            return it
+        raise self.fault_at(self.begin, 'an expectation of `mote 3`, `every mote`, `some mote`, copies or packets: `or` '
+                            'joins none of `no mote`, a number of motes, or a text')
+
     def sentence_here(self) -> Sentence:
+        self.begin, self.is_one = self.at, True
         motes = self.motes()
         if motes is not None:
             return self.does(motes)
@@ -462,13 +496,13 @@ class _Reader:
             return MediumLine(self.quoted())
         if self.accept('the scenario is refused with'):
             return Refused(' '.join(self.quoted()))
-        return self.things(self.needed(self.count()), ('mote', 'motes', 'copy', 'copies', 'packet', 'packets'))
+        return self.things(self.needed(self.count(has_share=True)), ('mote', 'motes', 'copy', 'copies', 'packet', 'packets'))
 
 
 def read_sentence(sentence: str, names: Names = Names()) -> Sentence:
     """Returns the meaning of a sentence. Raises a `SentenceFault` if it can't be read."""
     reader = _Reader(sentence, names)
-    found = reader.sentence_here()
+    found = reader.sentences()
     reader.end()
     return found
 
@@ -476,7 +510,7 @@ def read_sentence(sentence: str, names: Names = Names()) -> Sentence:
 def motes_named(sentence: str, names: Names) -> list[tuple[int, int]]:
     """The places at which a sentence that can be read has the numbers of motes, and these numbers."""
     reader = _Reader(sentence, names)
-    reader.sentence_here()
+    reader.sentences()
     return sorted(set(reader.named))
 
 

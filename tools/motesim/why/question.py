@@ -17,7 +17,7 @@ from motesim.judge.hearing import hearing
 from motesim.judge.links import Apart, Span, within
 from motesim.judge.reasons import Broken
 from motesim.judge.remarks import outcome_never
-from motesim.judge.meaning import Copies, Count, Does, Hears, Motes, Packets, Sentence
+from motesim.judge.meaning import Copies, Count, Does, Hears, Motes, Or, Packets, Sentence
 from motesim.judge.names import names_of
 from motesim.judge.sentences import read_sentence
 from motesim.judge.verdicts import breaks
@@ -165,6 +165,8 @@ class Asker:
         """The line by which a sentence holds or is broken. Raises an `Unasked` if there is none."""
         if isinstance(it, Hears):
             raise self.of_hearing(it)
+        if isinstance(it, Or):
+            raise Unasked('`or` joins several expectations: ask about one of them')
         if not isinstance(it, (Does, Copies, Packets)) or isinstance(it, Copies) and it.outcome == 'left':
             raise Unasked('this expectation is about no line of a trace')
         broken, = breaks([it], self.finder)
