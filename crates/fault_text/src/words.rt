@@ -6,6 +6,9 @@ use radio_faults::Fault;
 use std::alloc::{AllocError, Global};
 
 /// Returns the words of a line.
+///
+/// # Errors
+/// `AllocError` if an allocation fails.
 pub fn words_of(alloc: Global, line: &[u8]) -> Result<Vec<&[u8]>, AllocError>
     ensures words { IfOk result (λ words. map (λ word. word.now) words.items ≡ words_of line.now) }
 {

@@ -35,6 +35,7 @@ const JOIN_IS_LOST: Fault = Fault::Lost {
     number: 0,
     to: 1,
 };
+
 const ANSWER_IS_LOST: Fault = Fault::LostToAll {
     sender: 1,
     number: 0,
@@ -86,7 +87,12 @@ fn write_log(text: &mut String, report: &Report) -> Result<(), AllocError> {
 }
 
 /// Writes down what is printed and sent in the run with these faults.
-fn write_run(alloc: Global, net: &Net, faults: &[Fault], text: &mut String) -> Result<(), AllocError> {
+fn write_run(
+    alloc: Global,
+    net: &Net,
+    faults: &[Fault],
+    text: &mut String,
+) -> Result<(), AllocError> {
     let report = run_with_faults(alloc, net, faults)?;
     write_prints(text, &report, 0)?;
     write_prints(text, &report, 1)?;
