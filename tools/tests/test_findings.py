@@ -18,7 +18,7 @@ OF_OTHERS = {
     'motesim', 'scenario fault', 'program fault line', 'motesim program fault line', 'broken', 'if',
     'link to is broken mote is silent', 'covered all sets of at most of faults', 'and', 'never', 'no mote', 'else block',
     'true false', 'script id saved', 'event semaphore process', 'export', 'export const function async function class',
-    'plan', 'at line column end of document', 'static unsigned u int t u int bool char let const'}
+    'plan', 'at line column end of document', 'var', 'static unsigned u int t u int bool char let const'}
 
 
 def sentences_in(row: str) -> list[str]:
