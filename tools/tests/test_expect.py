@@ -285,6 +285,22 @@ class Fields(unittest.TestCase):
         with self.assertRaises(SentenceFault):
             read_sentence('mote 0 prints p with seq 7', Names(('p',), 4))
 
+    def test_reasons_have_fields_and_no_lists_of_numbers(self) -> None:
+        part, = parts_of("""fields = { origin = "value / 4", seq = "value % 4" }\nexpect = [
+            "mote 1 sends with seq 3 by 90", "mote 1 finally prints flood with origin 1, seq 2",
+            "mote 1 prints just flood with seq 1", "mote 2 prints flood once for each value that mote 0 sends",
+            "motes 1 and 2 finally print the same flood"]""", 'a')
+        with deciding_by(REPORT):
+            verdicts = judged(SCENARIO, part, lambda scenario: Answer(0, REPORT.encode(), b''))
+        self.assertEqual([it.more[0].partition(', but there')[0] for it in verdicts], [
+            'not for mote 1: at least 1 line "send value seq 3" from 0 to 90',
+            'not for mote 1: the last line "print process flood" has the value origin 1, seq 2',
+            'not for mote 1: the lines "print process flood" have in order of time exactly the values seq 1',
+            'not for mote 0: each value of the lines "send" is the value of exactly 1 line "print process flood" of mote 2; '
+            'missing: 2 (origin 0, seq 2); the first line whose value is missing is',
+            'not for mote 2: the last line "print process flood" has the value of the last line "print process flood" of mote '
+            '1; missing: 2 (origin 0, seq 2); superfluous: 1 (origin 0, seq 1); the last such line is'])
+
     def test_a_file_declares_the_format_of_packets(self) -> None:
         text = 'fields = { seq = "value % 16" }\nexpect = ["mote 0 sends with seq 1"]\n'
         part = parts_of(text + "[[change]]\nreplace = { a = 'b' }\nexpect = ['mote 0 sends with seq 2']\n", 'a')

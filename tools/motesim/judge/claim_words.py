@@ -114,6 +114,7 @@ class Test(NamedTuple):
     counted  what it counts, or the lines whose values it wants
     limits   of a number
     values   the wanted values of the lines, one after another
+    shown    the text in which fields of values have their names, if it differs
     is_high  whether the second of the things that are compared is that of the sentence
     """
     kind: str
@@ -124,10 +125,11 @@ class Test(NamedTuple):
     limits: Limits = (0, None)
     values: tuple[Set[int], ...] = ()
     is_high: bool = False
+    shown: str = ''
 
     def text(self, own: int | None, is_named: bool = False) -> str:
         """`own` is the mote of the case, which isn't named again."""
-        return self.form % tuple(deed.text(own, is_named) for deed in self.deeds)
+        return (is_named and self.shown or self.form) % tuple(deed.text(own, is_named) for deed in self.deeds)
 
     @property
     def own(self) -> Counted:
@@ -220,10 +222,12 @@ def each_value(deed: Deed, limits: Limits, lines: Deed) -> Test:
     return Test('each', form, (deed, lines), deed.mote, (lines_of(deed), lines_of(lines)), is_high=True)
 
 
-def with_values(kind: str, deed: Deed, values: Sequence[Set[int]]) -> Test:
-    """The lines have these values in their order, or in any order; or the last line has the value."""
+def with_values(kind: str, deed: Deed, values: Sequence[Set[int]], words: str = '') -> Test:
+    """The lines have these values in their order, or in any order; or the last line has the value. `words` are the value
+    by its fields."""
     text_of = set_text if kind == 'last' else item_text
     form = {'values': 'the lines %%s have in order of time exactly the values %s',
             'set': 'the lines %%s have in any order exactly the values %s',
-            'last': 'the last line %%s has the value %s'}[kind] % ', '.join(map(text_of, values))
-    return Test(kind, form, (deed,), deed.mote, (lines_of(deed),), values=tuple(values))
+            'last': 'the last line %%s has the value %s'}[kind]
+    text, shown = form % ', '.join(map(text_of, values)), form % words if words else ''
+    return Test(kind, text, (deed,), deed.mote, (lines_of(deed),), values=tuple(values), shown=shown)

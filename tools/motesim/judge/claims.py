@@ -137,8 +137,8 @@ class Claims:
             return str(its.events[wanted]) if wanted in its.events else None
         return wanted if wanted.isdecimal() and str(int(wanted)) == wanted and int(wanted) <= MOST else None
 
-    def pattern(self, mote: int, words: Pattern, is_named: bool) -> str | None:
-        """The pattern of a mote's lines; None if no line of the mote can fit."""
+    def pattern(self, mote: int, words: Pattern, is_named: bool, is_shown: bool) -> str | None:
+        """The pattern of a mote's lines; None if no line of the mote can fit. If it `is_shown`, fields have their names."""
         kind, fields = str(words[0]), FIELDS[str(words[0])].split()
         for value in words:
             if isinstance(value, Value):
@@ -149,21 +149,22 @@ class Claims:
         parts: dict[str, str] = {}
         for field, wanted in zip(fields, words[1:]):
             if wanted is not None:
-                part = self.field(mote, field, wanted, is_named)
+                shown = wanted.words if is_shown and isinstance(wanted, Value) else ''
+                part = shown or self.field(mote, field, wanted, is_named)
                 if part is None:
                     return None
                 parts[PART_OF.get(field, field)] = part
         return ' '.join([kind, *('%s %s' % (name, parts[name]) for name in PARTS if name in parts)])
 
-    def patterns(self, mote: int, patterns: Sequence[Pattern], is_named: bool) -> tuple[str, ...]:
-        return tuple(it for it in [self.pattern(mote, words, is_named) for words in patterns] if it)
+    def patterns(self, mote: int, patterns: Sequence[Pattern], is_named: bool, is_shown: bool = False) -> tuple[str, ...]:
+        return tuple(it for it in [self.pattern(mote, words, is_named, is_shown) for words in patterns] if it)
 
     def deed(self, patterns: Sequence[Pattern], motes: Sequence[int], spans: Sequence[Span]) -> Deed:
         """The lines of motes, each in its span."""
         early = [self.before_failure(patterns, mote, span) for mote, span in zip(motes, spans)]
         its = [self.patterns(mote, patterns, self.is_named)[:0 if is_empty(span) else None]
                for mote, span in zip(motes, early)]
-        named = next((self.patterns(mote, patterns, True) for mote, own in zip(motes, its) if own), ())
+        named = next((self.patterns(mote, patterns, True, True) for mote, own in zip(motes, its) if own), ())
         # (without a pattern, the moments don't matter)
         spans = [part if own else span for part, span, own in zip(early, spans, its)]
         found = {it for it in its if it} or {()}
@@ -230,7 +231,8 @@ class Claims:
         if own.way == 'any':
             return limited(of_count(it.count), lines_of(deed))
         values = [self.links.values(own.value, motes[0])] if own.value else [{value} for value in own.values]
-        return with_values({'finally': 'last', 'set': 'set'}.get(own.way, 'values'), deed, values)
+        words = own.value.words if own.value else ''
+        return with_values({'finally': 'last', 'set': 'set'}.get(own.way, 'values'), deed, values, words)
 
     def answered(self, it: Relation, lines: Deed, event: Action, motes: Sequence[int], span: Span) -> list[Test]:
         """Each of the events has a line soon after it, except those near the end; and one of the events has."""

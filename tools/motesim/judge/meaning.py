@@ -3,7 +3,7 @@ from __future__ import annotations
 
 import operator
 from collections.abc import Iterable, Iterator
-from dataclasses import dataclass, fields, is_dataclass
+from dataclasses import dataclass, field, fields, is_dataclass
 
 COMPARES = {
     'at least': operator.ge, 'at most': operator.le, 'exactly': operator.eq, 'more than': operator.gt,
@@ -57,11 +57,13 @@ class Value:
            heard (the set of the motes that it hears), linked (the set of those that also hear it), nearer (a mote that
            it hears, one hop nearer to `number`)
     but    motes that aren't counted in a set
+    words  how the sentence says the value, if it names fields
     """
     kind: str
     number: int = 0
     but: frozenset[int] = frozenset()
     values: frozenset[int] = frozenset()
+    words: str = field(default='', compare=False)
 
 
 # The words of a line after its moment, up to the last one that matters. None means any word.
@@ -204,5 +206,5 @@ def parts_of(it: object) -> Iterator[object]:
     """A sentence, or sentences, with all of their parts."""
     yield it
     parts: Iterable[object] = it if isinstance(it, (tuple, list)) else ()
-    for part in [getattr(it, field.name) for field in fields(it)] if is_dataclass(it) else parts:
+    for part in [getattr(it, its.name) for its in fields(it)] if is_dataclass(it) else parts:
         yield from parts_of(part)

@@ -12,6 +12,7 @@ from motesim.judge.claim_words import ALL, Test
 from motesim.judge.finder import Event, Finder, Row
 from motesim.judge.links import Span
 from motesim.judge.meaning import MediumLine, Refused, Sentence
+from motesim.scenario.fields import in_words
 
 # The tests that compare the values of two deeds.
 OF_VALUES = ('same', 'each')
@@ -56,7 +57,9 @@ def reason_of(it: Break, finder: Finder) -> Broken:
     why = it.words
     if numbers and None not in numbers:
         why += ', but there %s %s' % ('is' if numbers == [1] else 'are', ' and '.join(map(str, numbers)))
-    why += it.values
+    why += ''.join('; %s: %s' % (name, ', '.join(value + in_words(finder.scenario.fields, int(value))
+                                                  for value in values.split(', ')))
+                   for name, values in zip(('missing', 'superfluous'), it.of_values) if values)
     row, shows = _shown(it, test, finder)
     if row or it.is_spare or test.deed is None:
         return Broken(why, row, None, kind, shows)

@@ -249,16 +249,18 @@ class _Reader:
 
     def of_fields(self) -> Value:
         """The values of which fields are numbers, such as `origin 5, seq 324`."""
-        allowed = frozenset(range(MOST_WORD + 1))
+        allowed, words = frozenset(range(MOST_WORD + 1)), list[str]()
         while True:
             field = next((it for it in self.names.fields if it.name == self.word()), None)
             if field is None:
                 self.want(self.at, self.a_field, [it.name for it in self.names.fields])
                 raise self.fault()
             self.at += 1
-            allowed &= field.values(self.number('a number', MOST_WORD))
+            number = self.number('a number', MOST_WORD)
+            allowed &= field.values(number)
+            words.append('%s %d' % (field.name, number))
             if self.is_or() or not self.accept(',', 'and'):
-                return Value('any', values=allowed)
+                return Value('any', values=allowed, words=', '.join(words))
 
     def process(self) -> str | None:
         """A process, if one is next."""
