@@ -14,18 +14,29 @@ MARKS = re.compile(r'\(\?(?:P<\w+>|[:=!<]+)|\\(?:u\w{4}|[a-zA-Z])|\[[^]]*\]|%[ds
 IS_SENTENCE = re.compile('[a-z]{2}[:,]? |[ (][a-z]{2}|: *$')
 # The words of reports; and the words of texts of motesim and motecheck, of users, and of files and code.
 OF_REPORTS = set('mote medium left print send recv lost collide drop start leave take post full busy halt'.split())
+# The words of programs.
+OF_PROGRAMS = set('var if while code body thread onpoll onexit print send set yield wait until stop exit'.split())
 OF_OTHERS = {
     'motesim', 'scenario fault', 'program fault line', 'motesim program fault line', 'broken', 'if',
     'link to is broken mote is silent', 'covered all sets of at most of faults', 'and', 'never', 'no mote', 'else block',
     'true false', 'script id saved', 'event semaphore process', 'export', 'export const function async function class',
-    'plan', 'at line column end of document', 'var', 'static unsigned u int t u int bool char let const'}
+    'plan', 'at line column end of document', 'static unsigned u int t u int bool char let const', 'end',
+    'claims fault line column', 'expect faults', 'expect', 'motecheck'}
+# The words of claims, and of motecheck's answers.
+OF_MOTECHECK = {
+    'the lines print process have in order of time exactly the values', 'at least line print process value',
+    'the lines print process have in any order exactly the values', 'at least line send value',
+    'at least line recv sender value', 'exactly lines halt', 'each of motes mote', 'the net', 'to', 'holds broken',
+    'line of mote at', 'for mote', 'from to at', 'line', 'missing superfluous', 'link to is broken', 'mote is silent',
+    'covered nothing all sets of at most of faults before the limit runs'}
 
 
 def sentences_in(row: str) -> list[str]:
     """The words of the sentences of the tools that a row of code looks for."""
     texts = [it[2] or it[4] for it in SOUGHT.finditer(row)]
     words = [re.findall('[a-z]+', MARKS.sub(' ', it)) for it in texts if IS_SENTENCE.search(MARKS.sub('', it))]
-    return [' '.join(it) for it in words if not OF_REPORTS.issuperset(it) and ' '.join(it) not in OF_OTHERS]
+    return [' '.join(it) for it in words
+            if not (OF_REPORTS | OF_PROGRAMS).issuperset(it) and ' '.join(it) not in OF_OTHERS | OF_MOTECHECK]
 
 
 class Findings(unittest.TestCase):

@@ -153,8 +153,9 @@ export function surveyIn(answer) {
     else if (set === 'nothing is broken') isBroken = true;
     else if (set) sets.set(set, {faults: set.split(' and '), claims: [...sets.get(set)?.claims || [], claim]});
   }
-  const [, most, faults, before, runs] = /^covered: all sets of at most (\d+) of (\d+) faults( before .*)?; runs: (\d+)$/m.exec(answer) || [];
-  return {sets: [...sets.values()], isBroken, most: Number(most), faults: Number(faults), runs: Number(runs),
+  const covered = /^covered: (?:nothing|all sets of at most (\d+)(?: of (\d+))? faults)( before the limit)?; runs: (\d+)$/m;
+  const [, most = 0, faults, before, runs] = covered.exec(answer) || [];
+  return {sets: [...sets.values()], isBroken, most: Number(most), faults: Number(faults ?? runs), runs: Number(runs),
     isStopped: Boolean(before)};
 }
 
