@@ -53,7 +53,11 @@ pub fn status_of<E: Write>(answer: Result<bool, CheckError>, errors: &mut E) -> 
 
 /// Writes help to `output` if the arguments ask for it, or the error of the arguments to `errors`, and returns the
 /// exit status. Only tests show the texts.
-pub fn status_of_words<W: Write, E: Write>(error: &clap::Error, output: &mut W, errors: &mut E) -> u8
+pub fn status_of_words<W: Write, E: Write>(
+    error: &clap::Error,
+    output: &mut W,
+    errors: &mut E,
+) -> u8
     ensures status { result ≡ status_of_words (kind_of error.now) }
     ensures fault { result ≢ 0 → Keeps (W.contents output.old) (W.contents output.new) }
     ensures help { result ≡ 0 → Keeps (E.contents errors.old) (E.contents errors.new) }
@@ -259,7 +263,14 @@ where
 {
     let scenario = read_scenario_file(rt, asked.scenario)?;
     let claims = read_file(rt, asked.claims)?;
-    answer(rt, &asked.options, scenario.as_str(), claims.as_str(), output, gate)
+    answer(
+        rt,
+        &asked.options,
+        scenario.as_str(),
+        claims.as_str(),
+        output,
+        gate,
+    )
 }
 
 /// Serves the options of an input, as `run_text` does.

@@ -48,12 +48,7 @@ fn options_in(alloc: Global, text: &str) -> Result<Options, clap::Error>
 }
 
 /// Serves a text of three parts, as `run_input` does.
-fn run_text<W: Write, E: Write>(
-    alloc: Global,
-    text: &str,
-    output: &mut W,
-    errors: &mut E,
-) -> u8
+fn run_text<W: Write, E: Write>(alloc: Global, text: &str, output: &mut W, errors: &mut E) -> u8
     requires is_text { IsText text.now }
     ensures serves { let old = ends (W.contents output.old) (E.contents errors.old)
         in let new = ends (W.contents output.new) (E.contents errors.new)

@@ -1,6 +1,6 @@
 //! The keys that a run offers.
 
-ghost use Rattle.std.specs.Prelude.{◌≡◌, ◌<◌, ◌≤◌, ◌++◌, ◌^◌, ◌&&◌, ◌∷◌, [], if◌then◌else◌,  length, IfOk, OnOk};
+ghost use Rattle.std.specs.Prelude.{◌≡◌, ◌<◌, ◌≤◌, ◌++◌, ◌^◌, ◌&&◌, ◌∷◌, [], if◌then◌else◌, length, IfOk, OnOk};
 ghost use Rattle.std.specs.List.{list_any};
 ghost use Rattle.radio_faults.specs.Faults.{names};
 ghost use Rattle.mote_net.specs.Report.{line_model, report_of};
@@ -25,7 +25,9 @@ fn names_fate(fault: Fault, sent: &Sent, fate: &Fate) -> bool
 fn names_copy_of(fault: Fault, line: &LogLine) -> bool
     ensures value { result ≡ names_copy_of fault (line_model line.now) }
 {
-    line.fates.iter().any(|fate| names_fate(fault, &line.sent, fate))
+    line.fates
+        .iter()
+        .any(|fate| names_fate(fault, &line.sent, fate))
 }
 
 /// Returns `true` if a fault names a copy in a report that isn't lost.

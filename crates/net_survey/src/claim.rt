@@ -6,8 +6,8 @@ ghost use Rattle.net_survey.specs.SurveyText.{break_line, claim_text, is_broken,
 use crate::fault::put_set;
 use claim_text::write_claim;
 use claims::Claim;
-use program_tree::Names;
 use fault_keys::Candidates;
+use program_tree::Names;
 use std::alloc::{AllocError, Global};
 use survey::Broken;
 
@@ -18,11 +18,7 @@ fn is_broken(broken: &[Broken], number: usize) -> bool
     broken.iter().any(|one| usize::from(one.claim) == number)
 }
 
-fn put_verdict(
-    text: &mut String,
-    is_complete: bool,
-    is_broken: bool,
-) -> Result<(), AllocError>
+fn put_verdict(text: &mut String, is_complete: bool, is_broken: bool) -> Result<(), AllocError>
     ensures appended { OnOk result (string_bytes text.new
         ≡ string_bytes text.old ++ verdict_text is_complete is_broken) }
 {

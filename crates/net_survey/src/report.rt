@@ -70,11 +70,7 @@ fn put_claims(
     Ok(())
 }
 
-fn put_faults(
-    alloc: Global,
-    text: &mut String,
-    candidates: &Candidates,
-) -> Result<(), AllocError>
+fn put_faults(alloc: Global, text: &mut String, candidates: &Candidates) -> Result<(), AllocError>
     ensures appended { OnOk result (string_bytes text.new ≡ string_bytes text.old ++ faults_text candidates.now) }
 {
     if candidates.copies.is_empty() {
@@ -163,7 +159,9 @@ pub fn write_survey(
     let mut text = String::new(alloc);
     let complete = is_complete(limits, survey);
     let broken = survey.broken.as_slice();
-    put_claims(alloc, &mut text, names, candidates, complete, broken, claims)?;
+    put_claims(
+        alloc, &mut text, names, candidates, complete, broken, claims,
+    )?;
     put_covered(
         alloc,
         &mut text,
