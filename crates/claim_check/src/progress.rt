@@ -10,8 +10,12 @@ pub struct Told<'a, T> {
 }
 
 impl<'a, T: Eprint> Progress for Told<'a, T> {
-    fn tell(&self, next: &[u64]) {
+    fn tell(&self, next: &[u16]) {
         let size = next.len();
-        let _ = eprintln!(self.rt; "motecheck: sets of {size} faults");
+        let first = match next {
+            [] => 0,
+            [first, ..] => *first,
+        };
+        let _ = eprintln!(self.rt; "motecheck: sets of {size} faults, from fault {first}");
     }
 }

@@ -1,4 +1,5 @@
 mod Crossing
 mod Determined
+pub mod Members
 mod Nth
 mod OneMore
