@@ -1,5 +1,12 @@
 -- The promises of the functions that make parts of the answers.
-use Rattle.std.specs.Prelude.{◌≡◌, ℕ, List, string_bytes}
+use Rattle.std.specs.Prelude.{◌≡◌, ℕ, List, Result, Ok, Err, string_bytes}
+use Rattle.mote_net.specs.Net.{NetModel}
+use Rattle.mote_net.specs.Report.{report_of}
+use Rattle.mote_net.specs.declared.report.Report.{Report}
+use Rattle.radio_faults.specs.declared.fault.Fault.{Fault}
+use Rattle.serial_run.specs.NetRun.{IsReportWith}
+use Rattle.serial_run.specs.declared.error.RunError.{RunError}
+use Rattle.simulation.specs.Simulation.{MayRun, RefusesRun, Way}
 use Rattle.std.specs.List.{list_all}
 use Rattle.mote_net.specs.Report.{ReportModel}
 use Rattle.claims.specs.declared.claim.Claim.{Claim}
@@ -15,3 +22,8 @@ AnswersOne names r c a = IsAnswer names r c (string_bytes a.text) × (a.all_hold
 abbrev pub AnswersAll : (names : List (List ℕ)) → ReportModel → List Claim → Answers → Type 0
 AnswersAll names r cs a =
     AreAnswers names r cs (string_bytes a.text) × (a.all_hold ≡ list_all (λ c. holds_in c r) cs)
+
+-- the result of running a net with these faults in this way
+abbrev pub RunsWith : Way → NetModel → List Fault → Result Report RunError → Type 0
+RunsWith way net faults (Ok report) = MayRun way × IsReportWith faults net (report_of report)
+RunsWith way net faults (Err e) = RefusesRun way e

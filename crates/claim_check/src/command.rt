@@ -1,6 +1,6 @@
 //! The command. It reads a scenario and claims from two files, and writes the answers to standard output; the line of an
 //! error, and the progress of a survey, go to standard error.
-ghost use Rattle.std.specs.Prelude.{◌≡◌, ◌≢◌, ◌≤◌, None, IfErr, IfOk, string_len};
+ghost use Rattle.std.specs.Prelude.{◌≡◌, ◌≢◌, ◌≤◌, None, is_some, IfErr, IfOk, string_bytes, string_len};
 ghost use Rattle.std.specs.Io.KnownBytes.{Keeps};
 ghost use Rattle.clap.specs.Words.{kind_of};
 ghost use Rattle.net_scenario.specs.Limits.{longest_text};
@@ -9,11 +9,11 @@ ghost use Rattle.simulation.specs.Words.{texts_of};
 ghost use Rattle.simulation.specs.Input.{IsText};
 ghost use Rattle.claim_check.specs.FaultLines.{written_line};
 ghost use Rattle.claim_check.specs.Command.{AnswersAsked, ChecksSome, Commands, IsReadError, Responds, Serves, ends};
-ghost use Rattle.claim_check.specs.Command.{faults_of, is_survey, lacks_survey, status_of, status_of_words, way_for};
+ghost use Rattle.claim_check.specs.Command.{are_files_in_conflict, are_in_conflict, faults_of, is_in_conflict, is_survey, status_of, status_of_words, way_for};
 ghost use Rattle.claim_check.specs.declared.error.CheckError.TheVariants as check;
 
 use crate::answers::Answers;
-use crate::checking::{check, check_serial};
+use crate::checking::{check, check_serial, report, report_serial};
 use crate::command_line::{Asked, Options, asked_by};
 use crate::error::CheckError;
 use crate::fault_line::report_fault;
@@ -98,6 +98,31 @@ fn read_scenario_file<T: AllocGlobal + Files>(rt: &T, name: &str) -> Result<Stri
     }
 }
 
+/// Reads the file of the claims; without a file, there are none.
+fn read_claims_file<T: AllocGlobal + Files>(rt: &T, name: Option<&str>) -> Result<String, CheckError>
+    ensures refuses { IfErr result IsReadError }
+{
+    match name {
+        Some(name) => Ok(read_file(rt, name)?),
+        None => Ok(String::new(rt.alloc())),
+    }
+}
+
+/// Returns the text of the faults: those of the options, and those of the file.
+fn read_faults_file<T: AllocGlobal + Files>(rt: &T, asked: &Asked<'_>) -> Result<String, CheckError>
+    ensures refuses { IfErr result IsReadError }
+{
+    let mut text = asked.options.faults.clone()?;
+    let Some(name) = asked.faults else {
+        return Ok(text);
+    };
+    match read_file(rt, name) {
+        Ok(more) => text.push_str(more.as_str())?,
+        Err(error) => return Err(CheckError::FaultsInput(error)),
+    }
+    Ok(text)
+}
+
 /// Returns `true` if a survey is asked for.
 fn is_survey(options: &Options) -> bool
     ensures value { result ≡ is_survey options.now }
@@ -105,21 +130,38 @@ fn is_survey(options: &Options) -> bool
     options.links || options.silent
 }
 
-/// Returns `true` if options of a survey are given, but no survey is asked for.
-fn lacks_survey(options: &Options) -> bool
-    ensures value { result ≡ lacks_survey options.now }
+/// Returns the reason why the options don't go together, if they don't.
+fn conflict_in(options: &Options) -> Option<&'static str>
+    ensures value { is_some result ≡ is_in_conflict options.now }
 {
-    !is_survey(options) && (options.at_most.is_some() || options.runs.is_some())
+    if is_survey(options) {
+        if options.report || !options.faults.is_empty() {
+            return Some("a survey, '--links' or '--silent', has neither '--report' nor '--fault <TEXT>'");
+        }
+    } else if options.at_most.is_some() || options.runs.is_some() {
+        return Some("'--at-most <K>' and '--runs <N>' need '--links' or '--silent'");
+    }
+    None
 }
 
-/// Writes that options of a survey need one, and returns the exit status of an error of the arguments.
-fn refuse_options<E: Write>(errors: &mut E) -> u8
+/// Returns the reason why the files don't go with the options, if they don't.
+fn conflict_of(asked: &Asked<'_>) -> Option<&'static str>
+    ensures value { is_some result ≡ are_files_in_conflict asked.now }
+{
+    if asked.options.report == asked.claims.is_some() {
+        return Some("<CLAIMS> are needed, but not with '--report'");
+    }
+    if is_survey(&asked.options) && asked.faults.is_some() {
+        return Some("a survey, '--links' or '--silent', has no '--faults <FILE>'");
+    }
+    None
+}
+
+/// Writes that the arguments don't go together, and returns the exit status of an error of the arguments.
+fn refuse_options<E: Write>(why: &str, errors: &mut E) -> u8
     ensures status { result ≡ 2 }
 {
-    let _ = writeln!(
-        errors,
-        "error: '--at-most <K>' and '--runs <N>' need '--links' or '--silent'\n\nFor more information, try '--help'."
-    );
+    let _ = writeln!(errors, "error: {why}\n\nFor more information, try '--help'.");
     2
 }
 
@@ -146,13 +188,14 @@ fn answers_asked<T, G>(
     options: &Options,
     scenario: &str,
     claims: &str,
+    faults: &str,
     gate: &G,
 ) -> Result<Answers, CheckError>
 where
     T: AllocGlobal + Eprint + Threads + Wait + RandomSource + Sync,
     G: Gate + Sync,
     requires is_text { IsText scenario.now }
-    ensures answers { AnswersAsked (way_for options.now) options.now scenario.now claims.now result }
+    ensures answers { AnswersAsked (way_for options.now) options.now scenario.now claims.now faults.now result }
 {
     if is_survey(options) {
         let told = Told { rt };
@@ -167,7 +210,7 @@ where
             &told,
         )
     } else {
-        check(rt, rt.alloc(), scenario, claims, options.workers, gate)
+        check(rt, rt.alloc(), scenario, claims, faults, options.workers, gate)
     }
 }
 
@@ -180,15 +223,16 @@ fn answers_serial(
     options: &Options,
     scenario: &str,
     claims: &str,
+    faults: &str,
 ) -> Result<Answers, CheckError>
     requires is_text { IsText scenario.now }
-    ensures answers { AnswersAsked None options.now scenario.now claims.now result }
+    ensures answers { AnswersAsked None options.now scenario.now claims.now faults.now result }
 {
     if is_survey(options) {
         let faults = faults_of(options);
         check_serial_with_faults(alloc, scenario, claims, faults)
     } else {
-        check_serial(alloc, scenario, claims)
+        check_serial(alloc, scenario, claims, faults)
     }
 }
 
@@ -203,6 +247,7 @@ pub fn answer<T, W, G>(
     options: &Options,
     scenario: &str,
     claims: &str,
+    faults: &str,
     output: &mut W,
     gate: &G,
 ) -> Result<bool, CheckError>
@@ -211,10 +256,13 @@ where
     W: Write,
     G: Gate + Sync,
     requires is_text { IsText scenario.now }
-    ensures responds { Responds (way_for options.now) options.now scenario.now claims.now
+    ensures responds { Responds (way_for options.now) options.now scenario.now claims.now faults.now
         (W.contents output.old) (W.contents output.new) result }
 {
-    let answers = answers_asked(rt, options, scenario, claims, gate)?;
+    if options.report {
+        return report(rt, rt.alloc(), scenario, faults, options.workers, output, gate);
+    }
+    let answers = answers_asked(rt, options, scenario, claims, faults, gate)?;
     write_bytes(output, answers.text.as_bytes())?;
     Ok(answers.all_hold)
 }
@@ -229,13 +277,17 @@ pub fn answer_serial<W: Write>(
     options: &Options,
     scenario: &str,
     claims: &str,
+    faults: &str,
     output: &mut W,
 ) -> Result<bool, CheckError>
     requires is_text { IsText scenario.now }
-    ensures responds { Responds None options.now scenario.now claims.now
+    ensures responds { Responds None options.now scenario.now claims.now faults.now
         (W.contents output.old) (W.contents output.new) result }
 {
-    let answers = answers_serial(alloc, options, scenario, claims)?;
+    if options.report {
+        return report_serial(alloc, scenario, faults, output);
+    }
+    let answers = answers_serial(alloc, options, scenario, claims, faults)?;
     write_bytes(output, answers.text.as_bytes())?;
     Ok(answers.all_hold)
 }
@@ -258,8 +310,17 @@ where
     ensures checks_some { ChecksSome asked.now (W.contents output.old) (W.contents output.new) result }
 {
     let scenario = read_scenario_file(rt, asked.scenario)?;
-    let claims = read_file(rt, asked.claims)?;
-    answer(rt, &asked.options, scenario.as_str(), claims.as_str(), output, gate)
+    let claims = read_claims_file(rt, asked.claims)?;
+    let faults = read_faults_file(rt, asked)?;
+    answer(
+        rt,
+        &asked.options,
+        scenario.as_str(),
+        claims.as_str(),
+        faults.as_str(),
+        output,
+        gate,
+    )
 }
 
 /// Serves the options of an input, as `run_text` does.
@@ -274,12 +335,14 @@ pub fn serve_options<W: Write, E: Write>(
     requires is_text { IsText scenario.now }
     ensures serves { let old = ends (W.contents output.old) (E.contents errors.old)
         in let new = ends (W.contents output.new) (E.contents errors.new)
-        in Serves options.now (Responds None options.now scenario.now claims.now old.output new.output) old new result }
+        in Serves (is_in_conflict options.now)
+            (Responds None options.now scenario.now claims.now (string_bytes options.now.faults) old.output new.output) old new result }
 {
-    if lacks_survey(options) {
-        return refuse_options(errors);
+    if let Some(why) = conflict_in(options) {
+        return refuse_options(why, errors);
     }
-    let answer = answer_serial(alloc, options, scenario, claims, output);
+    let faults = options.faults.as_str();
+    let answer = answer_serial(alloc, options, scenario, claims, faults, output);
     status_of(answer, errors)
 }
 
@@ -291,10 +354,13 @@ where
     E: Write,
     ensures serves { let old = ends (W.contents output.old) (E.contents errors.old)
         in let new = ends (W.contents output.new) (E.contents errors.new)
-        in Serves asked.now.options (ChecksSome asked.now old.output new.output) old new result }
+        in Serves (are_in_conflict asked.now) (ChecksSome asked.now old.output new.output) old new result }
 {
-    if lacks_survey(&asked.options) {
-        return refuse_options(errors);
+    if let Some(why) = conflict_in(&asked.options) {
+        return refuse_options(why, errors);
+    }
+    if let Some(why) = conflict_of(asked) {
+        return refuse_options(why, errors);
     }
     let answer = check_asked(rt, asked, output, &NoGate);
     status_of(answer, errors)

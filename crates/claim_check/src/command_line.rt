@@ -1,17 +1,22 @@
 //! The arguments of the command line, as `clap` reads them.
-ghost use Rattle.std.specs.Prelude.{◌≡◌, [], codes, false, option_map, unwrap_or, IfOk, IfErr};
-ghost use Rattle.clap.specs.Words.{app_of, found_of, kind_of, rows_of, rule_of};
+ghost use Rattle.std.specs.Prelude.{◌≡◌, [], codes, false, map, option_map, string_bytes, unwrap_or, IfOk, IfErr};
+ghost use Rattle.std.specs.List.{flat_map};
+ghost use Rattle.clap.specs.Words.{app_of, found_of, kind_of, new_rule, rows_of, rule_of};
 ghost use Rattle.simulation.specs.Words.{texts_of, workers_rule};
 ghost use Rattle.claim_check.specs.Words.{AskedIn, AsksFor, AsksOptions, FaultOf, OptionsIn, at_most_rule, file_rule};
-ghost use Rattle.claim_check.specs.Words.{flag_rule, motecheck_app, options_app, runs_rule};
+ghost use Rattle.claim_check.specs.Words.{fault_rule, faults_rule, flag_rule, line_of, motecheck_app, options_app, runs_rule};
 
 use clap::{Arg, ArgAction, ArgMatches, Command, Error};
 use std::alloc::{AllocError, Global};
 use window_workers::MOST_WORKERS;
 
 /// What is asked for, but the files.
-#[derive(Clone, Copy)]
+#[derive(Drop)]
 pub struct Options {
+    /// The texts of faults, one a line.
+    pub faults: String,
+    /// Whether the report is asked for.
+    pub report: bool,
     /// The number of workers; without a number, one thread runs all motes, or makes all runs of a survey.
     pub workers: Option<u16>,
     /// Whether a survey is asked for, with broken links.
@@ -25,14 +30,28 @@ pub struct Options {
 }
 
 /// What a command line asks for.
-#[derive(Clone, Copy)]
+#[derive(Drop)]
 pub struct Asked<'a> {
     /// The options.
     pub options: Options,
     /// The scenario's file.
     pub scenario: &'a str,
     /// The file of the claims.
-    pub claims: &'a str,
+    pub claims: Option<&'a str>,
+    /// A file of faults.
+    pub faults: Option<&'a str>,
+}
+
+/// Returns the texts of values, each with a line feed behind it.
+fn lines_of(alloc: Global, values: &[&str]) -> Result<String, AllocError>
+    ensures value { IfOk result (λ text. string_bytes text ≡ flat_map line_of (map (λ value. value.now) values.now)) }
+{
+    let mut text = String::new(alloc);
+    for value in values {
+        text.push_str(value)?;
+        text.push_str("\n")?;
+    }
+    Ok(text)
 }
 
 /// Returns the text of a value. `clap` has found one for each argument that is required.
@@ -46,30 +65,70 @@ fn text_of<'a>(found: Option<&'a str>) -> &'a str
 }
 
 /// Reads the options from the values of the arguments.
-fn options_of(matches: &ArgMatches<'_>) -> Options
-    ensures options_in { OptionsIn (rows_of (found_of matches.now)) result }
+///
+/// # Errors
+/// If an allocation failed.
+fn options_of(alloc: Global, matches: &ArgMatches<'_>) -> Result<Options, AllocError>
+    ensures options_in { IfOk result (OptionsIn (rows_of (found_of matches.now))) }
 {
+    let faults = lines_of(alloc, matches.get_strs("fault").unwrap_or(&[]))?;
     let workers = matches.get_one::<u16>("workers");
-    Options {
+    Ok(Options {
+        faults,
+        report: matches.get_flag("report"),
         workers,
         links: matches.get_flag("links"),
         silent: matches.get_flag("silent"),
         at_most: matches.get_one::<u8>("at-most"),
         runs: matches.get_one::<u64>("runs"),
-    }
+    })
 }
 
 /// Reads what is asked for from the values of the arguments.
-fn asked_of<'a>(matches: &ArgMatches<'a>) -> Asked<'a>
-    ensures asked_in { AskedIn (rows_of (found_of matches.now)) result }
+///
+/// # Errors
+/// If an allocation failed.
+fn asked_of<'a>(alloc: Global, matches: &ArgMatches<'a>) -> Result<Asked<'a>, AllocError>
+    ensures asked_in { IfOk result (AskedIn (rows_of (found_of matches.now))) }
 {
-    let scenario = text_of(matches.get_str("SCENARIO"));
-    let claims = text_of(matches.get_str("CLAIMS"));
-    Asked {
-        options: options_of(matches),
-        scenario,
-        claims,
-    }
+    let options = options_of(alloc, matches)?;
+    Ok(Asked {
+        options,
+        scenario: text_of(matches.get_str("SCENARIO")),
+        claims: matches.get_str("CLAIMS"),
+        faults: matches.get_str("faults"),
+    })
+}
+
+fn fault_arg<'a>(alloc: Global) -> Arg<'a>
+    ensures rule { rule_of result ≡ fault_rule }
+    ensures not_global { result.global ≡ false }
+{
+    Arg::new(alloc, "fault")
+        .long("fault")
+        .value_name("TEXT")
+        .action(ArgAction::Append)
+        .help("A fault of the run, such as 'packet 3 of mote 2 is lost'; may be given several times")
+}
+
+fn faults_arg<'a>(alloc: Global) -> Arg<'a>
+    ensures rule { rule_of result ≡ faults_rule }
+    ensures not_global { result.global ≡ false }
+{
+    Arg::new(alloc, "faults")
+        .long("faults")
+        .value_name("FILE")
+        .help("A file of faults of the run, one in each line")
+}
+
+fn report_arg<'a>(alloc: Global) -> Arg<'a>
+    ensures rule { rule_of result ≡ flag_rule (codes "report") }
+    ensures not_global { result.global ≡ false }
+{
+    Arg::new(alloc, "report")
+        .long("report")
+        .action(ArgAction::SetTrue)
+        .help("Writes the report of the run; CLAIMS are left out")
 }
 
 fn workers_arg<'a>(alloc: Global) -> Arg<'a>
@@ -140,11 +199,10 @@ fn scenario_arg<'a>(alloc: Global) -> Arg<'a>
 }
 
 fn claims_arg<'a>(alloc: Global) -> Arg<'a>
-    ensures rule { rule_of result ≡ file_rule (codes "CLAIMS") }
+    ensures rule { rule_of result ≡ new_rule (codes "CLAIMS") }
     ensures not_global { result.global ≡ false }
 {
     Arg::new(alloc, "CLAIMS")
-        .required(true)
         .help("The claims, one in each line")
 }
 
@@ -160,6 +218,8 @@ fn options_command<'a>(alloc: Global) -> Result<Command<'a>, AllocError>
              which begins with `holds` or `broken`. With --links or --silent it surveys sets of faults. The status is 0 \
              if all claims hold, with all of these sets, 1 if not, and 2 if there is no result",
         )
+        .arg(fault_arg(alloc))?
+        .arg(report_arg(alloc))?
         .arg(workers_arg(alloc))?
         .arg(links_arg(alloc))?
         .arg(silent_arg(alloc))?
@@ -172,6 +232,7 @@ fn command<'a>(alloc: Global) -> Result<Command<'a>, AllocError>
     ensures is_motecheck { IfOk result (λ c. app_of c ≡ motecheck_app) }
 {
     options_command(alloc)?
+        .arg(faults_arg(alloc))?
         .arg(scenario_arg(alloc))?
         .arg(claims_arg(alloc))
 }
@@ -186,7 +247,7 @@ pub fn asked_by<'a>(alloc: Global, words: &'a [&'a str]) -> Result<Asked<'a>, Er
     ensures refuses { IfErr result (λ e. FaultOf motecheck_app (texts_of words.entry.now) (kind_of e)) }
 {
     let matches = command(alloc)?.try_get_matches_from(words)?;
-    Ok(asked_of(&matches))
+    Ok(asked_of(alloc, &matches)?)
 }
 
 /// Reads the options of a command line that names no files; the first argument is the program's name.
@@ -198,5 +259,5 @@ pub fn options_by<'a>(alloc: Global, words: &'a [&'a str]) -> Result<Options, Er
     ensures refuses { IfErr result (λ e. FaultOf options_app (texts_of words.entry.now) (kind_of e)) }
 {
     let matches = options_command(alloc)?.try_get_matches_from(words)?;
-    Ok(options_of(&matches))
+    Ok(options_of(alloc, &matches)?)
 }
