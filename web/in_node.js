@@ -4,19 +4,21 @@ const fs = require('fs');
 const {parseArgs} = require('util');
 const {StackLimit, runModule} = require(__dirname + '/run_module.js');
 
-const FAILED = 1, MISUSED = 2, ENDED_BY_PIPE = 141;
+const MISUSED = 2, ENDED_BY_PIPE = 141;
+// The status of each program if it has no result.
+const FAILED = {motesim: 1, motecheck: 2};
 // (a module refuses an input that is longer)
 const LONGEST = 1 << 20;
 const ZERO = Uint8Array.of(0);
-const OPTIONS = {
-  links: {type: 'boolean'}, silent: {type: 'boolean'}, 'at-most': {type: 'string'}, runs: {type: 'string'},
-};
-const MOST_FAULTS = 255n, MOST_RUNS = (1n << 64n) - 1n;
+// The options of motecheck that have a value.
+const VALUED = {'at-most': {type: 'string'}, runs: {type: 'string'}, workers: {type: 'string'}};
+
 const MORE = '\n\nFor more information, try \'--help\'.';
+const HELP = ['--help', '-h', '--version', '-V'];
 
 // Ends a program before its module runs, with a status and a line.
 class Refusal extends Error {
-  constructor(line, status = FAILED) {
+  constructor(line, status) {
     super(line);
     this.status = status;
   }
@@ -34,9 +36,11 @@ const INPUTS = {
     return inputOf('motesim', read, given[0]);
   },
   motecheck(words, read) {
-    const {values, files} = wordsOf(words), options = Buffer.from(optionsOf(values));
-    const scenario = inputOf('motecheck', read, files[0]), claims = inputOf('motecheck', read, files[1], ' of the claims');
-    return Buffer.concat([options, ZERO, claims, ZERO, scenario]);
+    const {options, files} = wordsOf(words), asksHelp = options.some(it => HELP.includes(it));
+    if (!asksHelp && files.length !== 2) throw misused('motecheck takes <SCENARIO> and <CLAIMS>' + MORE);
+    const [scenario, claims] = asksHelp ? [ZERO.subarray(1), ZERO.subarray(1)]
+      : [inputOf('motecheck', read, files[0]), inputOf('motecheck', read, files[1], ' of the claims')];
+    return Buffer.concat([Buffer.from(['motecheck', ...options].join('\n')), ZERO, claims, ZERO, scenario]);
   },
 };
 
@@ -45,37 +49,18 @@ function inputOf(name, read, file, of = '') {
   try {
     return read(file);
   } catch {
-    throw new Refusal(name + ': read fault' + of);
+    throw new Refusal(name + ': read fault' + of, FAILED[name]);
   }
 }
 
-// The values of motecheck's options, and the names of its two files.
+// The words of motecheck that are options, each with its value, and the names of its files.
 function wordsOf(words) {
-  try {
-    const {values, positionals} = parseArgs({args: words, options: OPTIONS, allowPositionals: true});
-    if (positionals.length === 2) return {values, files: positionals};
-  } catch {
-  }
-  throw misused('motecheck.wasm takes a scenario, claims and the options of a survey: a compiled motecheck has others too');
-}
-
-// The number of an option.
-function numberOf(text, option, most) {
-  const number = /^\d+$/.test(text) ? BigInt(text) : most + 1n;
-  if (number > most) throw misused(`invalid value '${text}' for '${option}'` + MORE);
-  return number;
-}
-
-// The options of a survey as the module reads them, or nothing.
-function optionsOf(values) {
-  const atMost = numberOf(values['at-most'] ?? '1', '--at-most <K>', MOST_FAULTS);
-  const runs = numberOf(values.runs ?? `${MOST_RUNS}`, '--runs <N>', MOST_RUNS);
-  const kinds = ['links', 'silent'].filter(it => values[it]).map(it => `--${it} `).join('');
-  if (kinds) return `${kinds}--at-most ${atMost} --runs ${runs}`;
-  if (values['at-most'] !== undefined || values.runs !== undefined) {
-    throw misused('\'--at-most <K>\' and \'--runs <N>\' need \'--links\' or \'--silent\'' + MORE);
-  }
-  return '';
+  const {tokens} = parseArgs({args: words, options: VALUED, allowPositionals: true, strict: false, tokens: true});
+  const optionOf = it => it.value === undefined ? it.rawName : `${it.rawName}=${it.value}`;
+  return {
+    options: tokens.filter(it => it.kind === 'option').map(optionOf),
+    files: tokens.filter(it => it.kind === 'positional').map(it => it.value),
+  };
 }
 
 // The modules that were compiled.
@@ -96,9 +81,9 @@ function runProgram(name, words, read, write) {
     return runModule(moduleOf(name), INPUTS[name](words, read), write).status;
   } catch (fault) {
     if (fault instanceof Refusal) return end(fault.status, fault.message);
-    if (fault instanceof StackLimit) return end(FAILED, `${name}: stack limit: ${fault.message}`);
+    if (fault instanceof StackLimit) return end(FAILED[name], `${name}: stack limit: ${fault.message}`);
     if (fault.syscall === 'write') throw fault;
-    return end(FAILED, `${name}: node can't run the module: ${fault}`);
+    return end(FAILED[name], `${name}: node can't run the module: ${fault}`);
   }
 }
 
@@ -131,7 +116,7 @@ function main(name) {
   } catch (fault) {
     if (fault.code === 'EPIPE') process.exit(ENDED_BY_PIPE);
     fs.writeSync(2, `${name}: write fault\n`);
-    process.exit(FAILED);
+    process.exit(FAILED[name]);
   }
 }
 

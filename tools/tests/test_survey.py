@@ -1,8 +1,9 @@
 """Surveys of four small nets by motecheck. A brute force finds the same sets: it runs motesim with each set of at most
 two faults, as losses in the text of the scenario."""
+import re
 import subprocess
 import unittest
-from collections.abc import Iterator, Sequence
+from collections.abc import Sequence
 from itertools import chain, combinations
 
 from here import scenario_of, text_of
@@ -38,8 +39,14 @@ class FourNets(unittest.TestCase):
             claims = ['mote %d: at least 1 line "print value 7"' % mote for mote in range(len(places))]
             for shared in [], workers(3):
                 with self.subTest(net=name, workers=shared):
-                    found = answers(self, text, claims, '--links', '--silent', '--at-most', '2', *shared)
-                    self.assertEqual(found, lines_of_survey(text, claims))
+                    *found, covered = answers(self, text, claims, '--links', '--silent', '--at-most', '2', *shared)
+                    wanted, most, number = survey_of(text, claims)
+                    self.assertEqual(listed_in(found), wanted)
+                    said = re.fullmatch(r'covered: all sets of at most 2 of (\d+) faults; runs: (\d+)', covered)
+                    assert said
+                    self.assertEqual(int(said[1]), number)
+                    # (a set needs no run if one of its faults loses nothing in the run without it)
+                    self.assertLessEqual(int(said[2]), most)
 
 
 class Options(unittest.TestCase):
@@ -68,8 +75,22 @@ def who_prints(text: str, lost: set[Link]) -> set[int]:
     return {line.mote for line in Report.parse(done.stdout).lines('print')}
 
 
-def lines_of_survey(text: str, claims: Sequence[str]) -> list[str]:
-    """The text of a survey, from a run with each set of at most two faults."""
+def listed_in(lines: Sequence[str]) -> list[tuple[str, set[frozenset[str]]]]:
+    """The verdicts on claims, each with the sets that break it; the sets are in the order of their sizes."""
+    found: list[tuple[str, list[frozenset[str]]]] = []
+    for line in lines:
+        if line.startswith('  if '):
+            faults = line[5:].split(' and ')
+            found[-1][1].append(frozenset(() if faults == ['nothing is broken'] else faults))
+        else:
+            found.append((line, []))
+    assert all(list(map(len, sets)) == sorted(map(len, sets)) and len(set(sets)) == len(sets) for _, sets in found)
+    return [(line, set(sets)) for line, sets in found]
+
+
+def survey_of(text: str, claims: Sequence[str]) -> tuple[list[tuple[str, set[frozenset[str]]]], int, int]:
+    """What a survey lists, from a run with each set of at most two faults; how many of these may teach something; and
+    the number of faults."""
     faults = candidates_of(text)
     listed: list[list[tuple[str, ...]]] = [[] for _ in claims]
     runs = 0
@@ -80,10 +101,5 @@ def lines_of_survey(text: str, claims: Sequence[str]) -> list[str]:
         for mote, of_claim in enumerate(listed):
             if new[mote] and mote not in printing:
                 of_claim.append(chosen)
-    return [*chain(*map(lines_of_claim, claims, listed)),
-            'covered: all sets of at most 2 of %d faults; runs: %d' % (len(faults), runs)]
-
-
-def lines_of_claim(claim: str, listed: Sequence[Sequence[str]]) -> Iterator[str]:
-    yield '%s: %s' % ('broken' if listed else 'holds', claim)
-    yield from ('  if ' + (' and '.join(it) or 'nothing is broken') for it in listed)
+    return [('%s: %s' % ('broken' if sets else 'holds', claim), set(map(frozenset, sets)))
+            for claim, sets in zip(claims, listed)], runs, len(faults)

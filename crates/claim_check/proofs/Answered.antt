@@ -1,5 +1,5 @@
 -- Results of a check.
-use Rattle.std.proofs.Common.{◌≡◌, ℕ, List, [], ◌∷◌, ◌++◌, Bool, ◌&&◌, map, refl, sym, subst, ap, ap₂, ◌∙◌, append_assoc, append-nil, Ok, string_bytes}
+use Rattle.std.proofs.Common.{◌≡◌, ℕ, List, [], ◌∷◌, ◌++◌, Bool, ◌&&◌, map, refl, sym, subst, ap, ap₂, ◌∙◌, append_assoc, append-nil}
 use Rattle.std.proofs.Math.Bool.{and-true}
 use Rattle.std.proofs.lemmas.List.Folds.{list_all-append}
 use Rattle.std.specs.List.{list_all}
@@ -15,10 +15,7 @@ use Rattle.net_scenario.specs.Reading.{TellsNet}
 use Rattle.simulation.specs.Input.{IsText}
 use Rattle.simulation.proofs.Printed.{scenario_of}
 use Rattle.claim_check.specs.Check.{Answered, AreAnswers, IsAnswer, RefusesClaims}
-use Rattle.claim_check.specs.Command.{AnswersAsked, SomeAnswered}
 use Rattle.claim_check.specs.Names.{AreNames}
-use Rattle.claim_check.specs.declared.answers.Answers.{Answers}
-use Rattle.claim_check.specs.declared.command_line.Asked.{Asked}
 
 pub answered : (s c text : List ℕ) (all_hold : Bool) (net : NetModel) (r : ReportModel) (names : List (List ℕ)) (cs : List Claim) → IsText s → TellsNet s net → AreNames net names
     → map (text_of names) cs ≡ claim_lines c → IsReportOf net r → AreAnswers names r cs text → all_hold ≡ list_all (λ k. holds_in k r) cs → Answered s c text all_hold
@@ -43,9 +40,3 @@ pub verdict_more : (r : ReportModel) (cs : List Claim) (c : Claim) (before one :
     → (before && one) ≡ list_all (λ k. holds_in k r) (cs ++ c ∷ [])
 verdict_more r cs c before one is_before is_one =
     ap₂ (λ a b. a && b) is_before is_one ∙ (ap (λ b. list_all (λ k. holds_in k r) cs && b) (sym (and-true (holds_in c r))) ∙ sym (list_all-append (λ k. holds_in k r) cs (c ∷ [])))
-
--- some scenario and claims are answered, and their answers are written as far as `written` says
-pub some_answered : (asked : Asked) (written : List ℕ → Type 0) (s c bytes : List ℕ) (a : Answers) → AnswersAsked asked s c (Ok a)
-    → bytes ≡ string_bytes a.text → written bytes → SomeAnswered asked written a.all_hold
-some_answered asked written s c bytes a answered same got =
-    record { scenario = s; claims = c; answers = a; answered = answered; verdict = refl; got = subst written same got }

@@ -1,97 +1,138 @@
--- The effect of the command with its arguments, and the exit status that it returns. The contents of files aren't
--- known, so an answer is one to some claims about some scenario.
+-- The effect of the command with its arguments, and the exit status that it returns.
 use Rattle.std.specs.Prelude.{◌≡◌, ◌≢◌, ◌⊎◌, ◌&&◌, ◌||◌, ℕ, List, Bool, true, false, not, Option, Result, Ok, Err, is_some}
-use Rattle.std.specs.Prelude.{string_bytes, unwrap_or}
+use Rattle.std.specs.Prelude.{string_bytes, unwrap_or, IfErr, IfOk}
 use Rattle.std.specs.Bool.{MatchBool}
 use Rattle.std.specs.Io.KnownBytes.{Appends, Keeps}
 use Rattle.clap.specs.declared.error.kind.ErrorKind.{ErrorKind}
+use Rattle.clap.specs.declared.error.kind.ErrorKind.TheVariants as kind
 use Rattle.trace_printer.specs.Output.{AppendsFront}
 use Rattle.window_workers.specs.declared.sync.SyncKind.TheVariants as sync
-use Rattle.simulation.specs.Command.{status_of_words}
+use Rattle.simulation.specs.FaultLines.{AppendsPrefix}
+use Rattle.simulation.specs.declared.error.SimError.TheVariants as fault
 use Rattle.net_survey.specs.declared.candidates.Kinds.{Kinds}
-use Rattle.simulation.specs.Simulation.{way_by}
+use Rattle.simulation.specs.Simulation.{Way, way_by}
 use Rattle.claim_check.specs.Check.{Checks}
+use Rattle.claim_check.specs.FaultLines.{written_line}
 use Rattle.claim_check.specs.Survey.{Surveys}
 use Rattle.claim_check.specs.declared.answers.Answers.{Answers}
 use Rattle.claim_check.specs.declared.surveying.Faults.{Faults}
-use Rattle.claim_check.specs.Words.{AsksFor, FaultOf}
+use Rattle.claim_check.specs.Words.{AsksFor, FaultOf, motecheck_app}
 use Rattle.claim_check.specs.declared.command_line.Asked.{Asked}
+use Rattle.claim_check.specs.declared.command_line.Options.{Options}
 use Rattle.claim_check.specs.declared.error.CheckError.{CheckError}
 use Rattle.claim_check.specs.declared.error.CheckError.TheVariants as check
 
 -- a survey is asked for
-abbrev pub is_survey : Asked → Bool
-is_survey asked = asked.links || asked.silent
+abbrev pub is_survey : Options → Bool
+is_survey options = options.links || options.silent
 
 -- options of a survey are given, but no survey is asked for
-abbrev pub lacks_survey : Asked → Bool
-lacks_survey asked = not (is_survey asked) && (is_some asked.at_most || is_some asked.runs)
+abbrev pub lacks_survey : Options → Bool
+lacks_survey options = not (is_survey options) && (is_some options.at_most || is_some options.runs)
 
-abbrev pub kinds_of : Asked → Kinds
-kinds_of asked = record { links = asked.links; silent = asked.silent }
+abbrev pub kinds_of : Options → Kinds
+kinds_of options = record { links = options.links; silent = options.silent }
 
 -- the sets of faults that are asked for: of at most one fault, if nothing else is said, and without a limit of runs
-abbrev pub faults_of : Asked → Faults
-faults_of asked = record {
-  kinds = kinds_of asked;
-  at_most = unwrap_or asked.at_most 1;
-  runs = unwrap_or asked.runs 18446744073709551615;
+abbrev pub faults_of : Options → Faults
+faults_of options = record {
+  kinds = kinds_of options;
+  at_most = unwrap_or options.at_most 1;
+  runs = unwrap_or options.runs 18446744073709551615;
 }
 
--- the result of what the arguments ask for: a survey, or a check of one run
-abbrev pub AnswersAsked : Asked → (scenario claims : List ℕ) → Result Answers CheckError → Type 0
-AnswersAsked asked s c r =
-    MatchBool (is_survey asked) (Surveys (way_by asked.workers sync.Joins) (faults_of asked) s c r)
-    (Checks (way_by asked.workers sync.Joins) s c r)
+-- the result of what the options ask for: a survey, or a check of one run
+abbrev pub AnswersAsked : Way → Options → (scenario claims : List ℕ) → Result Answers CheckError → Type 0
+AnswersAsked way options s c r = MatchBool (is_survey options) (Surveys way (faults_of options) s c r) (Checks way s c r)
 
--- the answers to some claims about some scenario have a text with this property
-pub record SomeAnswered (asked : Asked) (written : List ℕ → Type 0) (all_hold : Bool) : Type 0 where
-  pub scenario : List ℕ
-  pub claims : List ℕ
+-- the answers have a text with this property
+pub record Answer (way : Way) (options : Options) (s c : List ℕ) (written : List ℕ → Type 0) (all_hold : Bool) : Type 0 where
   pub answers : Answers
-  pub answered : AnswersAsked asked scenario claims (Ok answers)
+  pub answered : AnswersAsked way options s c (Ok answers)
   pub verdict : all_hold ≡ answers.all_hold
   pub got : written (string_bytes answers.text)
 
--- all answers are written; or a proper prefix of them before an error of writing; or nothing before any other error
+-- Each result of answering, with its cause: all answers are written; or a proper prefix of them before an error of
+-- writing; or nothing before any other error.
+abbrev pub Responds :
+    Way → Options → (scenario claims : List ℕ) → (old new : Option (List ℕ)) → Result Bool CheckError → Type 0
+Responds way options s c old new (Ok all_hold) = Answer way options s c (Appends old new) all_hold
+Responds way options s c old new (Err check.Write) =
+    (all_hold : Bool) × Answer way options s c (AppendsFront old new) all_hold
+Responds way options s c old new (Err e) = AnswersAsked way options s c (Err e) × Keeps old new
+
+-- the way to run a net with these options
+abbrev pub way_for : Options → Way
+way_for options = way_by options.workers sync.Joins
+
+-- the errors of reading a file: it can't be read, is too long, or isn't a text; or an allocation failed
+abbrev pub IsReadError : CheckError → Type 0
+IsReadError (check.Input e) = Unit {0}
+IsReadError (check.Simulation fault.Read) = Unit {0}
+IsReadError (check.Simulation fault.TooLong) = Unit {0}
+IsReadError (check.Simulation fault.NotText) = Unit {0}
+IsReadError (check.Simulation fault.Memory) = Unit {0}
+IsReadError e = ⊥
+
+-- a file wasn't read, and nothing is written
+abbrev pub LacksFile : (old new : Option (List ℕ)) → Result Bool CheckError → Type 0
+LacksFile old new r = (e : CheckError) × (r ≡ Err e) × IsReadError e × Keeps old new
+
+-- the result for some scenario and some claims, as the contents of files aren't known; or a file wasn't read
 abbrev pub ChecksSome : Asked → (old new : Option (List ℕ)) → Result Bool CheckError → Type 0
-ChecksSome asked old new (Ok all_hold) = SomeAnswered asked (Appends old new) all_hold
-ChecksSome asked old new (Err check.Write) = (all_hold : Bool) × SomeAnswered asked (AppendsFront old new) all_hold
-ChecksSome asked old new (Err e) = Keeps old new
+ChecksSome asked old new r =
+    ((s : List ℕ) × (c : List ℕ) × Responds (way_for asked.options) asked.options s c old new r) ⊎ LacksFile old new r
 
 -- the exit status of a check
 abbrev pub status_of : Result Bool CheckError → ℕ
 status_of (Ok true) = 0
-status_of (Ok false) = 3
-status_of (Err e) = 1
+status_of (Ok false) = 1
+status_of (Err e) = 2
 
--- the arguments ask for a check
-pub record ChecksAsked (asked : Asked) (old new : Option (List ℕ)) (status : ℕ) : Type 0 where
+-- the contents of the output and of the stream of errors, if they are known
+pub record Ends : Type 0 where
+  pub output : Option (List ℕ)
+  pub errors : Option (List ℕ)
+
+abbrev pub ends : (output errors : Option (List ℕ)) → Ends
+ends output errors = record { output = output; errors = errors }
+
+-- A result with this property decides the status. Without an error, nothing is written to `errors`; the line of an
+-- error is written to it, or a part of this line, up to the place at which writing failed.
+pub record Concludes (result : Result Bool CheckError → Type 0) (old new : Option (List ℕ)) (status : ℕ) : Type 0 where
   pub answer : Result Bool CheckError
-  pub of_some : ChecksSome asked old new answer
+  pub is : result answer
   pub status_is : status ≡ status_of answer
+  pub quiet : IfOk answer (λ all_hold. Keeps old new)
+  pub line : IfErr answer (λ e. AppendsPrefix old new (written_line e))
 
--- the arguments are refused if they have options of a survey without one; otherwise they ask for a check
-abbrev pub Serves : Asked → (old new : Option (List ℕ)) → (status : ℕ) → Type 0
-Serves asked old new status =
-    MatchBool (lacks_survey asked) ((status ≡ 2) × Keeps old new) (ChecksAsked asked old new status)
+-- the options are refused if they have options of a survey without one; otherwise they have a result
+abbrev pub Serves : Options → (Result Bool CheckError → Type 0) → (old new : Ends) → (status : ℕ) → Type 0
+Serves options result old new status =
+    MatchBool (lacks_survey options) ((status ≡ 2) × Keeps old.output new.output)
+    (Concludes result old.errors new.errors status)
 
--- the arguments are refused, or ask for help: no error is written to the output
-pub record RefusesWords (k : ErrorKind) (old new : Option (List ℕ)) (status : ℕ) : Type 0 where
+-- the exit status if the arguments are refused, or ask for help
+abbrev pub status_of_words : ErrorKind → ℕ
+status_of_words kind.DisplayHelp = 0
+status_of_words kind.DisplayVersion = 0
+status_of_words k = 2
+
+-- the arguments are refused, or ask for help: no error is written to the output, and no help to `errors`
+pub record RefusesWords (k : ErrorKind) (old new : Ends) (status : ℕ) : Type 0 where
   pub status_is : status ≡ status_of_words k
-  pub fault : status ≢ 0 → Keeps old new
+  pub fault : status ≢ 0 → Keeps old.output new.output
+  pub help : status ≡ 0 → Keeps old.errors new.errors
 
--- the contents of the output before and after the command ran with these arguments, and the exit status that it
+-- the contents of the command's streams before and after it ran with these arguments, and the exit status that it
 -- returned; the first argument is the program's name
-abbrev pub Commands : (words : List (List ℕ)) → (old new : Option (List ℕ)) → (status : ℕ) → Type 0
-Commands words old new status = ((asked : Asked) × AsksFor words asked × Serves asked old new status)
-    ⊎ ((k : ErrorKind) × FaultOf words k × RefusesWords k old new status)
-
--- the command was run with some arguments
-abbrev pub RunsSome : (old new : Option (List ℕ)) → (status : ℕ) → Type 0
-RunsSome old new status = (words : List (List ℕ)) × Commands words old new status
+abbrev pub Commands : (words : List (List ℕ)) → (old new : Ends) → (status : ℕ) → Type 0
+Commands words old new status = ((asked : Asked) × AsksFor words asked
+    × Serves asked.options (ChecksSome asked old.output new.output) old new status)
+    ⊎ ((k : ErrorKind) × FaultOf motecheck_app words k × RefusesWords k old new status)
 
 -- the process returns the status of the command with some arguments; or it couldn't get its arguments, and then it
 -- writes nothing to the output, and returns a status that isn't 0
-abbrev pub ReturnsSome : (old new : Option (List ℕ)) → (status : ℕ) → Type 0
-ReturnsSome old new status = RunsSome old new status ⊎ ((status ≢ 0) × (new ≡ old))
+abbrev pub ReturnsSome : (old new : Ends) → (status : ℕ) → Type 0
+ReturnsSome old new status = ((words : List (List ℕ)) × Commands words old new status)
+    ⊎ ((status ≢ 0) × (new.output ≡ old.output))

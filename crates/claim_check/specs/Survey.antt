@@ -1,15 +1,16 @@
 -- The survey of the faults that the net of a scenario may have.
-use Rattle.std.specs.Prelude.{◌≡◌, ◌≤◌, ◌^◌, ◌==◌, ◌&&◌, ℕ, Bool, List, Result, Ok, Err, is_none, length, map, string_bytes}
+use Rattle.std.specs.Prelude.{◌≡◌, ◌≤◌, ◌^◌, ◌==◌, ◌&&◌, ℕ, Bool, List, Result, Ok, Err, [], length, map, string_bytes}
 use Rattle.mote_net.specs.Net.{NetModel}
 use Rattle.claims.specs.declared.claim.Claim.{Claim}
 use Rattle.claim_text.specs.ClaimText.{text_of}
 use Rattle.claim_text.specs.ClaimLines.{claim_lines}
-use Rattle.net_survey.specs.Candidates.{candidates_of}
+use Rattle.net_survey.specs.Candidates.{fixed_faults}
 use Rattle.radio_faults.specs.declared.fault.Fault.{Fault}
+use Rattle.fault_keys.specs.declared.candidates.Candidates.{Candidates}
 use Rattle.survey.specs.declared.broken.Survey.{Survey}
 use Rattle.survey.specs.declared.search.Limits.{Limits}
 use Rattle.net_survey.specs.NetSurvey.{IsSurveyOf}
-use Rattle.net_survey.specs.SurveyText.{survey_text}
+use Rattle.net_survey.specs.SurveyText.{is_complete, survey_text}
 use Rattle.serial_run.specs.declared.error.RunError.{RunError}
 use Rattle.serial_run.specs.declared.error.RunError.TheVariants as run
 use Rattle.simulation.specs.Simulation.{IsScenario, MayRun, RefusesText, Way}
@@ -26,24 +27,28 @@ abbrev pub limits_of : Faults → Limits
 limits_of f = record { faults = f.at_most; trials = f.runs; at_a_time = 2048 }
 
 -- each set was tried or needed no run, and none breaks a claim
-abbrev pub is_settled : Survey → Bool
-is_settled s = is_none s.stopped_at && (length s.broken.items == 0)
+abbrev pub is_settled : Limits → Survey → Bool
+is_settled limits s = is_complete limits s && (length s.broken.items == 0)
 
 -- the text of this survey
 abbrev pub TellsSurvey :
-    (names : List (List ℕ)) → List Claim → (candidates : List Fault) → Limits → Survey → Answers → Type 0
+    (names : List (List ℕ)) → List Claim → Candidates → Limits → Survey → Answers → Type 0
 TellsSurvey names claims candidates limits s a =
-    (string_bytes a.text ≡ survey_text names claims candidates limits s) × (a.all_hold ≡ is_settled s)
+    (string_bytes a.text ≡ survey_text names claims candidates limits s) × (a.all_hold ≡ is_settled limits s)
 
--- the text of a survey of this net
-abbrev pub AnswersSurvey :
-    (names : List (List ℕ)) → NetModel → List Claim → (candidates : List Fault) → Limits → Answers → Type 0
-AnswersSurvey names net claims candidates limits a =
-    (s : Survey) × IsSurveyOf net claims candidates limits s × TellsSurvey names claims candidates limits s a
+-- the text of a survey of this net, with these faults as candidates
+pub record AnswersSurvey (names : List (List ℕ)) (net : NetModel) (claims : List Claim) (faults : List Fault)
+    (limits : Limits) (a : Answers) : Type 0 where
+  pub candidates : Candidates
+  pub fixed : candidates.fixed.items ≡ faults
+  pub no_copies : candidates.copies.items ≡ []
+  pub found : Survey
+  pub survey : IsSurveyOf net claims candidates limits found
+  pub tells : TellsSurvey names claims candidates limits found a
 
 -- the faults of these kinds in the net of a scenario
 abbrev pub faults_in : Faults → NetModel → List Fault
-faults_in f net = candidates_of f.kinds net.radio
+faults_in f net = fixed_faults f.kinds net.radio
 
 -- the text is that of a survey of the scenario's net, with the claims in some lines
 pub record Surveyed (faults : Faults) (scenario claims : List ℕ) (a : Answers) : Type 0 where

@@ -11,6 +11,7 @@ use Rattle.clap.specs.declared.error.kind.ErrorKind.{ErrorKind}
 use Rattle.clap.specs.declared.error.kind.ErrorKind.TheVariants as kind
 use Rattle.simulation.specs.Words.{ReadsWorkers, workers_rule}
 use Rattle.claim_check.specs.declared.command_line.Asked.{Asked}
+use Rattle.claim_check.specs.declared.command_line.Options.{Options}
 
 -- a file that must be named
 abbrev pub file_rule : (name : Text) → Rule
@@ -32,17 +33,16 @@ at_most_rule = number_rule (codes "at-most") (parser.Signed (pos 0) (pos 255))
 abbrev pub runs_rule : Rule
 runs_rule = number_rule (codes "runs") (parser.Unsigned 0 18446744073709551615)
 
--- the options of a survey: `[--links] [--silent] [--at-most K] [--runs N]`
-abbrev pub with_survey : App → App
-with_survey app = with_rule (with_rule (with_rule (with_rule app (flag_rule (codes "links"))) (flag_rule (codes "silent")))
-    at_most_rule) runs_rule
+-- a command with the options, and with a version: `motecheck [--workers N] [--links] [--silent] [--at-most K] [--runs N]`
+abbrev pub options_app : App
+options_app =
+    with_rule (with_rule (with_rule (with_rule (with_rule
+    (on_top (λ s. record s { has_version = true }) (new_app (codes "motecheck"))) workers_rule)
+    (flag_rule (codes "links"))) (flag_rule (codes "silent"))) at_most_rule) runs_rule
 
--- the command as `clap` reads it, with a version: `motecheck [--workers N] [options of a survey] SCENARIO CLAIMS`
+-- the command as `clap` reads it: the options and the files, `motecheck .. SCENARIO CLAIMS`
 abbrev pub motecheck_app : App
-motecheck_app =
-    with_rule (with_rule (with_survey (with_rule
-    (on_top (λ s. record s { has_version = true }) (new_app (codes "motecheck"))) workers_rule))
-    (file_rule (codes "SCENARIO"))) (file_rule (codes "CLAIMS"))
+motecheck_app = with_rule (with_rule options_app (file_rule (codes "SCENARIO"))) (file_rule (codes "CLAIMS"))
 
 -- the flag was given or not
 abbrev pub ReadsFlag : Option Text → Bool → Type 0
@@ -57,21 +57,30 @@ ReadsNumber bits (Some text) number =
     (λ bytes r. ParsesUnsigned bits 10 bytes r × ExplainsUnsignedError 10 bytes r × HasUnsignedDigitsIfOk bytes r)
     text number
 
+-- these are the options, if `clap` found these values
+pub record OptionsIn (rows : List Row) (options : Options) : Type 0 where
+  pub workers : ReadsWorkers (one_of (codes "workers") rows) options.workers
+  pub links : ReadsFlag (one_of (codes "links") rows) options.links
+  pub silent : ReadsFlag (one_of (codes "silent") rows) options.silent
+  pub at_most : ReadsNumber 8 (one_of (codes "at-most") rows) options.at_most
+  pub runs : ReadsNumber 64 (one_of (codes "runs") rows) options.runs
+
 -- this is the request, if `clap` found these values
 pub record AskedIn (rows : List Row) (asked : Asked) : Type 0 where
+  pub options : OptionsIn rows asked.options
   pub scenario : asked.scenario.now ≡ unwrap_or (first_of (codes "SCENARIO") rows) []
   pub claims : asked.claims.now ≡ unwrap_or (first_of (codes "CLAIMS") rows) []
-  pub workers : ReadsWorkers (one_of (codes "workers") rows) asked.workers
-  pub links : ReadsFlag (one_of (codes "links") rows) asked.links
-  pub silent : ReadsFlag (one_of (codes "silent") rows) asked.silent
-  pub at_most : ReadsNumber 8 (one_of (codes "at-most") rows) asked.at_most
-  pub runs : ReadsNumber 64 (one_of (codes "runs") rows) asked.runs
 
 -- the arguments, of which the first is the program's name, have no error, and ask for this
 pub record AsksFor (words : List Text) (asked : Asked) : Type 0 where
   pub accepted : fault_of motecheck_app words ≡ []
   pub values : AskedIn (matches_of motecheck_app words) asked
 
--- the reason why the arguments are refused, or ask for help; an allocation may fail for any arguments
-abbrev pub FaultOf : (words : List Text) → ErrorKind → Type 0
-FaultOf words k = (k ≡ kind.OutOfMemory) ⊎ IsAmong k (fault_of motecheck_app words)
+-- the arguments, which name no files, have no error, and are these options
+pub record AsksOptions (words : List Text) (options : Options) : Type 0 where
+  pub accepted : fault_of options_app words ≡ []
+  pub values : OptionsIn (matches_of options_app words) options
+
+-- the reason why a command refuses the arguments, or that they ask for help; an allocation may fail for any arguments
+abbrev pub FaultOf : App → (words : List Text) → ErrorKind → Type 0
+FaultOf app words k = (k ≡ kind.OutOfMemory) ⊎ IsAmong k (fault_of app words)

@@ -1,69 +1,73 @@
 //! The command. It reads a scenario and claims from two files, and writes the answers to standard output; the line of an
 //! error, and the progress of a survey, go to standard error.
-ghost use Rattle.std.specs.Prelude.{◌≡◌, ◌≢◌, ◌≤◌, IfOk, OnOk, string_len};
-ghost use Rattle.std.specs.Io.KnownBytes.{Appends, Keeps};
+ghost use Rattle.std.specs.Prelude.{◌≡◌, ◌≢◌, ◌≤◌, None, IfErr, IfOk, string_len};
+ghost use Rattle.std.specs.Io.KnownBytes.{Keeps};
 ghost use Rattle.clap.specs.Words.{kind_of};
 ghost use Rattle.net_scenario.specs.Limits.{longest_text};
-ghost use Rattle.simulation.specs.Command.{status_of_words, streams};
+ghost use Rattle.simulation.specs.FaultLines.{AppendsPrefix};
 ghost use Rattle.simulation.specs.Words.{texts_of};
 ghost use Rattle.simulation.specs.Input.{IsText};
 ghost use Rattle.claim_check.specs.FaultLines.{written_line};
-ghost use Rattle.claim_check.specs.Command.{AnswersAsked, ChecksSome, Commands, faults_of, is_survey, lacks_survey};
-ghost use Rattle.claim_check.specs.Command.{status_of};
+ghost use Rattle.claim_check.specs.Command.{AnswersAsked, ChecksSome, Commands, IsReadError, Responds, Serves, ends};
+ghost use Rattle.claim_check.specs.Command.{faults_of, is_survey, lacks_survey, status_of, status_of_words, way_for};
+ghost use Rattle.claim_check.specs.declared.error.CheckError.TheVariants as check;
 
 use crate::answers::Answers;
-use crate::checking::check;
-use crate::command_line::{Asked, asked_by};
+use crate::checking::{check, check_serial};
+use crate::command_line::{Asked, Options, asked_by};
 use crate::error::CheckError;
+use crate::fault_line::report_fault;
 use crate::output::write_bytes;
 use crate::progress::Told;
-use crate::surveying::{Faults, check_with_faults};
+use crate::surveying::{Faults, check_serial_with_faults, check_with_faults};
 use clap::error::ErrorKind;
 use net_survey::Kinds;
 use simulation::{InputError, SimError, read_text};
+use std::alloc::Global;
 use std::fs;
-use std::io::{self, Eprint, Write};
+use std::io::{Eprint, Write};
 use std::random::RandomSource;
 use std::rt::Files;
 use std::sync::Wait;
 use std::thread::Threads;
 use window_workers::{Gate, NoGate};
 
-/// Writes the line that reports an error: the program's name, and then the error's text.
-fn report_fault<E: Write>(fault: &CheckError, errors: &mut E) -> io::Result<()>
-    ensures appends { OnOk result (Appends (E.contents errors.old) (E.contents errors.new) (written_line fault.now)) }
-{
-    writeln!(errors, "motecheck: {fault}")
-}
-
-/// Returns the exit status of a check: 0 if all claims hold, 3 if not, or 1 after an error. It writes the line that
-/// reports the error to `errors`; the status is the same if this fails. The clause says only the status.
+/// Returns the exit status of a check: 0 if all claims hold, 1 if not, or 2 after an error. After an error, nothing is
+/// written to `errors` but the line that reports the error, or a prefix of this line; the status is the same if writing
+/// fails.
 pub fn status_of<E: Write>(answer: Result<bool, CheckError>, errors: &mut E) -> u8
     ensures status { result ≡ status_of answer }
+    ensures quiet { IfOk answer (λ _. Keeps (E.contents errors.old) (E.contents errors.new)) }
+    ensures line { IfErr answer
+        (λ fault. AppendsPrefix (E.contents errors.old) (E.contents errors.new) (written_line fault)) }
 {
     match answer {
         Ok(true) => 0,
-        Ok(false) => 3,
+        Ok(false) => 1,
         Err(fault) => {
             let _ = report_fault(&fault, errors);
-            1
+            2
         }
     }
 }
 
 /// Writes help to `output` if the arguments ask for it, or the error of the arguments to `errors`, and returns the
-/// exit status. If an allocation failed, the status is that of a check that ran out of memory.
-fn status_of_words<W: Write, E: Write>(error: &clap::Error, output: &mut W, errors: &mut E) -> u8
+/// exit status. Only tests show the texts.
+pub fn status_of_words<W: Write, E: Write>(
+    error: &clap::Error,
+    output: &mut W,
+    errors: &mut E,
+) -> u8
     ensures status { result ≡ status_of_words (kind_of error.now) }
     ensures fault { result ≢ 0 → Keeps (W.contents output.old) (W.contents output.new) }
     ensures help { result ≡ 0 → Keeps (E.contents errors.old) (E.contents errors.new) }
 {
     match error.kind() {
-        ErrorKind::OutOfMemory => status_of(Err(CheckError::Simulation(SimError::Memory)), errors),
         ErrorKind::DisplayHelp | ErrorKind::DisplayVersion => {
             let _ = write!(output, "{error}");
             0
         }
+        ErrorKind::OutOfMemory => status_of(Err(CheckError::Simulation(SimError::Memory)), errors),
         _ => {
             let _ = write!(errors, "{error}");
             2
@@ -87,22 +91,29 @@ fn read_file<T: AllocGlobal + Files>(rt: &T, name: &str) -> Result<String, Input
 /// Reads the scenario's file.
 fn read_scenario_file<T: AllocGlobal + Files>(rt: &T, name: &str) -> Result<String, SimError>
     ensures bounded { IfOk result (λ text. string_len text ≤ longest_text) }
+    ensures refuses { IfErr result (λ e. IsReadError (check.Simulation e)) }
 {
-    Ok(read_file(rt, name)?)
+    match read_file(rt, name) {
+        Ok(text) => Ok(text),
+        Err(InputError::Read) => Err(SimError::Read),
+        Err(InputError::TooLong) => Err(SimError::TooLong),
+        Err(InputError::NotText) => Err(SimError::NotText),
+        Err(InputError::Memory) => Err(SimError::Memory),
+    }
 }
 
 /// Returns `true` if a survey is asked for.
-fn is_survey(asked: &Asked<'_>) -> bool
-    ensures value { result ≡ is_survey asked.now }
+fn is_survey(options: &Options) -> bool
+    ensures value { result ≡ is_survey options.now }
 {
-    asked.links || asked.silent
+    options.links || options.silent
 }
 
 /// Returns `true` if options of a survey are given, but no survey is asked for.
-fn lacks_survey(asked: &Asked<'_>) -> bool
-    ensures value { result ≡ lacks_survey asked.now }
+fn lacks_survey(options: &Options) -> bool
+    ensures value { result ≡ lacks_survey options.now }
 {
-    !is_survey(asked) && (asked.at_most.is_some() || asked.runs.is_some())
+    !is_survey(options) && (options.at_most.is_some() || options.runs.is_some())
 }
 
 /// Writes that options of a survey need one, and returns the exit status of an error of the arguments.
@@ -117,26 +128,26 @@ fn refuse_options<E: Write>(errors: &mut E) -> u8
 }
 
 /// Returns the sets of faults that a survey is to try.
-fn faults_of(asked: &Asked<'_>) -> Faults
-    ensures value { result ≡ faults_of asked.now }
+fn faults_of(options: &Options) -> Faults
+    ensures value { result ≡ faults_of options.now }
 {
     Faults {
         kinds: Kinds {
-            links: asked.links,
-            silent: asked.silent,
+            links: options.links,
+            silent: options.silent,
         },
-        at_most: asked.at_most.unwrap_or(1),
-        runs: asked.runs.unwrap_or(u64::MAX),
+        at_most: options.at_most.unwrap_or(1),
+        runs: options.runs.unwrap_or(u64::MAX),
     }
 }
 
-/// Answers claims about a scenario, as the arguments ask: about its run, or about its runs with sets of faults.
+/// Answers claims about a scenario, as the options ask: about its run, or about its runs with sets of faults.
 ///
 /// # Errors
 /// The errors of `check`, or those of `check_with_faults`.
 fn answers_asked<T, G>(
     rt: &T,
-    asked: &Asked<'_>,
+    options: &Options,
     scenario: &str,
     claims: &str,
     gate: &G,
@@ -145,31 +156,99 @@ where
     T: AllocGlobal + Eprint + Threads + Wait + RandomSource + Sync,
     G: Gate + Sync,
     requires is_text { IsText scenario.now }
-    ensures answers { AnswersAsked asked.now scenario.now claims.now result }
+    ensures answers { AnswersAsked (way_for options.now) options.now scenario.now claims.now result }
 {
-    if is_survey(asked) {
+    if is_survey(options) {
         let told = Told { rt };
-        let faults = faults_of(asked);
+        let faults = faults_of(options);
         check_with_faults(
             rt,
             rt.alloc(),
             scenario,
             claims,
             faults,
-            asked.workers,
+            options.workers,
             &told,
         )
     } else {
-        check(rt, rt.alloc(), scenario, claims, asked.workers, gate)
+        check(rt, rt.alloc(), scenario, claims, options.workers, gate)
     }
+}
+
+/// Does the same as `answers_asked` on one thread.
+///
+/// # Errors
+/// The errors of `check_serial`, or those of `check_serial_with_faults`.
+fn answers_serial(
+    alloc: Global,
+    options: &Options,
+    scenario: &str,
+    claims: &str,
+) -> Result<Answers, CheckError>
+    requires is_text { IsText scenario.now }
+    ensures answers { AnswersAsked None options.now scenario.now claims.now result }
+{
+    if is_survey(options) {
+        let faults = faults_of(options);
+        check_serial_with_faults(alloc, scenario, claims, faults)
+    } else {
+        check_serial(alloc, scenario, claims)
+    }
+}
+
+/// Answers claims about a scenario, as the options ask, writes the answers, and returns whether all claims hold. Workers
+/// wait for one another, so the contract holds only if the runs return.
+///
+/// # Errors
+/// The errors of `check` or `check_with_faults`, and then nothing has been written; or `Write` after a proper prefix of
+/// the answers.
+pub fn answer<T, W, G>(
+    rt: &T,
+    options: &Options,
+    scenario: &str,
+    claims: &str,
+    output: &mut W,
+    gate: &G,
+) -> Result<bool, CheckError>
+where
+    T: AllocGlobal + Eprint + Threads + Wait + RandomSource + Sync,
+    W: Write,
+    G: Gate + Sync,
+    requires is_text { IsText scenario.now }
+    ensures responds { Responds (way_for options.now) options.now scenario.now claims.now
+        (W.contents output.old) (W.contents output.new) result }
+{
+    let answers = answers_asked(rt, options, scenario, claims, gate)?;
+    write_bytes(output, answers.text.as_bytes())?;
+    Ok(answers.all_hold)
+}
+
+/// Does the same as `answer` on one thread. It never waits for another thread, so its proof also shows that it returns.
+///
+/// # Errors
+/// The errors of `check_serial` or `check_serial_with_faults`, and then nothing has been written; or `Write` after a
+/// proper prefix of the answers.
+pub fn answer_serial<W: Write>(
+    alloc: Global,
+    options: &Options,
+    scenario: &str,
+    claims: &str,
+    output: &mut W,
+) -> Result<bool, CheckError>
+    requires is_text { IsText scenario.now }
+    ensures responds { Responds None options.now scenario.now claims.now
+        (W.contents output.old) (W.contents output.new) result }
+{
+    let answers = answers_serial(alloc, options, scenario, claims)?;
+    write_bytes(output, answers.text.as_bytes())?;
+    Ok(answers.all_hold)
 }
 
 /// Answers the claims in a file about the scenario in another one, as the arguments ask, and returns whether all claims
 /// hold. The clause doesn't say what the files contain: the answers are those to some claims about some scenario.
 ///
 /// # Errors
-/// The errors of `check` or `check_with_faults`, and those of reading the two files, and then nothing has been written;
-/// or `Write` after a proper prefix of the answers. No clause gives the cause of an error.
+/// The errors of `answer`, and those of reading the two files.
 pub fn check_asked<T, W, G>(
     rt: &T,
     asked: &Asked<'_>,
@@ -184,33 +263,72 @@ where
 {
     let scenario = read_scenario_file(rt, asked.scenario)?;
     let claims = read_file(rt, asked.claims)?;
-    let answers = answers_asked(rt, asked, scenario.as_str(), claims.as_str(), gate)?;
-    write_bytes(output, answers.text.as_bytes())?;
-    Ok(answers.all_hold)
+    answer(
+        rt,
+        &asked.options,
+        scenario.as_str(),
+        claims.as_str(),
+        output,
+        gate,
+    )
+}
+
+/// Serves the options of an input, as `run_text` does.
+pub fn serve_options<W: Write, E: Write>(
+    alloc: Global,
+    options: &Options,
+    scenario: &str,
+    claims: &str,
+    output: &mut W,
+    errors: &mut E,
+) -> u8
+    requires is_text { IsText scenario.now }
+    ensures serves { let old = ends (W.contents output.old) (E.contents errors.old)
+        in let new = ends (W.contents output.new) (E.contents errors.new)
+        in Serves options.now (Responds None options.now scenario.now claims.now old.output new.output) old new result }
+{
+    if lacks_survey(options) {
+        return refuse_options(errors);
+    }
+    let answer = answer_serial(alloc, options, scenario, claims, output);
+    status_of(answer, errors)
+}
+
+/// Checks as the arguments ask, and returns the exit status.
+fn run_asked<T, W, E>(rt: &T, asked: &Asked<'_>, output: &mut W, errors: &mut E) -> u8
+where
+    T: AllocGlobal + Eprint + Files + Threads + Wait + RandomSource + Sync,
+    W: Write,
+    E: Write,
+    ensures serves { let old = ends (W.contents output.old) (E.contents errors.old)
+        in let new = ends (W.contents output.new) (E.contents errors.new)
+        in Serves asked.now.options (ChecksSome asked.now old.output new.output) old new result }
+{
+    if lacks_survey(&asked.options) {
+        return refuse_options(errors);
+    }
+    let answer = check_asked(rt, asked, output, &NoGate);
+    status_of(answer, errors)
 }
 
 /// Runs the program with these arguments; the first is the program's name. It writes an answer to each claim to
-/// `output`, as `check_asked` does, and the line of an error to `errors`. If the arguments ask for help, it writes the
-/// help to `output`; if they have an error, it writes the error to `errors`. No clause gives the text of the help, nor
-/// what is written to `errors`.
+/// `output`, as `check_asked` does. After an error, nothing is written to `errors` but the line of the error, or a prefix
+/// of this line. If the arguments ask for help, it writes the help to `output`; if they have an error, it writes the error
+/// to `errors`. Only tests show the text of the help, and the text about an error of the arguments.
 ///
-/// It returns the exit status: 0 if all claims hold, or for help; 3 if a claim is broken, or if a survey left sets out; 1
-/// for an error, and 2 for an error of the arguments.
+/// It returns the exit status: 0 if all claims hold, or for help; 1 if a claim is broken, or if a survey left sets out; 2
+/// if there is no result, because of an error.
 pub fn run_command<T, W, E>(rt: &T, words: &[&str], output: &mut W, errors: &mut E) -> u8
 where
     T: AllocGlobal + Eprint + Files + Threads + Wait + RandomSource + Sync,
     W: Write,
     E: Write,
-    ensures commands { Commands (texts_of words.now) (W.contents output.old) (W.contents output.new) result }
+    ensures commands { let old = ends (W.contents output.old) (E.contents errors.old)
+        in let new = ends (W.contents output.new) (E.contents errors.new)
+        in Commands (texts_of words.now) old new result }
 {
     match asked_by(rt.alloc(), words) {
-        Ok(asked) => {
-            if lacks_survey(&asked) {
-                return refuse_options(errors);
-            }
-            let answer = check_asked(rt, &asked, output, &NoGate);
-            status_of(answer, errors)
-        }
+        Ok(asked) => run_asked(rt, &asked, output, errors),
         Err(error) => status_of_words(&error, output, errors),
     }
 }

@@ -2,20 +2,16 @@
 ghost use Rattle.std.specs.Prelude.{◌≡◌, [], codes, false, option_map, unwrap_or, IfOk, IfErr};
 ghost use Rattle.clap.specs.Words.{app_of, found_of, kind_of, rows_of, rule_of};
 ghost use Rattle.simulation.specs.Words.{texts_of, workers_rule};
-ghost use Rattle.claim_check.specs.Words.{AskedIn, AsksFor, FaultOf, at_most_rule, file_rule, flag_rule};
-ghost use Rattle.claim_check.specs.Words.{motecheck_app, runs_rule};
+ghost use Rattle.claim_check.specs.Words.{AskedIn, AsksFor, AsksOptions, FaultOf, OptionsIn, at_most_rule, file_rule};
+ghost use Rattle.claim_check.specs.Words.{flag_rule, motecheck_app, options_app, runs_rule};
 
 use clap::{Arg, ArgAction, ArgMatches, Command, Error};
 use std::alloc::{AllocError, Global};
 use window_workers::MOST_WORKERS;
 
-/// The files and the number of workers that a command line asks for.
+/// What is asked for, but the files.
 #[derive(Clone, Copy)]
-pub struct Asked<'a> {
-    /// The scenario's file.
-    pub scenario: &'a str,
-    /// The file of the claims.
-    pub claims: &'a str,
+pub struct Options {
     /// The number of workers; without a number, one thread runs all motes, or makes all runs of a survey.
     pub workers: Option<u16>,
     /// Whether a survey is asked for, with broken links.
@@ -28,6 +24,17 @@ pub struct Asked<'a> {
     pub runs: Option<u64>,
 }
 
+/// What a command line asks for.
+#[derive(Clone, Copy)]
+pub struct Asked<'a> {
+    /// The options.
+    pub options: Options,
+    /// The scenario's file.
+    pub scenario: &'a str,
+    /// The file of the claims.
+    pub claims: &'a str,
+}
+
 /// Returns the text of a value. `clap` has found one for each argument that is required.
 fn text_of<'a>(found: Option<&'a str>) -> &'a str
     ensures value { result.now ≡ unwrap_or (option_map (λ s. s.now) found.entry) [] }
@@ -38,21 +45,30 @@ fn text_of<'a>(found: Option<&'a str>) -> &'a str
     }
 }
 
-/// Reads what is asked for from the values of the arguments.
-fn asked_of<'a>(matches: &ArgMatches<'a>) -> Asked<'a>
-    ensures asked_in { AskedIn (rows_of (found_of matches.now)) result }
+/// Reads the options from the values of the arguments.
+fn options_of(matches: &ArgMatches<'_>) -> Options
+    ensures options_in { OptionsIn (rows_of (found_of matches.now)) result }
 {
     let workers = matches.get_one::<u16>("workers");
-    let scenario = text_of(matches.get_str("SCENARIO"));
-    let claims = text_of(matches.get_str("CLAIMS"));
-    Asked {
-        scenario,
-        claims,
+    Options {
         workers,
         links: matches.get_flag("links"),
         silent: matches.get_flag("silent"),
         at_most: matches.get_one::<u8>("at-most"),
         runs: matches.get_one::<u64>("runs"),
+    }
+}
+
+/// Reads what is asked for from the values of the arguments.
+fn asked_of<'a>(matches: &ArgMatches<'a>) -> Asked<'a>
+    ensures asked_in { AskedIn (rows_of (found_of matches.now)) result }
+{
+    let scenario = text_of(matches.get_str("SCENARIO"));
+    let claims = text_of(matches.get_str("CLAIMS"));
+    Asked {
+        options: options_of(matches),
+        scenario,
+        claims,
     }
 }
 
@@ -132,23 +148,30 @@ fn claims_arg<'a>(alloc: Global) -> Arg<'a>
         .help("The claims, one in each line")
 }
 
-/// Makes the program's only command. It makes each argument after it has added the previous one, so no argument waits
-/// in a variable while an addition can fail.
-fn command<'a>(alloc: Global) -> Result<Command<'a>, AllocError>
-    ensures is_motecheck { IfOk result (λ c. app_of c ≡ motecheck_app) }
+/// Makes a command with the options. It makes each argument after it has added the previous one, so no argument waits in
+/// a variable while an addition can fail.
+fn options_command<'a>(alloc: Global) -> Result<Command<'a>, AllocError>
+    ensures has_options { IfOk result (λ c. app_of c ≡ options_app) }
 {
     Command::new(alloc, "motecheck")
-        .version("2.0")
+        .version("2.1")
         .about(
             "Runs a scenario, and says for each claim about its report whether it holds: one line for each claim, \
              which begins with `holds` or `broken`. With --links or --silent it surveys sets of faults. The status is 0 \
-             if all claims hold, with all of these sets, 3 if not, and 1 or 2 after an error",
+             if all claims hold, with all of these sets, 1 if not, and 2 if there is no result",
         )
         .arg(workers_arg(alloc))?
         .arg(links_arg(alloc))?
         .arg(silent_arg(alloc))?
         .arg(at_most_arg(alloc))?
-        .arg(runs_arg(alloc))?
+        .arg(runs_arg(alloc))
+}
+
+/// Makes the program's only command.
+fn command<'a>(alloc: Global) -> Result<Command<'a>, AllocError>
+    ensures is_motecheck { IfOk result (λ c. app_of c ≡ motecheck_app) }
+{
+    options_command(alloc)?
         .arg(scenario_arg(alloc))?
         .arg(claims_arg(alloc))
 }
@@ -160,8 +183,20 @@ fn command<'a>(alloc: Global) -> Result<Command<'a>, AllocError>
 /// allocation failed. Otherwise, its kind is the kind of the error in the arguments.
 pub fn asked_by<'a>(alloc: Global, words: &'a [&'a str]) -> Result<Asked<'a>, Error>
     ensures asks { IfOk result (AsksFor (texts_of words.entry.now)) }
-    ensures refuses { IfErr result (λ e. FaultOf (texts_of words.entry.now) (kind_of e)) }
+    ensures refuses { IfErr result (λ e. FaultOf motecheck_app (texts_of words.entry.now) (kind_of e)) }
 {
     let matches = command(alloc)?.try_get_matches_from(words)?;
     Ok(asked_of(&matches))
+}
+
+/// Reads the options of a command line that names no files; the first argument is the program's name.
+///
+/// # Errors
+/// Those of `asked_by`.
+pub fn options_by<'a>(alloc: Global, words: &'a [&'a str]) -> Result<Options, Error>
+    ensures asks { IfOk result (AsksOptions (texts_of words.entry.now)) }
+    ensures refuses { IfErr result (λ e. FaultOf options_app (texts_of words.entry.now) (kind_of e)) }
+{
+    let matches = options_command(alloc)?.try_get_matches_from(words)?;
+    Ok(options_of(&matches))
 }

@@ -1,6 +1,7 @@
 //! The command, with the arguments of the process.
-ghost use Rattle.std.specs.Prelude.{◌≡◌, MatchResult};
-ghost use Rattle.claim_check.specs.Command.{ReturnsSome, RunsSome};
+ghost use Rattle.std.specs.Prelude.{◌≡◌, IfOk, List, ℕ, MatchResult, map, string_bytes};
+ghost use Rattle.simulation.specs.Words.{texts_of};
+ghost use Rattle.claim_check.specs.Command.{Commands, ReturnsSome, ends};
 
 use crate::command::{run_command, status_of};
 use crate::error::CheckError;
@@ -13,7 +14,10 @@ use std::sync::Wait;
 use std::thread::Threads;
 use std::{env, io};
 
-fn borrow_words(alloc: Global, words: &[String]) -> Result<Vec<&str>, AllocError> {
+/// Returns the texts of words.
+fn borrow_words(alloc: Global, words: &[String]) -> Result<Vec<&str>, AllocError>
+    ensures texts { IfOk result (λ all. texts_of all.items ≡ map string_bytes words.now) }
+{
     words.iter().map(|word| word.as_str()).collect(alloc)
 }
 
@@ -34,8 +38,9 @@ where
     T: AllocGlobal + Eprint + Files + Threads + Wait + RandomSource + Sync,
     W: Write,
     E: Write,
-    ensures runs { MatchResult result (RunsSome (W.contents output.old) (W.contents output.new))
-        (λ _. W.contents output.new ≡ W.contents output.old) }
+    ensures runs { let old = ends (W.contents output.old) (E.contents errors.old)
+        in let new = ends (W.contents output.new) (E.contents errors.new)
+        in MatchResult result (Commands (map string_bytes words.now) old new) (λ _. new ≡ old) }
 {
     let words = borrow_words(rt.alloc(), words)?;
     Ok(run_command(rt, &words, output, errors))
@@ -47,8 +52,9 @@ where
     T: AllocGlobal + Env + Eprint + Files + Threads + Wait + RandomSource + Sync,
     W: Write,
     E: Write,
-    ensures runs { MatchResult result (RunsSome (W.contents output.old) (W.contents output.new))
-        (λ _. W.contents output.new ≡ W.contents output.old) }
+    ensures runs { let old = ends (W.contents output.old) (E.contents errors.old)
+        in let new = ends (W.contents output.new) (E.contents errors.new)
+        in MatchResult result (λ status. (words : List (List ℕ)) × Commands words old new status) (λ _. new ≡ old) }
 {
     let words = words_of(rt)?;
     Ok(run_words(rt, &words, output, errors)?)
@@ -56,13 +62,15 @@ where
 
 /// Runs `run_command` with the arguments of the process, and returns the exit status of the command. If it can't read
 /// the arguments, for example because one isn't UTF-8, it writes nothing to `output`, and the status isn't 0. The clause
-/// doesn't say which arguments the process has, nor what is written to `errors`.
+/// doesn't say which arguments the process has.
 pub fn run_process<T, W, E>(rt: &T, output: &mut W, errors: &mut E) -> u8
 where
     T: AllocGlobal + Env + Eprint + Files + Threads + Wait + RandomSource + Sync,
     W: Write,
     E: Write,
-    ensures returns_some { ReturnsSome (W.contents output.old) (W.contents output.new) result }
+    ensures returns_some { let old = ends (W.contents output.old) (E.contents errors.old)
+        in let new = ends (W.contents output.new) (E.contents errors.new)
+        in ReturnsSome old new result }
 {
     match run(rt, output, errors) {
         Ok(status) => status,

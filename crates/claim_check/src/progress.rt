@@ -10,12 +10,8 @@ pub struct Told<'a, T> {
 }
 
 impl<'a, T: Eprint> Progress for Told<'a, T> {
-    fn tell(&self, next: &[u16]) {
+    fn tell(&self, next: &[u64]) {
         let size = next.len();
-        let first = match next {
-            [] => 0,
-            [first, ..] => *first,
-        };
-        let _ = eprintln!(self.rt; "motecheck: sets of {size} faults, from fault {first}");
+        let _ = eprintln!(self.rt; "motecheck: sets of {size} faults");
     }
 }

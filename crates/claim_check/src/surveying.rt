@@ -1,5 +1,5 @@
 //! Surveys of the faults that the net of a scenario may have.
-ghost use Rattle.std.specs.Prelude.{◌≡◌, ◌<◌, ◌^◌, None, length, IfErr, IfOk};
+ghost use Rattle.std.specs.Prelude.{◌≡◌, ◌<◌, ◌^◌, [], None, length, IfErr, IfOk};
 ghost use Rattle.mote_net.specs.Meaning.{net_of};
 ghost use Rattle.window_workers.specs.declared.sync.SyncKind.TheVariants as sync;
 ghost use Rattle.simulation.specs.Input.{IsText};
@@ -16,8 +16,8 @@ use claims::Claim;
 use mote_net::Net;
 use net_scenario::read_scenario;
 use net_survey::{
-    Fault, Kinds, Limits, Progress, Survey, candidates_of, survey_net, survey_net_serial,
-    write_survey,
+    Candidates, Kinds, Limits, Progress, Survey, candidates_of, is_complete, survey_net,
+    survey_net_serial, write_survey,
 };
 use program_tree::Names;
 use simulation::RunError;
@@ -54,10 +54,10 @@ impl Faults {
 }
 
 /// Returns `true` if a survey reached its end, and no set breaks a claim.
-fn is_settled(survey: &Survey) -> bool
-    ensures value { result ≡ is_settled survey.now }
+fn is_settled(limits: Limits, survey: &Survey) -> bool
+    ensures value { result ≡ is_settled limits survey.now }
 {
-    survey.stopped_at.is_none() && survey.broken.is_empty()
+    is_complete(limits, survey) && survey.broken.is_empty()
 }
 
 /// Returns the faults in a net that a survey of these claims has to try.
@@ -69,17 +69,18 @@ fn faults_to_try(
     net: &Net,
     claims: &[Claim],
     faults: Faults,
-) -> Result<Vec<Fault>, CheckError>
+) -> Result<Candidates, CheckError>
     ensures few_claims { IfOk result (λ _. length claims.now < 2 ^ 16) }
-    ensures few_faults { IfOk result (λ all. length all.items < 2 ^ 16) }
-    ensures value { IfOk result (λ all. all.items ≡ faults_in faults (net_of net.now)) }
+    ensures few_faults { IfOk result (λ all. length all.fixed.items < 2 ^ 16) }
+    ensures fixed { IfOk result (λ all. all.fixed.items ≡ faults_in faults (net_of net.now)) }
+    ensures no_copies { IfOk result (λ all. all.copies.items ≡ []) }
     ensures refuses { IfErr result (RefusesFaults faults (net_of net.now) claims.now) }
 {
     if claims.len() > MOST {
         return Err(CheckError::TooManyClaims);
     }
-    let all = candidates_of(alloc, net, faults.kinds)?;
-    if all.len() > MOST {
+    let all = candidates_of(alloc, net, faults.kinds, &[])?;
+    if all.fixed.len() > MOST {
         return Err(CheckError::TooManyFaults);
     }
     Ok(all)
@@ -93,14 +94,14 @@ fn answers_of(
     alloc: Global,
     names: &Names,
     claims: &[Claim],
-    candidates: &[Fault],
+    candidates: &Candidates,
     limits: Limits,
     found: &Survey,
 ) -> Result<Answers, AllocError>
     ensures tells_survey { IfOk result (TellsSurvey names.now claims.now candidates.now limits found.now) }
 {
     let text = write_survey(alloc, names, claims, candidates, limits, found)?;
-    let all_hold = is_settled(found);
+    let all_hold = is_settled(limits, found);
     Ok(Answers { text, all_hold })
 }
 
@@ -115,10 +116,9 @@ fn survey_claims_serial(
     ensures surveys { SurveysNet None faults names.now (net_of net.now) claims.now result }
 {
     let candidates = faults_to_try(alloc, net, claims, faults)?;
-    let listed = candidates.as_slice();
     let limits = faults.limits();
-    let found = survey_net_serial(alloc, net, claims, listed, limits)?;
-    Ok(answers_of(alloc, names, claims, listed, limits, &found)?)
+    let found = survey_net_serial(alloc, net, claims, &candidates, limits)?;
+    Ok(answers_of(alloc, names, claims, &candidates, limits, &found)?)
 }
 
 /// Returns the number of workers that make the runs.
@@ -156,10 +156,18 @@ fn survey_claims<T: Threads + Sync, P: Progress + Sync>(
 {
     let candidates = faults_to_try(alloc, net, claims, faults)?;
     let workers = workers_of(workers)?;
-    let listed = candidates.as_slice();
     let limits = faults.limits();
-    let found = survey_net(rt, alloc, net, claims, listed, workers, limits, progress)?;
-    Ok(answers_of(alloc, names, claims, listed, limits, &found)?)
+    let found = survey_net(
+        rt,
+        alloc,
+        net,
+        claims,
+        &candidates,
+        workers,
+        limits,
+        progress,
+    )?;
+    Ok(answers_of(alloc, names, claims, &candidates, limits, &found)?)
 }
 
 /// Runs the net of a scenario with each set of at most so many faults, as far as the limit of runs allows, and says for

@@ -1,5 +1,4 @@
 mod Crossing
 mod Determined
-pub mod Members
 mod Nth
 mod OneMore

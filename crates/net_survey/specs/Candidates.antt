@@ -16,7 +16,7 @@ link_faults radio = flat_map (links_from radio) (motes radio)
 abbrev pub silent_motes : Radio → List Fault
 silent_motes radio = map Silent (motes radio)
 
--- the faults of these kinds
-abbrev pub candidates_of : Kinds → Radio → List Fault
-candidates_of kinds radio =
+-- the broken links and silent motes, if they are chosen
+abbrev pub fixed_faults : Kinds → Radio → List Fault
+fixed_faults kinds radio =
     (if kinds.links then link_faults radio else []) ++ (if kinds.silent then silent_motes radio else [])

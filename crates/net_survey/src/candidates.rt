@@ -2,8 +2,9 @@
 
 ghost use Rattle.std.specs.Prelude.{◌≡◌, ◌<◌, ◌++◌, ◌∷◌, [], if◌then◌else◌, length, IfOk, OnOk};
 ghost use Rattle.mote_net.specs.Meaning.{net_of};
-ghost use Rattle.net_survey.specs.Candidates.{candidates_of, link_faults, links_from, silent_motes};
+ghost use Rattle.net_survey.specs.Candidates.{fixed_faults, link_faults, links_from, silent_motes};
 
+use fault_keys::{Candidates, CopyFault};
 use mote_net::Net;
 use radio_faults::Fault;
 use radio_medium::Medium;
@@ -18,12 +19,28 @@ pub struct Kinds {
     pub silent: bool,
 }
 
-/// The faults of these kinds in a net: first the links, by sender, then receiver; then the motes.
+/// The faults of these kinds in a net: first the links, by sender, then receiver; then the motes; and these faults of
+/// each copy that a run sends.
 ///
 /// # Errors
 /// `AllocError` if an allocation fails.
-pub fn candidates_of(alloc: Global, net: &Net, kinds: Kinds) -> Result<Vec<Fault>, AllocError>
-    ensures value { IfOk result (λ all. all.items ≡ candidates_of kinds (net_of net.now).radio) }
+pub fn candidates_of(
+    alloc: Global,
+    net: &Net,
+    kinds: Kinds,
+    copies: &[CopyFault],
+) -> Result<Candidates, AllocError>
+    ensures fixed { IfOk result (λ all. all.fixed.items ≡ fixed_faults kinds (net_of net.now).radio) }
+    ensures copies { IfOk result (λ all. all.copies.items ≡ copies.now) }
+{
+    let fixed = fixed_of(alloc, net, kinds)?;
+    let copies = copies.to_vec(alloc)?;
+    Ok(Candidates { fixed, copies })
+}
+
+/// The broken links and silent motes.
+fn fixed_of(alloc: Global, net: &Net, kinds: Kinds) -> Result<Vec<Fault>, AllocError>
+    ensures value { IfOk result (λ all. all.items ≡ fixed_faults kinds (net_of net.now).radio) }
 {
     let mut all = Vec::new(alloc);
     if kinds.links {

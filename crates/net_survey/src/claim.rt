@@ -6,8 +6,8 @@ ghost use Rattle.net_survey.specs.SurveyText.{break_line, claim_text, is_broken,
 use crate::fault::put_set;
 use claim_text::write_claim;
 use claims::Claim;
+use fault_keys::Candidates;
 use program_tree::Names;
-use radio_faults::Fault;
 use std::alloc::{AllocError, Global};
 use survey::Broken;
 
@@ -18,13 +18,16 @@ fn is_broken(broken: &[Broken], number: usize) -> bool
     broken.iter().any(|one| usize::from(one.claim) == number)
 }
 
-fn put_verdict(text: &mut String, is_broken: bool) -> Result<(), AllocError>
-    ensures appended { OnOk result (string_bytes text.new ≡ string_bytes text.old ++ verdict_text is_broken) }
+fn put_verdict(text: &mut String, is_complete: bool, is_broken: bool) -> Result<(), AllocError>
+    ensures appended { OnOk result (string_bytes text.new
+        ≡ string_bytes text.old ++ verdict_text is_complete is_broken) }
 {
     if is_broken {
         text.push_str("broken: ")
-    } else {
+    } else if is_complete {
         text.push_str("holds: ")
+    } else {
+        text.push_str("not broken so far: ")
     }
 }
 
@@ -32,7 +35,7 @@ fn put_verdict(text: &mut String, is_broken: bool) -> Result<(), AllocError>
 fn put_break(
     alloc: Global,
     text: &mut String,
-    candidates: &[Fault],
+    candidates: &Candidates,
     number: usize,
     one: &Broken,
 ) -> Result<(), AllocError>
@@ -50,7 +53,7 @@ fn put_break(
 fn put_breaks(
     alloc: Global,
     text: &mut String,
-    candidates: &[Fault],
+    candidates: &Candidates,
     number: usize,
     broken: &[Broken],
 ) -> Result<(), AllocError>
@@ -63,7 +66,8 @@ fn put_breaks(
     Ok(())
 }
 
-/// Appends the claim with this number, and the sets that are listed for it. `names` is the names of the processes.
+/// Appends the claim with this number, and the sets that are listed for it. `names` is the names of the processes;
+/// `is_complete` tells whether the survey came to its end.
 ///
 /// # Errors
 /// `AllocError` if an allocation fails.
@@ -71,15 +75,16 @@ pub fn put_claim(
     alloc: Global,
     text: &mut String,
     names: &Names,
-    candidates: &[Fault],
+    candidates: &Candidates,
+    is_complete: bool,
     broken: &[Broken],
     number: usize,
     claim: &Claim,
 ) -> Result<(), AllocError>
     ensures appended { OnOk result (string_bytes text.new
-        ≡ string_bytes text.old ++ claim_text names.now candidates.now broken.now number claim.now) }
+        ≡ string_bytes text.old ++ claim_text names.now candidates.now is_complete broken.now number claim.now) }
 {
-    put_verdict(text, is_broken(broken, number))?;
+    put_verdict(text, is_complete, is_broken(broken, number))?;
     let said = write_claim(alloc, names, claim)?;
     text.push_str(said.as_str())?;
     text.push_str("\n")?;

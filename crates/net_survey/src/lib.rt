@@ -11,8 +11,8 @@ mod search;
 
 pub use candidates::{Kinds, candidates_of};
 pub use claim::put_claim;
-pub use fault::{FaultText, put_set};
-pub use radio_faults::Fault;
-pub use report::write_survey;
+pub use fault::put_set;
+pub use fault_keys::{Candidates, CopyFault};
+pub use report::{is_complete, write_survey};
 pub use search::{survey_net, survey_net_serial};
 pub use survey::{Broken, Limits, NoProgress, Progress, Survey};

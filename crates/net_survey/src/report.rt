@@ -5,46 +5,55 @@
 //! holds: mote 1: at least 1 line "print process flood value 7"
 //! broken: mote 3: at least 1 line "print process flood value 7"
 //!   if link 1 to 3 is broken and link 2 to 3 is broken
-//!   if link 1 to 3 is broken and mote 2 is silent
-//! covered: all sets of at most 2 of 12 faults; runs: 79
+//!   if link 1 to 3 is broken and packet 0 of mote 2 is lost on the way to mote 3
+//! covered: all sets of at most 2 faults; runs: 790
 //! ```
 //!
 //! In the grammar, braces enclose what may be repeated or missing.
 //!
 //! ```text
 //! survey = {CLAIM} COVERED
-//! CLAIM  = "holds: " TEXT LF | "broken: " TEXT LF {"  if " SET LF}               TEXT is the text of the claim
-//! SET    = "nothing is broken" | FAULT {" and " FAULT}
-//! FAULT  = "link " N " to " N " is broken" | "mote " N " is silent"
-//! COVERED = "covered: all sets of at most " N " of " N " faults" [" before '" SET "'"] "; runs: " N LF
+//! CLAIM  = VERDICT ": " TEXT LF {"  if " SET LF}                             TEXT is the text of the claim
+//! VERDICT = "holds" | "not broken so far" | "broken"
+//! SET    = "nothing is broken" | FAULT {" and " FAULT}                       FAULT is the text of a fault
+//! COVERED = "covered: " SETS [" before the limit"] "; runs: " N LF
+//! SETS   = "nothing" | "all sets of at most " N [" of " N] " faults"
 //! ```
 //!
-//! `link 1 to 3` is the direction in which mote 3 hears mote 1. The sets are in the order in which the survey tries
-//! them, as a test shows: those of fewer faults first, and those of one size by their first fault, then by their second.
-//! After a limit of runs, the last line names the first set that wasn't tried; the sets before it are covered.
+//! A survey that stopped at the limit of runs says `not broken so far` of a claim that it found no set for; otherwise it
+//! says `holds`. The sets are in the order in which the survey tries them: those of fewer faults first, and those of one
+//! size by their first fault, then by their second. The number of faults that come into question is said if it doesn't
+//! depend on the run.
 
-ghost use Rattle.std.specs.Prelude.{◌≡◌, ◌++◌, option_map, string_bytes, IfOk, OnOk};
-ghost use Rattle.net_survey.specs.SurveyText.{runs_text, survey_text};
-ghost use Rattle.net_survey.specs.SurveyText.{before_text, claims_text, covered_text, most_text, number_text};
+ghost use Rattle.std.specs.Prelude.{◌≡◌, ◌++◌, string_bytes, IfOk, OnOk};
+ghost use Rattle.net_survey.specs.SurveyText.{claims_text, covered_text, faults_text, is_complete, limit_text, most_text};
+ghost use Rattle.net_survey.specs.SurveyText.{runs_text, sets_text, survey_text};
 
 use crate::claim::put_claim;
-use crate::fault::put_set;
 use claims::Claim;
+use fault_keys::Candidates;
 use program_tree::Names;
-use radio_faults::Fault;
 use std::alloc::{AllocError, Global};
 use survey::{Broken, Limits, Survey};
+
+/// Returns `true` if a survey within these limits came to its end: it covers all sets that it may.
+pub fn is_complete(limits: Limits, survey: &Survey) -> bool
+    ensures value { result ≡ is_complete limits survey.now }
+{
+    u16::from(limits.faults) < survey.sizes
+}
 
 fn put_claims(
     alloc: Global,
     text: &mut String,
     names: &Names,
-    candidates: &[Fault],
+    candidates: &Candidates,
+    is_complete: bool,
     broken: &[Broken],
     claims: &[Claim],
 ) -> Result<(), AllocError>
-    ensures appended { OnOk result (string_bytes text.new
-        ≡ string_bytes text.old ++ claims_text names.now candidates.now broken.now 0 claims.now) }
+    ensures appended { OnOk result (string_bytes text.new ≡ string_bytes text.old
+        ++ claims_text names.now candidates.now is_complete broken.now 0 claims.now) }
 {
     for place in 0..claims.len() {
         put_claim(
@@ -52,6 +61,7 @@ fn put_claims(
             text,
             names,
             candidates,
+            is_complete,
             broken,
             place,
             &claims[place],
@@ -60,18 +70,49 @@ fn put_claims(
     Ok(())
 }
 
-fn put_most(alloc: Global, text: &mut String, most: u8) -> Result<(), AllocError>
+fn put_faults(alloc: Global, text: &mut String, candidates: &Candidates) -> Result<(), AllocError>
+    ensures appended { OnOk result (string_bytes text.new ≡ string_bytes text.old ++ faults_text candidates.now) }
+{
+    if candidates.copies.is_empty() {
+        let number = candidates.fixed.len();
+        let faults = format!(in alloc; " of {number} faults")?;
+        text.push_str(faults.as_str())
+    } else {
+        text.push_str(" faults")
+    }
+}
+
+fn put_most(alloc: Global, text: &mut String, most: u16) -> Result<(), AllocError>
     ensures appended { OnOk result (string_bytes text.new ≡ string_bytes text.old ++ most_text most) }
 {
     let sets = format!(in alloc; "all sets of at most {most}")?;
     text.push_str(sets.as_str())
 }
 
-fn put_number(alloc: Global, text: &mut String, number: usize) -> Result<(), AllocError>
-    ensures appended { OnOk result (string_bytes text.new ≡ string_bytes text.old ++ number_text number) }
+fn put_sets(
+    alloc: Global,
+    text: &mut String,
+    candidates: &Candidates,
+    sizes: u16,
+) -> Result<(), AllocError>
+    ensures appended { OnOk result (string_bytes text.new ≡ string_bytes text.old ++ sets_text candidates.now sizes) }
 {
-    let faults = format!(in alloc; " of {number} faults")?;
-    text.push_str(faults.as_str())
+    if sizes > 0 {
+        put_most(alloc, text, sizes - 1)?;
+        put_faults(alloc, text, candidates)
+    } else {
+        text.push_str("nothing")
+    }
+}
+
+fn put_limit(text: &mut String, is_complete: bool) -> Result<(), AllocError>
+    ensures appended { OnOk result (string_bytes text.new ≡ string_bytes text.old ++ limit_text is_complete) }
+{
+    if is_complete {
+        Ok(())
+    } else {
+        text.push_str(" before the limit")
+    }
 }
 
 fn put_runs(alloc: Global, text: &mut String, runs: u64) -> Result<(), AllocError>
@@ -81,41 +122,21 @@ fn put_runs(alloc: Global, text: &mut String, runs: u64) -> Result<(), AllocErro
     text.push_str(last.as_str())
 }
 
-fn put_before(
-    alloc: Global,
-    text: &mut String,
-    candidates: &[Fault],
-    stopped_at: Option<&[u16]>,
-) -> Result<(), AllocError>
-    ensures appended { OnOk result (string_bytes text.new
-        ≡ string_bytes text.old ++ before_text candidates.now (option_map (λ set. set.now) stopped_at.entry)) }
-{
-    match stopped_at {
-        None => Ok(()),
-        Some(set) => {
-            text.push_str(" before '")?;
-            put_set(alloc, text, candidates, set)?;
-            text.push_str("'")
-        }
-    }
-}
-
 /// Appends which sets are covered, and the number of runs.
 fn put_covered(
     alloc: Global,
     text: &mut String,
-    candidates: &[Fault],
-    most: u8,
-    stopped_at: Option<&[u16]>,
+    candidates: &Candidates,
+    is_complete: bool,
+    sizes: u16,
     runs: u64,
 ) -> Result<(), AllocError>
-    ensures appended { OnOk result (string_bytes text.new ≡ string_bytes text.old
-        ++ covered_text candidates.now most (option_map (λ set. set.now) stopped_at.entry) runs) }
+    ensures appended { OnOk result (string_bytes text.new
+        ≡ string_bytes text.old ++ covered_text candidates.now is_complete sizes runs) }
 {
     text.push_str("covered: ")?;
-    put_most(alloc, text, most)?;
-    put_number(alloc, text, candidates.len())?;
-    put_before(alloc, text, candidates, stopped_at)?;
+    put_sets(alloc, text, candidates, sizes)?;
+    put_limit(text, is_complete)?;
     put_runs(alloc, text, runs)
 }
 
@@ -128,7 +149,7 @@ pub fn write_survey(
     alloc: Global,
     names: &Names,
     claims: &[Claim],
-    candidates: &[Fault],
+    candidates: &Candidates,
     limits: Limits,
     survey: &Survey,
 ) -> Result<String, AllocError>
@@ -136,20 +157,17 @@ pub fn write_survey(
         ≡ survey_text names.now claims.now candidates.now limits survey.now) }
 {
     let mut text = String::new(alloc);
+    let complete = is_complete(limits, survey);
+    let broken = survey.broken.as_slice();
     put_claims(
-        alloc,
-        &mut text,
-        names,
-        candidates,
-        survey.broken.as_slice(),
-        claims,
+        alloc, &mut text, names, candidates, complete, broken, claims,
     )?;
     put_covered(
         alloc,
         &mut text,
         candidates,
-        limits.faults,
-        survey.stopped_at.as_deref(),
+        complete,
+        survey.sizes,
         survey.trials,
     )?;
     Ok(text)

@@ -1,13 +1,13 @@
 //! The survey of a net.
 
-ghost use Rattle.std.specs.Prelude.{◌<◌, ◌^◌, length, IfOk};
+ghost use Rattle.std.specs.Prelude.{◌<◌, ◌≤◌, ◌^◌, length, IfOk};
 ghost use Rattle.mote_net.specs.Meaning.{net_of};
 ghost use Rattle.net_survey.specs.NetSurvey.{IsSurveyOf};
 
 use crate::net_trial::{NetTrial, check_medium};
 use claims::Claim;
+use fault_keys::Candidates;
 use mote_net::Net;
-use radio_faults::Fault;
 use std::alloc::{AllocError, Global};
 use std::thread::Threads;
 use survey::{Limits, Progress, Survey, survey, survey_in_threads};
@@ -22,12 +22,12 @@ pub fn survey_net_serial(
     alloc: Global,
     net: &Net,
     claims: &[Claim],
-    candidates: &[Fault],
+    candidates: &Candidates,
     limits: Limits,
 ) -> Result<Survey, AllocError>
-    requires at_a_time { 0 < limits.at_a_time }
     requires few_claims { length claims.now < 2 ^ 16 }
-    requires few_faults { length candidates.now < 2 ^ 16 }
+    requires few_fixed { length candidates.now.fixed.items ≤ 2 ^ 32 }
+    requires few_copies { length candidates.now.copies.items < 16 }
     ensures is_survey_of { IfOk result (IsSurveyOf (net_of net.now) claims.now candidates.now limits) }
 {
     check_medium(net);
@@ -49,15 +49,15 @@ pub fn survey_net<R: Threads + Sync, P: Progress + Sync>(
     alloc: Global,
     net: &Net,
     claims: &[Claim],
-    candidates: &[Fault],
+    candidates: &Candidates,
     workers: u16,
     limits: Limits,
     progress: &P,
 ) -> Result<Survey, AllocError>
     requires workers { 0 < workers }
-    requires at_a_time { 0 < limits.at_a_time }
     requires few_claims { length claims.now < 2 ^ 16 }
-    requires few_faults { length candidates.now < 2 ^ 16 }
+    requires few_fixed { length candidates.now.fixed.items ≤ 2 ^ 32 }
+    requires few_copies { length candidates.now.copies.items < 16 }
     ensures is_survey_of { IfOk result (IsSurveyOf (net_of net.now) claims.now candidates.now limits) }
 {
     check_medium(net);

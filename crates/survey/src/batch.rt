@@ -1,81 +1,139 @@
-//! The sets that are tried next.
+//! The sets that are tried together.
 
-ghost use Rattle.std.specs.Prelude.{◌≡◌, ℕ, ◌<◌, ◌≤◌, length, true, List, IfOk};
-ghost use Rattle.std.specs.List.{All, Contains};
-ghost use Rattle.survey.specs.FaultSet.{IsSet, ComesBefore};
-ghost use Rattle.survey.specs.Breaks.{breaks_of, IsOnce};
-ghost use Rattle.survey.specs.Search.{IsSeen, AreSeen, IsFresh, TakesSet, items_of};
+ghost use Rattle.std.specs.Prelude.{◌≡◌, ◌+◌, ◌<◌, ◌≤◌, ◌^◌, ◌∷◌, [], ℕ, length, List, IfOk, OnOk};
+ghost use Rattle.std.specs.List.{All};
+ghost use Rattle.survey.specs.FaultSet.{IsSet};
+ghost use Rattle.survey.specs.Breaks.{breaks_of, AreSmallerSettled, IsSettled};
+ghost use Rattle.survey.specs.Premise.{Runs};
+ghost use Rattle.survey.specs.Search.{AddsNode, AreOutcomes, Course, FitsTask, GivesOutcomes, HasTried, IsInCourse, IsKept};
+ghost use Rattle.survey.specs.Search.{IsOutcome, ListsFor, Looks, MayTry};
 
 use crate::broken::Broken;
-use crate::record::is_pruned;
-use crate::sets::advance;
+use crate::level::Level;
+use crate::record::{is_pruned, record_set};
+use crate::search::Limits;
+use crate::task::{Node, Outcome, Task, awake};
+use crate::trial::Trial;
 use std::alloc::{AllocError, Global};
 
-/// Some sets of one size that are to be tried.
-#[derive(Drop)]
-pub struct Batch {
-    pub sets: Vec<Vec<u16>>,
-    /// Whether there are more sets of this size.
-    pub more: bool,
-}
-
-/// Takes the next sets of this size, but at most `room`, and leaves out those from which nothing is to be learned.
-/// `set` is the first set that comes into question, and becomes the first that was left for later.
+/// Lists the breaks of a set that was run, and adds its node if there is a next size.
 ///
 /// # Errors
 /// `AllocError` if an allocation fails.
-pub fn gather(
+fn end_task<T: Trial>(
     alloc: Global,
-    found: &[Broken],
-    candidates: u16,
-    claims: u16,
-    set: &mut [u16],
-    room: usize,
-) -> Result<Batch, AllocError>
-    requires is_set { IsSet candidates set.old }
-    ensures sets { IfOk result (λ b. All
-        (λ s. IsSet candidates s.items × (length s.items ≡ length set.old)) b.sets.items) }
-    ensures room { IfOk result (λ b. length b.sets.items ≤ room) }
-    ensures left { IfOk result (λ b. b.more ≡ true → IsFresh candidates claims (breaks_of found.now) set.old set.new) }
-    ensures moved { IfOk result (λ b. b.more ≡ true → 0 < room → ComesBefore set.old set.new) }
-    ensures seen { IfOk result (λ b. AreSeen candidates (λ F. b.more ≡ true → ComesBefore F set.new) set.old
-        (IsSeen claims (breaks_of found.now) set.old b.sets.items)) }
-    ensures fresh { IfOk result (λ b. (F : List ℕ) → Contains (items_of b.sets.items) F → IsFresh candidates claims
-        (breaks_of found.now) set.old F × (b.more ≡ true → ComesBefore F set.new)) }
-    ensures once { IfOk result (λ b. IsOnce (items_of b.sets.items)) }
+    trial: &T,
+    found: &mut Vec<Broken>,
+    nodes: &mut Vec<Node>,
+    task: &Task,
+    outcome: &Outcome,
+) -> Result<(), AllocError>
+    requires set { IsSet (T.runs trial.now).bound task.now.set.items }
+    requires outcome { IsOutcome (T.runs trial.now) task.now outcome.now }
+    requires kept { IsKept (T.runs trial.now).bound (length task.now.set.items) (T.runs trial.now).holds
+        (T.runs trial.now).claims (breaks_of found.old.items) }
+    requires smaller { AreSmallerSettled (T.runs trial.now).bound (length task.now.set.items)
+        (T.runs trial.now).holds (T.runs trial.now).claims (breaks_of found.old.items) }
+    ensures kept { OnOk result (IsKept (T.runs trial.now).bound (length task.now.set.items) (T.runs trial.now).holds
+        (T.runs trial.now).claims (breaks_of found.new.items)) }
+    ensures lists { OnOk result (ListsFor (breaks_of found.old.items) task.now.set.items
+        (breaks_of found.new.items)) }
+    ensures settled { OnOk result (IsSettled (T.runs trial.now).holds (T.runs trial.now).claims
+        (breaks_of found.new.items) task.now.set.items) }
+    ensures node { OnOk result (AddsNode (T.runs trial.now).offers task.now nodes.old.items nodes.new.items) }
 {
-    let mut sets = Vec::new(alloc);
-    loop {
-        if !take_set(alloc, found, claims, set, room, &mut sets)? {
-            return Ok(Batch { sets, more: true });
-        }
-        if !advance(set, candidates) {
-            return Ok(Batch { sets, more: false });
-        }
+    record_set(alloc, trial, found, &task.set, &outcome.answers)?;
+    if task.goes_on {
+        let next = awake(alloc, &task.asleep, &outcome.offers)?;
+        let set = task.set.to_vec(alloc)?;
+        let asleep = task.asleep.to_vec(alloc)?;
+        nodes.push(Node { set, asleep, next })?;
     }
+    Ok(())
 }
 
-/// Takes a set, unless nothing is to be learned from it. Answers `false` if there is no room for it.
+/// Runs with the set of each task.
 ///
 /// # Errors
 /// `AllocError` if an allocation fails.
-fn take_set(
-    alloc: Global,
-    found: &[Broken],
-    claims: u16,
-    set: &[u16],
-    room: usize,
-    sets: &mut Vec<Vec<u16>>,
-) -> Result<bool, AllocError>
-    ensures takes_set { IfOk result (TakesSet claims (breaks_of found.now) set.now room sets.old.items sets.new.items) }
+fn run_tasks<T: Trial, F: Fn(&[Task]) -> Result<Vec<Outcome>, AllocError>>(
+    _trial: &T,
+    tasks: &[Task],
+    try_all: &F,
+) -> Result<Vec<Outcome>, AllocError>
+    requires may_try { MayTry (T.runs _trial.now).bound (F.pre try_all.now) }
+    requires gives { GivesOutcomes (T.runs _trial.now) (F.post try_all.now) }
+    requires sets { All (λ t. IsSet (T.runs _trial.now).bound t.set.items) tasks.now }
+    ensures outcomes { IfOk result (λ v. AreOutcomes (T.runs _trial.now) tasks.now v.items) }
 {
-    if is_pruned(found, set, claims) {
+    try_all(tasks)
+}
+
+/// Runs with the sets that wait.
+///
+/// # Errors
+/// `AllocError` if an allocation fails.
+pub(crate) fn run_waiting<T: Trial, F: Fn(&[Task]) -> Result<Vec<Outcome>, AllocError>>(
+    alloc: Global,
+    trial: &T,
+    level: &mut Level,
+    try_all: &F,
+) -> Result<(), AllocError>
+    requires may_try { MayTry (T.runs trial.now).bound (F.pre try_all.now) }
+    requires gives { GivesOutcomes (T.runs trial.now) (F.post try_all.now) }
+    requires in_course { (course : Course) × (tried : List (List ℕ))
+        × HasTried (T.runs trial.now) course tried level.old }
+    requires few { level.old.trials + length level.old.waiting.items < 2 ^ 64 }
+    ensures tried { OnOk result ((course : Course) (tried : List (List ℕ))
+        → HasTried (T.runs trial.now) course tried level.old
+        → HasTried (T.runs trial.now) course tried level.new) }
+    ensures none_waits { OnOk result (level.new.waiting.items ≡ []) }
+    ensures counted { OnOk result (level.new.trials ≡ level.old.trials + length level.old.waiting.items) }
+{
+    let outcomes = run_tasks(trial, &level.waiting, try_all)?;
+    for place in 0..level.waiting.len() {
+        end_task(
+            alloc,
+            trial,
+            &mut level.found,
+            &mut level.nodes,
+            &level.waiting[place],
+            &outcomes[place],
+        )?;
+        level.trials += 1;
+    }
+    level.waiting.clear();
+    Ok(())
+}
+
+/// Takes a set, unless nothing is to be learned from it. Answers `false` if no more runs are allowed.
+///
+/// # Errors
+/// `AllocError` if an allocation fails.
+pub(crate) fn take_task<T: Trial, F: Fn(&[Task]) -> Result<Vec<Outcome>, AllocError>>(
+    alloc: Global,
+    trial: &T,
+    limits: Limits,
+    level: &mut Level,
+    task: Task,
+    try_all: &F,
+) -> Result<bool, AllocError>
+    requires may_try { MayTry (T.runs trial.now).bound (F.pre try_all.now) }
+    requires gives { GivesOutcomes (T.runs trial.now) (F.post try_all.now) }
+    requires in_course { IsInCourse (T.runs trial.now) limits (FitsTask (T.runs trial.now) task) level.old }
+    ensures looks { IfOk result (λ more. Looks (T.runs trial.now) limits (FitsTask (T.runs trial.now) task)
+        (task.set.items ∷ []) level.old more level.new) }
+    ensures limit { OnOk result (level.new.trials + length level.new.waiting.items ≤ limits.trials) }
+{
+    if is_pruned(&level.found, &task.set, trial.claims()) {
         return Ok(true);
     }
-    if sets.len() >= room {
+    if level.trials + level.waiting.len() as u64 >= limits.trials {
         return Ok(false);
     }
-    let taken = set.to_vec(alloc)?;
-    sets.push(taken)?;
+    level.waiting.push(task)?;
+    if level.waiting.len() >= usize::from(limits.at_a_time) {
+        run_waiting(alloc, trial, level, try_all)?;
+    }
     Ok(true)
 }

@@ -1,19 +1,19 @@
 //! The search.
 
-ghost use Rattle.std.specs.Prelude.{◌≡◌, ℕ, ◌+◌, ◌<◌, ◌≤◌, length, true, List, IfOk, OnOk};
-ghost use Rattle.std.specs.Bool.{MatchBool};
-ghost use Rattle.std.specs.Option.{IfSome};
-ghost use Rattle.survey.specs.FaultSet.{IsSet, ComesBefore, IsTriedBefore};
-ghost use Rattle.survey.specs.Breaks.{breaks_of, IsCovered, IsComplete, IsWorthRun};
-ghost use Rattle.survey.specs.Search.{IsKept, MayTry, GivesAnswers, IsCounted};
+ghost use Rattle.std.specs.Prelude.{◌≡◌, ◌+◌, ◌≤◌, ◌∷◌, [], length, IfOk, OnOk};
+ghost use Rattle.survey.specs.Order.{next_keys};
+ghost use Rattle.survey.specs.Turns.{children};
+ghost use Rattle.survey.specs.Search.{children_of, EndsSize, FitNodes, GivesOutcomes, IsBetweenNodes, IsFirst, IsInCourse};
+ghost use Rattle.survey.specs.Search.{Looks, MayTry, survey_of};
 ghost use Rattle.survey.specs.Survey.{IsSurvey};
 
-use crate::batch::gather;
-use crate::broken::{Broken, Survey};
-use crate::record::record_all;
-use crate::sets::first_set;
+use crate::batch::{run_waiting, take_task};
+use crate::broken::Survey;
+use crate::level::Level;
+use crate::task::{Node, Outcome, Task, child};
 use crate::trial::{Trial, try_in_turn};
 use std::alloc::{AllocError, Global};
+use std::mem;
 
 /// How much a survey may do.
 #[derive(Clone, Copy, Debug)]
@@ -26,148 +26,117 @@ pub struct Limits {
     pub at_a_time: u16,
 }
 
-/// What was done in one step.
-#[derive(Clone, Copy)]
-struct Step {
-    /// How many runs were made.
-    trials: usize,
-    /// Whether there are more sets of this size.
-    more: bool,
-}
-
-/// Tries the next sets of this size, at most `room` at a time. `set` is the first that comes into question, and
-/// becomes the first that was left for later.
+/// Takes the sets with one more fault than that of a node. Answers `false` if no more runs are allowed.
 ///
 /// # Errors
 /// `AllocError` if an allocation fails.
-fn try_batch<T: Trial, F: Fn(&[Vec<u16>]) -> Result<Vec<Vec<bool>>, AllocError>>(
+fn take_children<T: Trial, F: Fn(&[Task]) -> Result<Vec<Outcome>, AllocError>>(
     alloc: Global,
     trial: &T,
-    found: &mut Vec<Broken>,
-    set: &mut [u16],
-    room: usize,
-    try_all: &F,
-) -> Result<Step, AllocError>
-    requires may_try { MayTry (T.candidate_count trial.now) (F.pre try_all.now) }
-    requires answers { GivesAnswers (T.candidate_count trial.now) (T.holds trial.now) (T.claim_count trial.now)
-        (F.post try_all.now) }
-    requires set { IsSet (T.candidate_count trial.now) set.old }
-    requires kept { IsKept (T.candidate_count trial.now) (length set.old) (T.holds trial.now) (T.claim_count trial.now)
-        (breaks_of found.old.items) }
-    requires before { IsComplete (T.candidate_count trial.now) (λ F. IsTriedBefore F set.old) (T.holds trial.now)
-        (T.claim_count trial.now) (breaks_of found.old.items) }
-    ensures kept { OnOk result (IsKept (T.candidate_count trial.now) (length set.old) (T.holds trial.now)
-        (T.claim_count trial.now) (breaks_of found.new.items)) }
-    ensures settled { IfOk result (λ step. IsComplete (T.candidate_count trial.now)
-        (λ F. MatchBool step.more (IsTriedBefore F set.new) (length F ≤ length set.old)) (T.holds trial.now)
-        (T.claim_count trial.now) (breaks_of found.new.items)) }
-    ensures counted { IfOk result (λ step. (m : ℕ) → IsCounted (T.candidate_count trial.now)
-        (λ F. IsTriedBefore F set.old) (T.holds trial.now) (T.claim_count trial.now) (breaks_of found.old.items) m
-        → IsCounted (T.candidate_count trial.now)
-        (λ F. MatchBool step.more (IsTriedBefore F set.new) (length F ≤ length set.old)) (T.holds trial.now)
-        (T.claim_count trial.now) (breaks_of found.new.items) (m + step.trials)) }
-    ensures room { IfOk result (λ step. step.trials ≤ room) }
-    ensures set { IfOk result (λ step. step.more ≡ true → IsSet (T.candidate_count trial.now) set.new) }
-    ensures moved { IfOk result (λ step. step.more ≡ true → 0 < room → ComesBefore set.old set.new) }
-    ensures worth { IfOk result (λ step. step.more ≡ true → IsWorthRun (T.candidate_count trial.now)
-        (T.holds trial.now) (T.claim_count trial.now) set.new) }
-{
-    let size = set.len();
-    let batch = gather(alloc, found, trial.candidates(), trial.claims(), set, room)?;
-    let answers = try_all(&batch.sets)?;
-    record_all(alloc, trial, found, &batch.sets, size, &answers)?;
-    Ok(Step {
-        trials: batch.sets.len(),
-        more: batch.more,
-    })
-}
-
-/// Where the sets of one size ended.
-#[derive(Drop)]
-struct SizeEnd {
-    /// How many runs were made so far.
-    trials: u64,
-    stopped_at: Option<Vec<u16>>,
-}
-
-/// How many runs may be made at a time, after so many.
-fn room_after(limits: Limits, made: u64) -> u16
-    requires within_limit { made ≤ limits.trials }
-    ensures fits { made + result ≤ limits.trials }
-    ensures none { result ≡ 0 → 0 < limits.at_a_time → made ≡ limits.trials }
-{
-    let left = limits.trials - made;
-    if left < u64::from(limits.at_a_time) {
-        left as u16
-    } else {
-        limits.at_a_time
-    }
-}
-
-/// Tries the sets of one size.
-///
-/// # Errors
-/// `AllocError` if an allocation fails.
-fn search_size<T: Trial, F: Fn(&[Vec<u16>]) -> Result<Vec<Vec<bool>>, AllocError>>(
-    alloc: Global,
-    trial: &T,
-    found: &mut Vec<Broken>,
-    size: u16,
-    made: u64,
     limits: Limits,
+    level: &mut Level,
+    node: &Node,
+    goes_on: bool,
     try_all: &F,
-) -> Result<SizeEnd, AllocError>
-    requires may_try { MayTry (T.candidate_count trial.now) (F.pre try_all.now) }
-    requires answers { GivesAnswers (T.candidate_count trial.now) (T.holds trial.now) (T.claim_count trial.now)
-        (F.post try_all.now) }
-    requires size { size ≤ T.candidate_count trial.now }
-    requires made { made ≤ limits.trials }
-    requires at_a_time { 0 < limits.at_a_time }
-    requires kept { IsKept (T.candidate_count trial.now) size (T.holds trial.now) (T.claim_count trial.now)
-        (breaks_of found.old.items) }
-    requires counted { IsCounted (T.candidate_count trial.now) (λ F. length F < size) (T.holds trial.now)
-        (T.claim_count trial.now) (breaks_of found.old.items) made }
-    requires smaller { IsComplete (T.candidate_count trial.now) (λ F. length F < size) (T.holds trial.now)
-        (T.claim_count trial.now) (breaks_of found.old.items) }
-    ensures kept { OnOk result (IsKept (T.candidate_count trial.now) size (T.holds trial.now) (T.claim_count trial.now)
-        (breaks_of found.new.items)) }
-    ensures complete { IfOk result (λ end. IsComplete (T.candidate_count trial.now) (IsCovered size end.stopped_at)
-        (T.holds trial.now) (T.claim_count trial.now) (breaks_of found.new.items)) }
-    ensures counted { IfOk result (λ end. IsCounted (T.candidate_count trial.now) (IsCovered size end.stopped_at)
-        (T.holds trial.now) (T.claim_count trial.now) (breaks_of found.new.items) end.trials) }
-    ensures limit { IfOk result (λ end. end.trials ≤ limits.trials) }
-    ensures stopped { IfOk result (λ end. IfSome end.stopped_at
-        (λ set. (end.trials ≡ limits.trials) × IsSet (T.candidate_count trial.now) set.items ×
-        (length set.items ≡ size))) }
-    ensures worth { IfOk result (λ end. IfSome end.stopped_at (λ set. IsWorthRun (T.candidate_count trial.now)
-        (T.holds trial.now) (T.claim_count trial.now) set.items)) }
+) -> Result<bool, AllocError>
+    requires may_try { MayTry (T.runs trial.now).bound (F.pre try_all.now) }
+    requires gives { GivesOutcomes (T.runs trial.now) (F.post try_all.now) }
+    requires in_course { IsInCourse (T.runs trial.now) limits
+        (FitNodes (T.runs trial.now) goes_on (node.now ∷ [])) level.old }
+    ensures looks { IfOk result (λ more. Looks (T.runs trial.now) limits
+        (FitNodes (T.runs trial.now) goes_on (node.now ∷ []))
+        (children (next_keys (T.runs trial.now).offers) node.now.set.items) level.old more level.new) }
+    ensures limit { OnOk result (level.new.trials + length level.new.waiting.items ≤ limits.trials) }
 {
-    let mut set = first_set(alloc, size)?;
-    let mut made = made;
-    loop {
-        let room = room_after(limits, made);
-        let step = try_batch(
-            alloc,
-            trial,
-            found,
-            set.as_mut_slice(),
-            usize::from(room),
-            try_all,
-        )?;
-        made += step.trials as u64;
-        if !step.more {
-            return Ok(SizeEnd {
-                trials: made,
-                stopped_at: None,
-            });
-        }
-        if room == 0 {
-            return Ok(SizeEnd {
-                trials: made,
-                stopped_at: Some(set),
-            });
+    for place in 0..node.next.len() {
+        let task = child(alloc, node, place, goes_on)?;
+        if !take_task(alloc, trial, limits, level, task, try_all)? {
+            return Ok(false);
         }
     }
+    Ok(true)
+}
+
+/// Takes the sets with one more fault than those of the nodes. Answers `false` if no more runs are allowed.
+///
+/// # Errors
+/// `AllocError` if an allocation fails.
+fn take_size<T: Trial, F: Fn(&[Task]) -> Result<Vec<Outcome>, AllocError>>(
+    alloc: Global,
+    trial: &T,
+    limits: Limits,
+    level: &mut Level,
+    nodes: &[Node],
+    goes_on: bool,
+    try_all: &F,
+) -> Result<bool, AllocError>
+    requires may_try { MayTry (T.runs trial.now).bound (F.pre try_all.now) }
+    requires gives { GivesOutcomes (T.runs trial.now) (F.post try_all.now) }
+    requires in_course { IsInCourse (T.runs trial.now) limits (FitNodes (T.runs trial.now) goes_on nodes.now)
+        level.old }
+    ensures looks { IfOk result (λ more. Looks (T.runs trial.now) limits
+        (FitNodes (T.runs trial.now) goes_on nodes.now)
+        (children_of (T.runs trial.now).offers nodes.now) level.old more level.new) }
+    ensures limit { OnOk result (level.new.trials + length level.new.waiting.items ≤ limits.trials) }
+{
+    for node in nodes {
+        if !take_children(alloc, trial, limits, level, node, goes_on, try_all)? {
+            return Ok(false);
+        }
+    }
+    Ok(true)
+}
+
+/// Runs with no fault. Answers `false` if no run is allowed.
+///
+/// # Errors
+/// `AllocError` if an allocation fails.
+fn search_none<T: Trial, F: Fn(&[Task]) -> Result<Vec<Outcome>, AllocError>>(
+    alloc: Global,
+    trial: &T,
+    limits: Limits,
+    level: &mut Level,
+    try_all: &F,
+) -> Result<bool, AllocError>
+    requires may_try { MayTry (T.runs trial.now).bound (F.pre try_all.now) }
+    requires gives { GivesOutcomes (T.runs trial.now) (F.post try_all.now) }
+    requires first { IsFirst level.old }
+    ensures ends { IfOk result (λ more. EndsSize (T.runs trial.now) limits 0 more level.new) }
+{
+    let root = Task {
+        set: Vec::new(alloc),
+        asleep: Vec::new(alloc),
+        goes_on: limits.faults > 0,
+    };
+    let more = take_task(alloc, trial, limits, level, root, try_all)?;
+    run_waiting(alloc, trial, level, try_all)?;
+    Ok(more)
+}
+
+/// Runs with the sets of this size. Answers `false` if no more runs are allowed.
+///
+/// # Errors
+/// `AllocError` if an allocation fails.
+fn search_size<T: Trial, F: Fn(&[Task]) -> Result<Vec<Outcome>, AllocError>>(
+    alloc: Global,
+    trial: &T,
+    limits: Limits,
+    size: u16,
+    level: &mut Level,
+    try_all: &F,
+) -> Result<bool, AllocError>
+    requires may_try { MayTry (T.runs trial.now).bound (F.pre try_all.now) }
+    requires gives { GivesOutcomes (T.runs trial.now) (F.post try_all.now) }
+    requires size { size ≤ limits.faults }
+    requires between { IsBetweenNodes (T.runs trial.now) size level.old }
+    requires limit { level.old.trials ≤ limits.trials }
+    ensures ends { IfOk result (λ more. EndsSize (T.runs trial.now) limits size more level.new) }
+{
+    let nodes = mem::replace(&mut level.nodes, Vec::new(alloc));
+    let goes_on = size < u16::from(limits.faults);
+    let more = take_size(alloc, trial, limits, level, &nodes, goes_on, try_all)?;
+    run_waiting(alloc, trial, level, try_all)?;
+    Ok(more)
 }
 
 /// Finds the minimal sets of faults that break claims, within the limits. The runs are made one after another.
@@ -175,55 +144,62 @@ fn search_size<T: Trial, F: Fn(&[Vec<u16>]) -> Result<Vec<Vec<bool>>, AllocError
 /// # Errors
 /// `AllocError` if an allocation fails.
 pub fn survey<T: Trial>(alloc: Global, trial: &T, limits: Limits) -> Result<Survey, AllocError>
-    requires batch_not_empty { 0 < limits.at_a_time }
-    ensures is_survey { IfOk result (IsSurvey (T.candidate_count trial.now) (T.holds trial.now)
-        (T.claim_count trial.now) limits) }
+    ensures is_survey { IfOk result (IsSurvey (T.runs trial.now) limits) }
 {
     survey_with(
         alloc,
         trial,
         limits,
-        &|sets| try_in_turn(alloc, trial, sets),
+        &|tasks| try_in_turn(alloc, trial, tasks),
     )
 }
 
-/// Finds the minimal sets of faults that break claims, within the limits. `try_all` runs with each of some sets, and
+/// Finds the minimal sets of faults that break claims, within the limits. `try_all` runs with the sets of some tasks, and
 /// answers in their order.
 ///
 /// # Errors
 /// `AllocError` if an allocation fails.
-pub fn survey_with<T: Trial, F: Fn(&[Vec<u16>]) -> Result<Vec<Vec<bool>>, AllocError>>(
+pub fn survey_with<T: Trial, F: Fn(&[Task]) -> Result<Vec<Outcome>, AllocError>>(
     alloc: Global,
     trial: &T,
     limits: Limits,
     try_all: &F,
 ) -> Result<Survey, AllocError>
-    requires at_a_time { 0 < limits.at_a_time }
-    requires may_try { MayTry (T.candidate_count trial.now) (F.pre try_all.now) }
-    requires answers { GivesAnswers (T.candidate_count trial.now) (T.holds trial.now) (T.claim_count trial.now)
-        (F.post try_all.now) }
-    ensures is_survey { IfOk result (IsSurvey (T.candidate_count trial.now) (T.holds trial.now)
-        (T.claim_count trial.now) limits) }
+    requires may_try { MayTry (T.runs trial.now).bound (F.pre try_all.now) }
+    requires gives { GivesOutcomes (T.runs trial.now) (F.post try_all.now) }
+    ensures is_survey { IfOk result (IsSurvey (T.runs trial.now) limits) }
 {
-    let mut broken = Vec::new(alloc);
-    let mut made = 0;
-    for size in 0..u16::from(limits.faults) + 1 {
-        if size > trial.candidates() {
-            break;
-        }
-        let end = search_size(alloc, trial, &mut broken, size, made, limits, try_all)?;
-        made = end.trials;
-        if let Some(set) = end.stopped_at {
-            return Ok(Survey {
-                broken,
-                trials: made,
-                stopped_at: Some(set),
-            });
+    let mut level = Level {
+        found: Vec::new(alloc),
+        trials: 0,
+        nodes: Vec::new(alloc),
+        waiting: Vec::new(alloc),
+    };
+    if !search_none(alloc, trial, limits, &mut level, try_all)? {
+        return Ok(survey_of(level, 0));
+    }
+    let most = u16::from(limits.faults);
+    for size in 1..most + 1 {
+        if !search_size(alloc, trial, limits, size, &mut level, try_all)? {
+            return Ok(survey_of(level, size));
         }
     }
-    Ok(Survey {
-        broken,
-        trials: made,
-        stopped_at: None,
-    })
+    Ok(survey_of(level, most + 1))
+}
+
+/// The survey that covers all sets of fewer faults than `sizes`.
+fn survey_of(level: Level, sizes: u16) -> Survey
+    ensures value { result ≡ survey_of level sizes }
+{
+    let Level {
+        found,
+        trials,
+        nodes: _,
+        waiting: _,
+    } = level;
+    Survey {
+        broken: found,
+        trials,
+        sizes,
+    }
 }

@@ -6,7 +6,7 @@
 This runs motecheck with the same arguments. With --links or --silent it surveys sets of faults. docs/use/TESTING.md
 describes claims, and what an answer says.
 
-The status is 0 if all claims hold, with all sets of a survey, 3 if not, and 1 or 2 after an error.
+The status is 0 if all claims hold, with all sets of a survey, 1 if not, and 2 if there is no result.
 """
 from __future__ import annotations
 

@@ -13,7 +13,7 @@ from motesim.judge.meaning import Sentence
 from motesim.runner import Limits, ProgramFault, Runner
 from motesim.runner.programs import CHECKER, program_path
 
-ALL_HOLD, ONE_IS_BROKEN = 0, 3
+ALL_HOLD, ONE_IS_BROKEN = 0, 1
 # The most bytes that one run gets: `motecheck` in node reads its claims and the scenario together.
 MOST_BYTES = 1_000_000
 

@@ -4,7 +4,7 @@ use Rattle.clap.specs.Faults.{is_simple_and_free}
 use Rattle.clap.specs.Simple.{is_simple}
 use Rattle.clap.proofs.TakesLemmas.{passed_up}
 use Rattle.simulation.specs.Words.{texts_of}
-use Rattle.claim_check.specs.Words.{AskedIn, FaultOf}
+use Rattle.claim_check.specs.Words.{AskedIn, FaultOf, motecheck_app}
 use Rattle.claim_check.proofs.command_line.asked_by.Goals as goal
 
 pub returns-in_err-command-clause-refuses : goal.returns-in_err-command-clause-refuses
@@ -13,7 +13,7 @@ returns-in_err-command-clause-refuses c = search rules
 pub returns-in_err-matches-clause-refuses : goal.returns-in_err-matches-clause-refuses
 returns-in_err-matches-clause-refuses c =
     let kinds = c.in_err-matches.ensures.kinds (ap is_simple_and_free c.in_ok-command.ensures.is_motecheck) in
-    passed_up _ c.in_err-matches.field-0.0 (λ e. FaultOf (texts_of c.args.words.now) (kind_of e)) c.from_residual-in_err-matches.ensures.1
+    passed_up _ c.in_err-matches.field-0.0 (λ e. FaultOf motecheck_app (texts_of c.args.words.now) (kind_of e)) c.from_residual-in_err-matches.ensures.1
     (elim kinds [
       | inl memory ↦ inl memory
       | inr among ↦ inr (subst (λ app. IsAmong (kind_of c.in_err-matches.field-0.0) (fault_of app (texts_of c.args.words.now))) c.in_ok-command.ensures.is_motecheck among)

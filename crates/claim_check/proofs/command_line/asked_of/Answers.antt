@@ -1,7 +1,6 @@
 use Rattle.std.proofs.Common.{◌∙◌, ap, codes, unwrap_or, []}
 use Rattle.clap.specs.Words.{found_of}
-use Rattle.clap.proofs.WalkLemmas.{first_value-rows, one_text-rows}
-use Rattle.claim_check.proofs.WordFacts.{number_read, workers_read}
+use Rattle.clap.proofs.WalkLemmas.{first_value-rows}
 use Rattle.claim_check.proofs.command_line.asked_of.Goals as goal
 
 pub returns : goal.returns
@@ -9,23 +8,8 @@ returns c = record {
   asked_in =
       let found = found_of c.args.matches.now in
       record {
+        options = c.options_of.ensures.options_in;
         scenario = c.text_of-scenario.ensures.value ∙ ap (λ o. unwrap_or o []) (c.get_str.ensures ∙ first_value-rows found (codes "SCENARIO"));
         claims = c.text_of-claims.ensures.value ∙ ap (λ o. unwrap_or o []) (c.get_str-2.ensures ∙ first_value-rows found (codes "CLAIMS"));
-        workers = workers_read _ _ (λ none. c.get_one-workers.ensures.none (one_text-rows found (codes "workers") ∙ none))
-            (λ text some. c.get_one-workers.ensures.value text (one_text-rows found (codes "workers") ∙ some));
-        links = (
-          λ none. c.get_flag.ensures.none (one_text-rows found (codes "links") ∙ none),
-          λ some. c.get_flag.ensures.value (one_text-rows found (codes "links") ∙ some),
-          λ some. c.get_flag.ensures.other (one_text-rows found (codes "links") ∙ some),
-        );
-        silent = (
-          λ none. c.get_flag-2.ensures.none (one_text-rows found (codes "silent") ∙ none),
-          λ some. c.get_flag-2.ensures.value (one_text-rows found (codes "silent") ∙ some),
-          λ some. c.get_flag-2.ensures.other (one_text-rows found (codes "silent") ∙ some),
-        );
-        at_most = number_read 8 _ _ (λ none. c.get_one.ensures.none (one_text-rows found (codes "at-most") ∙ none))
-            (λ text some. c.get_one.ensures.value text (one_text-rows found (codes "at-most") ∙ some));
-        runs = number_read 64 _ _ (λ none. c.get_one-2.ensures.none (one_text-rows found (codes "runs") ∙ none))
-            (λ text some. c.get_one-2.ensures.value text (one_text-rows found (codes "runs") ∙ some));
       };
 }

@@ -1,4 +1,4 @@
-use Rattle.std.proofs.Common.{None, ◌≡◌, ◌∙◌, subst, rules}
+use Rattle.std.proofs.Common.{None, subst}
 use Rattle.std.proofs.lemmas.Result.{err_from_is_err_and}
 use Rattle.mote_net.specs.Meaning.{net_of}
 use Rattle.claim_check.specs.Survey.{AnswersSurvey, faults_in}
@@ -17,11 +17,15 @@ returns c = record {
       let a = c.args in
       let net = net_of a.net.now in
       let answers = c.in_ok-answers_of.field-0 in
-      let sliced : c.as_slice-listed.result.now ≡ c.in_ok-candidates.candidates.items = search rules in
-      let told : AnswersSurvey a.names.now net a.claims.now c.as_slice-listed.result.now c.limits-limits.result answers =
-      (c.in_ok-found.found, c.in_ok-found.ensures.is_survey_of, c.in_ok-answers_of.ensures.tells_survey) in (
-        tt,
-        subst (λ l. AnswersSurvey a.names.now net a.claims.now (faults_in a.faults net) l answers) c.limits-limits.ensures.value
-            (subst (λ fs. AnswersSurvey a.names.now net a.claims.now fs c.limits-limits.result answers) (sliced ∙ c.in_ok-candidates.ensures.value) told),
-      );
+      let e = c.in_ok-candidates.ensures in
+      let told : AnswersSurvey a.names.now net a.claims.now (faults_in a.faults net) c.limits-limits.result answers =
+      record {
+        candidates = c.in_ok-candidates.candidates;
+        fixed = e.fixed;
+        no_copies = e.no_copies;
+        found = c.in_ok-found.found;
+        survey = c.in_ok-found.ensures.is_survey_of;
+        tells = c.in_ok-answers_of.ensures.tells_survey;
+      } in
+      (tt, subst (λ l. AnswersSurvey a.names.now net a.claims.now (faults_in a.faults net) l answers) c.limits-limits.ensures.value told);
 }

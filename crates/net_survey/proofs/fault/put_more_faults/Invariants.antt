@@ -5,7 +5,7 @@ use Rattle.net_survey.specs.SurveyText.{next_fault}
 use Rattle.net_survey.proofs.fault.put_more_faults.Given as goal
 
 -- the text, followed by the text of what is left, is the final text
-abbrev pub invariant-loop-number : goal.invariant-loop-number
-invariant-loop-number l =
-    string_bytes l.text ++ flat_map next_fault (faults_at l.candidates (drop l.number-index l.set))
+abbrev pub invariant-loop-key : goal.invariant-loop-key
+invariant-loop-key l =
+    string_bytes l.text ++ flat_map next_fault (faults_at l.candidates (drop l.key-index l.set))
     ≡ string_bytes l.initial.text ++ flat_map next_fault (faults_at l.candidates l.set)
