@@ -1,6 +1,6 @@
 """Checks the statements about each example: tools/dev/check_examples [NAME ..]
 
-For each scenario of examples/ the sentences of NAME.expect.toml have to hold, as tools/expect checks. The lines of an
+For each scenario of examples/ and its cookbook the sentences of NAME.expect.toml have to hold, as tools/expect checks. The lines of an
 example that README.md and the pages of docs/ quote must be in the example or in its report. For each task of
 examples/lesson the solution has to meet the expectations, and the scenario that students begin with must not. NAME is
 an example, `flooding`, or a task, `task1`; without a name all are checked.
@@ -18,10 +18,11 @@ from motesim.report import Report
 from motesim.runner.programs import TOP
 from motesim.report.run import Run, read_run
 
-PAGES = ['README.md', 'examples/README.md', 'docs/use/SCENARIO.md', 'docs/use/REPORT.md']
+PAGES = ['README.md', 'examples/README.md', 'examples/cookbook/README.md', 'docs/use/SCENARIO.md', 'docs/use/REPORT.md']
 EXPECTED = '.expect.toml'
 LESSON = TOP / 'examples/lesson'
-EXAMPLES = [it for it in sorted(TOP.glob('examples/*.toml')) if not it.name.endswith(EXPECTED)]
+EXAMPLES = [it for folder in ('', 'cookbook/') for it in sorted(TOP.glob('examples/%s*.toml' % folder))
+            if not it.name.endswith(EXPECTED)]
 TASKS = sorted(LESSON.glob('*' + EXPECTED))
 
 
