@@ -370,7 +370,7 @@ def main() -> int:
         return 1
     answers = answers_to(claims.decode().splitlines(), scenario, ran.stdout.decode())
     print('\n'.join(answers))
-    return 0 if all(it.startswith('holds') for it in answers) else 3
+    return 0 if all(it.startswith('holds') for it in answers) else 1
 
 
 if __name__ == '__main__':

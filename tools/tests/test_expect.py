@@ -163,7 +163,7 @@ def test_sentences_that_cannot_be_read_are_counted() -> None:
 CHECKER = """#!/bin/bash
 cat "$1" "$2" >"${0%/*}/asked"
 sed 's/.*"halt"$/broken: & -- also for mote 2: at least 1 line "halt"; line 3 of mote 2, at 46/; t; s/^/holds: /' "$2"
-exit 3
+exit 1
 """
 
 

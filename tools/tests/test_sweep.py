@@ -14,7 +14,8 @@ from claim_judge import deciding_by
 from here import SECONDS, TOOLS, Room, rows_of, scenario_of, text_of, until
 from motesim.experiments.asked import known_names, measures_of, sweep_of
 from motesim.experiments.doubts import of_full
-from motesim.experiments.measures import Bench, MeasureFault, imports_of, read_measure, sentence_of
+from motesim.experiments.measures import Bench, MeasureFault, read_measure, sentence_of
+from motesim.own_code import CodeFault, imports_of
 from motesim.experiments.one_run import Result, digest, run_job
 from motesim.experiments.results import Head, Results, cell, read_results
 from motesim.experiments.sweep import Sweeper
@@ -76,7 +77,7 @@ def test_messages_that_count_wrongly_have_a_warning(words: str, code: str) -> No
     *(('mine.py:a', 'def a(run):\n    return %s\n' % it, 'a returns -?(nan|inf)') for it in (
         'float("nan")', 'float("inf")', '-1e999'))])
 def test_a_function_that_fails_is_told_with_its_line(words: str, source: str, said: str) -> None:
-    with pytest.raises(MeasureFault, match=said):
+    with pytest.raises(Fault, match=said):
         read_measure('python: ' + words, NAMES, {'mine.py': source}).of(BENCH)
 
 
@@ -103,7 +104,7 @@ def test_a_file_imports_files_next_to_it() -> None:
     assert read_measure('python: sub/m.py:f', NAMES, sources).of(BENCH) == 0.5
     assert imports_of('sub/m.py', sources['sub/m.py']) == ['sub/math.py', 'sub/one.py', 'sub/two.py']
     sources['sub/two.py'] = sources['sub/two.py'].replace('TWO = 2', 'TWO = 0')
-    with pytest.raises(MeasureFault, match='f of sub/m.py: sub/two.py, line 3: ZeroDivisionError'):
+    with pytest.raises(CodeFault, match='f of sub/m.py: sub/two.py, line 3: ZeroDivisionError'):
         read_measure('python: sub/m.py:f', NAMES, sources).of(BENCH)
 
 

@@ -12,6 +12,9 @@ The scenario is run. For each expectation a line says whether it holds. If it do
 and the first line of the report that breaks it. docs/use/TESTING.md has all forms of expectations. The last
 line is `N passed, M failed`.
 
+A key `python = "checks.py:agree"` in the file names a function in Python for what no expectation can say. It gets the
+report, and returns the reason why this isn't right, or None.
+
 The proved program `motecheck` decides the claims that each expectation means for this scenario. With --claims the tool
 runs nothing, and writes these claims: `motecheck SCENARIO CLAIMS` answers them.
 

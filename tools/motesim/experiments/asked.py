@@ -6,7 +6,7 @@ from collections.abc import Iterator, Mapping, Sequence
 from dataclasses import dataclass
 from functools import cached_property
 
-from motesim.experiments.measures import file_of, imports_of, mote_of, processes_of_flow, read_measure
+from motesim.experiments.measures import mote_of, processes_of_flow, read_measure
 from motesim.cells import text_of
 from motesim.experiments.results import MADE, Row
 from motesim.faults import Fault
@@ -15,7 +15,6 @@ from motesim.judge.sentence_fault import SentenceFault
 from motesim.plan.plan import Plan
 from motesim.plan.tables import Value, optional, text_of_value
 from motesim.plan.values import MOST_RUNS, values_of
-from motesim.scenario.encodings import read_file
 from motesim.scenario import Scenario
 
 # The greatest number of runs whose scenarios are made before the first run, to find mistakes early.
@@ -108,21 +107,6 @@ def _values_in_plan(plan: Plan, name: str, values: object) -> list[Value]:
     if type(values) is not list or not values or not all(type(it) in (int, str, bool) for it in values):
         raise plan.tables.fault(path, 'These are not values.', '`"10,20,40"`, `"1..30"` or an array')
     return list(values)
-
-
-def sources_of(plan: Plan, measures: Sequence[str]) -> dict[str, str]:
-    """The users' files that the measures need, by their names, with the files that these import."""
-    left = sorted({file_of(words) for words in measures} - {''})
-    found: dict[str, str] = {}
-    try:
-        while left:
-            name = left.pop()
-            found[name] = read_file(plan.files.folder / name).decode('utf-8')
-            left += [it for it in imports_of(name, found[name])
-                     if it not in found and (plan.files.folder / it).is_file()]
-        return found
-    except UnicodeDecodeError as fault:
-        raise Fault('a file of measures is not UTF-8: %s' % fault) from None
 
 
 def unused(sweep: Sweep) -> list[str]:

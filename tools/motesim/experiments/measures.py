@@ -5,21 +5,14 @@
 """
 from __future__ import annotations
 
-import ast
-import builtins
-import inspect
 import math
 import re
-import traceback
 from bisect import bisect_right
 from collections import Counter, defaultdict
 from collections.abc import Callable, Mapping, Sequence
 from contextlib import suppress
 from dataclasses import dataclass
 from functools import cached_property
-from pathlib import PurePath
-from types import ModuleType
-from typing import Any
 
 from motesim.experiments.doubts import OWN_LINE, OWN_MESSAGE, SAME_VALUE
 from motesim.cells import Cell
@@ -34,6 +27,7 @@ from motesim.judge.breaks import Break
 from motesim.judge.finder import Finder
 from motesim.judge.links import Apart
 from motesim.notation.grammar import PARAMETER
+from motesim.own_code import function_of, named, needed_by
 from motesim.plan.tables import Value
 from motesim.report import OUTCOMES, Line
 from motesim.report.run import Run
@@ -56,7 +50,7 @@ NAMED = re.compile(r'\s*([A-Za-z][A-Za-z0-9_ -]{0,39}?)\s*=(?!=)\s*(.*)', re.S)
 OF_SUMMARY = re.compile(r'([a-z]+)(?:\s+of\s+mote\s+([0-9]{1,4}))?')
 OF_FLOW = re.compile(r'flow\s+([a-z]+)\s*:(.*)', re.S)
 OF_SENTENCE = re.compile(r'(%s)\s*:(.*)' % '|'.join(KINDS), re.S)
-OF_PYTHON = re.compile(r'python\s*:\s*([^:]+?)\s*:\s*([A-Za-z_]\w*)')
+OF_PYTHON = re.compile(r'python\s*:(.*)', re.S)
 
 NO_PARAMETERS = (
     '%r: a measure has no parameters, so `%s` isn\'t replaced by a value: write the value itself, or write a measure '
@@ -330,99 +324,36 @@ def _checked(value: object, name: str) -> Cell:
     raise MeasureFault('%s must return a number, a text or None, but returns %s' % (name, type(value).__name__))
 
 
-def _beside(file: str, name: str) -> str:
-    """The file of a module of this name, next to a user's file."""
-    return str(PurePath(file).with_name(name.partition('.')[0] + '.py'))
-
-
-def imports_of(file: str, source: str) -> list[str]:
-    """The files next to a user's file that have the names of the modules that it imports."""
-    try:
-        nodes = list(ast.walk(ast.parse(source)))
-    except (SyntaxError, ValueError):
-        # (`read_measure` reports the error)
-        return []
-    names = [it.name for node in nodes if isinstance(node, ast.Import) for it in node.names]
-    names += [node.module for node in nodes if isinstance(node, ast.ImportFrom) and node.module]
-    return sorted({_beside(file, name) for name in names})
-
-
-def _module_of(file: str, sources: Mapping[str, str], loaded: dict[str, ModuleType]) -> ModuleType:
-    """The module of a user's file. It imports files next to it from the sources, because another machine may run
-    it."""
-    if file not in loaded:
-        def load(name: str, *others: Any) -> ModuleType:
-            path = _beside(file, name) if name else ''
-            return _module_of(path, sources, loaded) if path in sources else __import__(name, *others)
-
-        module = loaded[file] = ModuleType(PurePath(file).stem)
-        vars(module).update(__file__=file, __builtins__={**vars(builtins), '__import__': load})
-        exec(compile(sources[file], file, 'exec'), vars(module))
-    return loaded[file]
-
-
-def _needs_two(function: Callable[..., object]) -> bool:
-    """Returns whether a user's function can't be called with only the run: it also asks for the parameters."""
-    try:
-        its = list(inspect.signature(function).parameters.values())
-    except (TypeError, ValueError):
-        return False
-    return sum(it.kind in (it.POSITIONAL_ONLY, it.POSITIONAL_OR_KEYWORD) and it.default is it.empty
-               for it in its) > 1
-
-
 def _of_python(file: str, function: str, sources: Mapping[str, str]) -> Callable[[Bench], Cell]:
-    if file not in sources:
-        raise MeasureFault('there is no file %s' % file)
-    try:
-        space = vars(_module_of(file, sources, {}))
-    except Exception as fault:
-        raise MeasureFault('%s: %s' % (file, _said(fault, file, sources))) from None
-    if not callable(space.get(function)):
-        raise MeasureFault('%s has no function %s' % (file, function))
-    work: Callable[..., object] = space[function]
-    has_parameters = _needs_two(work)
-
-    def of(bench: Bench) -> Cell:
-        try:
-            # (each call has a copy, so that no function changes the values for another one)
-            return _checked(work(bench.run, *[dict(bench.parameters)] * has_parameters), function)
-        except (MeasureFault, MemoryError, TimeoutError):
-            raise
-        except Exception as fault:
-            raise MeasureFault('%s of %s: %s' % (function, file, _said(fault, file, sources))) from None
-
-    return of
-
-
-def _said(fault: Exception, file: str, sources: Mapping[str, str]) -> str:
-    """The error in a user's file, or in a file that it imports, with its line."""
-    places = [(frame.f_code.co_filename, line) for frame, line in traceback.walk_tb(fault.__traceback__)]
-    if isinstance(fault, SyntaxError):
-        places.append((fault.filename or '', fault.lineno or 0))
-    name, line = next((it for it in reversed(places) if it[0] in sources), ('', 0))
-    where = 'line %d: ' % line if name == file else '%s, line %d: ' % (name, line) if name else ''
-    what = fault.msg if isinstance(fault, SyntaxError) else str(fault)
-    return '%s%s: %s' % (where, type(fault).__name__, ' '.join(what.split()))
+    work = function_of(file, function, sources)
+    has_parameters = needed_by(work) > 1
+    # (each call has a copy, so that no function changes the values for another one)
+    return lambda bench: _checked(work(bench.run, *[dict(bench.parameters)] * has_parameters), function)
 
 
 def name_of(words: str) -> str:
     """The name of a measure's column."""
-    named, text = _parts(words)
-    python = OF_PYTHON.fullmatch(text)
-    return named or (python[2] if python else ' '.join(text.split()))
+    name, text = _parts(words)
+    python = python_of(text)
+    return name or (python[1] if python else ' '.join(text.split()))
+
+
+def python_of(text: str) -> tuple[str, str] | None:
+    """The user's file and its function that a measure without a name calls."""
+    found = OF_PYTHON.fullmatch(text)
+    return named(found[1]) if found else None
 
 
 def _parts(words: str) -> tuple[str, str]:
     """The name that the author gave to a measure, or an empty text; and the measure itself."""
-    named = NAMED.fullmatch(words)
-    return (named[1], named[2].strip()) if named else ('', words.strip())
+    found = NAMED.fullmatch(words)
+    return (found[1], found[2].strip()) if found else ('', words.strip())
 
 
 def file_of(words: str) -> str:
     """The user's file that a measure needs, or an empty text."""
-    found = OF_PYTHON.fullmatch(_parts(words)[1])
-    return found[1] if found else ''
+    found = python_of(_parts(words)[1])
+    return found[0] if found else ''
 
 
 def processes_of_flow(words: str) -> list[str]:
@@ -448,13 +379,13 @@ def mote_of(words: str) -> int | None:
 def read_measure(words: str, names: Names = Names(), sources: Mapping[str, str] = {}) -> Measure:
     """A measure from its text, with the sources of users' files."""
     name, text = name_of(words), _parts(words)[1]
-    python, flow, sentence = OF_PYTHON.fullmatch(text), OF_FLOW.fullmatch(text), OF_SENTENCE.fullmatch(text)
+    python, flow, sentence = python_of(text), OF_FLOW.fullmatch(text), OF_SENTENCE.fullmatch(text)
     parameter = PARAMETER.search(words)
     if parameter and not python:
         raise MeasureFault(NO_PARAMETERS % (words, parameter[0]))
     try:
         if python:
-            return Measure(name, text, _of_python(python[1], python[2], sources))
+            return Measure(name, text, _of_python(*python, sources))
         if flow and flow[1] not in FLOWS:
             raise MeasureFault('%r is not a measure: a flow has no %s; %s' % (text, flow[1], known(flow[1], FLOWS)))
         if flow:

@@ -10,7 +10,7 @@ from collections.abc import Iterable, Iterator, Mapping, Sequence
 from pathlib import Path
 
 from motesim import packages
-from motesim.experiments.asked import Sweep, known_names, measures_of, sources_of, sweep_of, unused
+from motesim.experiments.asked import Sweep, known_names, measures_of, sweep_of, unused
 from motesim.experiments.doubts import MEANINGS
 from motesim.experiments.measures import file_of
 from motesim.experiments.one_run import DIGITS, Job, Result, Work, digest
@@ -20,12 +20,14 @@ from motesim.experiments.runs import Stopped, results_of
 from motesim.faults import INTERRUPTED, Fault
 from motesim.files import refuse_inputs
 from motesim.output import beside
+from motesim.own_code import sources_of
 from motesim.plan.plan import UNUSED, Plan
 from motesim.plan.tables import Value, text_of_value, value_of_text
 from motesim.progress import Progress, clock
 from motesim.runner.cluster import Binary
 from motesim.runner.programs import CHECKER, PROGRAM, program_path
 from motesim.runner.versions import kit_version, program_digest, program_version
+from motesim.scenario.encodings import read_file
 
 
 class Sweeper:
@@ -37,7 +39,7 @@ class Sweeper:
 
     def __init__(self, sweep: Sweep, path: Path) -> None:
         self.sweep, self.plan, self.path = sweep, sweep.plan, path
-        self.sources = sources_of(self.plan, sweep.measures)
+        self.sources = sources_of({file_of(it) for it in sweep.measures} - {''}, self.plan.files.folder, read_file)
         self.program = program_path().resolve()
         self.head = Head(
             self.plan.name, list(self.plan.parameters), measures_of(sweep, known_names(sweep), self.sources),

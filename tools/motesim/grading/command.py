@@ -59,12 +59,13 @@ def task_of(asked: argparse.Namespace, pictures: Path | None) -> Task:
     nets = [*nets_of(asked.net, asked.param, asked.program), *nets_of(asked.hidden, [], asked.program, is_hidden=True)]
     try:
         read_all(part.sentences, Names(fields=part.fields))
+        predicates = part.predicates()
         for net in nets:
             read_all(part.sentences, Names(None, names_of(net.scenario).motes, fields=part.fields))
     except Fault as fault:
         raise Fault('%s: %s' % (name, fault)) from None
     limits = Limits(asked.seconds, asked.memory * MEGABYTE, asked.report * MEGABYTE)
-    return Task(part, tuple(nets), limits, pictures, has_nearest=asked.why is not None)
+    return Task(part, tuple(nets), limits, pictures, asked.why is not None, tuple(predicates))
 
 
 def spoken_of_by_none(marked: Sequence[Marks], sentences: Sequence[str]) -> list[str]:

@@ -14,8 +14,9 @@ from motesim.grading.entries import Entry, data_of, decoded, without_program
 from motesim.grading.marks import LONGEST_WHY, Mark, Marks, MarksInNet, over_nets, spread, unmarked
 from motesim.grading.nets import Net, program_of, unused_of
 from motesim.grading.warned import net_warned, seen_of, warned_of
-from motesim.judge.expectations import REFUSED, Part, known_of, of_report, refused
+from motesim.judge.expectations import REFUSED, Part, by_python, known_of, of_report, refused
 from motesim.judge.finder import Finder
+from motesim.judge.predicates import Predicate
 from motesim.judge.sentences import lacking
 from motesim.judge.several import read_all, UnknownSentence
 from motesim.notation.reader import find_fault as find_program_fault
@@ -49,13 +50,14 @@ class Ended(Fault):
 @dataclass(frozen=True)
 class Task:
     """The parts that all solutions have in common: the sentences, the nets (if there are none, each solution has its
-    own), the limits, and whether the reason of the first broken sentence has the lines that are nearest to the wanted
-    one."""
+    own), the limits, whether the reason of the first broken sentence has the lines that are nearest to the wanted one,
+    and the functions in Python that the expectations name."""
     part: Part
     nets: tuple[Net, ...]
     limits: Limits
     pictures: Path | None = None
     has_nearest: bool = False
+    predicates: tuple[Predicate, ...] = ()
 
     def of(self, numbered: tuple[int, Entry]) -> Marks:
         """The marks of an entry."""
@@ -122,7 +124,7 @@ class Task:
             return MarksInNet(spread(held, self.part.sentences, lacks), lacks, why, is_refused=True)
         scenario = known or Scenario.parse(text)
         report = Report.parse(got.report)
-        verdicts = of_report(part, sentences, Finder(report, scenario), self.limits)
+        verdicts = of_report(part, sentences, Finder(report, scenario), self.limits) + by_python(self.predicates, report)
         held = [Mark(it.sentence, it.holds, (), tuple(it.more), remark=it.remark, broken=it.broken) for it in verdicts]
         marks = [*spread(held, self.part.sentences, lacks), *held[len(sentences):]]
         programs = {program: scenario.programs[program]} if program else scenario.programs

@@ -29,6 +29,9 @@ from motesim.scenario.fields import Field, of_line, read_fields
 from motesim.scenario.refused import check
 from motesim.judge.meaning import Refused, Sentence
 from motesim.judge.names import Names, names_of
+from motesim.judge.predicates import EXAMPLE as PREDICATE
+from motesim.judge.predicates import NOT_PROVED as BY_PYTHON
+from motesim.judge.predicates import Predicate, predicates_of
 from motesim.judge.several import read_all
 from motesim.judge.verdicts import breaks
 from motesim.toml import NoToml, read_toml
@@ -36,12 +39,14 @@ from motesim.toml import NoToml, read_toml
 LONGEST_SHOWN = 150
 REFUSED = 'the scenario is refused'
 WHOLE = 'the report is the expected one'
-KEYS = {'expect': list, 'required': list, 'report': str, 'change': list, 'about': str, 'replace': dict,
-        'fields': dict}
+KEYS: dict[str, type | tuple[type, ...]] = {
+    'expect': list, 'required': list, 'report': str, 'python': (str, list), 'change': list, 'about': str,
+    'replace': dict, 'fields': dict}
 EXAMPLE = '`expect = ["mote 0 sends twice", "no mote halts"]`'
 # For each key, the kind of its value, and its form.
 WRITTEN = {
     'expect': 'an array of expectations, such as %s' % EXAMPLE, 'report': 'a text',
+    'python': 'a file and its function, such as %s, or an array of these' % PREDICATE,
     'required': 'an array of expectations, such as `required = ["every mote prints"]`',
     'change': 'an array of tables: each begins with a line `[[change]]`',
     'about': 'a text, such as `about = "a late end"`',
@@ -69,6 +74,7 @@ class Part:
     required  how many of the sentences, from the first one on, a solution must meet to earn anything
     fields    the declared format of packets
     about     the description of a change, if it has one; it is also the name then
+    python    the functions in Python that must find the report right, each as `FILE:FUNCTION`; and the file that names them
     """
     name: str
     sentences: list[str]
@@ -77,6 +83,12 @@ class Part:
     required: int = 0
     fields: tuple[Field, ...] = ()
     about: str = ''
+    python: tuple[str, ...] = ()
+    file: str = ''
+
+    def predicates(self) -> list[Predicate]:
+        """The functions in Python, loaded from their files."""
+        return predicates_of(self.python, Path(self.file).parent)
 
 
 class Verdict(NamedTuple):
@@ -91,24 +103,24 @@ class Verdict(NamedTuple):
     broken: Broken | None = None
 
 
-def part_of(table: dict[str, Any], name: str, keys: set[str]) -> Part:
+def part_of(table: dict[str, Any], name: str, keys: set[str], file: str) -> Part:
     """The expectations of a table of the file."""
     for key, value in table.items():
         if key not in keys:
             like = nearest(key, keys)
             more = ', as a scenario has' if key in TOP else '; did you mean %s?' % like if like else ''
             raise Fault('%s has a key %s%s; allowed are: %s' % (name, key, more, ', '.join(sorted(keys))))
-        if type(value) is not KEYS[key]:
+        if not isinstance(value, KEYS[key]):
             raise Fault('%s of %s is not %s' % (key, name, WRITTEN[key]))
-    required, replace = table.get('required', []), table.get('replace', {})
-    sentences = required + table.get('expect', [])
-    other = next((it for it in [*sentences, *replace.values()] if type(it) is not str), None)
+    required, replace, python = table.get('required', []), table.get('replace', {}), table.get('python', [])
+    sentences, functions = required + table.get('expect', []), [python] if isinstance(python, str) else python
+    other = next((it for it in [*sentences, *replace.values(), *functions] if type(it) is not str), None)
     if other is not None:
         raise Fault('%s must contain only texts, which are in quotes, but has %s' % (name, other))
-    if not sentences and 'report' not in table:
+    if not sentences and not functions and 'report' not in table:
         raise Fault('%s expects nothing: write expectations, such as %s' % (name, EXAMPLE))
     return Part(table.get('about', name), sentences, table.get('report'), replace, len(required),
-                read_fields(table.get('fields', {})), table.get('about', ''))
+                read_fields(table.get('fields', {})), table.get('about', ''), tuple(functions), file)
 
 
 def parts_of(text: str, name: str) -> list[Part]:
@@ -118,11 +130,11 @@ def parts_of(text: str, name: str) -> list[Part]:
     except NoToml as fault:
         raise Fault('%s is not TOML: %s; each expectation is in quotes, with commas between them: %s' % (
             name, fault, EXAMPLE)) from None
-    parts = [part_of(tables, name, {'expect', 'required', 'report', 'change', 'fields'})]
+    parts = [part_of(tables, name, {'expect', 'required', 'report', 'python', 'change', 'fields'}, name)]
     for number, table in enumerate(tables.get('change', []), 1):
         if type(table) is not dict or not table.get('replace'):
             raise Fault('change %d of %s has no table replace' % (number, name))
-        part = part_of(table, 'change %d of %s' % (number, name), {'expect', 'report', 'about', 'replace'})
+        part = part_of(table, 'change %d of %s' % (number, name), {'expect', 'report', 'python', 'about', 'replace'}, name)
         parts.append(dataclasses.replace(part, fields=parts[0].fields))
     return parts
 
@@ -173,6 +185,11 @@ def same_report(rows: Iterable[str], wanted: str) -> Verdict:
     return Verdict(WHOLE, True, [], False, NOT_PROVED)
 
 
+def python_in(words: str) -> str:
+    """A function in Python, as an expectation."""
+    return 'python: ' + words
+
+
 def refused(part: Part, sentences: list[Sentence], got: Answer) -> list[Verdict]:
     """The verdicts on a scenario that has no report."""
     line = got.why
@@ -180,6 +197,7 @@ def refused(part: Part, sentences: list[Sentence], got: Answer) -> list[Verdict]
     for text, sentence in zip(part.sentences, sentences):
         holds = isinstance(sentence, Refused) and got == Answer(1, b'', ('motesim: %s\n' % sentence.fault).encode())
         found.append(Verdict(text, holds, more, True, NOT_PROVED if isinstance(sentence, Refused) else ''))
+    found += [Verdict(python_in(it), False, more, True, BY_PYTHON) for it in part.python]
     return found if part.report is None else found + [Verdict(WHOLE, False, more, True, NOT_PROVED)]
 
 
@@ -191,6 +209,12 @@ def of_report(part: Part, sentences: list[Sentence], finder: Finder, limits: Lim
         found.append(Verdict(text, its is None, more_of(its, finder.report, part.fields) if its else [], False, remark,
                              its.row if its else None, its))
     return found + ([same_report(finder.report.rows(), part.report)] if part.report is not None else [])
+
+
+def by_python(predicates: Sequence[Predicate], report: Report) -> list[Verdict]:
+    """The verdicts of functions in Python."""
+    reasons = [(it, it.why(report)) for it in predicates]
+    return [Verdict(python_in(it.words), not why, [why] * bool(why), False, BY_PYTHON) for it, why in reasons]
 
 
 def known_of(text: str, fields: tuple[Field, ...] = ()) -> tuple[Scenario | None, Names]:
@@ -212,12 +236,16 @@ def judged(scenario: str, part: Part, run: Callable[[bytes], Answer] | None = No
     text = changed(scenario, part.replace)
     known, names = known_of(text, part.fields)
     sentences = read_all(part.sentences, names)
+    # (an error in a function is told before the run)
+    predicates = part.predicates()
     got = (run or answer)(text.encode())
     if got.status and not any(isinstance(it, Refused) for it in sentences):
         raise NoReport('%s: %s' % (REFUSED, got.why))
     if got.status:
         return refused(part, sentences, got)
-    return of_report(part, sentences, Finder(Report.parse(got.report), known or Scenario.parse(text)), limits)
+    report = Report.parse(got.report)
+    found = of_report(part, sentences, Finder(report, known or Scenario.parse(text)), limits)
+    return found + by_python(predicates, report)
 
 
 def expect(scenario: Path, expectations: Path, is_quiet: bool = False,
@@ -273,6 +301,9 @@ def claims_shown(scenario: Path, expectations: Path, given: Sequence[str] = ()) 
             yield '# %s' % why
         if claims.apart:
             yield '# without a distance, so without a case: ' + motes_text(sorted(set(claims.apart)))
+    for words in part.python:
+        yield '# %s' % python_in(words)
+        yield '# %s' % NoClaim('a function in Python decides it')
     if part.report is not None:
         yield '# %s' % NoClaim('the whole report')
     for number, it in enumerate(others, 1):

@@ -108,6 +108,8 @@ def items_of(text: str, part: expectations.Part) -> list[dict[str, Any]]:
         except NoClaim as why:
             its, remark = [], 'tools/expect decides this: %s' % why
         items.append({'words': ' '.join(words.split()), 'claims': its, 'remark': remark})
+    items += [{'words': expectations.python_in(words), 'claims': [], 'remark': 'tools/expect decides this with Python'}
+              for words in part.python]
     if part.report is not None:
         items.append({'words': 'the whole report', 'claims': [], 'remark': 'tools/expect compares it'})
     return items
