@@ -112,6 +112,13 @@ def add_expectation(words: argparse.ArgumentParser, what: str = 'an expectation,
     words.add_argument('--expect', action='append', default=[], metavar='EXPECTATION', help=what)
 
 
+def add_faults(words: argparse.ArgumentParser, which: str = 'the run') -> None:
+    """Adds the options for the faults of a run."""
+    words.add_argument('--fault', action='append', default=[], metavar='FAULT',
+                       help='a fault of %s, such as "link 1 to 2 is broken" (more than once for several)' % which)
+    words.add_argument('--faults', metavar='FILE', help='a file with faults of %s, one in each line' % which)
+
+
 def one_of(named: str | None, given: Sequence[str]) -> str | None:
     """The only expectation: the one without an option, or that of `--expect`."""
     found = [*([] if named is None else [named]), *given]

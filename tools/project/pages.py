@@ -37,7 +37,7 @@ WIDTH = 120
 GRAMMAR_WIDTH, NAME_WIDTH = 116, 10
 PART_OF_RULE = re.compile(r'\{ [^{}]*(?:\{ [^{}]* \})?[^{}]* \}|\[ [^\[\]]* \]|\S+')
 # The options that many tools have, and that the page describes once.
-SHARED = 'seconds', 'memory', 'report', 'bytes', 'jobs', 'dask'
+SHARED = 'seconds', 'memory', 'report', 'bytes', 'jobs', 'dask', 'fault', 'faults'
 PART = re.compile(r'(?<=<!-- written by tools/dev/pages: )(?P<name>[\w ]+)(?P<head> -->\n).*?(?=<!-- end -->)', re.S)
 
 

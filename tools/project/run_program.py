@@ -33,6 +33,8 @@ NAME = 'motesim'
 HELP = Path(__file__).with_name('help.txt')
 HELP_OF_RUN = """
 Options of ./run itself, which compiles motesim if it isn't built:
+      --fault FAULT  Runs with this fault, such as "link 1 to 2 is broken", by motecheck (more than once for several)
+      --faults FILE  Runs with the faults in this file, one in each line
       --unproved     Runs a motesim that is compiled without a proof, even if a proved one is built
       --version      Prints the version, and whether the motesim that would run is proved"""
 FAILED, MISUSED = 1, 2

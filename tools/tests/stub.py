@@ -39,7 +39,8 @@ def programs_of(motesim: Path) -> dict[str, str]:
 
 
 def answers(scenario: bytes, claims: Sequence[str], *options: str, program: Path | None = None,
-            limits: Limits = Limits(), asks_end: Callable[[], bool] = lambda: False) -> list[str]:
+            limits: Limits = Limits(), asks_end: Callable[[], bool] = lambda: False, faults: Sequence[str] = ()
+            ) -> list[str]:
     """The answers of the stand-in for motecheck, in this process: another one needs most of its time to start."""
     got = Runner(program_path(), limits, asks_end).answer(scenario)
     if got.status:

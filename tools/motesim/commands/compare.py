@@ -1,7 +1,9 @@
 """Compares two reports, and shows the first difference.
 
 A and B are reports, or scenarios, which are run. If both are scenarios, the tool also lists the differences between the
-scenarios. The first difference between two reports is the one at the earliest moment; `diff` may show another one
+scenarios. `tools/compare A --fault "mote 3 is silent"` compares the run of a scenario with its run with this fault.
+
+The first difference between two reports is the one at the earliest moment; `diff` may show another one
 first. The tool shows its moment and mote, the line of each report, and the last packets and events of this mote before
 the difference. It also shows the first collision that only one of the two reports has, and the number of lines that
 differ, for each mote and for each kind of line. `--html FILE` writes a page with one timeline above the other.
@@ -13,7 +15,7 @@ from __future__ import annotations
 from typing import Any
 
 from motesim.command import command
-from motesim.words import Words, words_of
+from motesim.words import Words, add_faults, words_of
 
 
 def write_page(*given: Any) -> None:
@@ -25,7 +27,8 @@ def write_page(*given: Any) -> None:
 def parser() -> Words:
     words = words_of(__doc__)
     words.add_argument('a', metavar='A', help='a report, or a scenario')
-    words.add_argument('b', metavar='B', help='another report or scenario')
+    words.add_argument('b', nargs='?', metavar='B', help='another report or scenario; with a fault, A itself')
+    add_faults(words, "B's run")
     words.add_argument('--rows', type=int, default=20, metavar='N',
                        help='show at most N motes in the table of lines that differ (20)')
     words.add_argument('--html', metavar='FILE',

@@ -28,7 +28,7 @@ from pathlib import Path
 
 from motesim.command import command
 from motesim.faults import Fault
-from motesim.words import Words, add_expectation, add_limits, words_of
+from motesim.words import Words, add_expectation, add_faults, add_limits, words_of
 
 
 def parser() -> Words:
@@ -37,6 +37,7 @@ def parser() -> Words:
     words.add_argument('expectations', nargs='?', metavar='EXPECTATIONS',
                        help='the expectations (NAME.expect.toml next to the scenario)')
     add_expectation(words)
+    add_faults(words)
     words.add_argument('--claims', action='store_true',
                        help='write the claims that the expectations mean for this scenario, and run nothing')
     add_limits(words)
@@ -49,13 +50,15 @@ def main() -> int:
     from motesim.explain.within import limits_of, runs_within
     from motesim.judge.expectations import beside, claims_shown, expect, text_of
     from motesim.judge.own_claims import expect_own, own_claims
+    from motesim.judge.verdicts import unused
+    from motesim.scenario.fault_text import faults_asked
     scenario = Path(asked.scenario)
     expectations = Path(asked.expectations) if asked.expectations else beside(scenario)
     if asked.expectations and asked.expect:
         raise Fault('the expectations are in a file or in --expect, not in both')
     is_own = not (asked.expectations or asked.expect) and scenario.exists()
     text = text_of(scenario) if is_own and not asked.claims else ''
-    claims, passed, failed = own_claims(text), 0, 0
+    claims, faults, passed, failed = own_claims(text), faults_asked(asked), 0, 0
     if is_own and not expectations.exists() and not claims:
         raise Fault('there is no file %s next to %s: name another one, tools/expect SCENARIO EXPECTATIONS, or use --expect' % (
             expectations, scenario))
@@ -63,10 +66,12 @@ def main() -> int:
         print('\n'.join(claims_shown(scenario, expectations, asked.expect)))
         return 0
     if not claims or expectations.exists():
-        passed, failed = expect(scenario, expectations, run=runs_within(asked.scenario, asked), limits=limits_of(asked),
-                                given=asked.expect)
+        passed, failed = expect(scenario, expectations, run=runs_within(asked.scenario, asked, faults),
+                                limits=limits_of(asked), given=asked.expect, faults=faults)
+    for it in unused(scenario.read_bytes(), faults, limits_of(asked)):
+        print('unused  %s\n          the run sends no copy that this fault names' % it)
     if claims:
-        held, broken = expect_own(scenario, text, claims, limits_of(asked))
+        held, broken = expect_own(scenario, text, claims, limits_of(asked), faults)
         passed, failed = passed + held, failed + broken
     print('%d passed, %d failed' % (passed, failed))
     return 1 if failed else 0

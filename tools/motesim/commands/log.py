@@ -5,7 +5,7 @@ Each line shows the moment, the mote, the line number in the report, and what ha
 from __future__ import annotations
 
 from motesim.command import command
-from motesim.words import Words, add_expectation, add_table, one_of, words_of
+from motesim.words import Words, add_expectation, add_faults, add_table, one_of, words_of
 
 
 def parser() -> Words:
@@ -13,6 +13,7 @@ def parser() -> Words:
     words.add_argument('file', metavar='FILE', help='a scenario, or a report; - is standard input')
     words.add_argument('sentence', metavar='EXPECTATION', nargs='?', help='show the lines that this is about')
     words.add_argument('--scenario', metavar='FILE', help="if FILE is a report: its scenario, which EXPECTATION needs")
+    add_faults(words)
     words.add_argument('--mote', metavar='LIST', help='show the lines of these motes, such as 3,5-7')
     words.add_argument('--kind', metavar='LIST', help='show the lines of these kinds, such as send,recv')
     words.add_argument('--process', metavar='NAME', help='show the lines that name this process')

@@ -11,12 +11,13 @@ The command ends with status 0, or with 2 if there is no report.
 from __future__ import annotations
 
 from motesim.command import command
-from motesim.words import Words, words_of
+from motesim.words import Words, add_faults, words_of
 
 
 def parser() -> Words:
     words = words_of(__doc__)
     words.add_argument('file', nargs='?', default='-', metavar='FILE', help='a scenario; without it, standard input')
+    add_faults(words)
     words.add_argument('--workers', metavar='N', help='only of a compiled motesim: run the motes on 1 to 16 workers')
     words.add_argument('--cut', choices=['block', 'stripe'], help='with --workers: how the motes are divided')
     words.add_argument('--sync', choices=['joins', 'marks'], help='with --workers: how the workers wait for one another')
@@ -29,4 +30,5 @@ def main() -> int:
     options = [it for name in ('workers', 'cut', 'sync') if getattr(asked, name) is not None
                for it in ('--' + name, getattr(asked, name))]
     from motesim.explain.whole_run import status_of
-    return status_of(asked.file, options)
+    from motesim.scenario.fault_text import faults_asked
+    return status_of(asked.file, options, faults_asked(asked))

@@ -27,7 +27,7 @@ from __future__ import annotations
 
 from motesim.command import command
 from motesim.summary.columns import FLOWS, INTERVALS, LINKS, MOTES, described
-from motesim.words import Words, add_table, words_of
+from motesim.words import Words, add_faults, add_table, words_of
 
 
 def parser() -> Words:
@@ -35,6 +35,7 @@ def parser() -> Words:
                                              intervals=described(INTERVALS)))
     words.add_argument('report', metavar='REPORT', help='a report, or a scenario; - is standard input')
     words.add_argument('--scenario', metavar='FILE', help='if REPORT is a report: its scenario')
+    add_faults(words)
     form = words.add_mutually_exclusive_group()
     add_table(form, 'csv', 'write one table in CSV')
     add_table(form, 'json', 'write all tables in JSON')

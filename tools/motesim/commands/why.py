@@ -9,7 +9,7 @@ import shlex
 
 from motesim.command import command
 from motesim.faults import Fault
-from motesim.words import Words, add_expectation, add_table, one_of, words_of
+from motesim.words import Words, add_expectation, add_faults, add_table, one_of, words_of
 
 
 def parser() -> Words:
@@ -17,6 +17,7 @@ def parser() -> Words:
     words.add_argument('file', metavar='FILE', help='a scenario, or a report; - is standard input')
     words.add_argument('question', metavar='QUESTION', nargs='?', help='an expectation, or a line of the report')
     words.add_argument('--scenario', metavar='FILE', help='if FILE is a report: its scenario')
+    add_faults(words, "FILE's run")
     words.add_argument('--other', metavar='FILE',
                        help='a second scenario or report: show the first line of the chain that the second run lacks')
     words.add_argument('--other-scenario', metavar='FILE', help='if --other names a report: its scenario')

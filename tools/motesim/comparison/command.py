@@ -9,6 +9,7 @@ from motesim.comparison.reports import Difference, compared, packet_of
 from motesim.faults import Fault
 from motesim.files import refuse_inputs
 from motesim.report.run import Run, read_run
+from motesim.scenario.fault_text import faults_asked
 
 
 def write_html(write_page: Callable[..., None], path: str, a: Run, b: Run, first: Difference | None) -> None:
@@ -21,11 +22,15 @@ def write_html(write_page: Callable[..., None], path: str, a: Run, b: Run, first
 
 def status_of(asked: argparse.Namespace, write_page: Callable[..., None]) -> int:
     """Prints the comparison; returns the status. `write_page` writes a page of timelines."""
-    if asked.a == asked.b == '-':
+    faults = faults_asked(asked)
+    if asked.b is None and not faults:
+        raise Fault('B is missing: another report or scenario, or a fault, with which A is run')
+    other = asked.a if asked.b is None else asked.b
+    if asked.a == other == '-':
         raise Fault('A and B can\'t both be standard input: one of them is a file')
     if asked.html:
         refuse_inputs(asked.html, [asked.a, asked.b], '--html')
-    a, b = read_run(asked.a), read_run(asked.b)
+    a, b = read_run(asked.a), read_run(other, faults=faults)
     lines, first, is_same = compared(a, b, max(1, asked.rows))
     if asked.html:
         write_html(write_page, asked.html, a, b, first)

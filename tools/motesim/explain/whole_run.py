@@ -6,16 +6,17 @@ import sys
 from collections.abc import Sequence
 
 from motesim.explain.explanation import explanation
-from motesim.faults import CLOSED, FAILED
+from motesim.faults import CLOSED, FAILED, Fault
 from motesim.report.run import refuse_others
-from motesim.runner.programs import program_path
+from motesim.runner.process import options_of, refusal_of
+from motesim.runner.programs import CHECKER, program_path
 from motesim.scenario.encodings import read_file
 from motesim.scenario.faults import find_fault
 from motesim.text import folded
 
 
-def status_of(file: str, options: Sequence[str]) -> int:
-    """The work of `motesim run`; returns the status."""
+def status_of(file: str, options: Sequence[str], faults: Sequence[str] = ()) -> int:
+    """The work of `motesim run`, with these faults; returns the status."""
     data = read_file(file)
     refuse_others(file)
     fault = find_fault(data)
@@ -23,6 +24,10 @@ def status_of(file: str, options: Sequence[str]) -> int:
         line = 'motesim: ' + fault.message
         print('\n'.join([line, *folded(explanation(file, data, line))]), file=sys.stderr)
         return FAILED
-    done = subprocess.run([program_path(), *options], input=data, stderr=subprocess.PIPE)
-    sys.stderr.write(done.stderr.decode('utf-8', 'backslashreplace'))
+    called = [program_path(CHECKER), '--report', *options_of(faults), '/dev/stdin'] if faults else [program_path()]
+    done = subprocess.run([*called, *options], input=data, stderr=subprocess.PIPE)
+    said = done.stderr.decode('utf-8', 'backslashreplace')
+    if refusal := refusal_of(said.strip(), faults):
+        raise Fault(refusal)
+    sys.stderr.write(said)
     return done.returncode if done.returncode in (0, CLOSED) else FAILED

@@ -5,7 +5,7 @@ from __future__ import annotations
 import argparse
 import re
 from collections import Counter
-from collections.abc import Callable
+from collections.abc import Callable, Sequence
 
 from motesim.explain.say import doing_in_words
 from motesim.explain.warned import Doing
@@ -33,16 +33,16 @@ def limits_of(asked: argparse.Namespace) -> Limits:
     return Limits(asked.seconds, asked.memory * MEGABYTE, asked.report * MEGABYTE)
 
 
-def runs_within(name: str, asked: argparse.Namespace) -> Callable[[bytes], Answer]:
-    """A function that runs a scenario from a file of this name within these limits."""
+def runs_within(name: str, asked: argparse.Namespace, faults: Sequence[str] = ()) -> Callable[[bytes], Answer]:
+    """A function that runs a scenario from a file of this name, with these faults, within these limits."""
     limits = limits_of(asked)
-    return lambda data: answer_within(name, data, limits)
+    return lambda data: answer_within(name, data, limits, faults)
 
 
-def answer_within(name: str, data: bytes, limits: Limits) -> Answer:
-    """The answer of `motesim` to a scenario from a file of this name."""
+def answer_within(name: str, data: bytes, limits: Limits, faults: Sequence[str] = ()) -> Answer:
+    """The answer to a scenario from a file of this name, run with these faults."""
     try:
-        return Runner(limits=limits).answer(data)
+        return Runner(limits=limits, faults=faults).answer(data)
     except LimitMet as met:
         raise ProgramFault('%s: the run was ended: %s.%s A larger %s raises the limit' % (
             name, met, busiest(data), met.option)) from None

@@ -217,24 +217,24 @@ def by_python(predicates: Sequence[Predicate], report: Report) -> list[Verdict]:
     return [Verdict(python_in(it.words), not why, [why] * bool(why), False, BY_PYTHON) for it, why in reasons]
 
 
-def known_of(text: str, fields: tuple[Field, ...] = ()) -> tuple[Scenario | None, Names]:
-    """A scenario, if the text is one, and the names that sentences may use: any processes, if a program has a
-    fault."""
+def known_of(text: str, fields: tuple[Field, ...] = (), faults: tuple[str, ...] = ()) -> tuple[Scenario | None, Names]:
+    """A scenario, if the text is one, and the names that sentences may use: any processes, if a program has an error.
+    It is run with these faults."""
     try:
         known = Scenario.parse(text)
-        known.fields = fields
+        known.fields, known.faults = fields, faults
         is_right = not any(find_fault(it) for it in known.programs.values())
         return known, names_of(known) if is_right else Names(None, known.motes, (), fields)
     except ScenarioFault:
         return None, Names(fields=fields)
 
 
-def judged(scenario: str, part: Part, run: Callable[[bytes], Answer] | None = None, limits: Limits = Limits()
-           ) -> list[Verdict]:
-    """The verdicts of a part. `run` runs the scenario; `limits` are those of `motecheck`. Raises a `NoReport` if the
-    scenario is refused, and no sentence is about this."""
+def judged(scenario: str, part: Part, run: Callable[[bytes], Answer] | None = None, limits: Limits = Limits(),
+           faults: tuple[str, ...] = ()) -> list[Verdict]:
+    """The verdicts of a part on the run with these faults. `run` makes this run; `limits` are those of `motecheck`. Raises
+    a `NoReport` if the scenario is refused, and no sentence is about this."""
     text = changed(scenario, part.replace)
-    known, names = known_of(text, part.fields)
+    known, names = known_of(text, part.fields, faults)
     sentences = read_all(part.sentences, names)
     # (an error in a function is told before the run)
     predicates = part.predicates()
@@ -249,17 +249,18 @@ def judged(scenario: str, part: Part, run: Callable[[bytes], Answer] | None = No
 
 
 def expect(scenario: Path, expectations: Path, is_quiet: bool = False,
-           run: Callable[[bytes], Answer] | None = None, limits: Limits = Limits(), given: Sequence[str] = ()
-           ) -> tuple[int, int]:
+           run: Callable[[bytes], Answer] | None = None, limits: Limits = Limits(), given: Sequence[str] = (),
+           faults: tuple[str, ...] = ()) -> tuple[int, int]:
     """Prints which sentences hold, or, if `is_quiet`, those that don't; returns how many hold and how many don't.
-    `run` runs the scenario; `limits` are those of `motecheck`; `given` are the sentences, if no file has them."""
+    `run` runs the scenario with these faults; `limits` are those of `motecheck`; `given` are the sentences, if no file
+    has them."""
     text = text_of(scenario)
     refuse_others(scenario)
     passed = failed = 0
     name = str(expectations)
     for count, part in enumerate(parts_given(scenario, expectations, given)):
         try:
-            verdicts = judged(text, part, run, limits)
+            verdicts = judged(text, part, run, limits, faults)
         except LimitMet as fault:
             raise Fault('%s: the run was ended: %s' % (scenario, fault)) from None
         except NoReport as fault:

@@ -22,10 +22,11 @@ def own_claims(text: str) -> list[str]:
     return [found[1] for row in (head[0] if head else '').split('\n') if (found := EXPECT.fullmatch(row))]
 
 
-def expect_own(scenario: Path, text: str, claims: Sequence[str], limits: Limits = Limits()) -> tuple[int, int]:
-    """Prints which claims hold; returns how many hold and how many don't."""
+def expect_own(scenario: Path, text: str, claims: Sequence[str], limits: Limits = Limits(), faults: Sequence[str] = ()
+               ) -> tuple[int, int]:
+    """Prints which claims hold in the run with these faults; returns how many hold and how many don't."""
     try:
-        lines = answers(text.encode(), claims, limits=limits)
+        lines = answers(text.encode(), claims, limits=limits, faults=faults)[:len(claims)]
     except NoVerdict:
         # (a scenario that is refused has its own message)
         check(str(scenario), text.encode())

@@ -48,7 +48,8 @@ def outcome_never(it: Copies, finder: Finder) -> str:
     """The remark that no copy can have the outcome of a sentence in any run of the scenario."""
     if it.outcome == 'collided' and not finder.scenario.collide:
         return NO_COLLISIONS
-    return NO_LOSSES if it.outcome == 'lost' and not finder.scenario.losses else ''
+    is_lossless = not (finder.scenario.losses or finder.scenario.faults)
+    return NO_LOSSES if it.outcome == 'lost' and is_lossless else ''
 
 
 def of_events(it: Does, finder: Finder) -> str:

@@ -14,6 +14,7 @@ from motesim.runner import Limits, ProgramFault, Runner
 from motesim.runner.programs import CHECKER, program_path
 
 ALL_HOLD, ONE_IS_BROKEN = 0, 1
+UNUSED = 'unused: '
 # The most bytes that one run gets: `motecheck` in node reads its claims and the scenario together.
 MOST_BYTES = 1_000_000
 
@@ -23,10 +24,11 @@ class NoVerdict(ProgramFault):
 
 
 def answers(scenario: bytes, claims: Sequence[str], *options: str, program: Path | None = None,
-            limits: Limits = Limits(), asks_end: Callable[[], bool] = lambda: False) -> list[str]:
-    """The lines that `motecheck` writes. Raises a `NoVerdict` if it has no answer; another `ProgramFault` if it reaches
-    a limit, or is ended by `asks_end`."""
-    got = Runner(program or program_path(CHECKER), limits, asks_end).answer(
+            limits: Limits = Limits(), asks_end: Callable[[], bool] = lambda: False, faults: Sequence[str] = ()
+            ) -> list[str]:
+    """The lines that `motecheck` writes. Raises a `NoVerdict` if it has no answer; another `ProgramFault` if it refuses a
+    fault, reaches a limit, or is ended by `asks_end`."""
+    got = Runner(program or program_path(CHECKER), limits, asks_end, faults).answer(
         scenario, *options, '/dev/stdin', 'claims', files={'claims': '\n'.join(claims).encode()})
     if got.status not in (ALL_HOLD, ONE_IS_BROKEN):
         raise NoVerdict('no verdict: %s' % got.why)
@@ -35,15 +37,22 @@ def answers(scenario: bytes, claims: Sequence[str], *options: str, program: Path
 
 def decided(claims: Claims, text: str, sentences: Sequence[Sentence], limits: Limits = Limits(),
             failing: Mapping[int, int] = {}, program: Path | None = None) -> list[Break | None]:
-    """For each sentence about the run of a scenario: what breaks it, or None if it holds or is about a text. `failing`
-    has motes that fail, as in `Claims.of`. Raises a `NoClaim` if claims can't say a sentence, and a `ProgramFault` if
-    there is no verdict."""
+    """For each sentence about the run of a scenario, with its faults: what breaks it, or None if it holds or is about a
+    text. `failing` has motes that fail, as in `Claims.of`. Raises a `NoClaim` if claims can't say a sentence, and a
+    `ProgramFault` if there is no verdict."""
     found: list[Break | None] = [None] * len(sentences)
     for places, its in _pieces(claims, sentences, failing, MOST_BYTES - len(text.encode())):
-        lines = answers(text.encode(), [it.text for it in its], program=program, limits=limits)
-        for place, claim, line in zip(places, its, lines, strict=True):
+        lines = answers(text.encode(), [it.text for it in its], program=program, limits=limits,
+                        faults=claims.scenario.faults)
+        # (behind the answers, a line for each fault that names no copy which the run sends)
+        for place, claim, line in zip(places, its, lines[:len(its)], strict=True):
             found[place] = found[place] or _break_in(line, claim)
     return found
+
+
+def unused(scenario: bytes, faults: Sequence[str], limits: Limits = Limits()) -> list[str]:
+    """Those of the faults that change nothing in the run of a scenario, because it sends no copy that they name."""
+    return [it.removeprefix(UNUSED) for it in answers(scenario, [], limits=limits, faults=faults)] if faults else []
 
 
 def _break_in(line: str, claim: Claim) -> Break | None:

@@ -20,6 +20,7 @@ Errors are `motesim.faults.Fault`, whose text can be shown to users:
 from __future__ import annotations
 
 import re
+from collections.abc import Sequence
 from pathlib import Path
 from typing import NamedTuple
 
@@ -60,9 +61,9 @@ def answer(scenario: bytes, *arguments: str, limits: Limits = Limits()) -> Answe
     return Runner(limits=limits).answer(scenario, *arguments)
 
 
-def run_program(scenario: bytes, *arguments: str, limits: Limits = Limits()) -> bytes:
-    """The report of a scenario. Raises a `NoReport` if `motesim` refuses the scenario."""
-    return Runner(limits=limits).report(scenario, *arguments)
+def run_program(scenario: bytes, *arguments: str, limits: Limits = Limits(), faults: Sequence[str] = ()) -> bytes:
+    """The report of a scenario, run with these faults. Raises a `NoReport` if the scenario is refused."""
+    return Runner(limits=limits, faults=faults).report(scenario, *arguments)
 
 
 def is_report(data: bytes) -> bool:
@@ -82,11 +83,18 @@ def refuse_others(path: str | Path) -> None:
             raise Fault(words.format(path))
 
 
+def refuse_faults(path: str | Path, faults: Sequence[str]) -> None:
+    """Raises a fault if a report should be run with faults."""
+    if faults:
+        raise Fault('%s is a report, and only a scenario can be run with a fault' % path)
+
+
 def read_run(path: str | Path, scenario: str | Path | None = None, limits: Limits = Limits(),
-             program: Path | None = None) -> Run:
+             program: Path | None = None, faults: Sequence[str] = ()) -> Run:
     """A report from a file, with the scenario from another file if one is named.
 
-    A scenario is run; this is a text that begins like a scenario, or a file NAME.toml. The name `-` is standard input.
+    A scenario is run, with these faults; this is a text that begins like a scenario, or a file NAME.toml. The name `-` is
+    standard input.
     """
     data = read_file(path)
     refuse_others(path)
@@ -96,10 +104,10 @@ def read_run(path: str | Path, scenario: str | Path | None = None, limits: Limit
     if not (is_run or data.strip()):
         raise Fault('%s is empty: expected a report or a scenario' % (
             'standard input' if str(path) == '-' else path))
-    if not is_run:
-        decoded(str(path), data)
     if is_run:
-        return run_of(str(path), data, Runner(program, limits))
+        return run_of(str(path), data, Runner(None if faults else program, limits, faults=faults))
+    decoded(str(path), data)
+    refuse_faults(path, faults)
     try:
         report = Report.parse(data)
         if scenario is not None:
@@ -113,8 +121,10 @@ def read_run(path: str | Path, scenario: str | Path | None = None, limits: Limit
 
 
 def run_of(name: str, data: bytes, runner: Runner) -> Run:
-    """The run of a scenario from a file of this name. Raises a `ScenarioFault` if `motesim` refuses it."""
+    """The run of a scenario from a file of this name, with the runner's faults. Raises a `ScenarioFault` if `motesim`
+    refuses it."""
     scenario = Scenario.parse(data, name)
+    scenario.faults = tuple(runner.faults)
     try:
         return Run(name, Report.parse(runner.report(data)), scenario, file_of(name, data))
     except NoReport as fault:

@@ -12,6 +12,7 @@ from __future__ import annotations
 
 import contextlib
 import os
+import re
 import select
 import subprocess
 import tempfile
@@ -23,7 +24,7 @@ from typing import IO, Literal, NamedTuple
 
 from motesim import runner
 from motesim.runner import ending
-from motesim.runner.programs import ProgramFault, program_path, worker_of
+from motesim.runner.programs import CHECKER, PROGRAM, ProgramFault, program_path, worker_of
 from motesim.runner.usage import memory_of, processor_seconds_of
 
 MEGABYTE = 1 << 20
@@ -231,17 +232,35 @@ def _file_with(data: bytes, made_by: Callable[[], IO[bytes]] = tempfile.Temporar
     return file
 
 
+# What motecheck says about a fault that it can't read, or that the net can't have, by the fault's number.
+REFUSED = re.compile(r'motecheck: fault(?:s fault line)? (?P<number>\d+) (?:column (?P<column>\d+)|(?P<why>.*))')
+NOT_READ = 'is no fault from column %s on: docs/use/TESTING.md has the words of faults, such as `link 1 to 2 is broken`'
+
+
+def options_of(faults: Sequence[str]) -> list[str]:
+    """The options that name faults to motecheck."""
+    return ['--fault=' + it for it in faults]
+
+
+def refusal_of(why: str, faults: Sequence[str]) -> str:
+    """The fault that motecheck refuses, with the reason; an empty text if it refuses none."""
+    found = REFUSED.fullmatch(why)
+    return '`%s` %s' % (faults[int(found['number']) - 1], found['why'] or NOT_READ % found['column']) if found else ''
+
+
 class Runner:
     """Runs a program within limits; without a path, the motesim that all tools run. Once `asks_end()` is true, its runs
-    are stopped."""
+    are stopped. The faults are those of the runs; without a path, motecheck writes the report of a run with faults."""
 
     def __init__(self, program: Path | None = None, limits: Limits = Limits(),
-                 asks_end: Callable[[], bool] = lambda: False):
-        self.program, self.limits, self.asks_end = program, limits, asks_end
+                 asks_end: Callable[[], bool] = lambda: False, faults: Sequence[str] = ()):
+        self.program, self.limits, self.asks_end, self.faults = program, limits, asks_end, faults
 
     def start(self, scenario: bytes, *words: str, files: Mapping[str, bytes] = {}) -> Running:
         """Begins a run of a scenario. Words that are names of `files` name files with these bytes."""
-        path = self.program or program_path()
+        path = self.program or program_path(CHECKER if self.faults else PROGRAM)
+        if self.faults:
+            words = (*options_of(self.faults), *(words if self.program else ('--report', '/dev/stdin')))
         try:
             if worker_of(path):
                 return runner.OfModule(path, scenario, words, files, self.limits, self.asks_end)
@@ -251,8 +270,13 @@ class Runner:
             raise ProgramFault('%s can\'t be run: %s' % (path, why)) from None
 
     def answer(self, scenario: bytes, *words: str, files: Mapping[str, bytes] = {}) -> Answer:
-        """The answer of the program to a scenario, with these words on its command line."""
-        return self.start(scenario, *words, files=files).wait()
+        """The answer of the program to a scenario, with these words on its command line. Raises a `ProgramFault` if it
+        refuses a fault."""
+        got = self.start(scenario, *words, files=files).wait()
+        refusal = refusal_of(got.why, self.faults)
+        if refusal:
+            raise ProgramFault(refusal)
+        return got
 
     def report(self, scenario: bytes, *words: str) -> bytes:
         """The report of a scenario. Raises `NoReport` if the program refuses it."""

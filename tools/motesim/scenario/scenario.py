@@ -39,6 +39,7 @@ class Scenario:
     places    a `MotePlace` for each mote, by its number
     losses    for each pair (sender, receiver) with a loss, its `every`
     fields    the format of packets that the expectations next to the scenario's file declare
+    faults    the faults with which it is run, as `fault_text` describes them
     text      the text that was read; empty if the scenario was made otherwise
 
     It is made from tables that keep the rules of scenarios, but for the texts of programs.
@@ -47,6 +48,7 @@ class Scenario:
     def __init__(self, tables: dict[str, Any], text: str = ''):
         self.text = text
         self.fields: tuple[Field, ...] = ()
+        self.faults: tuple[str, ...] = ()
         medium: dict[str, Any] = tables['medium']
         self.version: int = tables['version']
         self.end: int = tables['end']

@@ -21,6 +21,7 @@ from motesim.summary.shares import share
 from motesim.report import KINDS, LOST, MOST_MOMENT, OUTCOMES, Report
 from motesim.report.run import Run, read_run
 from motesim.scenario import Scenario
+from motesim.scenario.fault_text import faults_asked
 from motesim.summary.series import NAMES as SERIES_NAMES
 from motesim.summary.series import Series
 
@@ -159,7 +160,7 @@ def status_of(asked: argparse.Namespace) -> int:
     """Prints the summary; returns the status."""
     if asked.by is not None and not 1 <= asked.by <= MOST_MOMENT:
         raise Fault('--by: an interval has 1 to %d moments' % MOST_MOMENT)
-    run = read_run(asked.report, asked.scenario)
+    run = read_run(asked.report, asked.scenario, faults=faults_asked(asked))
     if asked.flow is not None:
         return show_flow(run, asked)
     if asked.by is not None:

@@ -11,6 +11,7 @@ from motesim.judge.expectations import beside, parts_of, text_of
 from motesim.judge.names import names_of
 from motesim.judge.several import read_all
 from motesim.judge.verdicts import breaks
+from motesim.scenario.fault_text import faults_asked
 from motesim.why.chain import Hop, chain, path_of
 from motesim.why.diverge import diverged
 from motesim.why.miss import misses
@@ -150,7 +151,7 @@ def status_of(asked: argparse.Namespace) -> int:
     given = [it for it in (asked.question, asked.watch, asked.state) if it is not None]
     if len(given) > 1:
         raise Fault('only one question is allowed: an expectation, a line, --watch or --state')
-    source = read_source(asked.file, asked.scenario)
+    source = read_source(asked.file, asked.scenario, faults_asked(asked))
     if not given:
         asked.question = broken_beside(source, beside(Path(asked.scenario or asked.file)))
         print(asked.question, end='\n\n', file=sys.stderr if asked.json else sys.stdout)

@@ -20,14 +20,14 @@ class Fate(NamedTuple):
     where    the line of a trace that shows the fate; None if no line shows it
     row      the number of the line in the report that shows the fate, also a line of the medium
     process  the process that took the event, or that wasn't on the process list
-    link     the sender and the receiver of a copy that the medium didn't carry
+    copy     the sender, the number and the receiver of a copy that the medium didn't carry
     """
     what: str
     at: int
     where: At | None
     row: int
     process: str = ''
-    link: tuple[int, int] = (0, 0)
+    copy: tuple[int, int, int] = (0, 0, 0)
 
     @property
     def how(self) -> str:
@@ -88,7 +88,7 @@ def fate_of(source: Source, packet: int, to: int) -> Fate:
     what = 'unheard' if copy is None else OUTCOMES[report.fates[copy]]
     if copy is None or what in ('lost', 'left'):
         return Fate(what, log.at[packet] if copy is None else log.arrival[copy], None, report.medium_row + 1 + packet,
-                    link=(sender, to))
+                    copy=(sender, number, to))
     if what == 'halted':
         return _shown(source, what, At(to, len(source.traces.lines(to)) - 1))._replace(at=log.arrival[copy])
     where = At(to, source.traces.arrivals(to)[sender, number])

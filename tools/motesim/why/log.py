@@ -15,6 +15,7 @@ from motesim.faults import Fault
 from motesim.judge.links import Span, within
 from motesim.report import FIELDS, Report
 from motesim.report.columns import CODES, KINDS
+from motesim.scenario.fault_text import faults_asked
 from motesim.scenario.fields import Field, of_line
 from motesim.why.question import Asker
 from motesim.why.source import Source, read_traces
@@ -132,7 +133,7 @@ def kinds_of(text: str | None) -> tuple[str, ...]:
 def status_of(asked: argparse.Namespace) -> int:
     """The work of tools/log; returns the status."""
     kinds = kinds_of(asked.kind)
-    data, scenario = read_traces(asked.file, asked.scenario)
+    data, scenario = read_traces(asked.file, asked.scenario, faults_asked(asked))
     try:
         report = Report.parse(data)
     except Fault as fault:

@@ -11,6 +11,7 @@ from motesim.replay.endless import AT_ONCE, LETS_WAIT, MOST_WAITS, Endless, inst
 from motesim.replay.mote import CTIMER, RING, SYSTEM, Frame, Link
 from motesim.replay.translate import Around, Program
 from motesim.report import Line
+from motesim.scenario.fault_text import read_faults
 from motesim.scenario.fields import Field, in_words as in_fields, of_line
 from motesim.why.cause import Cause
 from motesim.why.chain import Hop, Path, path_of, received_before
@@ -46,7 +47,7 @@ FATES = {
     'overflowed': 'it arrived at %(at)d, when %(ring)d packets were waiting',
     'collided': 'it collided at %(at)d with %(others)s',
     'left': 'it would arrive at %(at)d, after the end',
-    'lost': 'the medium lost it, because it loses %(rule)s',
+    'lost': 'the medium lost it, because %(rule)s',
     'unheard': 'mote %(to)d does not hear mote %(sender)d',
 }
 
@@ -273,17 +274,21 @@ def chain_as_json(source: Source, hops: list[Hop]) -> dict[str, Any]:
 
 def of_fate(source: Source, it: Fate) -> str:
     """The fate of a copy, or of an event."""
-    where, (sender, to) = it.where, it.link
+    where, (sender, number, to) = it.where, it.copy
     return FATES[it.what] % {
         'process': it.process, 'at': it.at, 'mote': where.mote if where else to, 'ring': RING, 'sender': sender,
-        'to': to, 'last': source.traces.moment(where) if where else 0, 'rule': rule_of(source, sender, to),
+        'to': to, 'last': source.traces.moment(where) if where else 0, 'rule': rule_of(source, sender, number, to),
         'others': others(source, where) if where and it.what == 'collided' else ''}
 
 
-def rule_of(source: Source, sender: int, to: int) -> str:
-    """The packets that a link loses."""
+def rule_of(source: Source, sender: int, packet: int, to: int) -> str:
+    """The reason why the medium lost a packet of a mote on its way to another one: a fault, or a loss of the
+    scenario."""
+    fault = next((it for it in read_faults(source.scenario.faults) if it.loses(sender, packet, to)), None)
+    if fault:
+        return fault.text
     every = source.scenario.losses.get((sender, to), 0)
-    return '%s from %d to %d' % ('all packets' if every == 1 else 'one packet in %d' % every, sender, to)
+    return 'it loses %s from %d to %d' % ('all packets' if every == 1 else 'one packet in %d' % every, sender, to)
 
 
 # Lines that aren't there
@@ -452,8 +457,8 @@ def about(source: Source, it: Asked) -> str:
     last = 'mote %d is the last of them' % it.where.mote if it.is_last else ''
     holds = 'the expectation holds, and this line shows it' if it.is_answer and it.holds else ''
     return '; '.join(filter(None, [packet, holds, last, it.why, *(
-        'the copy for mote %d: the medium lost it, because it loses %s' % (to, rule_of(source, it.where.mote, to))
-        for to in it.lost)]))
+        'the copy for mote %d: the medium lost it, because %s' % (to, rule_of(
+            source, it.where.mote, source.traces.line(it.where).number or 0, to)) for to in it.lost)]))
 
 
 # States and values

@@ -11,7 +11,7 @@ from motesim.judge.expectations import fields_beside
 from motesim.report.belongs import check_scenario
 from motesim.faults import Fault
 from motesim.report import Line, Packet, Report
-from motesim.report.run import is_scenario, refuse_others, run_program
+from motesim.report.run import is_scenario, refuse_faults, refuse_others, run_program
 from motesim.scenario.encodings import decoded, read_file
 from motesim.scenario.scenario import Scenario
 from motesim.replay.endless import Endless, LastRun, endless
@@ -184,8 +184,10 @@ def with_fields(scenario: Scenario, path: str | Path) -> Scenario:
     return scenario
 
 
-def read_traces(path: str | Path, scenario: str | Path | None = None) -> tuple[bytes, Scenario | None]:
-    """The bytes of a report, and the scenario if it is known. The file has a scenario, which is run, or a report."""
+def read_traces(path: str | Path, scenario: str | Path | None = None, faults: tuple[str, ...] = ()
+                ) -> tuple[bytes, Scenario | None]:
+    """The bytes of a report, and the scenario if it is known. The file has a scenario, which is run with these faults, or
+    a report."""
     data = read_file(path)
     refuse_others(path)
     if is_scenario(path, data):
@@ -193,10 +195,13 @@ def read_traces(path: str | Path, scenario: str | Path | None = None) -> tuple[b
             raise Fault('%s: it is itself a scenario, so no other can be given' % path)
         check(str(path), data)
         try:
-            return run_program(data), with_fields(Scenario.parse(data), path)
+            found = with_fields(Scenario.parse(data), path)
+            found.faults = faults
+            return run_program(data, faults=faults), found
         except Fault as fault:
             raise Fault('%s: %s' % (path, fault)) from None
     decoded(str(path), data)
+    refuse_faults(path, faults)
     if scenario is None:
         return data, None
     return data, with_fields(Scenario.parse(read_file(scenario), str(scenario)), scenario)
@@ -207,9 +212,10 @@ def scenario_file(path: str | Path) -> ScenarioFile | None:
     return None if str(path) == '-' else ScenarioFile(Path(path).name, read_file(path).decode('utf-8'))
 
 
-def read_source(path: str | Path, scenario: str | Path | None = None) -> Source:
-    """The source for a file: it has a scenario, which is run, or a report, for which `scenario` names the scenario."""
-    data, found = read_traces(path, scenario)
+def read_source(path: str | Path, scenario: str | Path | None = None, faults: tuple[str, ...] = ()) -> Source:
+    """The source for a file: it has a scenario, which is run with these faults, or a report, for which `scenario` names the
+    scenario."""
+    data, found = read_traces(path, scenario, faults)
     if found is None:
         raise Fault("%s: a report doesn't have the programs, which its causes follow from: name its scenario, by "
                     "--scenario FILE" % path)
