@@ -7,12 +7,15 @@
         print(mote.number, [line.value for line in mote.lines if line.kind == 'print'])
     for kept in motesim.expect(run, ['mote 6 prints flood 1 by 60', 'no mote halts']):
         print(kept.expectation, kept.holds, kept.why)
+    assert run.mote(6).prints('flood 1 by 60') and run.expect('no mote halts')
+    print(motesim.why(run, 'mote 6 prints flood 1'))
     print(motesim.compare(run, motesim.run('examples/tdma.toml')).text)
 
     run       runs a scenario: a `Run` with `report` and `scenario`        Limits    the limits of a run
     expect    checks which expectations hold: a list of `Kept`             Fault     an error, with its message
-    compare   shows how two runs diverge: a `Comparison`                   Plan      makes scenarios by rule
-    Scenario  motes, places, who hears whom, losses                        Report    traces and the log of the medium
+    why       explains a line, or why it isn't there: a text               Plan      makes scenarios by rule
+    compare   shows how two runs diverge: a `Comparison`                   Report    traces and the log of the medium
+    Scenario  motes, places, who hears whom, losses
 
 The packages in this folder are for the commands in tools/. docs/use/REPORT.md, 'A script in Python', shows a script.
 """
@@ -29,18 +32,19 @@ if TYPE_CHECKING:
     from motesim.api.answers import Comparison, Kept
     from motesim.api.compare import compare
     from motesim.api.expect import expect
-    from motesim.api.run import run
+    from motesim.api.run import Run, run
+    from motesim.api.why import why
     from motesim.faults import Fault
     from motesim.plan.plan import Plan
     from motesim.report import Report
     from motesim.runner import Limits
-    from motesim.report.run import Run
     from motesim.scenario import Scenario
 
-__all__ = ['Comparison', 'Fault', 'Kept', 'Limits', 'Plan', 'Report', 'Run', 'Scenario', 'compare', 'expect', 'run']
+__all__ = ['Comparison', 'Fault', 'Kept', 'Limits', 'Plan', 'Report', 'Run', 'Scenario', 'compare', 'expect',
+           'run', 'why']
 __getattr__ = on_demand(__name__, {
-    'api.answers': ['Comparison', 'Kept'], 'api.compare': ['compare'], 'api.expect': ['expect'], 'api.run': ['run'],
-    'faults': ['Fault'], 'plan.plan': ['Plan'], 'report': ['Report'], 'report.run': ['Run'], 'runner': ['Limits'],
+    'api.answers': ['Comparison', 'Kept'], 'api.compare': ['compare'], 'api.expect': ['expect'], 'api.run': ['Run', 'run'],
+    'api.why': ['why'], 'faults': ['Fault'], 'plan.plan': ['Plan'], 'report': ['Report'], 'runner': ['Limits'],
     'scenario': ['Scenario']})
 
 

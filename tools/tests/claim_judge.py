@@ -180,9 +180,9 @@ class Reader:
         begin, self.lines, self.most, self.least = self.at, Lines(), LAST, 0
         self.missing, self.superfluous = [], []
         holds = self.test()
-        return Tried(self.text[begin:self.at], holds, *(next(iter(its), None) for its in (
-            self.lines[self.most:], self.lines[self.least - 1:] if self.least else [])),
-            tuple(self.missing), tuple(self.superfluous))
+        spare, shown = self.lines[self.most:][:1], self.lines[self.least - 1:][:1] if self.least else []
+        return Tried(self.text[begin:self.at], holds, spare[0] if spare else None, shown[0] if shown else None,
+                     tuple(self.missing), tuple(self.superfluous))
 
     def test(self) -> bool:
         if self.take('every line '):

@@ -1,9 +1,13 @@
 """The public calls."""
 import os
+import subprocess
+import sys
+from pathlib import Path
 from unittest import mock
 
-from here import Room, scenario_of, text_of
+from here import TOOLS, TOP, Room, scenario_of, text_of
 import motesim
+from skips import need_built
 from stub import programs_of, write_stub
 
 SCENARIO = scenario_of('process a; autostart a; code a { body { print 7; } }', (0, 0), (10, 0), (20, 0))
@@ -45,6 +49,22 @@ class Calls(Room):
         with self.assertRaisesRegex(motesim.Fault, 'needs the scenario'):
             motesim.expect(run._replace(scenario=None), 'no mote halts')
 
+    def test_a_run_is_asked_for_a_mote(self) -> None:
+        run = motesim.run(SCENARIO.encode())
+        mote = run.mote(1)
+        its = [mote.prints('a', 7), mote.prints('just a 7 by 14'), mote.sends(), mote.receives('7 from mote 0'), mote.halts(),
+               mote.does('never prints a 8'), run.expect('no mote halts')]
+        self.assertEqual([it.holds for it in its], [True, True, False, False, False, True, True])
+        self.assertEqual((its[3].expectation, repr(its[0])), ('mote 1 receives 7 from mote 0', 'holds: mote 1 prints a 7'))
+        self.assertRegex(repr(run.mote(2).prints('a by 20')), 'broken: mote 2 prints a by 20 -- not for .*; the next is line 18')
+
+    def test_why_a_line_is_there_or_is_not(self) -> None:
+        run = motesim.run(SCENARIO.encode())
+        self.assertIn('no line of a trace shows it', motesim.why(run, 'mote 0 never sends 9'))
+        self.assertIn('at least 1 line "send value 9", but there are 0', motesim.why(run, 'mote 0 sends 9'))
+        with self.assertRaisesRegex(motesim.Fault, 'needs the scenario'):
+            motesim.why(run._replace(scenario=None), 'mote 0 sends')
+
     def test_runs_are_compared(self) -> None:
         one, other = (motesim.run(SCENARIO.replace('print 7', 'print %d' % n).encode()) for n in (7, 5))
         self.assertEqual((motesim.compare(one, one).same, motesim.compare(one, one).at), (True, None))
@@ -60,3 +80,23 @@ class Calls(Room):
             motesim.run(b'[')
         with self.assertRaises(AttributeError):
             motesim.nothing
+
+
+def pytest_on(*names: object) -> subprocess.CompletedProcess[str]:
+    return subprocess.run([sys.executable, '-m', 'pytest', '-p', 'no:cacheprovider', '-p', 'motesim.api.fixture', '-q',
+                           *map(str, names)], capture_output=True, text=True, env={**os.environ, 'PYTHONPATH': str(TOOLS)})
+
+
+def test_the_test_among_the_examples_passes_and_one_that_fails_shows_the_reason(tmp_path: Path) -> None:
+    need_built()
+    (tmp_path / 'test_mine.py').write_text("""import pytest
+@pytest.mark.scenario(%r)
+def test_one(run):
+    assert run.mote(8).prints('news 7 by 40')
+def test_two(run):
+    assert run
+""" % str(TOP / 'examples/news.toml'))
+    done = pytest_on(TOP / 'examples/test_news.py', tmp_path / 'test_mine.py')
+    assert '1 failed, 4 passed, 1 error' in done.stdout, done.stdout
+    assert 'E       assert broken: mote 8 prints news 7 by 40 -- not for mote 8: at least 1 line "print' in done.stdout
+    assert "write @pytest.mark.scenario('NAME.toml') above the test" in done.stdout

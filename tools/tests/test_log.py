@@ -6,8 +6,8 @@ from motesim.faults import Fault
 from motesim.report import Report
 from motesim.report.run import answer
 from motesim.scenario import Scenario
-from motesim.why.log import Filter, kinds_of, numbers_of, of_sentence, rows_of
-from motesim.why.source import Source
+from motesim.causes.log import Filter, kinds_of, numbers_of, of_sentence, rows_of
+from motesim.causes.source import Source
 from skips import need_built
 
 # Both motes write lines at moment 2; the program of mote 0 has a process that is called `take`.

@@ -21,8 +21,8 @@ from motesim.report.columns import KINDS
 from motesim.report.lazy import LazyReport
 from motesim.report.run import answer
 from motesim.scenario import Scenario
-from motesim.why.question import Asker, Missing, Unasked
-from motesim.why.source import Source
+from motesim.causes.question import Asker, Missing, Unasked
+from motesim.causes.source import Source
 from page_judge import PageJudge
 from page_sentences import Sentences, net_of, running_net_of
 from skips import need_built

@@ -27,10 +27,10 @@ from motesim.summary.counts import LINK_NAMES, summary
 from motesim.timeline.bundle import BundleFault, bundle, imports_of, modules_of
 from motesim.timeline.columns import data_of
 from motesim.toml import read_toml
-from motesim.why.chain import chain
-from motesim.why.pages import causes_of, source_of
-from motesim.why.say import because
-from motesim.why.source import At
+from motesim.causes.chain import chain
+from motesim.causes.pages import causes_of, source_of
+from motesim.causes.say import because
+from motesim.causes.source import At
 from project.differential.random_scenario import random_scenario
 
 # The folders of modules, each of which imports only from those before it and from itself.

@@ -15,13 +15,13 @@ from here import text_of
 from motesim.commands import log as command
 from project.differential.random_scenario import random_scenario
 from motesim.scenario import Scenario
-from motesim.why.chain import chain, path_of
-from motesim.why.command import short
-from motesim.why.diverge import diverged
-from motesim.why.miss import Miss, Passed, Untaken, misses
-from motesim.why.question import Asker, Missing
-from motesim.why.say import of_instead, words_of
-from motesim.why.source import At, Source
+from motesim.causes.chain import chain, path_of
+from motesim.causes.command import short
+from motesim.causes.diverge import diverged
+from motesim.causes.miss import Miss, Passed, Untaken, misses
+from motesim.causes.question import Asker, Missing
+from motesim.causes.say import of_instead, words_of
+from motesim.causes.source import At, Source
 from page_kernel import Line, PageRun
 from page_why import PageLog, PageWhy
 from test_page_measures import net_of

@@ -33,8 +33,8 @@ from motesim.search.shrink_command import STOPPED
 from motesim.search.shrink_found import chosen
 from motesim.search.smaller import smaller_numbers
 from motesim.search.work import LIMITS
-from motesim.why.cause import Cause, cause_of
-from motesim.why.source import Source
+from motesim.causes.cause import Cause, cause_of
+from motesim.causes.source import Source
 from sessions import TABLES, Table
 from skips import need_built
 

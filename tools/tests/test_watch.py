@@ -8,10 +8,10 @@ import test_why
 from motesim.faults import Fault
 from motesim.report.run import answer
 from motesim.scenario import Scenario
-from motesim.why.source import At, Source
-from motesim.why.say import heading, rows_of_state, state_as_json
-from motesim.why.state import after_line, after_moment, read_state
-from motesim.why.watch import read_watch, replayed
+from motesim.causes.source import At, Source
+from motesim.causes.say import heading, rows_of_state, state_as_json
+from motesim.causes.state import after_line, after_moment, read_state
+from motesim.causes.watch import read_watch, replayed
 
 MARK = 60_001
 

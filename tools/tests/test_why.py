@@ -1,8 +1,6 @@
 """The causes of lines that tools/why reports. The chains are worked out by hand from the scenarios of sessions/why.toml,
 which also has what the command says."""
-from contextlib import redirect_stdout
 from functools import cache
-from io import StringIO
 
 import pytest
 from claim_judge import deciding_by
@@ -13,13 +11,13 @@ from motesim.replay.translate import translated
 from motesim.report.run import answer
 from motesim.scenario import Scenario
 from motesim.scenario.in_programs import ScenarioFile
-from motesim.why.chain import cause_of, chain, places
-from motesim.why.command import show_chain
-from motesim.why.fate import after_post
-from motesim.why.miss import Miss, _Misses, misses
-from motesim.why.question import Asked, Asker, Missing
-from motesim.why.say import MOST_CALLS, Reasons, about, because, chain_as_json, of_fate, of_miss, on_values
-from motesim.why.source import At, Source
+from motesim.causes.chain import cause_of, chain, places
+from motesim.causes.command import rows_of_asked
+from motesim.causes.fate import after_post
+from motesim.causes.miss import Miss, _Misses, misses
+from motesim.causes.question import Asked, Asker, Missing
+from motesim.causes.say import MOST_CALLS, Reasons, about, because, chain_as_json, of_fate, of_miss, on_values
+from motesim.causes.source import At, Source
 from project.differential.random_scenario import random_scenario
 from sessions import TABLES, Table
 from skips import need_built
@@ -103,9 +101,7 @@ def test_the_packet_of_a_value_that_was_stored() -> None:
     remarks = [on_values(run, chain(run, it)) for it in (At(2, 7), At(1, 9), At(2, 4))]
     assert len({*remarks}) == 1 and 'the value 7 before, in packet 0 of mote 0 at 12.' in remarks[0]
     assert remarks[0].endswith('ask about line 17.') and run.traces.row(At(1, 4)) == 17
-    with redirect_stdout(StringIO()) as shown:
-        show_chain(run, asked_of(run, 'mote 2 prints node 7'), is_short=False)
-    assert shown.getvalue().split('\n')[-2] == remarks[0]
+    assert rows_of_asked(run, asked_of(run, 'mote 2 prints node 7'))[-1] == remarks[0]
     # The chain of mote 1's packet has the packet of the value; and mote 0 made the value.
     assert not any(on_values(run, chain(run, it)) for it in (At(1, 4), At(0, 6), At(1, 7), At(1, HEAD)))
 

@@ -14,9 +14,9 @@ from motesim.report.run import Run, answer, read_run
 from motesim.scenario import Scenario
 from motesim.timeline.html import write_page
 from motesim.timeline.note import Line, Note, note_of
-from motesim.why.chain import cause_of
-from motesim.why.pages import Causes, causes_of
-from motesim.why.source import At, Source
+from motesim.causes.chain import cause_of
+from motesim.causes.pages import Causes, causes_of
+from motesim.causes.source import At, Source
 
 
 def small_run() -> Run:

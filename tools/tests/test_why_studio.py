@@ -7,7 +7,7 @@ import test_why
 from motesim.report import Report
 from motesim.report.run import Run
 from motesim.scenario import Scenario
-from motesim.why.studio import Causes
+from motesim.causes.studio import Causes
 
 
 class Answers(unittest.TestCase):

@@ -4,9 +4,9 @@ from __future__ import annotations
 from dataclasses import dataclass
 
 
-@dataclass(frozen=True)
+@dataclass(frozen=True, repr=False)
 class Kept:
-    """An expectation, and whether it holds for a run.
+    """An expectation, and whether it holds for a run. It is true if the expectation holds, so a test can `assert` it.
 
     expectation  the text, as the caller wrote it
     holds        whether the expectation holds
@@ -20,6 +20,12 @@ class Kept:
 
     def __bool__(self) -> bool:
         return self.holds
+
+    def __repr__(self) -> str:
+        """In words: a test that fails shows them."""
+        if self.holds:
+            return 'holds: ' + self.expectation
+        return 'broken: %s -- %s%s' % (self.expectation, self.why, '' if self.row is None else ' line %d' % self.row)
 
 
 @dataclass(frozen=True)

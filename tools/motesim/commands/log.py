@@ -35,7 +35,7 @@ def parser() -> Words:
 def main() -> int:
     asked = parser().parse_intermixed_args()
     from motesim.output import output_to
-    from motesim.why.log import status_of
+    from motesim.causes.log import status_of
     asked.sentence = one_of(asked.sentence, asked.expect)
     with output_to(asked.csv or asked.json, [asked.file, asked.scenario]):
         return status_of(asked)

@@ -43,7 +43,7 @@ def main() -> int:
         raise Fault('the question has to be in quotes: tools/why %s' % shlex.join(
             [asked.file, ' '.join(filter(None, [asked.question, *more]))]))
     from motesim.output import output_to
-    from motesim.why.command import status_of
+    from motesim.causes.command import status_of
     asked.question = one_of(asked.question, asked.expect)
     with output_to(asked.json, [asked.file, asked.scenario, asked.other]):
         return status_of(asked)

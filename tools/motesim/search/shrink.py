@@ -27,8 +27,8 @@ from motesim.search.change import Base, Change
 from motesim.search.faults import MOTES_OF, Effect, put_into
 from motesim.search.following import follow, names_motes_in_quotes
 from motesim.search.net import PARTS, Net, NetStep, loss_steps, mote_steps, net_of, number_steps, program_steps
-from motesim.why.cause import NO_CAUSE, Cause, cause_of
-from motesim.why.source import Source
+from motesim.causes.cause import NO_CAUSE, Cause, cause_of
+from motesim.causes.source import Source
 
 NAME = 'the scenario'
 STEPS: dict[str, Callable[[Net], Iterator[NetStep]]] = {

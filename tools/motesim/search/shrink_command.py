@@ -28,7 +28,7 @@ from motesim.search.say import counted
 from motesim.search.shrink import Case, Shrinking, case_of, parts_and_sentences
 from motesim.search.smaller import statements_in
 from motesim.search.work import LIMITS
-from motesim.why.say import of_cause
+from motesim.causes.say import of_cause
 
 OTHER_CAUSE = 'Another cause now: --fault, or --keep with an expectation or parts of the scenario, may prevent it'
 STOPPED = 'it was stopped before the first step, so no file is written'

@@ -22,7 +22,7 @@ from motesim.studio.runs import Runs, Superseded
 from motesim.studio.searches import OF_PAGE, Searches, wanted_of
 from motesim.timeline.columns import fields_of
 from motesim.timeline.html import page_of
-from motesim.why.studio import Causes
+from motesim.causes.studio import Causes
 
 MOST_KEPT = 4
 JSON, HTML = 'application/json', 'text/html; charset=utf-8'

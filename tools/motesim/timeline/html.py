@@ -26,7 +26,7 @@ from motesim.report.run import Run
 from motesim.timeline.bundle import bundle
 from motesim.timeline.columns import data_of
 from motesim.timeline.note import Note
-from motesim.why.pages import causes_of
+from motesim.causes.pages import causes_of
 
 Writer = Callable[[str | Path, Iterable[bytes]], None]
 PACKAGES = Path(__file__).resolve().parent.parent

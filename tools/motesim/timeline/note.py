@@ -11,11 +11,11 @@ from motesim.faults import Fault
 from motesim.judge.reasons import Broken
 from motesim.judge.meaning import Value
 from motesim.report.run import Run
-from motesim.why.miss import last_of, misses
-from motesim.why.pages import source_of
-from motesim.why.question import Asked, Asker, Missing
-from motesim.why.say import about, of_miss
-from motesim.why.source import Source
+from motesim.causes.miss import last_of, misses
+from motesim.causes.pages import source_of
+from motesim.causes.question import Asked, Asker, Missing
+from motesim.causes.say import about, of_miss
+from motesim.causes.source import Source
 
 MOST_LINES = 8
 

@@ -7,8 +7,8 @@ from collections.abc import Set
 from typing import NamedTuple
 
 from motesim.report import OUTCOMES
-from motesim.why.fate import Fate, fate_of
-from motesim.why.source import Source
+from motesim.causes.fate import Fate, fate_of
+from motesim.causes.source import Source
 
 MOST_RECEIVERS = 3
 

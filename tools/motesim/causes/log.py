@@ -17,8 +17,8 @@ from motesim.report import FIELDS, Report
 from motesim.report.columns import CODES, KINDS
 from motesim.scenario.fault_text import faults_asked
 from motesim.scenario.fields import Field, of_line
-from motesim.why.question import Asker
-from motesim.why.source import Source, read_traces
+from motesim.causes.question import Asker
+from motesim.causes.source import Source, read_traces
 
 # The kinds of lines with a value, or with an event's word.
 VALUED = {CODES[kind] for kind, fields in FIELDS.items() if {'value', 'word'} & {*fields.split()}}

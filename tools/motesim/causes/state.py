@@ -8,9 +8,9 @@ import re
 from typing import Any, NamedTuple
 
 from motesim.faults import Fault
-from motesim.why.question import LINE, line_asked
+from motesim.causes.question import LINE, line_asked
 from motesim.replay.mote import Replay
-from motesim.why.source import At, Source
+from motesim.causes.source import At, Source
 
 ASKED = re.compile(r'\s*mote\s+(\d{1,9})\s+at\s+(\d{1,9})\s*')
 

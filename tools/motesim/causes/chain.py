@@ -6,7 +6,7 @@ from typing import NamedTuple
 from motesim.faults import Fault
 from motesim.report import Line
 from motesim.replay.mote import BOOT, Link
-from motesim.why.source import At, Source
+from motesim.causes.source import At, Source
 
 # The uses of a chain's time.
 WAITS = ('timer', 'full', 'medium', 'queue')

@@ -13,16 +13,16 @@ from motesim.replay.translate import Around, Program
 from motesim.report import Line
 from motesim.scenario.fault_text import read_faults
 from motesim.scenario.fields import Field, in_words as in_fields, of_line
-from motesim.why.cause import Cause
-from motesim.why.chain import Hop, Path, path_of, received_before
-from motesim.why.diverge import Diverged, Instead, Turn, Twin
-from motesim.why.fate import Fate
-from motesim.why.miss import Absent, Away, Miss, Moved, Passed, Unheard, Untaken, Waiting
-from motesim.why.question import Asked, Missing
-from motesim.why.source import At, Source
-from motesim.why.spread import Onward, Spread
-from motesim.why.state import State, Wait, call_now, wait_of
-from motesim.why.watch import Given
+from motesim.causes.cause import Cause
+from motesim.causes.chain import Hop, Path, path_of, received_before
+from motesim.causes.diverge import Diverged, Instead, Turn, Twin
+from motesim.causes.fate import Fate
+from motesim.causes.miss import Absent, Away, Miss, Moved, Passed, Unheard, Untaken, Waiting
+from motesim.causes.question import Asked, Missing
+from motesim.causes.source import At, Source
+from motesim.causes.spread import Onward, Spread
+from motesim.causes.state import State, Wait, call_now, wait_of
+from motesim.causes.watch import Given
 
 WIDEST = 60
 # The reason for a collision with more packets names only their number.

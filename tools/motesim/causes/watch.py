@@ -7,7 +7,7 @@ from typing import NamedTuple
 
 from motesim.text import nearest
 from motesim.faults import Fault
-from motesim.why.source import At, Source, Traces
+from motesim.causes.source import At, Source, Traces
 from motesim.replay.translate import Program
 
 ASKED = re.compile(r'\s*(?:every\s+mote|motes?\s+(?P<motes>\d+(?:\s*(?:,|and|to)\s*\d+)*))\s+(?P<names>[a-z].*)')

@@ -4,7 +4,7 @@ from __future__ import annotations
 from typing import NamedTuple
 
 from motesim.report import OUTCOMES
-from motesim.why.source import At, Source
+from motesim.causes.source import At, Source
 
 # Fates that are kinds of another one: a mote halted before its radio process ran, or before a process took the event;
 # an event for all passed a process that wasn't on the process list.

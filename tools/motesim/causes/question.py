@@ -2,7 +2,7 @@
 number.
 
 If a sentence holds, a line shows it. If an extra line breaks it, the question is about this line. A sentence that
-wants a line that doesn't exist has no line: the answer is a `Missing`, for which motesim.why.miss finds the reasons.
+wants a line that doesn't exist has no line: the answer is a `Missing`, for which motesim.causes.miss finds the reasons.
 """
 from __future__ import annotations
 
@@ -21,7 +21,7 @@ from motesim.judge.meaning import Copies, Count, Does, Hears, Motes, Or, Packets
 from motesim.judge.names import names_of
 from motesim.judge.sentences import read_sentence
 from motesim.judge.verdicts import breaks
-from motesim.why.source import At, Source, Traces
+from motesim.causes.source import At, Source, Traces
 
 LINE = re.compile(r'\s*(?:(?:mote\s+)?(\d+)\s*:\s*)?(?:line\s+)?(\d+)\s*', re.I)
 TEXT = re.compile(r'\s*(?:mote\s+)?(\d+)\s*:\s*(\d+ [a-z]+.*?)\s*', re.I)

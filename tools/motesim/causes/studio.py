@@ -7,13 +7,13 @@ from typing import Any
 
 from motesim.faults import Fault
 from motesim.report.run import Run
-from motesim.why.chain import chain
-from motesim.why.miss import misses
-from motesim.why.pages import source_of
-from motesim.why.question import Asked, Asker
-from motesim.why.say import about, chain_as_json, misses_as_json, places_as_json, rows_of_state, state_as_json
-from motesim.why.source import At, Source
-from motesim.why.state import after_line
+from motesim.causes.chain import chain
+from motesim.causes.miss import misses
+from motesim.causes.pages import source_of
+from motesim.causes.question import Asked, Asker
+from motesim.causes.say import about, chain_as_json, misses_as_json, places_as_json, rows_of_state, state_as_json
+from motesim.causes.source import At, Source
+from motesim.causes.state import after_line
 
 MOST_KEPT = 4
 Said = dict[str, Any]

@@ -8,9 +8,9 @@ from typing import NamedTuple, TypeAlias
 from motesim.faults import Fault
 from motesim.replay.translate import Around
 from motesim.report import FIELDS, Line
-from motesim.why.chain import Hop, cause_of, chain
-from motesim.why.fate import Fate, after_post, after_recv, fate_of
-from motesim.why.source import At, Source
+from motesim.causes.chain import Hop, cause_of, chain
+from motesim.causes.fate import Fate, after_post, after_recv, fate_of
+from motesim.causes.source import At, Source
 
 # The fields of a line that count the events and packets before it. They may differ between lines with the same
 # meaning.

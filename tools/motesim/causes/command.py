@@ -12,16 +12,16 @@ from motesim.judge.names import names_of
 from motesim.judge.several import read_all
 from motesim.judge.verdicts import breaks
 from motesim.scenario.fault_text import faults_asked
-from motesim.why.chain import Hop, chain, path_of
-from motesim.why.diverge import diverged
-from motesim.why.miss import misses
-from motesim.why.question import Asked, Asker, Missing, Unasked
-from motesim.why.say import (about, chain_as_json, heading, misses_as_json, of_path, on_values, rows_of_chain,
+from motesim.causes.chain import Hop, chain, path_of
+from motesim.causes.diverge import diverged
+from motesim.causes.miss import misses
+from motesim.causes.question import Asked, Asker, Missing, Unasked
+from motesim.causes.say import (about, chain_as_json, heading, misses_as_json, of_path, on_values, rows_of_chain,
                              rows_of_misses, rows_of_state, rows_of_two, rows_of_values, state_as_json, values_as_json,
                              words_of)
-from motesim.why.source import Source, read_source
-from motesim.why.state import read_state
-from motesim.why.watch import read_watch, replayed
+from motesim.causes.source import Source, read_source
+from motesim.causes.state import read_state
+from motesim.causes.watch import read_watch, replayed
 
 
 def short(hops: list[Hop]) -> list[Hop]:
@@ -29,22 +29,27 @@ def short(hops: list[Hop]) -> list[Hop]:
     return [hop for place, hop in enumerate(hops) if hop.waited or place in (0, len(hops) - 1)]
 
 
-def show_chain(source: Source, asked: Asked, is_short: bool) -> None:
-    """Writes a chain as text."""
+def rows_of_asked(source: Source, asked: Asked, is_short: bool = False) -> list[str]:
+    """A chain as text."""
     hops = chain(source, asked.where)
     first = hops[0]
-    print('mote %d, line %d of the report: %d %s' % (first.where.mote, first.row, first.at,
-                                                       words_of(source, first.where)))
-    remark = about(source, asked)
-    if remark:
-        print(remark)
-    print()
-    print('\n'.join(rows_of_chain(source, short(hops) if is_short else hops, source.scenario.fields)))
-    print()
-    print(of_path(path_of(hops)))
-    remark = on_values(source, hops)
-    if remark:
-        print(remark)
+    rows = ['mote %d, line %d of the report: %d %s' % (first.where.mote, first.row, first.at, words_of(source, first.where))]
+    rows += filter(None, [about(source, asked)])
+    rows += ['', *rows_of_chain(source, short(hops) if is_short else hops, source.scenario.fields), '', of_path(path_of(hops))]
+    return [*rows, *filter(None, [on_values(source, hops)])]
+
+
+def answer_of(asker: Asker, question: str) -> str:
+    """The answer to a question, as text."""
+    try:
+        found = asker.about(question)
+    except Unasked as unasked:
+        if not unasked.holds:
+            raise
+        return str(unasked)
+    rows = rows_of_asked(asker.source, found) if isinstance(found, Asked) else rows_of_misses(
+        asker.source, found, misses(asker, found))
+    return '\n'.join(rows)
 
 
 def show_watch(source: Source, asked: argparse.Namespace) -> int:
@@ -128,7 +133,7 @@ def show_why(source: Source, asked: argparse.Namespace) -> int:
         print(json.dumps({'question': asked.question, 'holds': found.holds, 'about': about(source, found) or None,
                           **chain_as_json(source, hops)}, indent=1))
     else:
-        show_chain(source, found, asked.short)
+        print('\n'.join(rows_of_asked(source, found, asked.short)))
     return 0
 
 

@@ -14,10 +14,10 @@ from motesim.judge.meaning import Pattern, Value
 from motesim.replay.mote import Reached, Replay
 from motesim.replay.translate import Around, Program, Statement
 from motesim.report import Line, Packet
-from motesim.why.fate import Fate, fate_of
-from motesim.why.question import Asker, Missing
-from motesim.why.source import At, Source
-from motesim.why.spread import Spread, spread_of
+from motesim.causes.fate import Fate, fate_of
+from motesim.causes.question import Asker, Missing
+from motesim.causes.source import At, Source
+from motesim.causes.spread import Spread, spread_of
 
 MOST_COPIES, MOST_OTHERS = 8, 3
 WHOLE: Span = 0, None

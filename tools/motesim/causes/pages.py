@@ -9,10 +9,10 @@ from typing import Any
 
 from motesim.faults import Fault
 from motesim.report.run import Run
-from motesim.why.chain import cause_of, wait_of
+from motesim.causes.chain import cause_of, wait_of
 from motesim.scenario.in_programs import ScenarioFile
-from motesim.why.say import Reasons
-from motesim.why.source import At, Source
+from motesim.causes.say import Reasons
+from motesim.causes.source import At, Source
 
 # A page with more lines than this doesn't have their causes: the search for them would last longer than making the
 # page.

@@ -4,10 +4,10 @@ from __future__ import annotations
 from typing import NamedTuple
 
 from motesim.faults import Fault
-from motesim.why.chain import Hop, chain
-from motesim.why.miss import Miss, misses
-from motesim.why.question import Asked, Asker
-from motesim.why.source import Source
+from motesim.causes.chain import Hop, chain
+from motesim.causes.miss import Miss, misses
+from motesim.causes.question import Asked, Asker
+from motesim.causes.source import Source
 
 
 class Cause(NamedTuple):
