@@ -6,8 +6,7 @@ import tomllib
 from dataclasses import dataclass, replace
 
 LAST = 1 << 40
-COMPARES = {'at least': operator.ge, 'at most': operator.le, 'exactly': operator.eq, 'more than': operator.gt,
-            'fewer than': operator.lt}
+COMPARES = {'at least': operator.ge, 'at most': operator.le, 'exactly': operator.eq, 'more than': operator.gt}
 
 
 @dataclass(frozen=True)
@@ -21,10 +20,9 @@ class Line:
 
 @dataclass(frozen=True)
 class Value:
-    """kind: number, any (of `values`), own, greatest, distance, hears, linked or nearer."""
+    """kind: number, any (of `values`), own, distance, hears, linked or nearer."""
     kind: str
     number: int = 0
-    but: frozenset[int] = frozenset()
     values: frozenset[int] = frozenset()
 
 
@@ -68,12 +66,12 @@ class Times:
     """How many lines: a number, or a multiple of those of `other`, or a number of those with each value of `other`."""
     compare: str
     number: int
-    is_share: bool = False
+    is_all: bool = False
     other: Event | None = None
     is_each: bool = False
 
-    def admits(self, count: int, whole: int) -> bool:
-        return bool(COMPARES[self.compare](count * (100 if self.is_share else 1), self.number * whole))
+    def admits(self, count: int, whole: int = 1) -> bool:
+        return bool(COMPARES[self.compare](count, self.number * whole))
 
 
 @dataclass(frozen=True)
@@ -173,8 +171,7 @@ class PageJudge:
             return {hops} if value.kind == 'distance' else {s for s in heard if self.is_nearer(s, mote, value.number)}
         if value.kind == 'linked':
             heard = {s for s in heard if (s, mote) in self.hears}
-        return {{'number': value.number, 'own': mote, 'greatest': len(self.motes) - 1}.get(
-            value.kind, sum(1 << s for s in heard - value.but))}
+        return {{'number': value.number, 'own': mote}.get(value.kind, sum(1 << s for s in heard))}
 
     def is_of(self, line: Line, deed: Deed) -> bool:
         words, kind = line.words, deed.kind
@@ -254,7 +251,7 @@ class PageJudge:
             return self.is_same(it)
         doing = [self.does(it, (mote,)) for mote in it.motes]
         if it.many:
-            return it.many.admits(sum(doing), len(doing) if it.many.is_share else 1)
+            return it.many.admits(sum(doing))
         return {'each': all(doing), 'no': not any(doing), 'some': any(doing)}[it.kind]
 
     def is_same(self, it: Does) -> bool:
@@ -266,7 +263,7 @@ class PageJudge:
         return all(its) and len({lines[-1].words[-1] for lines in its}) < 2
 
     def copies(self, it: Things) -> list[bool]:
-        """For each copy or packet of these motes, whether it is counted. A share has no copies that are left."""
+        """For each copy or packet of these motes, whether it is counted. `every copy` has none that are left."""
         motes = self.motes if it.motes is None else it.motes
         if it.kind == 'packets':
             return [it.when.first <= int(words[0]) <= it.when.last for words in self.packets]
@@ -288,4 +285,4 @@ class PageJudge:
 
     def counts(self, it: Things) -> bool:
         found = self.copies(it)
-        return it.times.admits(sum(found), len(found) if it.times.is_share else 1)
+        return it.times.admits(sum(found), len(found) if it.times.is_all else 1)

@@ -13,7 +13,7 @@ VERBS = {'print': ('prints', 'printing'), 'send': ('sends', 'sending'), 'receive
 OF_THINGS = {'packets': ('is sent', 'are sent'), 'collide': ('collides', 'collide'), 'lost': ('overflows', 'overflow'),
              'recv': ('arrives', 'arrive'), 'medium': ('is lost', 'are lost')}
 COUNTS = {'once': Times('exactly', 1), 'twice': Times('exactly', 2), 'at most once': Times('at most', 1),
-          'more than once': Times('more than', 1), 'fewer than twice': Times('fewer than', 2)}
+          'more than once': Times('more than', 1)}
 Motes = tuple[int, ...]
 
 
@@ -107,56 +107,40 @@ class Sentences:
         return ' but ' + text, tuple(mote for mote in motes if mote not in left)
 
     def compare(self, most: int) -> tuple[str, Times]:
-        compare = self.chance.choice(('at least', 'at most', 'exactly', 'more than', 'fewer than'))
+        compare = self.chance.choice(('at least', 'at most', 'exactly', 'more than'))
         number = self.chance.randint(0, most)
         return '%s %d' % (compare, number), Times(compare, number)
 
-    def share(self) -> tuple[str, Times]:
-        text, times = self.compare(1)
-        number = self.chance.choice((0, 20, 50, 75, 100))
-        return '%s %d %%' % (times.compare, number), Times(times.compare, number, True)
-
     def subject(self) -> tuple[str, Does]:
         """The motes of a sentence, and a sentence without a deed."""
-        kind = self.chance.choice(('each', 'each', 'each', 'together', 'no', 'some', 'count', 'share'))
+        kind = self.chance.choice(('each', 'each', 'each', 'together', 'no', 'some', 'count'))
         nothing = Deed('')
         but, left = self.but(self.every)
         text, listed = self.some()
         if kind == 'each':
             mote = self.mote()
-            words, motes = self.chance.choice((('mote %d' % mote, (mote,)), ('motes ' + text, listed), (
-                'each of motes ' + text, listed), ('every mote' + but, left), ('all motes' + but, left)))
+            words, motes = self.chance.choice((('mote %d' % mote, (mote,)), ('motes ' + text, listed),
+                                               ('every mote' + but, left), ('all motes' + but, left)))
             return words, Does(kind, motes, nothing)
         if kind == 'together':
             return self.chance.choice((('motes %s together' % text, Does(kind, listed, nothing)),
                                        ('all motes together', Does(kind, self.every, nothing))))
         if kind in ('no', 'some'):
             return '%s mote%s' % (kind, but), Does(kind, left, nothing)
-        number, many = self.share() if kind == 'share' else self.compare(3)
-        return '%s %smotes%s' % (number, 'of ' * many.is_share, but), Does('count', left, nothing, many)
+        number, many = self.compare(3)
+        return '%s motes%s' % (number, but), Does('count', left, nothing, many)
 
     def value(self) -> tuple[str, Value]:
         mote, number = self.mote(), self.chance.randint(0, 4)
-        text, left = self.but(())[0], self.every
-        but = frozenset(left) - frozenset(self.left(text))
         return self.chance.choice((
             (str(number), Value('number', number)), (str(number), Value('number', number)),
             (str(number), Value('number', number)), ('its number', Value('own')),
             ('any of 1 to %d' % (number + 1), Value('any', values=frozenset(range(1, number + 2)))),
             ('any of 0, 2 or %d' % number, Value('any', values=frozenset((0, 2, number)))),
-            ('the greatest mote number', Value('greatest')),
             ('its distance from mote %d' % mote, Value('distance', mote)),
-            ('the set of motes that it hears' + text, Value('hears', but=but)),
-            ('the set of motes linked with it' + text, Value('linked', but=but)),
+            ('the set of motes that it hears', Value('hears')),
+            ('the set of motes linked with it', Value('linked')),
             ('a mote that it hears, one hop nearer to mote %d' % mote, Value('nearer', mote))))
-
-    def left(self, but: str) -> Motes:
-        """The motes that a text beginning with `but` leaves over."""
-        if not but:
-            return self.every
-        words = but.replace(',', '').split()[1:]
-        gone = range(int(words[0]), int(words[2]) + 1) if 'to' in words else map(int, set(words) - {'and'})
-        return tuple(set(self.every) - set(gone))
 
     def deed(self, form: int) -> tuple[str, Deed]:
         """A deed whose lines can be counted. form: 0 for one mote, 1 for `printing`."""
@@ -278,19 +262,18 @@ class Sentences:
     def things(self) -> tuple[str, Sentence]:
         kind = self.chance.choice(list(OF_THINGS))
         noun = 'packet' if kind == 'packets' else 'copy'
-        number, times = self.share() if kind != 'packets' and self.is_so(.4) else self.compare(6)
-        text = '%s %s %s' % (number, 'of copies' if times.is_share else noun.replace('copy', 'copie') + 's',
-                             OF_THINGS[kind][1])
+        number, times = self.compare(6)
+        text = '%s %s %s' % (number, noun.replace('copy', 'copie') + 's', OF_THINGS[kind][1])
         if self.is_so(.3):
             word, times = self.chance.choice((('no', Times('at most', 0)), ('some', Times('at least', 1))))
             text = '%s %s %s' % (word, noun, OF_THINGS[kind][0])
-        elif kind != 'packets' and self.is_so(.2):
-            text, times = 'every copy ' + OF_THINGS[kind][0], Times('exactly', 100, True)
+        elif kind == 'recv' and self.is_so(.4):
+            text, times = 'every copy arrives', Times('exactly', 1, True)
         motes, when = None, When()
         if kind != 'packets' and self.is_so(.4):
             listed, motes = self.some()
             text += ' at motes ' + listed
-        if not times.is_share and self.is_so(.5):
+        if not times.is_all and self.is_so(.5):
             words, when = self.when(has_hops=False)
             text += ' ' + words
         return text, Things(kind, times, motes, when)

@@ -133,7 +133,7 @@ def test_remarks_on_sentences_that_say_nothing(sentence: str, net: str, remark: 
     ('mote 0 sends twise', 'twice', 'no mote sends more than twice'), ('evry mote halts', 'every', 'every mote but 0'),
     ('mote 0 prnts flood 1', 'prints', 'mote 6 prints'), ('mote 1 prints flod', 'flood', 'mote 6 prints'),
     ('no copy colides', 'collides', 'no copy collides'), ('mote 1 prints zzz', '', 'mote 6 prints'),
-    ('5 %', '', 'at least 90 %')])
+    ('5 %', '', 'at least 5 motes')])
 def test_the_nearest_word_and_an_example_are_named(sentence: str, like: str, shown: str) -> None:
     with pytest.raises(SentenceFault) as caught:
         read_sentence(sentence, NAMES['flood'])
@@ -245,7 +245,7 @@ class Page(unittest.TestCase):
         calls = [it for it in ast.walk(ast.parse(inspect.getsource(sentences))) if isinstance(it, ast.Call)
                  and isinstance(it.func, ast.Attribute) and it.func.attr in ('accept', 'need', 'verb')]
         phrases = {it.value for call in calls for it in call.args if isinstance(it, ast.Constant)}
-        phrases |= {*sentences.MOTES_OF, *sentences.VALUES_OF, *sentences.ALL_COPIES, *sentences.OUTCOMES,
+        phrases |= {*sentences.MOTES_OF, *sentences.VALUES_OF, *sentences.OUTCOMES,
                     *(verb + 's' for verb in sentences.VERBS)}
         self.assertGreater(len(phrases), 60)
         missing = {phrase for phrase in phrases if not set(re.findall(r'\w+|%', phrase)) <= known}

@@ -350,7 +350,7 @@ def test_as_a_naive_search_finds() -> None:
 
 
 HALTING = {'  etimer t;\n': '  etimer t;\n  ctimer c { print 9; }\n'}
-SHARES = ['at least 90 % of copies arrive', 'no copy is lost', 'at least 90 % of the motes send']
+SHARES = ['every copy arrives', 'no copy is lost', 'at least 4 motes send']
 EARLY = ['no mote halts', 'no mote halts by 50', 'no mote halts after 50']
 WAIT = 'while 1 {\n      yield_until is(packet);'
 

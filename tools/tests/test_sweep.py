@@ -83,7 +83,7 @@ def test_a_function_that_fails_is_told_with_its_line(words: str, source: str, sa
 
 @pytest.mark.parametrize('words, seen', [
     ('rato', 'did you mean ratio'), ('flow raeched: print a', 'did you mean reached'),
-    ('moment: at least 90 % of motes print a', 'has no moment'),
+    ('moment: at least 2 motes print a', 'has no moment'),
     ('motes: every mote finally prints a 4', 'Write `every mote prints a 4`')])
 def test_the_measure_that_was_meant_is_named(words: str, seen: str) -> None:
     with pytest.raises(MeasureFault, match=seen):

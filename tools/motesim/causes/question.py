@@ -103,9 +103,9 @@ def line_asked(traces: Traces, question: str) -> At | None:
     return None
 
 
-def needed(count: Count, most: int, whole: int = 1) -> int:
+def needed(count: Count, most: int) -> int:
     """The least number above 0, and up to `most`, that a count admits; 0 if there is none."""
-    return next((it for it in range(1, most + 1) if count.admits(it, whole)), 0)
+    return next((it for it in range(1, most + 1) if count.admits(it)), 0)
 
 
 class Asker:
@@ -209,7 +209,7 @@ class Asker:
         if it.motes.kind == 'each':
             return events[-1].row if events else None
         count = it.motes.count or (Count('at most', 0) if it.motes.kind == 'no' else Count('at least', 1))
-        number = needed(count, len(doing), len(chosen) if count.is_part else 1)
+        number = needed(count, len(doing))
         # (a mote without a line has met the sentence from the start)
         left = events[max(number - 1 - len(doing) + len(events), 0):] if number else []
         return left[0].row if left else None
@@ -235,8 +235,7 @@ class Asker:
     def completing(self, it: Copies | Packets) -> int | None:
         """The row that completes the number of copies or packets that a sentence wants."""
         rows = self.rows(it)
-        is_part = isinstance(it, Copies) and it.count.is_part
-        number = needed(it.count, len(rows), self.finder.due(it.motes) if isinstance(it, Copies) and is_part else 1)
+        number = needed(it.count, len(rows)) if it.count else len(rows)
         return rows[number - 1].row if number else None
 
     def losses(self, where: At, it: Sentence) -> tuple[int, ...]:

@@ -250,42 +250,45 @@ class Claims:
             what = Counted('line in the report', 'lines in the report', of_net=OfNet('lines'))
             return [limited(of_count(it.count), what)]
         assert isinstance(it, (Copies, Packets))
+        if it.count is None:
+            return [self.every_copy(it.motes)]
         if isinstance(it, Copies) and it.outcome == 'left':
             what = Counted('copy left at the end', 'copies left at the end', of_net=OfNet('left'))
             return [limited(of_count(it.count), what)]
         if isinstance(it, Copies) and it.outcome != 'lost':
-            return self.lines_in(it, BECAME[it.outcome], it.motes)
+            return self.lines_in(it.count, it.window, BECAME[it.outcome], it.motes)
         if it.window.root is not None:
             # (a packet is a line of its sender)
-            return self.lines_in(it, 'send', None)
+            return self.lines_in(it.count, it.window, 'send', None)
         motes = it.motes if isinstance(it, Copies) else None
         form = '%s' + to_motes(motes) + ' sent%s and lost by the medium' if isinstance(it, Copies) else '%s sent%s'
         one, many, kind = ('copy', 'copies', 'lost') if isinstance(it, Copies) else ('packet', 'packets', 'packets')
         found = [(span, period_text(span)) for span in self.links.spans(it.window, 0)]
-        return [test for span, when in found for test in self.share_or_number(
-            it, Counted(form % (one, when), form % (many, when), of_net=OfNet(kind, span, motes)), motes)]
+        limits = of_count(it.count)
+        return [limited(limits, Counted(form % (one, when), form % (many, when), of_net=OfNet(kind, span, motes)))
+                for span, when in found]
 
-    def lines_in(self, it: Copies | Packets, kind: str, motes_of: frozenset[int] | None) -> list[Test]:
-        """Copies or packets that are lines of this kind. The interval may depend on the mote."""
-        motes, apart = Motes('together', motes_of).chosen(self.scenario.motes), list[int]()
-        spans = {}
-        for mote in motes:
+    def lines_in(self, count: Count, window: Window, kind: str, motes_of: frozenset[int] | None) -> list[Test]:
+        """So many copies or packets are lines of this kind. The interval may depend on the mote."""
+        apart, spans = list[int](), {}
+        for mote in Motes('together', motes_of).chosen(self.scenario.motes):
             try:
-                spans[mote] = self.links.spans(it.window, mote)
+                spans[mote] = self.links.spans(window, mote)
             except Apart:
                 apart.append(mote)
         found = list[Test]()
-        for part in range(len(self.links.spans(it.window, it.window.root or 0))):
+        for part in range(len(self.links.spans(window, window.root or 0))):
             deed = self.deed([(kind,)], list(spans), [its[part] for its in spans.values()])
-            found += self.share_or_number(it, lines_of(deed), motes_of)
+            found.append(limited(of_count(count), lines_of(deed)))
         never = [limited((0, 0), lines_of(self.deed([(kind,)], apart, [ALL] * len(apart))))] if apart else []
         return found + never
 
-    def share_or_number(self, it: Copies | Packets, what: Counted, motes: frozenset[int] | None) -> list[Test]:
-        if not it.count.is_part:
-            return [limited(of_count(it.count), what)]
-        due = '%s' + '%s lost by the medium or due by %d' % (to_motes(motes), self.scenario.end)
-        return compared(it.count, what, Counted(due % 'copy', due % 'copies', of_net=OfNet('due', to=motes)))
+    def every_copy(self, to: frozenset[int] | None) -> Test:
+        """Each copy that the medium lost, or that was due by the end, has a line `recv`."""
+        form = '%s' + '%s lost by the medium or due by %d' % (to_motes(to), self.scenario.end)
+        due = Counted(form % 'copy', form % 'copies', of_net=OfNet('due', to=to))
+        motes = Motes('together', to).chosen(self.scenario.motes)
+        return ratio(due, 1, lines_of(self.deed([(BECAME['received'],)], motes, [ALL] * len(motes))), 1, False, True)
 
 
 def periods(it: Does) -> list[Does]:
@@ -319,9 +322,8 @@ def near(moments: int, where: str) -> str:
 
 
 def of_count(count: Count) -> Limits:
-    """The limits of a number. Nothing is fewer than 0."""
-    most = count.most
-    return (1, 0) if most is not None and most < 0 else (count.least, most)
+    """The limits of a number."""
+    return count.least, count.most
 
 
 def of_motes(motes: Motes, number: int) -> Limits:
@@ -332,21 +334,14 @@ def of_motes(motes: Motes, number: int) -> Limits:
     if motes.kind != 'count':
         return (0, 0) if motes.kind == 'no' else (1, None)
     assert motes.count
-    if not motes.count.is_part:
-        return of_count(motes.count)
-    admitted = [it for it in range(number + 1) if motes.count.admits(it, number)]
-    if not admitted:
-        return number + 1, None
-    return admitted[0], None if motes.count.compare in ('at least', 'more than') else admitted[-1]
+    return of_count(motes.count)
 
 
 def compared(count: Count, one: Counted, two: Counted) -> list[Test]:
-    """So many times as many things as others, or so large a share of them."""
-    unit, times = 100 if count.is_part else 1, count.number
-    at_least = ratio(two, times, one, unit, count.compare == 'more than', True)
-    at_most = ratio(one, unit, two, times, count.compare == 'fewer than', False)
-    return [at_least] * (count.compare in ('at least', 'more than', 'exactly')) + [at_most] * (
-        count.compare in ('at most', 'fewer than', 'exactly'))
+    """So many times as many things as others."""
+    at_least = ratio(two, count.number, one, 1, count.compare == 'more than', True)
+    at_most = ratio(one, 1, two, count.number, False, False)
+    return [at_least] * (count.compare != 'at most') + [at_most] * (count.compare in ('at most', 'exactly'))
 
 
 def ordered(it: Does, relation: Relation, deed: Deed, event: Deed) -> list[Test]:

@@ -52,8 +52,6 @@ class Links:
             return value.values
         if value.kind == 'self':
             return {mote}
-        if value.kind == 'greatest':
-            return {self.scenario.motes - 1}
         if value.kind == 'distance':
             return {self.hops(value.number, mote)}
         heard = self.heard[mote]
@@ -62,7 +60,7 @@ class Links:
             return {s for s in heard if self.found[value.number].get(s) == hops - 1}
         if value.kind == 'linked':
             heard = {s for s in heard if mote in self.heard[s]}
-        return {sum(1 << s for s in heard - value.but)}
+        return {sum(1 << s for s in heard)}
 
     def spans(self, window: Window, mote: int) -> list[Span]:
         """The moments of a window, for a mote."""

@@ -7,20 +7,18 @@ from dataclasses import dataclass, field, fields, is_dataclass
 
 COMPARES = {
     'at least': operator.ge, 'at most': operator.le, 'exactly': operator.eq, 'more than': operator.gt,
-    'fewer than': operator.lt,
 }
 
 
 @dataclass(frozen=True)
 class Count:
-    """A condition on a count: a comparison and a number, or a share in per cent."""
+    """A condition on a count: a comparison and a number."""
     compare: str
     number: int
-    is_part: bool = False
 
-    def admits(self, found: int, times: int = 1) -> bool:
-        """Returns whether a count satisfies the condition: `times` is the unit of the number, or the whole."""
-        return bool(COMPARES[self.compare](found * (100 if self.is_part else 1), self.number * times))
+    def admits(self, found: int) -> bool:
+        """Returns whether a count satisfies the condition."""
+        return bool(COMPARES[self.compare](found, self.number))
 
     @property
     def least(self) -> int:
@@ -29,10 +27,10 @@ class Count:
     @property
     def most(self) -> int | None:
         """The greatest number that is allowed, or None if there is no limit."""
-        return {'at most': self.number, 'exactly': self.number, 'fewer than': self.number - 1}.get(self.compare)
+        return self.number if self.compare in ('at most', 'exactly') else None
 
     def __str__(self) -> str:
-        return '%s %d%s' % (self.compare, self.number, ' %' if self.is_part else '')
+        return '%s %d' % (self.compare, self.number)
 
 
 @dataclass(frozen=True)
@@ -53,15 +51,12 @@ class Window:
 class Value:
     """A value: a number, or a value that differs by mote or by net.
 
-    kind   number, any (of `values`), self, greatest (the greatest number of a mote), distance (hops from `number`),
-           heard (the set of the motes that it hears), linked (the set of those that also hear it), nearer (a mote that
-           it hears, one hop nearer to `number`)
-    but    motes that aren't counted in a set
+    kind   number, any (of `values`), self, distance (hops from `number`), heard (the set of the motes that it hears),
+           linked (the set of those that also hear it), nearer (a mote that it hears, one hop nearer to `number`)
     words  how the sentence says the value, if it names fields
     """
     kind: str
     number: int = 0
-    but: frozenset[int] = frozenset()
     values: frozenset[int] = frozenset()
     words: str = field(default='', compare=False)
 
@@ -149,8 +144,8 @@ class Does:
 
 @dataclass(frozen=True)
 class Copies:
-    """A number of copies have this outcome, which is one of those in motesim.report."""
-    count: Count
+    """A number of copies, or all of them (None), have this outcome, which is one of those in motesim.report."""
+    count: Count | None
     outcome: str
     motes: frozenset[int] | None
     window: Window

@@ -37,7 +37,7 @@ def remark_on(sentence: Sentence, finder: Finder) -> str:
     """The remark on a sentence that holds; an empty text if there is none."""
     if isinstance(sentence, (Does, Copies, Packets)) and sentence.window.begin > finder.scenario.end:
         return AFTER_THE_END % (finder.scenario.end, sentence.window.begin)
-    if isinstance(sentence, Copies) and sentence.count.is_part and not finder.due(sentence.motes):
+    if isinstance(sentence, Copies) and sentence.count is None and not finder.due(sentence.motes):
         return NO_COPIES
     if isinstance(sentence, Does) and sentence.than and sentence.than.is_each and not has_values(sentence, finder):
         return NO_VALUE

@@ -11,12 +11,12 @@ from motesim.text import nearest, wrapped
 EXAMPLES = (
     'mote 6 prints flood 1 by 60', 'every mote but 0 prints flood its distance from mote 0',
     'mote 3 prints just flood 1, 2, 3', 'every mote finally prints flood 7', 'no mote sends more than twice',
-    'motes 3 to 7 together send at most 2 times between 40 and 160', 'at least 90 % of motes receive 1 from mote 0',
+    'motes 3 to 7 together send at most 2 times between 40 and 160', 'at least 5 motes receive 1 from mote 0',
     'mote 3 never halts', 'mote 6 sends 1 within 10 of receiving 1', 'mote 6 prints flood 1 after mote 0 sends 1',
     'exactly 1 mote sends in each 120 from 0 to 1199', 'mote 1 sends at least 3 times as often as mote 0',
     'mote 0 prints flood once for each value that mote 1 sends', 'all motes finally print the same flood',
     'mote 0 prints flood at most once for each value', 'mote 1 sends, or mote 2 sends',
-    "mote 1 writes 'post 0 flood'", 'at least 90 % of copies arrive', 'no copy collides at mote 3',
+    "mote 1 writes 'post 0 flood'", 'every copy arrives', 'no copy collides at mote 3',
     'exactly 75 packets are sent', 'the report has at most 2000 lines', 'mote 1 can hear mote 0',
 )
 

@@ -30,11 +30,10 @@ WITH_VALUE = {kind for kind, its in FIELDS.items() if its.endswith(('value', 'wo
 # The verbs of motes and of copies, in the form for many; and the outcomes of copies that have a verb.
 VERBS = ('print', 'send', 'receive', 'start', 'leave', 'halt', 'write')
 OUTCOMES = {'collide': 'collided', 'arrive': 'received', 'overflow': 'overflowed'}
-ALL_COPIES = ('every copy', 'each copy', 'all copies')
 # The motes of a sentence that names no numbers, and the values that differ by mote or by net: their kinds.
-MOTES_OF = {'no mote': 'no', 'some mote': 'some', 'every mote': 'each', 'each mote': 'each'}
+MOTES_OF = {'no mote': 'no', 'some mote': 'some', 'every mote': 'each'}
 VALUES_OF = {
-    'its number': 'self', 'the greatest mote number': 'greatest', 'its distance from mote': 'distance',
+    'its number': 'self', 'its distance from mote': 'distance',
     'the set of motes that it hears': 'heard', 'the set of motes linked with it': 'linked',
     'a mote that it hears , one hop nearer to mote': 'nearer'}
 
@@ -180,16 +179,15 @@ class _Reader:
 
     # How often and when
 
-    def count(self, has_share: bool = False) -> Count | None:
-        """Reads the part of a sentence that says how many times, or, if it `has_share`, how large a share."""
+    def count(self) -> Count | None:
+        """Reads the part of a sentence that says how many times."""
         compare = self.accept(*COMPARES)
         word = self.accept('once', 'twice')
         if word:
             return Count(compare or 'exactly', 1 if word == 'once' else 2)
         if not compare:
             return None
-        number = self.number('a number')
-        return Count(compare, number, has_share and bool(self.accept('%')))
+        return Count(compare, self.number('a number'))
 
     def window(self) -> Window | None:
         """When."""
@@ -241,7 +239,7 @@ class _Reader:
         kind = VALUES_OF.get(self.accept(*VALUES_OF))
         if kind in ('distance', 'nearer'):
             return Value(kind, self.mote())
-        return Value(kind, but=self.but() if kind in ('heard', 'linked') else frozenset()) if kind else None
+        return Value(kind) if kind else None
 
     @property
     def a_field(self) -> str:
@@ -345,8 +343,6 @@ class _Reader:
             return Motes('together')
         if self.accept('all motes'):
             return Motes('each', None, self.but())
-        if self.accept('each of motes', 'all of motes'):
-            return Motes('each', self.mote_list())
         if self.accept('motes'):
             numbers = self.mote_list()
             return Motes('together' if self.accept('together') else 'each', numbers)
@@ -431,26 +427,28 @@ class _Reader:
 
     # Copies, packets and other sentences
 
+    def every_copy(self) -> Sentence:
+        """The sentence that all copies arrive, from the verb on."""
+        self.needed(self.verb('arrive'))
+        return Copies(None, OUTCOMES['arrive'], self.mote_list() if self.accept('at mote', 'at motes') else None, Window())
+
     def copies(self, count: Count) -> Sentence:
-        """A sentence about copies, from the verb on."""
+        """A sentence about a number of copies, from the verb on."""
         outcome = OUTCOMES.get(self.verb(*OUTCOMES))
         if outcome is None:
             self.need('is' if self.is_one else 'are')
-            outcome = self.need('lost') if count.is_part else self.need('lost', 'left')
+            outcome = self.need('lost', 'left')
         motes = None
         if outcome != 'left' and self.accept('at mote', 'at motes'):
             motes = self.mote_list()
         begin = self.at
-        window = None if count.is_part or outcome == 'left' else self.window()
+        window = None if outcome == 'left' else self.window()
         if outcome == 'lost' and window and window.root is not None:
             raise self.fault_at(begin, 'a time that is the same for all motes')
         return Copies(count, outcome, motes, window or Window())
 
     def things(self, count: Count, kinds: tuple[str, ...]) -> Sentence:
         """A sentence about a number of motes, copies or packets, from this noun on."""
-        if count.is_part:
-            self.accept('of the', 'of all', 'of')
-            kinds = ('motes', 'copies')
         kind = self.need(*kinds)
         self.is_one = kind in ('mote', 'copy', 'packet')
         if kind in ('mote', 'motes'):
@@ -487,9 +485,8 @@ class _Reader:
         for word, few in ('no', Count('at most', 0)), ('some', Count('at least', 1)):
             if self.accept(word):
                 return self.things(few, ('copy', 'packet'))
-        if self.accept(*ALL_COPIES):
-            self.is_one = self.words[self.at - 1] == 'copy'
-            return self.copies(Count('at least', 100, True))
+        if self.accept('every copy'):
+            return self.every_copy()
         if self.accept('the report has'):
             count = self.needed(self.count())
             self.need('lines', 'line')
@@ -498,7 +495,7 @@ class _Reader:
             return MediumLine(self.quoted())
         if self.accept('the scenario is refused with'):
             return Refused(' '.join(self.quoted()))
-        return self.things(self.needed(self.count(has_share=True)), ('mote', 'motes', 'copy', 'copies', 'packet', 'packets'))
+        return self.things(self.needed(self.count()), ('mote', 'motes', 'copy', 'copies', 'packet', 'packets'))
 
 
 def read_sentence(sentence: str, names: Names = Names()) -> Sentence:
