@@ -1,4 +1,4 @@
-"""The table of docs/use/CONTIKI.md: each piece of the notation in its right column is one, and runs."""
+"""The table of docs/use/LANGUAGE.md for those who know Contiki: each piece of the notation in its right column is one, and runs."""
 import re
 import unittest
 
@@ -9,7 +9,7 @@ from motesim.report.run import answer
 from skips import need_built
 from test_warnings import net
 
-PAGE = (TOP / 'docs/use/CONTIKI.md').read_text().split('## From the notation to C')[0]
+PAGE = (TOP / 'docs/use/LANGUAGE.md').read_text().split("## From Contiki's C")[1].split('\n## ')[0]
 ROWS = [row.strip('| ').split(' | ') for row in PAGE.split('\n') if row.startswith('| ') and ' | ' in row][1:]
 MOST = 45
 TOP_LINES = {'event': 'event go;', 'semaphore': 'semaphore s = 2;', 'process': 'process a, b;',
