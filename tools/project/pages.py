@@ -1,25 +1,20 @@
 """Writes the parts of the pages that are made from the code: tools/dev/pages
 
-The pages have tables of options, limits, keys, errors and warnings, and HEADLINE a list of definitions, between two
+The pages have tables of limits, keys and errors, and HEADLINE a list of definitions, between two
 marks:
 
     <!-- written by tools/dev/pages: limits -->
     <!-- end -->
 
-The options of a tool are those of its --help; `./test` checks that the pages are up to date. The words of the syntax
-file for editors are written, too.
+`./test` checks that the pages are up to date. The words of the syntax file for editors are written, too.
 """
 from __future__ import annotations
 
-import argparse
-import importlib
 import json
 import re
 import textwrap
 from collections.abc import Callable, Iterable, Iterator
 
-from motesim.explain.say import TEXTS
-from motesim.home import VERBS
 from motesim.command import command
 from motesim.notation import faults
 from motesim.notation import grammar as program
@@ -27,7 +22,6 @@ from motesim.plan import keys as plan
 from motesim.plan.tables import Key
 from motesim.runner.programs import TOP
 from motesim.scenario import faults as scenario
-from motesim.summary import columns
 from motesim.words import words_of
 from project.spec_lists import further, headline
 
@@ -36,8 +30,6 @@ WIDTH = 120
 # The width of the grammar, and of the names of its rules; a part of a rule: a group in brackets or braces, or a word.
 GRAMMAR_WIDTH, NAME_WIDTH = 116, 10
 PART_OF_RULE = re.compile(r'\{ [^{}]*(?:\{ [^{}]* \})?[^{}]* \}|\[ [^\[\]]* \]|\S+')
-# The options that many tools have, and that the page describes once.
-SHARED = 'seconds', 'memory', 'report', 'bytes', 'jobs', 'dask', 'fault', 'faults'
 PART = re.compile(r'(?<=<!-- written by tools/dev/pages: )(?P<name>[\w ]+)(?P<head> -->\n).*?(?=<!-- end -->)', re.S)
 
 
@@ -52,32 +44,7 @@ def table(head: tuple[str, ...], rows: Iterator[tuple[str, ...]]) -> Iterator[st
         yield '| %s |' % ' | '.join(map(cell, row))
 
 
-def form(it: argparse.Action) -> str:
-    """An option or an argument as one types it."""
-    name = '' if it.nargs == 0 else str(it.metavar or '|'.join(it.choices or [it.dest.upper()]))
-    return ' '.join(filter(None, [', '.join(it.option_strings), name]))
 
-
-def options(tool: str) -> Iterator[str]:
-    """The arguments of a tool, the options that many tools share, and a table of its own options."""
-    words = importlib.import_module('motesim.commands.' + tool).parser()
-    said = words._get_formatter()._expand_help
-    its = [it for it in words._actions if it.dest not in ('help', 'version') and it.help != argparse.SUPPRESS]
-    arguments = '; '.join('`%s`: %s' % (form(it), said(it)) for it in its if not it.option_strings)
-    shared = ', '.join('`%s`' % form(it) for it in its if it.option_strings and it.dest in SHARED)
-    yield from textwrap.wrap('%s.%s' % (arguments, shared and ' Also %s.' % shared), WIDTH, break_on_hyphens=False)
-    own = [it for it in its if it.option_strings and it.dest not in SHARED]
-    if own:
-        yield ''
-        yield from table(('Option', 'Effect'), (('`%s`' % form(it), said(it)) for it in own))
-
-
-def all_options() -> Iterator[str]:
-    """The options of all tools."""
-    for number, tool in enumerate(it for it in VERBS if (TOP / 'tools' / it).exists()):
-        yield from [''] * (number > 0)
-        yield from ('## tools/%s' % tool, '')
-        yield from options(tool)
 
 
 def span(least: int, most: int) -> str:
@@ -152,13 +119,6 @@ def plan_keys() -> Iterator[str]:
     return table(('Table', 'Keys'), rows())
 
 
-def warnings() -> Iterator[str]:
-    """The warnings of tools/explain; the words in capitals stand for names and numbers."""
-    def words(text: str) -> str:
-        return re.sub(r'\{(\w+)\}', lambda it: it[1].upper(), text)
-
-    return table(('Name', 'Text'), (('`%s`' % name, words(text)) for name, text in TEXTS.items()))
-
 
 def filled(name: str, parts: Iterable[str], between: str) -> list[str]:
     """A rule on as many lines as it needs: each further line begins with the separator of the parts."""
@@ -217,14 +177,11 @@ def syntax_of(text: str) -> str:
 
 
 PARTS: dict[str, Callable[[], Iterator[str]]] = {
-    'columns of flows': lambda: table(('Column', 'For the messages of an origin'), columns.rows(columns.FLOWS)),
-    'columns of intervals': lambda: table(('Column', 'For an interval'), columns.rows(columns.INTERVALS)),
-    'columns of motes': lambda: table(('Column', 'For a mote'), columns.rows(columns.MOTES)),
     'definitions': lambda: iter(headline(TOP).splitlines()),
     'definitions of answers': lambda: iter(further(TOP).splitlines()), 'grammar': grammar,
-    'grammar of claims': grammar_of_claims, 'limits': limits, 'options': all_options, 'plan keys': plan_keys,
+    'grammar of claims': grammar_of_claims, 'limits': limits, 'plan keys': plan_keys,
     'program errors': program_errors, 'reserved words': reserved, 'scenario errors': scenario_errors,
-    'scenario keys': scenario_keys, 'warnings': warnings}
+    'scenario keys': scenario_keys}
 
 
 def page_of(text: str) -> str:

@@ -90,7 +90,7 @@ class Habits(unittest.TestCase):
                 assert fault is not None
                 self.assertEqual(fault.message, message)
                 shown = '\n'.join(explanation('x', text.encode(), 'motesim: ' + message))
-                self.assertRegex(shown, 'Allowed here|CONTIKI')
+                self.assertRegex(shown, 'Allowed here|LANGUAGE')
                 made = [new for _, new in changes(text)]
                 runs = bool(made) and find_fault_of_scenario(made[-1].encode()) is None
                 self.assertEqual('runs' if runs else 'edits' if made else 'advice' if correction_of(text) else 'none',

@@ -63,9 +63,8 @@ class LinksAndDocs(unittest.TestCase):
         for path in files('docs/*/*.md'):
             text = path.read_text('utf-8')
             self.assertEqual(pages.page_of(text), text, '%s: tools/dev/pages writes it' % path.name)
-        commands = (TOP / 'docs/use/COMMANDS.md').read_text('utf-8')
-        self.assertNotEqual(pages.page_of(commands.replace('| `--html FILE` |', '| `--page FILE` |')),
-                            commands.replace('| `--html FILE` |', '| `--page FILE` |'))
+        changed = (TOP / 'docs/use/SCENARIO.md').read_text('utf-8').replace('| `medium` | `range` |', '| `medium` | `reach` |')
+        self.assertNotEqual(pages.page_of(changed), changed)
 
     def test_the_citation_is_about_this_version(self) -> None:
         text = (TOP / 'CITATION.cff').read_text('utf-8')

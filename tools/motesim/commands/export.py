@@ -7,7 +7,7 @@
   tools/export net.toml --form contiki -o net_c --host  the same folder, and a simulator in C for this machine
 
 REPORT is a report, or a scenario, which is run. A moment counts as a millisecond. docs/use/REPORT.md describes the
-formats and how to open the files; docs/use/CONTIKI.md is about the C files.
+formats and how to open the files; docs/use/KERNEL.md is about the C files.
 
 The tool ends with status 0, or with 2 if a file can't be read or written.
 """

@@ -1,7 +1,7 @@
 """Opens a page on which you write a protocol and see its run at once.
 
 The page is served on this machine only. Without FILE.toml the page shows the example flooding.toml. Ctrl-C ends the
-studio. docs/use/STUDIO.md describes the page.
+studio. docs/use/DEBUGGING.md describes the page.
 """
 from __future__ import annotations
 

@@ -34,7 +34,7 @@ from motesim.toml import MARK, NoToml, read_toml
 # The name of a text that is in no file, but in the studio.
 TEXT = 'the text'
 OF_PLAN = '%s is a plan, not a scenario: tools/scenario %s -o NAME.toml makes a scenario of it.'
-OF_C = ('motesim runs programs in its own notation, and %s is in C: docs/use/CONTIKI.md shows how to write in the '
+OF_C = ('motesim runs programs in its own notation, and %s is in C: docs/use/LANGUAGE.md shows how to write in the '
         'notation what Contiki has in C.')
 PROGRAM = re.compile(r'program (\S+) fault (\d+) line (\d+)')
 

@@ -85,7 +85,7 @@ HINTS = {
     'open-bracket': 'The name of a table is in brackets.',
     'brackets': 'Each mote and each loss is a table `[[mote]]` or `[[loss]]`; `[medium]` is one table.',
     'no-chance': 'Nothing happens by chance here: a loss `[[loss]]` from one mote to another loses every k-th packet '
-                 '(`every = k`). docs/use/STATISTICS.md has a tested pattern for losses by chance.',
+                 '(`every = k`). docs/use/EXPERIMENTS.md has a tested pattern for losses by chance.',
     'other-key': 'The table has `{name}`: write `{wanted}`.',
     'scenario-needs': 'A scenario needs `{wanted}`.',
     'needs': 'The table needs `{wanted}`, such as `{wanted} = {value}`.',

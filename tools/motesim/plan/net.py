@@ -27,7 +27,7 @@ from motesim.scenario.places import Path, Place
 from motesim.toml import MARK
 
 # What no rule for losses does.
-BY_CHANCE = ' (for losses by chance see docs/use/STATISTICS.md)'
+BY_CHANCE = ' (for losses by chance see docs/use/EXPERIMENTS.md)'
 
 
 def files_of(tables: Tables, files: Files) -> list[str]:

@@ -1,4 +1,4 @@
-"""The studio, a page for writing, running and looking at a protocol: docs/use/STUDIO.md.
+"""The studio, a page for writing, running and looking at a protocol: docs/use/DEBUGGING.md.
 
     command   starts it             server    serves the page           session  responds to the page
     desk      the files             runs      runs within limits        answers  results of a run

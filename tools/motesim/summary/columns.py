@@ -1,7 +1,5 @@
-"""The columns of the tables of tools/summary, each with what it has: for the tables, for --help and for the page."""
+"""The columns of the tables of tools/summary, each with what it has: for the tables and for --help."""
 from __future__ import annotations
-
-from collections.abc import Iterator
 
 FATES = {'received': 'copies that were received',
          'lost': 'copies that the medium lost',
@@ -41,8 +39,3 @@ INTERVALS = {'from': 'the first moment', 'to': 'the last moment', 'sent': 'packe
 def described(columns: dict[str, str]) -> str:
     """The columns as lines of a help text."""
     return '\n'.join('  %-11s %s' % it for it in columns.items())
-
-
-def rows(columns: dict[str, str]) -> Iterator[tuple[str, str]]:
-    """The columns as rows of a page's table."""
-    return (('`%s`' % name, what) for name, what in columns.items())

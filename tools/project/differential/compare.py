@@ -1,6 +1,6 @@
 """Compares motesim with the host on random scenarios: tools/differential [--seed S] [--count N]
 
-The host is a second simulator, in C (docs/use/CONTIKI.md). The host runs each scenario once. motesim runs it on one
+The host is a second simulator, in C (docs/use/KERNEL.md). The host runs each scenario once. motesim runs it on one
 thread, and with workers of both kinds of synchronisation. All these runs have to write the same bytes. If a report
 differs, the tool reduces the scenario as long as its reports still differ, and writes the reduced scenario to a file.
 
