@@ -9,12 +9,12 @@ from in_page import FLOODING, InPage
 ERRORS = [
     ('send newest', 'send newst', 'Did you mean `newest`?', 'newst'),
     ('if (self == 0)', 'if (self = 0)', '`=` assigns, and `==` compares.', '='),
-    ('newest = (newest + 1);', 'newest = newest + 1;', 'Each operation is in parentheses.', None),
-    ('print newest;', 'print newest', 'A statement ends with `;`.', None),
-    ('(newest < 3)', '(newest < 3', 'A parenthesis isn\'t closed.', None),
-    ('var newest = 0;', 'int newest = 0;', 'A variable is declared by `var`.', 'int'),
+    ('newest = (newest + 1);', 'newest = newest + 1;', 'Two values with `+` between them are in parentheses: `(newest + 1)`.', None),
+    ('print newest;', 'print newest', '`;` is missing behind `newest`.', None),
+    ('(newest < 3)', '(newest < 3', '`)` is missing behind `3`.', None),
+    ('var newest = 0;', 'int newest = 0;', 'Variables are declared at the head of a `code`', 'int'),
     ('program = "flood"', 'program = "floood"', 'Did you mean `flood`?', 'floood'),
-    ('program = "flood"', 'program = "flood', 'A quote isn\'t closed.', None),
+    ('program = "flood"', 'program = "flood', 'A text ends with the quotes with which it begins.', None),
     ('range = ', 'rnge = ', 'Did you mean `range`?', 'rnge'),
 ]
 

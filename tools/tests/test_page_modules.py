@@ -16,6 +16,7 @@ import test_timeline
 import test_why
 from motesim.comparison.columns import MEDIUM
 from motesim.comparison.reports import compared, differences, packet_of
+from motesim.explain.rules import rules
 from motesim.judge import expectations
 from motesim.notation.grammar import COLOURS, NAMING
 from motesim.report import KINDS, Report
@@ -211,7 +212,7 @@ def data(tmp_path_factory: pytest.TempPathFactory) -> str:
                               'found': difference(run, after)})
     path = tmp_path_factory.mktemp('page') / 'data.json'
     path.write_text(json.dumps({
-        'kinds': list(KINDS), 'words': {'colours': COLOURS, 'naming': NAMING}, 'differences': found,
+        'kinds': list(KINDS), 'words': {'colours': COLOURS, 'naming': NAMING}, 'corrections': rules(), 'differences': found,
         'runs': {name: run_given(*it) for name, it in runs.items()},
         'chains': [it for name, places in CHAINS.items() for it in chains_of(runs[name][0], places)],
         'texts': [{'text': text, 'tables': read_toml(text)} for text in

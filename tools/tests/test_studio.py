@@ -11,15 +11,12 @@ from typing import Any
 from unittest import mock
 
 from here import SECONDS, TOOLS, TOP, Room, until
-import skips
 import stand_in
 from motesim.faults import Fault
-from motesim.scenario.fields import Field
 from motesim.studio import answers
 from motesim.studio.command import pinned
 from motesim.studio.desk import Changed, Desk
 from motesim.studio.runs import MEGABYTE, LimitMet, Runs, Superseded
-from motesim.studio.searches import Searches, Wanted
 from motesim.studio.server import Server
 from motesim.studio.session import Session
 from test_studio_page import EXPECTED, LIMITS, NET
@@ -331,22 +328,6 @@ class Answering(Room):
         self.assertEqual(self.answer('expect', NET, **words), {})
         self.assertEqual((self.room / 'net.expect.toml').read_text(), source)
         self.assertIn('changed elsewhere', self.answer('expect', NET, **words)['refused'])
-
-
-class Searching(unittest.TestCase):
-    def test_faults_are_found_and_shrunk(self) -> None:
-        skips.need_built()
-        searches, sentence = Searches(LIMITS), 'mote 1 receives with seq 2'
-        self.addCleanup(searches.stop)
-        going = searches.of(searches.begin(Wanted(NET, [sentence], ['links'], 1, (Field('seq', 'value / 3'),))))
-        going.reader.join()
-        self.assertEqual([it['faults'] for it in going.state()['found']['found']], [['link 0 to 1 loses everything']])
-        self.assertEqual(going.shrunk(0, sentence)['text'].count('[[mote]]'), 2)
-        with self.assertRaisesRegex(Fault, "^expectation 1 is not known"):
-            going.shrunk(0, 'mote 1 prints none')
-        going = searches.of(searches.begin(Wanted(NET, ['mote 1 prints none'], ['links'], 1)))
-        going.reader.join()
-        self.assertIn('expectation 1 is not known', going.state()['fault'])
 
 
 class Command(Room):

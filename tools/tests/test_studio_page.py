@@ -1,13 +1,11 @@
 """The page of tools/studio in a headless browser, where there is one: what its server adds to the page that
-test_web_page.py tries: files, corrections, warnings, expectations, faults, causes and states."""
+test_web_page.py tries: files, corrections, warnings, expectations, causes and states."""
 import contextlib
 import json
-import os
 import threading
 from typing import Any
-from unittest import mock
 
-from here import HOLDS, SECONDS, TOP, room_of, text_of
+from here import SECONDS, TOP, room_of, text_of
 import skips
 import stand_in
 from browser import InBrowser
@@ -165,61 +163,6 @@ class Page(InStudio):
         self.wait('by("tab-checks").textContent.startsWith("Checks 1/1") && m.differs.first')
         self.assertIn('print 9', self.value('text'))
 
-    def search(self, *kinds: str) -> None:
-        self.press('tab-faults') if self.value('by("faults").hidden') else None
-        self.value('document.querySelectorAll("#faults-kinds input").forEach('
-                   'it => { it.checked = %s.includes(it.value); })' % json.dumps(kinds))
-        self.press('faults-search')
-
-    def test_faults_are_searched_become_changes_and_are_shrunk(self) -> None:
-        self.open()
-        self.search('links', 'motes')
-        self.wait('m.faults.found')
-        # Mote 1 hears mote 0 alone, which sends two packets.
-        self.assertEqual(self.value('m.faults.found.broken'), ['mote 1 receives exactly 2'])
-        self.assertEqual(self.value('m.faults.found.found.map(it => it.faults)'),
-                         [['link 0 to 1 loses everything'], ['mote 0 is silent']])
-        self.assertEqual(self.tab('faults'), ['Search 1', 'bad'])
-        self.assertIn('all 4 single faults: 4 run', self.shown('faults'))
-        self.press_in('faults-found', 'link 0 to 1')
-        self.wait('m.differs.first && m.differs.first.at === 0')
-        self.assertIn('every = 1\n', self.value('text'))
-        self.assertEqual(self.tab('faults'), ['Search', ''])
-        self.assertIn('These results are of an earlier text.', self.shown('faults'))
-        self.press('revert')
-        self.settled()
-        self.assertEqual(self.value('text'), NET)
-        small = {'text': NET[:NET.rindex('[[mote]]')]}
-        with mock.patch.object(self.server.session.searches.going, 'shrunk', return_value=small):
-            self.press_in('faults-found', 'Shrink')
-            self.wait('run.begins.length === 2')
-
-    def test_faults_are_ticked_only_if_all_were_searched(self) -> None:
-        (self.room / 'net.expect.toml').write_text('expect = ["mote 0 sends 5"]')
-        self.open()
-        self.search('links')
-        self.wait('m.faults.found')
-        self.assertEqual(self.tab('faults'), ['Search ✓', 'good'])
-        self.put(NET.replace('x = 8', 'x = 80'))
-        self.settled()
-        self.search('links')
-        self.wait('m.faults.found && !m.faults.found.runs')
-        self.assertEqual(self.tab('faults'), ['Search', ''])
-        self.assertIn('Nothing was searched', self.shown('faults'))
-
-    def test_a_changed_text_stops_the_search(self) -> None:
-        self.open()
-        program = self.room / 'holding'
-        program.write_text('#!/bin/sh\n' + HOLDS)
-        program.chmod(0o755)
-        with mock.patch.dict(os.environ, MOTESIM=str(program)):
-            self.search('links')
-            self.wait('m.faults.isGoing')
-        self.put(NET.replace('print 1;', 'print 7;'))
-        self.assertEqual(self.shown('faults-state'), 'The text was changed, so the search was stopped.')
-        self.settled()
-        self.assertIsNone(self.server.session.searches.going)
-
     def test_a_lost_connection_says_so_and_comes_back(self) -> None:
         self.open()
         session, port, token = self.server.session, self.server.port, self.server.token
@@ -291,7 +234,7 @@ class Page(InStudio):
 
     def test_it_fits_narrow_windows_and_all_has_a_name(self) -> None:
         self.open()
-        for name in 'tab-why', 'tab-state', 'tab-log', 'tab-faults':
+        for name in 'tab-why', 'tab-state', 'tab-log', 'tab-checks':
             self.press(name)
         for width in 1400, 1000, 700, 390:
             self.browser.size(width, 900)

@@ -123,13 +123,6 @@ def fields_of(expected: tuple[str, str] | None) -> tuple[Field, ...]:
         return ()
 
 
-def sentences_for(text: str, saved: str, expected: tuple[str, str] | None) -> list[str]:
-    """The sentences for this text."""
-    if expected is None:
-        return []
-    return part_for(text, saved, expectations.parts_of(expected[1], expected[0])).sentences
-
-
 def change_of(expected: tuple[str, str] | None) -> dict[str, Any] | None:
     """The first change of a file of expectations, with the words of its button."""
     if expected is None:

@@ -94,6 +94,5 @@ def status_of(asked: argparse.Namespace) -> int:
         with contextlib.suppress(KeyboardInterrupt):
             serve(server, not asked.no_open)
         runs.ask()
-        session.searches.stop()
     print('studio: ended', file=sys.stderr)
     return 0

@@ -14,12 +14,10 @@ from typing import Any, Callable, NamedTuple
 from motesim.explain.within import busiest
 from motesim.faults import Fault
 from motesim.judge.expectations import parts_of
-from motesim.search.faults import KINDS
 from motesim.studio import answers
 from motesim.studio.desk import Changed, Desk, Document, stamp_of
 from motesim.studio.examples import offered
 from motesim.studio.runs import Runs, Superseded
-from motesim.studio.searches import OF_PAGE, Searches, wanted_of
 from motesim.timeline.columns import fields_of
 from motesim.timeline.html import page_of
 from motesim.causes.studio import Causes
@@ -54,7 +52,6 @@ class Session:
 
     def __init__(self, desk: Desk, runs: Runs, against: str | None = None):
         self.desk, self.runs = desk, runs
-        self.searches = Searches(runs.limits)
         self.against = against
         self.kept: OrderedDict[str, answers.Finished] = OrderedDict()
         self.newest, self.ticket = '', 0
@@ -62,9 +59,7 @@ class Session:
         self.work = threading.Lock()
         self.does: dict[str, Callable[[dict[str, Any]], Answered]] = {
             'begin': self.begin, 'open': self.open, 'explain': self.explain, 'advise': self.advise, 'warn': self.warn,
-            'expectations': self.expected, 'expect': self.expect, 'save': self.save, 'export': self.export, 'search': self.search,
-            'searched': self.searched, 'stop-search': self.stop_search, 'counter-example': self.counter_example,
-            'shrink': self.shrink}
+            'expectations': self.expected, 'expect': self.expect, 'save': self.save, 'export': self.export}
         self.causes = Causes()
         for what in 'why', 'state', 'statement':
             self.does[what] = functools.partial(self.cause, what)
@@ -86,7 +81,7 @@ class Session:
         """The content of the page when it opens."""
         files = [] if self.desk.folder == self.desk.examples else self.desk.names('folder')
         return as_json({**self.opened(self.desk.first()), **offered(), 'files': files, 'folder': str(self.desk.folder),
-                        'against': self.against, 'seconds': self.runs.limits.seconds, 'kinds': [[kind, KINDS[kind][1]] for kind in OF_PAGE]})
+                        'against': self.against, 'seconds': self.runs.limits.seconds})
 
     def open(self, asked: dict[str, Any]) -> Answered:
         return as_json(self.opened(self.desk.read(_text(asked, 'where'), _text(asked, 'name'))))
@@ -182,29 +177,3 @@ class Session:
         """The page of a run in one file, the same that tools/timeline writes."""
         title = _text(asked, 'title').removesuffix('.toml')
         return Answered(HTML, ''.join(page_of(title, [self.done(asked).named(title)])).encode('utf-8'))
-
-    # Searches for faults.
-
-    def search(self, asked: dict[str, Any]) -> Answered:
-        """Starts a search for the faults that break the expectations for a text."""
-        text, expected = _text(asked, 'text'), self.expectations(asked)
-        sentences = answers.sentences_for(text, _text(asked, 'saved'), expected)
-        wanted = wanted_of(text, sentences, asked.get('kinds'), asked.get('at_most'))._replace(
-            fields=answers.fields_of(expected))
-        return as_json({'number': self.searches.begin(wanted)})
-
-    def searched(self, asked: dict[str, Any]) -> Answered:
-        """The progress of a search, and at its end what it found."""
-        return as_json(self.searches.of(asked.get('number')).state())
-
-    def stop_search(self, asked: dict[str, Any]) -> Answered:
-        self.searches.stop()
-        return as_json({})
-
-    def counter_example(self, asked: dict[str, Any]) -> Answered:
-        """The text of a scenario with faults that were found."""
-        return as_json({'text': self.searches.of(asked.get('number')).text(asked.get('index'))})
-
-    def shrink(self, asked: dict[str, Any]) -> Answered:
-        """A scenario, made as small as possible, in which the same faults break the same sentence."""
-        return as_json(self.searches.of(asked.get('number')).shrunk(asked.get('index'), _text(asked, 'sentence')))

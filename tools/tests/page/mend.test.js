@@ -10,7 +10,7 @@ import {given} from './data.js';
 
 const HERE = new URL('..', import.meta.url), WEB = new URL('../../../web/', import.meta.url);
 const {runModule} = createRequire(WEB)(new URL('run_module.js', WEB).pathname);
-const LEAST = 38;
+const LEAST = 47;
 
 test('words are near each other', () => assert.deepEqual(
   [['newst', 'newest'], ['form', 'from'], ['print', 'print'], ['send', 'recv'], ['a', 'abcd']].map(its => distance(...its)),
@@ -28,8 +28,8 @@ test('usual mistakes are corrected', async () => {
   for (const [name, file, number, row, , outcome] of rows.filter(its => its.length > 4)) {
     const text = fs.readFileSync(new URL(`mistakes/${file}.toml`, HERE), 'utf8').split('\n');
     text[Number(number) - 1] = row.replace(/\\n/g, '\n');
-    const source = text.join('\n'), line = lineOf(source), place = placeOfFault(source, line);
-    const found = await mend(source, {line, place}, given.words, async other => lineOf(other));
+    const source = text.join('\n'), line = lineOf(source), place = placeOfFault(source, line, given.corrections.keys);
+    const found = await mend(source, {line, place}, given.words, given.corrections, async other => lineOf(other));
     if (found) assert.notEqual(lineOf(found.text), line, name);
     if (found && outcome === 'runs' && !lineOf(found.text)) corrected++;
   }

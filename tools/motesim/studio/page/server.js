@@ -21,7 +21,6 @@ export class Server extends Alone {
 
   async run(asked) {
     const got = await super.run(asked);
-    if (got.fault) got.fault = await this.ask('explain', {text: asked.text, line: got.fault.line});
     if (!got.limit) return got;
     const {does} = await this.ask('advise', {text: asked.text}).catch(() => ({does: ''}));
     return does ? {limit: got.limit + does} : got;
@@ -33,6 +32,9 @@ export class Server extends Alone {
     this.expected = file;
     return items.map(it => ({...it, remark: it.remark || about}));
   }
+
+  /** The server explains errors, with their corrections. */
+  async faultOf(text, line) { return this.ask('explain', {text, line}); }
 
   /** The server has explained the error already. */
   async mend() { return null; }

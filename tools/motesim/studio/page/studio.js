@@ -1,10 +1,9 @@
 // @ts-check
-// Opens the studio: the page with a server, which also knows causes, states, expectations and faults, and has files.
+// Opens the studio: the page with a server, which also knows causes, states and expectations, and has files.
 import {byId} from '../../timeline/page/dom.js';
 import {page} from '../../timeline/page/stage.js';
 import {beginChecks} from '../../web/page/checks.js';
 import {begin, open} from '../../web/page/web.js';
-import {beginFaults} from './faults.js';
 import {beginFiles} from './files.js';
 import {Server} from './server.js';
 import {beginStates} from './states.js';
@@ -19,7 +18,6 @@ async function start() {
   beginStates();
   beginChecks();
   beginWarnings();
-  beginFaults(began.kinds);
   beginFiles(began);
   await open(began.document, began);
 }

@@ -70,7 +70,6 @@ export const page = {
   reactions: {outdated: does(), ran: does(), opened: does(), kept: does(), left: does()},
   /** The state that is shown, and the selection whose statement is marked. */
   state: '', marked: 0,
-  faults: {number: 0, found: none, isGoing: false, timer: 0},
 
   /** The text. `document` has its name and place, `saved` the text of its file, and `intro` says where it came from;
    * `part` is the open tab of the text. `asked` counts the runs that were asked for, `ran` is the last of them that

@@ -26,13 +26,13 @@ export class Alone {
   checker = /** @type {Promise<WebAssembly.Module>|null} */ (null);
 
   /** @param {Promise<WebAssembly.Module>} module @param {() => Promise<WebAssembly.Module>} checker that of
-   * `motecheck`, when it is needed @param {string} script the worker's @param {Record<string, string>} rules those that
-   * errors break @param {boolean} isOne whether `module` is that of `motecheck` too */
-  constructor(module, checker, script, rules, isOne = false) {
+   * `motecheck`, when it is needed @param {string} script the worker's @param {any} known the rules that errors break,
+   * and those of corrections @param {boolean} isOne whether `module` is that of `motecheck` too */
+  constructor(module, checker, script, known, isOne = false) {
     this.isOne = isOne;
     this.module = module;
     this.loadChecker = checker;
-    this.rules = rules;
+    this.known = known;
     this.script = URL.createObjectURL(new Blob([script], {type: 'text/javascript'}));
     this.front = new Bench(this.script);
     this.back = new Bench(this.script);
@@ -49,10 +49,16 @@ export class Alone {
     if (number !== this.number) return {superseded: true};
     const got = await this.front.ask({module, text: this.inputOf(text), isReport: true}, this.most), line = lineOf(got);
     if (got.superseded || got.limit) return got;
-    if (line) return {fault: {line, words: ruleOf(this.rules, line), place: placeOfFault(text, line)}};
+    if (line) return {fault: await this.faultOf(text, line)};
     const run = new Run({name, ...got.table, ...scenarioOf(text)}, got.columns);
     await indexRun(run);
     return number === this.number ? {run, number, took: got.took} : {superseded: true};
+  }
+
+  /** An error of a text, which motesim says by a line. @param {string} text @param {string} line @returns {Promise<any>} */
+  async faultOf(text, line) {
+    const {rules, corrections} = this.known;
+    return {line, words: ruleOf(rules, line), place: placeOfFault(text, line, corrections.keys)};
   }
 
   /** What `motecheck` answers to claims about a text; with options, its survey.
@@ -71,7 +77,7 @@ export class Alone {
   /** The fault of a text with a correction, if there is a likely one that motesim accepts; otherwise null. */
   async mend(text, fault) {
     const {number} = this, module = await this.module;
-    const found = await mend(text, fault, this.words, async other => {
+    const found = await mend(text, fault, this.words, this.known.corrections, async other => {
       if (number !== this.number) return undefined;
       const got = await this.front.ask({module, text: this.inputOf(other)}, this.most);
       return got.superseded || got.limit ? undefined : lineOf(got) || null;

@@ -20,7 +20,7 @@ async function start() {
     bytes => WebAssembly.compile(/** @type {BufferSource} */ (bytes)));
   // (a page may have one module for runs and checks)
   const isOne = !byId('module').textContent.trim(), module = compiled(isOne ? 'checker' : 'module');
-  const backend = new Alone(module, () => isOne ? module : compiled('checker'), byId('worker').textContent, data.rules, isOne);
+  const backend = new Alone(module, () => isOne ? module : compiled('checker'), byId('worker').textContent, data, isOne);
   page.chainOf = chainOf;
   const [first] = begin(backend, data, drafts);
   beginChecks();

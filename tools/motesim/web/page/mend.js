@@ -1,61 +1,11 @@
 // @ts-check
-// Corrections of an error: changes of its row, or of the one before, of which motesim accepts the first that gets past
-// the error. What is likely is a table here; what is right, motesim says.
-import {placeOfNoToml, programsOf} from './scenario.js';
+// Corrections of an error: changes of its row, or of the one before. motesim says which of them leave no error, or get
+// past this one. What rows become, and the words, are those of tools/explain.
+import {placeOfNoToml, programsOf, tablesOf} from './scenario.js';
 import {lineAndColumn} from './text.js';
-import {readToml} from './toml.js';
 
-const OPS = '(?:==|!=|<=|>=|<|>|&&|\\|\\||[-+*/%&|^])', MOST = 90, FAR = 2;
-
-/** What rows of programs have, what they become, and the reason. @type {[RegExp, string, string][]} */
-const IN_PROGRAMS = [
-  [/^(\s*)(?:static )?(?:unsigned )?(?:u?int\d*_t|u?int|bool|char|let|const) (\w+)( = \d+)?;/, '$1var $2$3;', 'A variable is declared by `var`.'],
-  [/^(\s*var \w+);/, '$1 = 0;', 'A variable has a value at first.'],
-  [/\b((?:if|while)\b[^{]*[^=!<>])=(?!=)/, '$1==', '`=` assigns, and `==` compares.'],
-  [/^(\s*\w+) ==/, '$1 =', '`==` compares, and `=` assigns.'],
-  [/^(\s*)(\w+)\+\+;/, '$1$2 = ($2 + 1);', 'A sum is written in full, in parentheses.'],
-  [/^(\s*)(\w+)--;/, '$1$2 = ($2 - 1);', 'A difference is written in full, in parentheses.'],
-  [/^(\s*)(\w+) ([-+*/%])= ([^;]+);/, '$1$2 = ($2 $3 $4);', 'An assignment is written in full.'],
-  [new RegExp(`(= |\\b(?:print|send|yield_until|wait_until) )([^();{}]+ ${OPS} [^;{}]+);`), '$1($2);', 'Each operation is in parentheses.'],
-  [new RegExp(`\\b(if|while) ([^{}]*[^{} ] ${OPS} [^{}]*[^{} ]) ?\\{`), '$1 ($2) {', 'Each operation is in parentheses.'],
-  [/\b(if|while) \((!?\w+(?:\(\w*\))?)\)/, '$1 $2', 'A single word or test has no parentheses.'],
-  [/\b(print|send|set \w+) ?\((!?\w+)\)/, '$1 $2', 'A single word has no parentheses.'],
-  [/\b(yield|stop|exit)\(\)/, '$1', 'A statement has no parentheses.'],
-  [/([=(] ?|\b(?:print|send) )-(\d+)/, '$1(0 - $2)', 'There are no negative numbers: `(0 - 1)` is 65,535.'],
-  [new RegExp(`\\(([^()]+ ${OPS} [^()]+) (${OPS}) ([^()]+)\\)`), '(($1) $2 $3)', 'Each operation is in parentheses of its own.'],
-  [/^(\s*var \w+ = \d+), (\w+ = \d+);/, '$1; var $2;', 'Each variable has its own `var`.'],
-  [/\b(thread \w+)\(\)/, '$1', 'A thread has no parentheses.'], [/\};/, '}', 'No `;` is behind a block.'],
-  [/\bmotes?\b|\bid\b|\bnode_id\b/, 'self', 'The number of the mote is `self`.'],
-  [/\btrue\b/, '1', 'True is 1.'], [/\bfalse\b/, '0', 'False is 0.'],
-  [/\breturn;/, 'exit;', 'A process ends by `exit`.'],
-  [/^(\s*(?:if|while|code|body|thread|onpoll|onexit)\b[^{;]*[^{;\s])(\s*)$/, '$1 {$2', 'A block begins with `{`.'],
-  [/^(\s*(?:if|while)\b[^;{]*); *\{/, '$1 {', 'No `;` is in front of a block.'],
-  [/^(\s*(?:if|while)\b.*\)) ([^{}]+;)\s*$/, '$1 { $2 }', 'What belongs to `if` and `while` is in braces.'],
-  [/^(.*[^\s;{}])(\s*(?:\/\/.*)?)$/, '$1;$2', 'A statement ends with `;`.'],
-  [/^(\s*\w.*[^\s;{}]) ?(\})/, '$1; $2', 'A statement ends with `;`.'],
-  [/^([^{};]*\([^{};]*[^{};\s])( ?[{;])/, '$1)$2', 'A parenthesis isn\'t closed.'],
-  [/\)\)/, ')', 'A parenthesis is closed twice.'], [/\(\(/, '(', 'A parenthesis is opened twice.'],
-  [/,(?=\s*$)/, ';', 'A statement ends with `;`.'], [/(['"]),?\s*$/, '$1', ''],
-  [/\/\*(.*)\*\//, '//$1', 'A comment begins with `//`.'],
-];
-
-/** The same for all other rows, which are TOML. @type {[RegExp, string, string][]} */
-const IN_TABLES = [
-  [/^(\s*[\w.]+)\s*:\s*(.+)/, '$1 = $2', 'A key and its value have `=` between them.'],
-  [/^(\s*[\w.]+)\s+([\d"'].*)/, '$1 = $2', 'A key and its value have `=` between them.'],
-  [/^(\s*[\w.]+\s*=\s*-?\d+)\.\d+\s*$/, '$1', 'This is a whole number.'], [/^(\s*[\w.]+\s*=\s*)"(\d+)"/, '$1$2', 'A number has no quotes.'],
-  [/^(\s*[\w.]+\s*=\s*-?[\d_.]+)\s*[a-zA-Z%]+\s*$/, '$1', 'A number has no unit.'],
-  [/^(\s*[\w.]+\s*=\s*.*[^;,])[;,]\s*$/, '$1', 'A row ends without a sign.'],
-  [/^(\s*[\w.]+\s*=\s*)(?:[Tt]rue|[Yy]es)\s*$/, '$1true', 'Truth values are `true` and `false`.'],
-  [/^(\s*[\w.]+\s*=\s*)(?:[Ff]alse|[Nn]o)\s*$/, '$1false', 'Truth values are `true` and `false`.'],
-  [/^(\s*[\w.]+\s*=\s*)([A-Za-z_][\w.-]*)\s*$/, '$1"$2"', 'A text is in quotes.'],
-  [/^(\s*[\w.]+\s*=\s*)"([^"]*)$/, '$1"$2"', 'A quote isn\'t closed.'], [/^(\s*[\w.]+\s*=\s*)([^"]*)"$/, '$1"$2"', 'A quote isn\'t opened.'],
-  [/^(\s*)\/\/(.*)/, '$1#$2', 'A comment of TOML begins with `#`.'],
-  [/^(\s*\[\[?\s*\w+)\s*$/, '$1]', 'A bracket isn\'t closed.'], [/^(\s*\[\[\s*\w+\]?)\s*$/, '$1]', 'A bracket isn\'t closed.'],
-  [/^\s*\[(mote|loss)\]\s*$/, '[[$1]]', 'Motes and losses are in double brackets.'],
-  [/^\s*\[\[(medium|programs|queue)\]\]\s*$/, '[$1]', 'This table is in single brackets.'],
-];
-const KEYS = 'version end medium range base per collide programs mote x y program loss from to every queue'.split(' ');
+const MOST = 400, FAR = 2, SIGNS = [';', ')', '(', '{', '}'], SWAPPED = {'=': '==', '==': '='};
+const TOKEN = /\w+|[=!<>]=|&&|\|\||[^\s\w]/g, BRACKETS = {'(': 1, ')': -1};
 
 /** How many letters are to be changed, added, left out or swapped to make one word of another, up to FAR. */
 export function distance(a, b) {
@@ -72,75 +22,98 @@ export function distance(a, b) {
   return rows[a.length][b.length];
 }
 
-/** The words that may stand for one in a row, the nearest first, with their places. */
-function* likeWords(row, known) {
-  for (const found of row.replace(/\/\/.*/, '').matchAll(/\b[A-Za-z_]\w*/g)) {
-    const [word] = found, far = it => distance(word, it), near = known.filter(it => it !== word && far(it) <= Math.min(FAR, Math.max(1, Math.floor(word.length / 4))));
-    for (const like of near.sort((a, b) => far(a) - far(b)).slice(0, 3)) {
-      yield {row: row.slice(0, found.index) + like + row.slice(found.index + word.length), words: `Did you mean \`${like}\`?`,
-        from: found.index, to: found.index + word.length};
-    }
+/** The rows with others in place of some from one on. */
+const changed = (rows, at, gone, ...others) => [...rows.slice(0, at), ...others, ...rows.slice(at + gone)];
+
+/** The last row above one for which something is true, or -1. */
+const lastAbove = (rows, at, isIt) => rows.slice(0, at).map(isIt).lastIndexOf(true);
+
+/** A row that may be meant, with the code and the facts of its hint.
+ * @typedef {[string, string, Record<string, string>]} Meant */
+
+/** The rows with another word, the nearest first. @param {string} row @param {string[]} known @returns {Generator<Meant>} */
+function* withWords(row, known) {
+  for (const {0: word, index} of row.replace(/\/\/.*/, '').matchAll(/\b[A-Za-z_]\w*/g)) {
+    const far = it => distance(word, it), most = Math.min(FAR, Math.max(1, Math.floor(word.length / 4)));
+    for (const name of known.filter(it => it !== word && far(it) <= most).sort((a, b) => far(a) - far(b)).slice(0, 3))
+      yield [row.slice(0, index) + name + row.slice(index + word.length), 'similar', {name}];
   }
 }
 
-/** A candidate: a whole text, the reason, and the place that is changed.
- * @typedef {{text: string, words: string, place: [number, number, number]}} Candidate */
-
-/** The likely corrections of an error at a row of a text. `words` are those of the notation.
- * @param {string} text @param {number} at @param {any} words @returns {Generator<Candidate>} */
-function* near(text, at, words) {
-  const rows = text.split('\n'), program = programsOf(text).find(it => {
-    const [first] = lineAndColumn(text, it.begin), [last] = lineAndColumn(text, it.end);
-    return at >= first && at <= last;
-  });
-  const before = rows.slice(0, at).map((row, i) => row.trim() ? i : -1).filter(i => i >= 0).pop() ?? at;
-  const made = (row, other, why, from = 0, to = rows[row].length) => ({words: why, place: /** @type {[number, number, number]} */ ([row, from, to]),
-    text: [...rows.slice(0, row), ...other, ...rows.slice(row + 1)].join('\n')});
-  const source = program ? text.slice(program.begin, program.end) : '', {programs = {}} = tablesOf(text);
-  const known = program ? [...new Set([...words.naming, ...Object.values(words.colours).flat(),
-    ...source.replace(/\/\/.*/g, '').match(/\b[a-z]\w*/g) || []])].filter(it => /^\w+$/.test(it)) : [...KEYS, ...Object.keys(programs)];
-  const twice = [];
-  for (const it of likeWords(rows[at], known)) yield made(at, [it.row], it.words, it.from, it.to);
-  for (const row of new Set([at, before])) {
-    for (const its of program ? IN_PROGRAMS : IN_TABLES) {
-      const [form, other, why] = /** @type {[RegExp, string, string]} */ (its), changed = rows[row].replace(form, other);
-      if (changed === rows[row]) continue;
-      yield made(row, [changed], why, ...changedPart(rows[row], changed));
-      twice.push({row, changed, why});
+/** The rows of a program with another sign, one more or one less; with parentheses, or without them.
+ * @param {string} row @returns {Generator<Meant>} */
+function* withSigns(row) {
+  const tokens = [...row.replace(/\/\/.*/, '').matchAll(TOKEN)].map(it => ({text: it[0], from: it.index, to: it.index + it[0].length}));
+  const put = (from, to, piece) => row.slice(0, from) + piece + row.slice(to);
+  for (const {text, from, to} of tokens) if (SWAPPED[text]) yield [put(from, to, SWAPPED[text]), 'equals', {}];
+  for (const sign of SIGNS) {
+    for (const {text: word, from, to} of [...tokens].reverse()) {
+      const at = sign === '(' ? from : to;
+      yield [put(at, at, sign === '{' ? ' {' : sign), 'missing', {sign, word}];
     }
   }
-  for (const {row, changed, why} of program ? twice : []) {
-    for (const its of IN_PROGRAMS) {
-      const [form, other] = /** @type {[RegExp, string, string]} */ (its), again = changed.replace(form, other);
-      if (again !== changed && again !== rows[row]) yield made(row, [again], why, ...changedPart(rows[row], again));
+  for (const {text: sign, from, to} of tokens) if (!/\w/.test(sign)) yield [put(from, to, ''), 'too-many', {sign}];
+  for (const [i, {from}] of tokens.entries()) {
+    for (const {to} of tokens.slice(i + 2)) {
+      const whole = `(${row.slice(from, to)})`;
+      yield [put(from, to, whole), 'two-values', {sign: tokens[i + 1].text, whole}];
     }
+    let depth = 0;
+    const end = tokens.slice(i).find(({text}) => !(depth += BRACKETS[text] || 0));
+    if (end && end.from > from) yield [put(from, end.to, row.slice(from + 1, end.from)), 'one-value', {}];
   }
-  if (!program) return;
-  const head = rows.slice(0, at).map((row, i) => /^\s*code \w+ \{/.test(row) ? i : -1).filter(i => i >= 0).pop() ?? -1;
-  if (head >= 0 && /^\s*(var|etimer|ctimer|int)\b/.test(rows[at])) {
-    const moved = rows.filter((_, i) => i !== at);
-    moved.splice(head + 1, 0, rows[at].replace(/^\s*int\b/, '  var').replace(/^(\s*var \w+);/, '$1 = 0;'));
-    yield {text: moved.join('\n'), words: 'Variables and timers are declared at the head of a code, variables first.', place: [at, 0, rows[at].length]};
-  }
-  yield made(at, [rows[at], '}'], 'A block isn\'t closed by `}`.');
-  if (/^\s*\}\s*$/.test(rows[at])) yield made(at, [], 'There is one `}` too many.');
 }
 
-/** The columns of a row that another one has differently. @returns {[number, number]} */
+/** The columns of a row that another one has differently, with the whole words. @returns {[number, number]} */
 function changedPart(row, other) {
   let from = 0, behind = 0;
   while (from < row.length && row[from] === other[from]) from++;
   while (behind < row.length - from && row[row.length - 1 - behind] === other[other.length - 1 - behind]) behind++;
   // (if something is only added, the sign before it is marked)
-  return from === row.length - behind ? [Math.max(0, from - 1), Math.max(1, from)] : [from, row.length - behind];
+  const isMore = from === row.length - behind, first = isMore ? Math.max(0, from - 1) : from;
+  const last = isMore ? Math.max(1, from) : row.length - behind, isIn = at => /\w/.test(row[at] || '');
+  let [begin, end] = [first, last];
+  while (isIn(first) && isIn(begin - 1)) begin--;
+  while (isIn(last - 1) && isIn(end)) end++;
+  return [begin, end];
 }
 
-function tablesOf(text) {
-  try {
-    return readToml(text).tables;
-  } catch {
-    return {};
+/** A candidate: a whole text, the reason, and the place that is changed.
+ * @typedef {{text: string, words: string, place: [number, number, number]}} Candidate */
+
+/** The likely corrections of an error at a row of a text, the likeliest first. `words` are those of the notation, and
+ * `rules` those of tools/explain.
+ * @param {string} text @param {number} at @param {any} words @param {any} rules @returns {Generator<Candidate>} */
+function* near(text, at, words, rules) {
+  const rows = text.split('\n'), program = programsOf(text).find(({begin, end}) =>
+    at >= lineAndColumn(text, begin)[0] && at <= lineAndColumn(text, end)[0]);
+  const before = lastAbove(rows, at, row => row.trim() !== ''), {programs = {}} = tablesOf(text);
+  const tell = (code, facts) => rules.hints[code].replace(/\{(\w+)\}/g, (_, name) => facts[name]);
+  const known = program ? [...words.naming, ...Object.values(words.colours).flat(),
+    ...text.slice(program.begin, program.end).replace(/\/\/.*/g, '').match(/\b[a-z]\w*/g) || []] :
+    [...Object.values(rules.keys).flatMap(it => it.may), ...Object.keys(programs)];
+  const names = [...new Set(known)].filter(it => /^\w+$/.test(it));
+  const meant = row => [...[...withWords(row, names)].map(([other, code, facts]) => [other, tell(code, facts)]),
+    ...rules[program ? 'programs' : 'tables'].map(([form, other, why]) => [row.replace(new RegExp(form), other), why]),
+    ...program ? [...withSigns(row)].map(([other, code, facts]) => [other, tell(code, facts)]) : []];
+  const found = [...new Set([at, before])].filter(it => it >= 0).flatMap(place => meant(rows[place]).map(([other, why], rank) => ({
+    rank, why, other, place, row: rows[place]})));
+  for (const {why, row, other, place} of found.sort((a, b) => a.rank - b.rank)) {
+    if (other === row) continue;
+    yield {text: changed(rows, place, 1, other).join('\n'), words: why, place: [place, ...changedPart(row, other)]};
   }
+  if (program) yield* moved(rows, at, rules.orders, tell);
+}
+
+/** The text with a declaration above the first part that comes behind it. @returns {Generator<Candidate>} */
+function* moved(rows, at, orders, tell) {
+  const wordOf = row => /^\s*(\w+)/.exec(row)?.[1] || '', word = wordOf(rows[at]), order = orders.find(it => it.includes(word));
+  const from = word === 'code' ? 0 : lastAbove(rows, at, row => wordOf(row) === 'code');
+  const target = rows.findIndex((row, i) => i >= from && i < at && order?.slice(order.indexOf(word) + 1).includes(wordOf(row)));
+  if (target < 0) return;
+  const facts = {word, whole: orders.indexOf(order) ? 'a code' : 'a program', order: order.map(it => `\`${it}\``).join(', ')};
+  yield {text: changed(changed(rows, at, 1), target, 0, rows[at]).join('\n'), words: tell('late-part', facts),
+    place: [at, 0, rows[at].length]};
 }
 
 /** How far motesim gets in a text before an error: further is better. @param {string|undefined} line */
@@ -151,17 +124,18 @@ function reach(text, line) {
     line.endsWith('scenario fault 1') ? placeOfNoToml(text)?.[0] ?? 1e5 : 2e5;
 }
 
-/** The first likely correction that gets past an error at a place; null if there is none. `lineOf` has motesim's error
- * of a text, if there is one; it stops the search by `undefined`.
- * @param {string} text @param {{line: string, place: number[]|null}} fault @param {any} words
- * @param {(text: string) => Promise<string|null|undefined>} lineOf */
-export async function mend(text, {line, place}, words, lineOf) {
-  let tries = 0;
-  for (const it of place ? near(text, place[0], words) : []) {
-    if (++tries > MOST) return null;
-    const found = await lineOf(it.text.replace(/^end = \d+$/m, 'end = 0'));
-    if (found === undefined) return null;
-    if (reach(it.text, found || '') > reach(text, line)) return it;
+/** The first likely correction that leaves no error, or else the first that gets past the error at a place; null if
+ * there is none. `lineOf` has motesim's error of a text, if there is one; it stops the search by `undefined`.
+ * @param {string} text @param {{line: string, place: number[]|null}} fault @param {any} words @param {any} rules
+ * @param {(text: string) => Promise<string|null|undefined>} lineOf @returns {Promise<Candidate|null>} */
+export async function mend(text, {line, place}, words, rules, lineOf) {
+  let tries = 0, best = null;
+  for (const it of place ? near(text, place[0], words, rules) : []) {
+    const found = ++tries > MOST ? undefined : await lineOf(it.text.replace(/^end = \d+$/m, 'end = 0'));
+    if (found === undefined) return tries > MOST ? best : null;
+    const far = reach(it.text, found || '');
+    if (far === Infinity) return it;
+    if (far > reach(text, line)) best ||= it;
   }
-  return null;
+  return best;
 }

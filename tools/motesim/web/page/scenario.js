@@ -10,6 +10,15 @@ export function scenarioOf(text) {
     losses: loss.map(it => [it.from, it.to, it.every])};
 }
 
+/** The tables of a text; none if it isn't TOML. */
+export function tablesOf(text) {
+  try {
+    return readToml(text).tables;
+  } catch {
+    return {};
+  }
+}
+
 /** The programs with their stretches in a text, each between its quotes; none if it isn't TOML.
  * @param {string} text @returns {{name: string, begin: number, end: number}[]} */
 export function programsOf(text) {
@@ -46,32 +55,23 @@ function placeOfNoProgram(text) {
   return at ? stretchOf(text, at) : null;
 }
 
-/** The keys of each table that may be there, those with numbers, and those that must be there. */
-const TABLES = {
-  '': {may: ['version', 'end', 'medium', 'programs', 'mote', 'loss', 'queue'], numbers: ['version', 'end'], must: ['end', 'medium', 'programs', 'mote']},
-  medium: {may: ['range', 'base', 'per', 'collide'], numbers: ['range', 'base', 'per'], must: ['range', 'base', 'per']},
-  mote: {may: ['x', 'y', 'program'], numbers: ['x', 'y'], must: ['x', 'y', 'program']},
-  loss: {may: ['from', 'to', 'every'], numbers: ['from', 'to', 'every'], must: ['from', 'to', 'every']},
-};
-const MOST_NUMBER = 1e6;
-
 /** The place of the first key that is unknown (3), or of another kind (4) or size (5); or of the first table that lacks
  * one (2), or has another one instead. */
-function placeInTables(text, number) {
+function placeInTables(text, number, keys) {
   const {tables, place} = readToml(text), members = name => Array.isArray(tables[name]) ? tables[name].map((it, i) => [name, it, [name, i]]) : [];
   const all = [['', tables, []], ['medium', tables.medium || {}, ['medium']], ...members('mote'), ...members('loss')];
   const first = (find, part) => {
     for (const [name, table, path] of all) {
-      const key = Object.keys(table).find(it => find(it, table[it], TABLES[name])), at = key !== undefined && place(...path, key)?.[part];
+      const key = Object.keys(table).find(it => find(it, table[it], keys[name])), at = key !== undefined && place(...path, key)?.[part];
       if (at) return stretchOf(text, at);
     }
     return null;
   };
   const unknown = () => first((key, _, {may}) => !may.includes(key), 'key');
   if (number === 3) return unknown();
-  if (number === 4) return first((key, value, {numbers}) => numbers.includes(key) && typeof value !== 'number', 'value');
-  if (number === 5) return first((key, value, {numbers}) => numbers.includes(key) && Math.abs(value) > MOST_NUMBER, 'value');
-  const [, , path] = all.find(([name, table]) => TABLES[name].must.some(key => !Object.hasOwn(table, key))) || [];
+  if (number === 4) return first((key, value, {numbers}) => numbers[key] && typeof value !== 'number', 'value');
+  if (number === 5) return first((key, value, {numbers}) => numbers[key] && !(numbers[key][0] <= value && value <= numbers[key][1]), 'value');
+  const [, , path] = all.find(([name, table]) => keys[name].must.some(key => !Object.hasOwn(table, key))) || [];
   return unknown() || path && place(...path) && stretchOf(text, place(...path).key);
 }
 
@@ -81,12 +81,13 @@ function stretchOf(text, [from, to]) {
   return [row, column, Math.max(column + 1, column + to - from)];
 }
 
-/** The place of an error of motesim in the text, as [row, begin, end] from 0; null if it isn't known. */
-export function placeOfFault(text, line) {
+/** The place of an error of motesim in the text, as [row, begin, end] from 0; null if it isn't known. `keys` are those of
+ * the tables. */
+export function placeOfFault(text, line, keys) {
   if (line.endsWith('scenario fault 1')) return placeOfNoToml(text);
   if (line.endsWith('scenario fault 6')) return placeOfNoProgram(text);
   const [, kind] = /scenario fault ([2345])$/.exec(line) || [];
-  if (kind) return placeInTables(text, Number(kind));
+  if (kind) return placeInTables(text, Number(kind), keys);
   const [, name, , number] = OF_PROGRAM.exec(line) || [], program = programsOf(text).find(it => it.name === name);
   const row = program ? text.slice(0, program.begin).split('\n').length + Number(number) - 2 : -1;
   const written = text.split('\n')[row];
