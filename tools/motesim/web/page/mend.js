@@ -100,12 +100,13 @@ function* near(text, at, words, rules) {
     rank, why, other, place, row: rows[place]})));
   for (const {why, row, other, place} of found.sort((a, b) => a.rank - b.rank)) {
     if (other === row) continue;
-    yield {text: changed(rows, place, 1, other).join('\n'), words: why, place: [place, ...changedPart(row, other)]};
+    yield {text: changed(rows, place, 1, other).join('\n'), words: why, place: /** @type {[number, number, number]} */ ([place, ...changedPart(row, other)])};
   }
   if (program) yield* moved(rows, at, rules.orders, tell);
 }
 
-/** The text with a declaration above the first part that comes behind it. @returns {Generator<Candidate>} */
+/** The text with a declaration above the first part that comes behind it.
+ * @param {string[]} rows @param {number} at @param {string[][]} orders @returns {Generator<Candidate>} */
 function* moved(rows, at, orders, tell) {
   const wordOf = row => /^\s*(\w+)/.exec(row)?.[1] || '', word = wordOf(rows[at]), order = orders.find(it => it.includes(word));
   const from = word === 'code' ? 0 : lastAbove(rows, at, row => wordOf(row) === 'code');
