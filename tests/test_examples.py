@@ -18,7 +18,7 @@ from motesim.report import Report
 from motesim.runner.programs import TOP
 from motesim.report.run import Run, read_run
 
-PAGES = ['README.md', 'examples/README.md', 'examples/cookbook/README.md', 'docs/use/SCENARIO.md', 'docs/use/REPORT.md']
+PAGES = ['examples/README.md', 'examples/cookbook/README.md', 'docs/use/SCENARIO.md', 'docs/use/REPORT.md']
 EXPECTED = '.expect.toml'
 LESSON = TOP / 'examples/lesson'
 EXAMPLES = [it for folder in ('', 'cookbook/') for it in sorted(TOP.glob('examples/%s*.toml' % folder))

@@ -1,6 +1,6 @@
 """Checks that the commands of the pages print what the pages show: tools/dev/check_tutorial [PAGE ..]
 
-The pages are those of docs/use/, and the worksheet of the lesson. A block of commands begins with ```sh. The next block, which begins with ```, has the
+The pages are README.md, those of docs/use/, and the worksheet of the lesson. A block of commands begins with ```sh. The next block, which begins with ```, has the
 output of these commands. Commands without a block of output must print nothing. A block that begins with ```console has
 commands that open a window, and is not run. A block that begins with ```toml NAME, ```mote NAME, ```python NAME or
 ```c NAME is a file that the reader saves under that name. The commands of a page are run in a separate folder, in which
@@ -74,7 +74,7 @@ def outputs_of(page: str, program: Path) -> list[str]:
 def pytest_generate_tests(metafunc: pytest.Metafunc) -> None:
     """Has a test for each block of commands. Those of a page run in one process, one after the other."""
     names, tests = metafunc.config.getoption('name'), []
-    for path in map(Path, names) if names else [*sorted(TOP.glob('docs/use/*.md')), WORKSHEET]:
+    for path in map(Path, names) if names else [TOP / 'README.md', *sorted(TOP.glob('docs/use/*.md')), WORKSHEET]:
         page = path.read_text('utf-8')
         for number, block in enumerate(filter(has_commands, blocks_of(page))):
             line = page.count('\n', 0, block.start('text')) + 1

@@ -1,4 +1,4 @@
-"""A second judge of sentences, written only from docs/use/TESTING.md. It looks at all lines for each question."""
+"""A second judge of sentences, written only from docs/use/EXPECTATIONS.md. It looks at all lines for each question."""
 from __future__ import annotations
 
 import operator

@@ -55,19 +55,6 @@ class Texts(unittest.TestCase):
             claims.of(read_sentence("mote 1 never writes 'halt' or 'send'", names), {1: 9})
 
 
-class Page(unittest.TestCase):
-    def test_motecheck_writes_what_the_page_shows(self) -> None:
-        need_motecheck(self)
-        room, page = room_of(self), (TOP / 'docs/use/TESTING.md').read_text('utf-8')
-        for name in 'tools', 'examples':
-            (room / name).symlink_to(TOP / name)
-        block, = [it for it in re.findall(r'^```\n(\$ .*?)^```$', page, re.S | re.M) if 'motecheck' in it]
-        lines = block.splitlines()
-        commands = [it[2:] for it in lines if it.startswith('$ ')]
-        done = subprocess.run(['bash', '-c', '\n'.join(commands)], cwd=room, capture_output=True, text=True)
-        self.assertEqual(done.stdout.splitlines(), lines[len(commands):], done.stderr)
-
-
 class Verdicts(unittest.TestCase):
     def test_the_verdicts_of_motecheck_are_those_of_the_page(self) -> None:
         need_built()

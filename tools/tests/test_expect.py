@@ -220,7 +220,7 @@ class Page(unittest.TestCase):
               'Expectation': ('%s',)}
 
     def setUp(self) -> None:
-        page = (TOP / 'docs/use/TESTING.md').read_text('utf-8')
+        page = (TOP / 'docs/use/EXPECTATIONS.md').read_text('utf-8')
         self.forms: dict[str, list[str]] = {}
         for title in self.FRAMES:
             rows = re.findall(r'^\| (`.*?`) \|', page.split('| %s |' % title)[1].split('\n\n')[0], re.M)

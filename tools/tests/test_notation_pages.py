@@ -3,8 +3,11 @@ import re
 import unittest
 
 from here import TOP, scenario_of, text_of
+from motesim.judge.names import Names
+from motesim.judge.sentences import read_sentence
 from motesim.notation.reader import find_fault
 from motesim.report.run import answer
+from motesim.scenario.fault_text import read_fault
 from skips import need_built
 
 PROGRAM = text_of('two_processes.mote')
@@ -12,6 +15,9 @@ PROGRAM = text_of('two_processes.mote')
 TWO_DUE = scenario_of(text_of('two_due.mote'))
 # The meanings of a table's letters in a program: an expression, and names.
 LETTERS = {'e': '(x + 1)', 'E': 'e', 'P': 'q', 'T': 't', 'S': 's', 'THREAD': 'f', 'a': 'x', 'b': 'y'}
+# The sentences in which the card's forms of expectations are tried, by their rows.
+SENTENCES = {'who': '%s halts', 'what': 'mote 1 %s', 'how often': 'mote 1 sends %s', 'when': 'mote 1 sends %s',
+             'order': 'mote 1 sends %s', 'copies': '%s'}
 
 
 def page(name: str) -> str:
@@ -85,11 +91,23 @@ class Tables(unittest.TestCase):
                 self.assertEqual(find_fault('\n'.join(swapped) % '') is None, is_free)
 
 
-class Readme(unittest.TestCase):
-    def test_what_it_shows_of_a_search_is_what_the_page_on_searches_shows(self) -> None:
-        shown = re.search(r'```console\n(.*?)```', (TOP / 'README.md').read_text(), re.S)
-        assert shown
-        for line in shown[1].splitlines():
-            with self.subTest(line):
-                named = re.sub('examples/|out/', '', line.removeprefix('$ '))
-                self.assertIn(named.removesuffix(' ..').strip(), page('TESTING.md'))
+class Card(unittest.TestCase):
+    """The page to print: each form on it is one."""
+    def test_its_forms_are_read(self) -> None:
+        text = page('CARD.md')
+        program = re.search(r'```\n(.*?)```', text, re.S)
+        assert program
+        self.assertIsNone(find_fault(program[1]))
+        parts = dict(re.findall(r'^## (\w+)\n(.*?)(?=^## |\Z)', text, re.M | re.S))
+        forms = {row[0]: row[1] for part in parts.values() for row in re.findall(r'^\| ([^|]+?) \| (.*) \|$', part, re.M)}
+        for row in 'doing', 'waiting', 'timers', 'processes':
+            for form in programs(forms[row]):
+                with self.subTest(form):
+                    self.assertIsNone(find_fault(PROGRAM % in_words(form)))
+        for row, frame in SENTENCES.items():
+            for form in re.findall('`([^`]+)`', forms[row]):
+                with self.subTest(form):
+                    read_sentence(frame % form, Names(('p', 'q'), 40))
+        for row in 'a link', 'a mote', 'a packet', 'one copy of it', 'one copy, late':
+            with self.subTest(row):
+                self.assertIsNotNone(read_fault(forms[row].strip('`')))

@@ -16,7 +16,7 @@ if TYPE_CHECKING:
 
 
 def expect(found: Run, sentences: Sequence[str] | str) -> list[Kept]:
-    """Checks which expectations hold for a run: docs/use/TESTING.md has their forms.
+    """Checks which expectations hold for a run: docs/use/EXPECTATIONS.md has their forms.
 
     Raises a `Fault` for an expectation that can't be read, and for a run whose scenario isn't known.
     """

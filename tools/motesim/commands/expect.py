@@ -9,7 +9,7 @@ Claims in the comments at the head of the scenario, `# expect: CLAIM`, are expec
 given.
 
 The scenario is run. For each expectation a line says whether it holds. If it doesn't, further lines have the reason,
-and the first line of the report that breaks it. docs/use/TESTING.md has all forms of expectations. The last
+and the first line of the report that breaks it. docs/use/EXPECTATIONS.md has all forms of expectations. The last
 line is `N passed, M failed`.
 
 A key `python = "checks.py:agree"` in the file names a function in Python for what no expectation can say. It gets the

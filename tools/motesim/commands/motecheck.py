@@ -3,7 +3,7 @@
   tools/expect examples/news.toml --claims >news.claims
   tools/motecheck --links --at-most 2 examples/news.toml news.claims
 
-This runs motecheck with the same arguments. With --links or --silent it surveys sets of faults. docs/use/TESTING.md
+This runs motecheck with the same arguments. With --links or --silent it surveys sets of faults. docs/use/EXPECTATIONS.md
 describes claims, and what an answer says.
 
 The status is 0 if all claims hold, with all sets of a survey, 1 if not, and 2 if there is no result.

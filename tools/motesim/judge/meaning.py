@@ -1,4 +1,4 @@
-"""The meaning of sentences about a report: docs/use/TESTING.md."""
+"""The meaning of sentences about a report: docs/use/EXPECTATIONS.md."""
 from __future__ import annotations
 
 import operator

@@ -1,4 +1,4 @@
-"""Reads sentences about a report: docs/use/TESTING.md has their forms.
+"""Reads sentences about a report: docs/use/EXPECTATIONS.md has their forms.
 
 `read_sentence('mote 6 prints flood 1 by 60', names)` returns the meaning of a sentence, as one of the classes of
 `motesim.judge.meaning`. A sentence that can't be read raises a `SentenceFault`, which has the place of the error and the

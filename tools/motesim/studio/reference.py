@@ -8,7 +8,7 @@ from collections.abc import Iterator
 from motesim.runner.programs import TOP
 
 PARTS = [('LANGUAGE.md', 'The notation', '## At a glance\n', '\n## '),
-         ('TESTING.md', 'Claims', '<!-- written by tools/dev/pages: grammar of claims -->\n', '<!-- end -->')]
+         ('EXPECTATIONS.md', 'Claims', '<!-- written by tools/dev/pages: grammar of claims -->\n', '<!-- end -->')]
 
 
 def inline(text: str) -> str:
