@@ -6,6 +6,7 @@ import os
 import re
 import sys
 from collections.abc import Sequence
+from contextlib import suppress
 from typing import Any, NoReturn
 
 from motesim.command import version_line
@@ -129,18 +130,18 @@ def one_of(named: str | None, given: Sequence[str]) -> str | None:
 
 def number_above_0(word: str) -> float:
     """The value of a limit."""
-    number = float(word)
-    if number <= 0:
-        raise argparse.ArgumentTypeError('%s is not greater than 0' % word)
-    return number
+    with suppress(ValueError):
+        if (number := float(word)) > 0:
+            return number
+    raise argparse.ArgumentTypeError('%s is not a number greater than 0' % word)
 
 
 def whole_above_0(word: str) -> int:
     """The value of a limit, or of a number of runs."""
-    number = int(word)
-    if number < 1:
-        raise argparse.ArgumentTypeError('%s is not at least 1' % word)
-    return number
+    with suppress(ValueError):
+        if (number := int(word)) > 0:
+            return number
+    raise argparse.ArgumentTypeError('%s is not a whole number of at least 1' % word)
 
 
 def add_limits(words: argparse.ArgumentParser, seconds: float | None = 120, memory: int | None = 2048,

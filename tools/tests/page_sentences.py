@@ -221,7 +221,7 @@ class Sentences:
             text, event = when, Event(None, None, its)
         return '%s times as often as %s' % (number, text), Times(times.compare, times.number, False, event)
 
-    def of_values(self) -> tuple[str, Sentence]:
+    def of_values(self) -> tuple[str, Does]:
         """Numbers of lines with the same value, or the same last value."""
         text, it = self.subject()
         when, its = self.when(has_hops=it.kind != 'together')
@@ -241,7 +241,7 @@ class Sentences:
         """A deed whose lines have values."""
         return self.chance.choice((('prints a', Deed('print', 'a')), ('sends', Deed('send')), ('receives', Deed('recv'))))
 
-    def does(self) -> tuple[str, Sentence]:
+    def does(self) -> tuple[str, Does]:
         text, it = self.subject()
         is_whole = it.kind != 'together' and self.is_so(.2)
         never = it.kind in ('each', 'together') and not is_whole and self.is_so(.15)
@@ -259,7 +259,7 @@ class Sentences:
         return ' '.join(filter(None, (text, when, times, order))), Does(
             it.kind, it.motes, deed, it.many, never, its, counted, ordered)
 
-    def things(self) -> tuple[str, Sentence]:
+    def things(self) -> tuple[str, Things]:
         kind = self.chance.choice(list(OF_THINGS))
         noun = 'packet' if kind == 'packets' else 'copy'
         number, times = self.compare(6)
@@ -278,7 +278,7 @@ class Sentences:
             text += ' ' + words
         return text, Things(kind, times, motes, when)
 
-    def one(self) -> tuple[str, Sentence]:
+    def one(self) -> tuple[str, Does | Things]:
         return self.things() if self.is_so(.2) else self.of_values() if self.is_so(.15) else self.does()
 
     def sentence(self) -> tuple[str, Sentence]:

@@ -48,12 +48,12 @@ class Commands(unittest.TestCase):
                             (('plot', 'a.csv', '--measure', 'x', '--against', 'y', '--measure', 'z'),
                              '--measure is given twice: give it only once'),
                             (('search', 'a.toml', '--step', 'x'), "argument --step: invalid int value: 'x'"),
-                            (('sweep', 'a.toml', '--jobs', '0'), 'argument --jobs: 0 is not at least 1'),
+                            (('sweep', 'a.toml', '--jobs', '0'), 'argument --jobs: 0 is not a whole number of at least 1'),
                             (('scenario', 'a.plan.toml', '-o', '-'), NO_NAME),
                             (('grade', 'a.toml', 'b.toml', '-o', '-'), NO_NAME),
                             (('log', 'a.toml', '--motes', '3'), 'unrecognized arguments: --motes; did you mean --mote?'),
                             (('summary', 'a', 'b', 'c'), 'unrecognized arguments: b c'),
-                            (('summary',), 'the following arguments are required: REPORT')):
+                            (('summary',), 'the following arguments are required: FILE')):
             done = call(*words)
             line = '%s: %s (--help lists the options)\n' % (words[0], said)
             self.assertEqual((done.returncode, done.stdout, done.stderr), (2, '', line))

@@ -11,7 +11,7 @@ from motesim.judge.expectations import fields_beside
 from motesim.report.belongs import check_scenario
 from motesim.faults import Fault
 from motesim.report import Line, Packet, Report
-from motesim.report.run import is_scenario, refuse_faults, refuse_others, run_program
+from motesim.report.run import LimitMet, NoReport, is_scenario, refuse_faults, refuse_others, run_program
 from motesim.scenario.encodings import decoded, read_file
 from motesim.scenario.scenario import Scenario
 from motesim.replay.endless import Endless, LastRun, endless
@@ -198,7 +198,7 @@ def read_traces(path: str | Path, scenario: str | Path | None = None, faults: tu
             found = with_fields(Scenario.parse(data), path)
             found.faults = faults
             return run_program(data, faults=faults), found
-        except Fault as fault:
+        except (LimitMet, NoReport) as fault:
             raise Fault('%s: %s' % (path, fault)) from None
     decoded(str(path), data)
     refuse_faults(path, faults)

@@ -6,7 +6,7 @@
   tools/export net.toml --form contiki -o net_c         a folder of C files for a Contiki 2.x tree
   tools/export net.toml --form contiki -o net_c --host  the same folder, and a simulator in C for this machine
 
-REPORT is a report, or a scenario, which is run. A moment counts as a millisecond. docs/use/REPORT.md describes the
+FILE is a report, or a scenario, which is run. A moment counts as a millisecond. docs/use/FILE.md describes the
 formats and how to open the files; docs/use/KERNEL.md is about the C files.
 
 The tool ends with status 0, or with 2 if a file can't be read or written.
@@ -22,13 +22,13 @@ FORMS = ('pcapng', 'perfetto', 'csv')
 
 def parser() -> Words:
     words = words_of(__doc__)
-    words.add_argument('report', metavar='REPORT', help='a report, or a scenario; - is standard input')
+    words.add_argument('report', metavar='FILE', help='a report, or a scenario; - is standard input')
     forms = words.add_mutually_exclusive_group(required=True)
     forms.add_argument('--to', choices=FORMS, help='the format of a run')
     forms.add_argument('--form', choices=['contiki'], help='the format of a scenario: C files for Contiki 2.x')
     words.add_argument('-o', dest='output', metavar='FILE',
                        help="the file to write; for CSV, the beginning of the three files' names; for C, the folder. "
-                            "Without -o, the name is made from REPORT's")
+                            "Without -o, the name is made from FILE's")
     words.add_argument('--host', action='store_true',
                        help='with --form contiki: add a simulator in C that runs the files')
     return words

@@ -1,6 +1,6 @@
 """Counts what happened in a run, for each mote, the net and each link.
 
-REPORT is a report, or a scenario, which is run; `-` is standard input. `--scenario FILE` names the scenario of a
+FILE is a report, or a scenario, which is run; `-` is standard input. `--scenario FILE` names the scenario of a
 report: then links that carried nothing are shown too.
 
 A line on standard error counts the copies that collided with another packet that their sender had sent at the same
@@ -33,8 +33,8 @@ from motesim.words import Words, add_faults, add_table, words_of
 def parser() -> Words:
     words = words_of((__doc__ or '').format(delay=LINKS['delay'], motes=described(MOTES), flows=described(FLOWS),
                                              intervals=described(INTERVALS)))
-    words.add_argument('report', metavar='REPORT', help='a report, or a scenario; - is standard input')
-    words.add_argument('--scenario', metavar='FILE', help='if REPORT is a report: its scenario')
+    words.add_argument('report', metavar='FILE', help='a report, or a scenario; - is standard input')
+    words.add_argument('--scenario', metavar='FILE', help='if FILE is a report: its scenario')
     add_faults(words)
     form = words.add_mutually_exclusive_group()
     add_table(form, 'csv', 'write one table in CSV')

@@ -4,6 +4,7 @@ from __future__ import annotations
 import subprocess
 import sys
 from collections.abc import Sequence
+from pathlib import Path
 
 from motesim.explain.explanation import explanation
 from motesim.faults import CLOSED, FAILED, Fault
@@ -24,7 +25,7 @@ def status_of(file: str, options: Sequence[str], faults: Sequence[str] = ()) -> 
         line = 'motesim: ' + fault.message
         print('\n'.join([line, *folded(explanation(file, data, line))]), file=sys.stderr)
         return FAILED
-    called = [program_path(CHECKER), '--report', *options_of(faults), '/dev/stdin'] if faults else [program_path()]
+    called: list[str | Path] = [program_path(CHECKER), '--report', *options_of(faults), '/dev/stdin'] if faults else [program_path()]
     done = subprocess.run([*called, *options], input=data, stderr=subprocess.PIPE)
     said = done.stderr.decode('utf-8', 'backslashreplace')
     if refusal := refusal_of(said.strip(), faults):

@@ -153,9 +153,10 @@ def parts_given(scenario: Path, expectations: Path, given: Sequence[str]) -> lis
 
 
 def place_of_part(number: int, part: Part, name: str) -> str:
-    """The place of a part in its file, in a message: the file, or the number of the change with its description."""
+    """The place of a part in its file, in a message: the file, or the number of the change with its description; empty if
+    the expectations are in no file."""
     if not number:
-        return name
+        return name if part.file else ''
     place = 'change %d of %s' % (number, name)
     return '%s (%s)' % (place, part.about) if part.about else place
 
@@ -266,12 +267,12 @@ def expect(scenario: Path, expectations: Path, is_quiet: bool = False,
         except NoReport as fault:
             if not part.replace:
                 check(str(scenario), text.encode())
-            raise Fault('%s: %s' % (place_of_part(count, part, name), fault)) from None
+            raise Fault(': '.join(filter(None, [place_of_part(count, part, name), str(fault)]))) from None
         except ProgramFault:
             # (this error isn't in the expectations, so the message doesn't name their file)
             raise
         except Fault as fault:
-            raise Fault('%s: %s' % (place_of_part(count, part, name), fault)) from None
+            raise Fault(': '.join(filter(None, [place_of_part(count, part, name), str(fault)]))) from None
         if part.replace and not (is_quiet and all(it.holds for it in verdicts)):
             print('with %s:' % (part.name if part.name != name else 'a change'))
         for number, it in enumerate(verdicts):

@@ -36,4 +36,4 @@ class SentenceFault(Fault):
         example = max(EXAMPLES, key=lambda it: len(words.intersection(it.split())))
         # (the sentence with a mark under the word, and the allowed words)
         self.explained = '  ' + '\n  '.join([*lines, 'Example: ' + example])
-        super().__init__('an expectation that is not known\n' + self.explained)
+        super().__init__('expectation 1 is not known\n' + self.explained)
