@@ -23,6 +23,7 @@ class Value:
     """kind: number, any (of `values`), own, distance, hears, linked or nearer."""
     kind: str
     number: int = 0
+    but: frozenset[int] = frozenset()
     values: frozenset[int] = frozenset()
 
 
@@ -171,7 +172,7 @@ class PageJudge:
             return {hops} if value.kind == 'distance' else {s for s in heard if self.is_nearer(s, mote, value.number)}
         if value.kind == 'linked':
             heard = {s for s in heard if (s, mote) in self.hears}
-        return {{'number': value.number, 'own': mote}.get(value.kind, sum(1 << s for s in heard))}
+        return {{'number': value.number, 'own': mote}.get(value.kind, sum(1 << s for s in heard - value.but))}
 
     def is_of(self, line: Line, deed: Deed) -> bool:
         words, kind = line.words, deed.kind

@@ -132,14 +132,16 @@ class Sentences:
 
     def value(self) -> tuple[str, Value]:
         mote, number = self.mote(), self.chance.randint(0, 4)
+        text, left = self.but(self.every)
+        but = frozenset(self.every) - frozenset(left)
         return self.chance.choice((
             (str(number), Value('number', number)), (str(number), Value('number', number)),
             (str(number), Value('number', number)), ('its number', Value('own')),
             ('any of 1 to %d' % (number + 1), Value('any', values=frozenset(range(1, number + 2)))),
             ('any of 0, 2 or %d' % number, Value('any', values=frozenset((0, 2, number)))),
             ('its distance from mote %d' % mote, Value('distance', mote)),
-            ('the set of motes that it hears', Value('hears')),
-            ('the set of motes linked with it', Value('linked')),
+            ('the set of motes that it hears' + text, Value('hears', but=but)),
+            ('the set of motes linked with it' + text, Value('linked', but=but)),
             ('a mote that it hears, one hop nearer to mote %d' % mote, Value('nearer', mote))))
 
     def deed(self, form: int) -> tuple[str, Deed]:
@@ -279,7 +281,9 @@ class Sentences:
         return text, Things(kind, times, motes, when)
 
     def one(self) -> tuple[str, Does | Things]:
-        return self.things() if self.is_so(.2) else self.of_values() if self.is_so(.15) else self.does()
+        if self.is_so(.2):
+            return self.things()
+        return self.of_values() if self.is_so(.15) else self.does()
 
     def sentence(self) -> tuple[str, Sentence]:
         """A sentence, or several of them with `or`."""

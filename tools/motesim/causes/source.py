@@ -11,7 +11,8 @@ from motesim.judge.expectations import fields_beside
 from motesim.report.belongs import check_scenario
 from motesim.faults import Fault
 from motesim.report import Line, Packet, Report
-from motesim.report.run import LimitMet, NoReport, is_scenario, refuse_faults, refuse_others, run_program
+from motesim.runner import LimitMet, NoReport
+from motesim.report.run import is_scenario, refuse_faults, refuse_others, run_program
 from motesim.scenario.encodings import decoded, read_file
 from motesim.scenario.scenario import Scenario
 from motesim.replay.endless import Endless, LastRun, endless

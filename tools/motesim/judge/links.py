@@ -60,7 +60,7 @@ class Links:
             return {s for s in heard if self.found[value.number].get(s) == hops - 1}
         if value.kind == 'linked':
             heard = {s for s in heard if mote in self.heard[s]}
-        return {sum(1 << s for s in heard)}
+        return {sum(1 << s for s in heard - value.but)}
 
     def spans(self, window: Window, mote: int) -> list[Span]:
         """The moments of a window, for a mote."""

@@ -53,10 +53,12 @@ class Value:
 
     kind   number, any (of `values`), self, distance (hops from `number`), heard (the set of the motes that it hears),
            linked (the set of those that also hear it), nearer (a mote that it hears, one hop nearer to `number`)
+    but    motes that aren't counted in a set
     words  how the sentence says the value, if it names fields
     """
     kind: str
     number: int = 0
+    but: frozenset[int] = frozenset()
     values: frozenset[int] = frozenset()
     words: str = field(default='', compare=False)
 

@@ -239,7 +239,7 @@ class _Reader:
         kind = VALUES_OF.get(self.accept(*VALUES_OF))
         if kind in ('distance', 'nearer'):
             return Value(kind, self.mote())
-        return Value(kind) if kind else None
+        return Value(kind, but=self.but() if kind in ('heard', 'linked') else frozenset()) if kind else None
 
     @property
     def a_field(self) -> str:
