@@ -15,7 +15,7 @@ from motesim.notation.grammar import RESERVED
 
 PIECE = re.compile(r'<\w+>|\w+|[^\w\s]')
 FORMS = {'number': r'\d+', 'value': r'[^;]+?', 'rest': r'[^;]+?', 'text': r'"[^"]*"', 'sign': r'[-+*/%]',
-         'function': r'(?!(?:%s)\b)[a-z]\w*' % '|'.join(RESERVED)}
+         'function': r'(?!(?:%s)\b)[a-z]\w*' % '|'.join(sorted(RESERVED))}
 # A longer line isn't looked at.
 LONGEST = 400
 # Those that don't begin and end with a letter or digit.
