@@ -59,14 +59,15 @@ def named(edits: Sequence[Edit], names: Sequence[str]) -> list[Edit]:
     return [it for it in edits if not names or it.name in names or it.crate.name in names]
 
 
-def in_order(edits: Sequence[Edit], seed: str) -> list[Edit]:
-    """Mutants in an order that a seed chooses: batches of one crate after another, because each crate needs a
-    control."""
+def in_order(edits: Sequence[Edit], new: Sequence[Edit], seed: str) -> list[Edit]:
+    """Mutants in the order in which the gate tries them: crate by crate, because each crate needs a control, and batch by
+    batch. First the crates with new mutants, and in each crate the batches with them; the seed decides the rest."""
     def place(edit: Edit) -> list[bytes]:
         return [hashlib.sha256((seed + it).encode()).digest() for it in (edit.crate.name, edit.name)]
 
-    batches = sorted(groups(edits), key=lambda group: place(group[0]))
-    return [it for group in batches for it in sorted(group, key=place)]
+    first = {edit.crate.name for edit in new}
+    ordered = sorted(edits, key=lambda it: (it.crate.name not in first, place(it)[0], it not in new, place(it)[1]))
+    return [it for _, of_crate in groupby(ordered, lambda it: it.crate) for group in groups([*of_crate]) for it in group]
 
 
 def without_open(edits: Sequence[Edit]) -> list[Edit]:
@@ -77,11 +78,11 @@ def without_open(edits: Sequence[Edit]) -> list[Edit]:
 
 
 def of_gate(edits: Sequence[Edit]) -> list[Edit]:
-    """The mutants that the gate tries: a twentieth, first those of the gate that have changed."""
-    decided, seed = without_open(edits), commit()
-    new = log.changed(it for it in edits if it.file.parent.name == GATE)
-    order = in_order(new, seed) + in_order([it for it in decided if it not in new], seed)
-    chosen = order[:math.ceil(len(decided) / 20)]
+    """The mutants that the gate tries: a twentieth of those that aren't known to be open, of few crates, and first those
+    of the gate that have changed."""
+    seed, new = commit(), log.changed(it for it in edits if it.file.parent.name == GATE)
+    decided = [*dict.fromkeys([*without_open(edits), *new])]
+    chosen = in_order(decided, new, seed)[:math.ceil(len(decided) / 20)]
     print('%d of %d in %s that have changed, and %d others, chosen by the commit %s; known to be open, and not tried: %d' % (
         len([it for it in chosen if it in new]), len(new), GATE, len([it for it in chosen if it not in new]), seed[:8],
         len(edits) - len(decided)), flush=True)

@@ -270,7 +270,8 @@ def test_what_is_noted_over_the_same_is_not_tried_again(kept: Log) -> None:
     kinds = {'low/a': CONTRACT, 'low/b': ANSWER, 'low/c': checks.NOT_REFUSED}
     chosen = [edit_of(name) for name in [*kinds, 'low/d', 'low/e']]
     kept.note({edit_of(name): Verdict(kind, 'f', 'g') for name, kind in kinds.items()}, '1', chosen)
-    kept.note({edit_of('low/d'): Verdict(CONTRACT, 'f', 'g')}, '2', chosen)
+    kept.note({edit_of('low/d'): Verdict(CONTRACT, 'f', 'proofs/f/Answers.antt:1:5: error: `a`: as printed, two differ')}, '2', chosen)
+    assert log.noted()['low/d'].verdict.why == 'a (by hand)'
     with mock.patch.object(log, 'digest', lambda edit: '1'):
         assert [it.name for it in log.changed(chosen)] == ['low/c', 'low/d', 'low/e']
 
@@ -287,7 +288,8 @@ def test_promises_of_exported_functions(tmp_path: Path) -> None:
     lib = CODE_OF_A_CRATE.split('\n---\n')
     crate_at(tmp_path, {'crates/one/src/lib.rt': lib[0], 'crates/one/src/two.rt': lib[1], 'crates/one/src/three.rt': lib[2],
                         'crates/one/src/laws.rt': lib[1], 'crates/one_tests/src/lib.rt': lib[1]})
-    assert public.public_functions(tmp_path) == {'one::two::free', 'one::three::Kept::long'}
+    assert public.public_functions(tmp_path) == {
+        'one::two::free', 'one::three::Kept::long', 'one::three::KeptTrait::of_trait'}
 
 
 def test_each_has_a_mutant_that_shows_that_its_promise_binds_or_is_listed_with_its_reason() -> None:
@@ -330,10 +332,11 @@ def test_a_share_of_few_crates_is_chosen_by_the_commit_and_each_is_tried_in_the_
     assert len({it.name for share in shares for it in share}) == len(EVERY)
 
 
-def test_a_share_begins_with_changed_mutants_of_the_gate() -> None:
+def test_a_share_begins_with_the_batches_of_changed_mutants_of_the_gate() -> None:
     gate = [replace(it, file=Path('gate-bodies', it.file)) for it in EVERY]
-    few, many = of_gate('one', *gate[::30], every=gate), of_gate('one', *gate[::3], every=gate)
-    assert (len(few), len(many)) == (6, 6) and {*gate[::30]} <= {*few} and {*many} <= {*gate[::3]}
+    few, many = of_gate('one', *gate[:3], every=gate), of_gate('one', *gate[::2], every=gate)
+    assert (len(few), len(many)) == (6, 6) and {*gate[:3]} <= {*few} and {*many} <= {*gate[::2]}
+    assert {len({it.crate.name for it in of_gate(str(seed), *gate[::2], every=gate)}) for seed in range(20)} == {1}
 
 
 def test_known_open_mutants_are_left_out() -> None:

@@ -37,7 +37,9 @@ JUDGES = 'mutants/checks.py', 'mutants/edits.py'
 COMMENTS = {'.rt': '//', '.antt': '--', '.edit': '#'}
 # The files of proofs that belong to a body.
 OF_BODIES = 'Answers.antt', 'Invariants.antt', 'Proof.antt'
-MOST_LETTERS = 100
+# An error about a goal that a proof by hand no longer proves, which the log shortens; and its most letters.
+BY_HAND = re.compile(r'\S+: error: `([\w-]+)`:.*')
+MOST_LETTERS = 400
 
 
 class Tried(NamedTuple):
@@ -132,7 +134,7 @@ def note(found: Mapping[Edit, Verdict], edits: Iterable[Edit]) -> None:
     today, names = time.strftime('%Y-%m-%d'), {it.name for it in edits}
     kept = {name: it for name, it in noted().items() if name in names}
     kept |= {it.name: Tried(today, verdict, digest(it)) for it, verdict in found.items()}
-    rows = ['\t'.join([name, day, kind, function, ' '.join(why[:MOST_LETTERS].split()), digest]) + '\n'
+    rows = ['\t'.join([name, day, kind, function, ' '.join(BY_HAND.sub(r'\1 (by hand)', why)[:MOST_LETTERS].split()), digest]) + '\n'
             for name, (day, (kind, function, why), digest) in sorted(kept.items())]
     KEPT.parent.mkdir(exist_ok=True)
     KEPT.write_text(HEAD_LINE + ''.join(rows), 'utf-8')

@@ -18,43 +18,44 @@ LISTED = TOP / 'docs/proof/without_mutants.tsv'
 REASONS = ONE_VALUE, BY_HAND, OPEN = 'one value fits', 'proved by hand', 'open'
 HEAD_LINE = '# public functions without a mutant that shows that the promise binds: function, reason\n'
 EXPORTS = re.compile(r'(?m)^pub use [\w:]+?::(?:\{([^}]*)\}|(\w+));')
-HEAD = re.compile(r'( *)pub (?:const )?fn (\w+)')
+HEAD = re.compile(r'( *)(pub )?(?:const )?fn (\w+)')
 TYPE = re.compile(r'(?m)^pub (?:struct|enum) (\w+)')
-IMPL = re.compile(r'impl(?:<.*?>)? (\w+)(?:<.*>)? \{')
+IMPL = re.compile(r'impl(?:<.*?>)? (?:(?:\w+::)*(\w+)(?:<.*>)? for )?(\w+)(?:<.*>)? \{')
 
 
 def is_of_tests(crate: Path) -> bool:
     return crate.name.startswith('test_') or crate.name.endswith('_tests')
 
 
-def promises(file: Path, exported: set[str]) -> Iterator[tuple[str, str]]:
-    """The exported functions in a file that have a clause and a body: the type, '' if there is none, and the name."""
-    lines, type_of = file.read_text('utf-8').split('\n'), ''
+def promises(file: Path, exported: set[str]) -> Iterator[tuple[str, str, str]]:
+    """The exported functions in a file that have a clause of their own and a body: the type, '' if there is none; the
+    trait that they are of, or ''; and the name. (Most functions of a trait have only the clauses of the trait.)"""
+    lines, type_of, trait = file.read_text('utf-8').split('\n'), '', ''
     for at, line in enumerate(lines):
         if line.startswith(('impl', '}')):
             found = IMPL.match(line)
-            # (a function of a trait has the clauses of the trait)
-            type_of = found[1] if found else ''
-        if head := HEAD.match(line):
+            trait, type_of = (found[1] or '', found[2]) if found else ('', '')
+        head = HEAD.match(line)
+        if head and (head[2] or trait):
             ends = (it for it in range(at, len(lines)) if lines[it].startswith(head[1]) and lines[it].endswith(('{', '{}')))
             end = next(it for it in ends if not lines[it].startswith(head[1] + ' '))
             is_empty = lines[end].endswith('{}') or lines[end + 1] == head[1] + '}'
             is_promise = not is_empty and any(it.lstrip().startswith('ensures ') for it in lines[at:end + 1])
-            if is_promise and (type_of or head[2]) in exported:
-                yield type_of, head[2]
+            if is_promise and (type_of or head[3]) in exported:
+                yield type_of, trait, head[3]
 
 
 def public_functions(top: Path = TOP) -> set[str]:
-    """The public functions that make a promise, as CRATE::MODULE::NAME, without laws. For a function of a type the
-    module is that in which the type is declared."""
+    """The public functions that make a promise, as checks print them, without laws: CRATE::MODULE::NAME, with TYPE or
+    TYPETRAIT before NAME. For a function of a type the module is that in which the type is declared."""
     found = set()
     for root in (it for it in sorted(top.glob('crates/*/src/lib.rt')) if not is_of_tests(it.parents[1])):
         names = {it.strip() for both in EXPORTS.findall(root.read_text('utf-8')) for it in ','.join(both).split(',')}
         modules = {it: '::'.join(it.relative_to(root.parent).with_suffix('').parts) for it in root.parent.rglob('*.rt')}
         of_types = {name: module for it, module in modules.items() for name in TYPE.findall(it.read_text('utf-8'))}
         for file, module in modules.items():
-            for type_of, name in promises(file, names) if file.stem != 'laws' else ():
-                place = [of_types.get(type_of, module), type_of, name]
+            for type_of, trait, name in promises(file, names) if file.stem != 'laws' else ():
+                place = [of_types.get(type_of, module), type_of + trait, name]
                 found.add('::'.join([root.parents[1].name, *filter(None, place)]))
     return found
 
