@@ -1,11 +1,9 @@
 """Exports, each read back by the program that it is for, where that is installed."""
-import json
 import os
 import subprocess
-from collections import Counter
 
 from here import SECONDS, TOOLS, TOP, Room, call, text_of
-from motesim.export import pcapng, perfetto, times
+from motesim.export import pcapng, times
 from motesim.report import Report
 from skips import interpreter_with, need
 from test_report import EXAMPLE_REPORT
@@ -62,30 +60,6 @@ class ExportTest(Room):
     def test_the_header_of_packets(self) -> None:
         head = pcapng.header('received', 3, 258, 2 ** 40, 65_535, 1_000_000, 2 ** 33)
         self.assertEqual(head.hex(), '0101' '0003' '0102' '0000010000000000' 'ffff' '000f4240' '0000000200000000')
-
-    def test_a_trace_for_perfetto(self) -> None:
-        self.assertEqual(self.export('a.report', '--to', 'perfetto'), 'a.perfetto.json\n')
-        trace = json.loads((self.room / 'a.perfetto.json').read_text())
-        events = trace['traceEvents']
-        self.assertEqual(Counter(it['ph'] for it in events)['X'], 6 + 18 + 3)
-        named = {it['tid']: (it['pid'], it['args']['name']) for it in events if it['name'] == 'thread_name'}
-        self.assertEqual(named[205], (2, 'listener'))
-        runs = [it for it in events if it['ph'] == 'X' and named[it['tid']] == (2, 'listener')]
-        self.assertEqual([(it['name'], it['ts'], it['dur']) for it in runs],
-                         [('init', 4.0, 1.0), ('packet 30', 10_002.0, 4.0)])
-
-    def test_arrows_begin_and_end_in_slices(self) -> None:
-        events = [json.loads(line.strip(',')) for line in perfetto.perfetto(self.report) if '"ph"' in line]
-        slices = [it for it in events if it['ph'] == 'X']
-        for it in slices:
-            others = [other for other in slices if other is not it and other['tid'] == it['tid']]
-            self.assertGreater(it['dur'], 0)
-            self.assertFalse([other for other in others if it['ts'] <= other['ts'] < it['ts'] + it['dur']])
-        arrows = [it for it in events if it['ph'] in 'sf']
-        self.assertEqual(Counter(it['id'] for it in arrows), {1: 2, 2: 2, 4: 2})
-        for arrow in arrows:
-            self.assertTrue([it for it in slices if it['tid'] == arrow['tid'] and it['pid'] == arrow['pid']
-                             and it['ts'] == arrow['ts']])
 
     def test_pandas_reads_the_tables(self) -> None:
         interpreter = interpreter_with(self, 'pandas')

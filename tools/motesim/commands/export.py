@@ -1,12 +1,11 @@
 """Writes a run in the format of another program, or a scenario in C.
 
   tools/export net.toml --to pcapng     net.pcapng: packets and their copies (Wireshark)
-  tools/export net.toml --to perfetto   net.perfetto.json: a trace (ui.perfetto.dev)
   tools/export net.toml --to csv        net.lines.csv, net.packets.csv, net.copies.csv (pandas, R)
   tools/export net.toml --form contiki -o net_c         a folder of C files for a Contiki 2.x tree
   tools/export net.toml --form contiki -o net_c --host  the same folder, and a simulator in C for this machine
 
-FILE is a report, or a scenario, which is run. A moment counts as a millisecond. docs/use/FILE.md describes the
+FILE is a report, or a scenario, which is run. A moment counts as a millisecond. docs/use/REPORT.md describes the
 formats and how to open the files; docs/use/KERNEL.md is about the C files.
 
 The tool ends with status 0, or with 2 if a file can't be read or written.
@@ -17,7 +16,7 @@ from motesim.command import command
 from motesim.words import Words, words_of
 
 # The forms of a run: those of motesim.export.command.
-FORMS = ('pcapng', 'perfetto', 'csv')
+FORMS = ('pcapng', 'csv')
 
 
 def parser() -> Words:

@@ -3,22 +3,18 @@ from __future__ import annotations
 
 import argparse
 import sys
-from collections.abc import Callable, Iterable
+from collections.abc import Iterable
 from pathlib import Path
 
 from motesim.contiki.folder import write_folder
-from motesim.export import pcapng, perfetto, tables
+from motesim.export import pcapng, tables
 from motesim.files import refuse_inputs, write_whole
 from motesim.output import beside
 from motesim.report import Report
 from motesim.report.run import read_run
 from motesim.scenario.encodings import read_file
 
-ENDS = {'pcapng': '.pcapng', 'perfetto': '.perfetto.json', 'csv': ''}
-
-
-def encoded(lines: Iterable[str]) -> Iterable[bytes]:
-    return (line.encode() + b'\n' for line in lines)
+ENDS = {'pcapng': '.pcapng', 'csv': ''}
 
 
 def ends_of(form: str) -> list[str]:
@@ -31,9 +27,7 @@ def parts_of(report: Report, form: str) -> dict[str, Iterable[bytes]]:
     if form == 'csv':
         return {end: (line.encode() for line in tables.table(report, name))
                 for name, end in zip(tables.TABLES, ends_of(form))}
-    work: dict[str, Callable[[], Iterable[bytes]]] = {
-        'pcapng': lambda: pcapng.pcapng(report), 'perfetto': lambda: encoded(perfetto.perfetto(report))}
-    return {'': work[form]()}
+    return {'': pcapng.pcapng(report)}
 
 
 def export_program_files(path: str, folder: str | None, with_host: bool) -> int:
