@@ -1,7 +1,7 @@
 """Checks that the commands of the pages print what the pages show: tools/dev/check_tutorial [PAGE ..]
 
-The pages are README.md, those of docs/use/, and the worksheet of the lesson. A block of commands begins with ```sh. The next block, which begins with ```, has the
-output of these commands. Commands without a block of output must print nothing. A block that begins with ```console has
+The pages are those of docs/use/, README.md, the cookbook, and the worksheet of the lesson. A block of commands begins
+with ```sh. The next block, which begins with ```, has the output of these commands. Commands without a block of output must print nothing. A block that begins with ```console has
 commands that open a window, and is not run. A block that begins with ```toml NAME, ```mote NAME, ```python NAME or
 ```c NAME is a file that the reader saves under that name. The commands of a page are run in a separate folder, in which
 ./run, tools/ and examples/ exist.
@@ -24,7 +24,7 @@ from motesim.runner.programs import TOP
 # A block of commands, and the block with their output: only empty lines are between the two.
 BLOCK = re.compile(r'^```(?P<info>.*)\n(?P<text>(?:.*\n)*?)```$(?:\n+```\n(?P<shown>(?:.*\n)*?)```$)?', re.M)
 SAVED = re.compile(r'(?:toml|mote|python|c) ([a-z_.]+[.](?:toml|mote|py|c))')
-WORKSHEET = TOP / 'examples/lesson/WORKSHEET.md'
+OTHERS = [TOP / it for it in ('README.md', 'examples/cookbook/README.md', 'examples/lesson/WORKSHEET.md')]
 RUN = '#!/bin/sh\nexec "$MOTESIM" "$@"\n'
 # The status of `timeout` after a command that it has ended.
 TIMED_OUT = 124
@@ -74,7 +74,7 @@ def outputs_of(page: str, program: Path) -> list[str]:
 def pytest_generate_tests(metafunc: pytest.Metafunc) -> None:
     """Has a test for each block of commands. Those of a page run in one process, one after the other."""
     names, tests = metafunc.config.getoption('name'), []
-    for path in map(Path, names) if names else [TOP / 'README.md', *sorted(TOP.glob('docs/use/*.md')), WORKSHEET]:
+    for path in map(Path, names) if names else [*sorted(TOP.glob('docs/use/*.md')), *OTHERS]:
         page = path.read_text('utf-8')
         for number, block in enumerate(filter(has_commands, blocks_of(page))):
             line = page.count('\n', 0, block.start('text')) + 1

@@ -1,4 +1,4 @@
-"""The pattern of EXPERIMENTS.md for losses by chance, against what chance would give."""
+"""The pattern of the cookbook for losses by chance, against what chance would give."""
 from __future__ import annotations
 
 import itertools
@@ -23,7 +23,7 @@ from skips import long, need_built
 WORD = 65_536
 ASSIGNED = re.compile(r'(\w+) = (\(.*\));')
 # Programs whose motes draw by chance, each with the variable that has its generator's state.
-DRAWING = {'docs/use/EXPERIMENTS.md': 'dice', 'examples/studies/density.mote': 'dice',
+DRAWING = {'examples/cookbook/README.md': 'dice', 'examples/studies/density.mote': 'dice',
            'examples/studies/losses.mote': 'dice',
            'examples/studies/flooding.mote': 'seed', 'examples/studies/trickle.mote': 'seed'}
 STEP = '((dice * 25173) + 13849)'
@@ -121,9 +121,9 @@ def measured(cycle: Cycle, motes: int, packets: int, limit: int) -> Measured:
 
 class Programs(unittest.TestCase):
     def test_all_programs_mix_their_seeds_in_the_same_way(self) -> None:
-        page = mixing_of('docs/use/EXPERIMENTS.md')
+        page = mixing_of('examples/cookbook/README.md')
         self.assertEqual(len(page), 4)
-        text = (TOP / 'docs/use/EXPERIMENTS.md').read_text('utf-8')
+        text = (TOP / 'examples/cookbook/README.md').read_text('utf-8')
         for it in 'var luck = 1;', 'dice = %s;' % STEP, 'luck = %s;' % SECOND, 'if (%s >= ${limit}) {' % SUM:
             self.assertIn(it, text)
         for file in DRAWING:
@@ -137,7 +137,7 @@ class ByChance(unittest.TestCase):
 
     @classmethod
     def setUpClass(cls) -> None:
-        cls.cycle = Cycle(mixing_of('docs/use/EXPERIMENTS.md'))
+        cls.cycle = Cycle(mixing_of('examples/cookbook/README.md'))
 
     def test_more_than_255_motes_draw_as_others_do_with_the_seed_before(self) -> None:
         for mote, seed in (0, 1), (7, 30):
@@ -146,7 +146,7 @@ class ByChance(unittest.TestCase):
         self.assertEqual(len(keys), 255 * 257)
 
     def test_two_processes_of_a_mote_draw_as_two_motes_do(self) -> None:
-        page = (TOP / 'docs/use/EXPERIMENTS.md').read_text('utf-8')
+        page = (TOP / 'examples/cookbook/README.md').read_text('utf-8')
         self.assertIn('`dice = (((self * 257) + ${seed}) + 128);`', page)
         pairs = [(mote, seed) for mote in range(255) for seed in range(1, 129)]
         for limit in 6_554, 32_768:
@@ -193,14 +193,14 @@ class ByChance(unittest.TestCase):
 
     def test_without_the_mixing_they_lose_in_step(self) -> None:
         # (in each draw the values of successive motes differ by the same number: this is what the mixing is for)
-        cycle = Cycle(mixing_of('docs/use/EXPERIMENTS.md')[:1])
+        cycle = Cycle(mixing_of('examples/cookbook/README.md')[:1])
         few, many = measured(cycle, 50, 20, 13_107), measured(cycle, 99, 100, 32_768)
         self.assertTrue(few.spread < 0.2 and few.within < 0.2, few)
         self.assertTrue(many.spread > 1.8 and many.within > 1.5 and many.lag > 0.6 and many.covers < 0.65, many)
 
     def test_the_program_draws_the_same(self) -> None:
         need_built()
-        page = (TOP / 'docs/use/EXPERIMENTS.md').read_text('utf-8')
+        page = (TOP / 'examples/cookbook/README.md').read_text('utf-8')
         parts = dict(re.findall(r'```\w+ (chance\.\S+)\n(.*?)```', page, re.S))
         files = Files(Path(), {'chance.mote': parts['chance.mote'].encode()})
         text = Plan('chance.plan.toml', parts['chance.plan.toml'], files).scenario({'seed': 7})
