@@ -1,7 +1,6 @@
 """A second tools/why and tools/log, written only from docs/use/DEBUGGING.md, REPORT.md, KERNEL.md and LOG.md."""
 from __future__ import annotations
 
-from collections import Counter
 from collections.abc import Iterator
 from typing import NamedTuple
 
@@ -9,8 +8,7 @@ from page_kernel import Expression, Line, Mote, PageRun, Statement
 
 # The words of a line that are the number of an event or of a packet: a comparison of two runs ignores them.
 NUMBERS = {'post': 1, 'take': 1, 'drop': 1, 'send': 1, 'recv': 2, 'lost': 2, 'collide': 2}
-# The words of a line that name a process, and its last word if it is a value.
-PROCESS = {'start': 1, 'leave': 1, 'post': 2, 'full': 1, 'take': 2, 'drop': 2, 'print': 1, 'busy': 1}
+# The lines whose last word is a value.
 VALUES = 'print', 'send', 'recv', 'post', 'full'
 ARRIVALS = 'recv', 'lost', 'collide'
 
@@ -137,23 +135,14 @@ class PageLog:
     def __init__(self, run: PageRun):
         self.run = run
 
-    def lines(self, motes: set[int] | None, kinds: set[str] | None, process: str | None, value: int | None,
-              first: int, last: int | None) -> list[Line]:
+    def lines(self, motes: set[int] | None, kinds: set[str] | None, value: int | None, first: int,
+              last: int | None) -> list[Line]:
         """The lines that all filters select, in order of moment, then of mote."""
         found = []
         for line in self.run.lines:
             words = line.words.split(' ')
             if line.how != 'start' and (motes is None or line.mote in motes) and (kinds is None or words[0] in kinds) \
-                    and (process is None or words[0] in PROCESS and words[PROCESS[words[0]]] == process) \
                     and (value is None or words[0] in VALUES and int(words[-1]) == value) \
                     and first <= line.at and (last is None or line.at <= last):
                 found.append(line)
         return sorted(found, key=lambda line: (line.at, line.mote, line.place))
-
-    @staticmethod
-    def counts(lines: list[Line]) -> dict[int, Counter[str]]:
-        """The number of lines of each mote and kind."""
-        counts: dict[int, Counter[str]] = {}
-        for line in lines:
-            counts.setdefault(line.mote, Counter())[line.words.split(' ')[0]] += 1
-        return counts

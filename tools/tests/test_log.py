@@ -24,8 +24,8 @@ def test_the_order_is_by_moment_then_by_mote() -> None:
 
 @pytest.mark.parametrize('it, lines', [
     (Filter(motes=frozenset({1})), [8, 9, 10, 11]), (Filter(kinds=('print', 'recv')), [5, 9, 11]),
-    (Filter(process='take'), [2, 3, 4, 5]), (Filter(process='none'), []), (Filter(value=7), [3, 9]), (Filter(value=0), []),
-    (Filter(span=(2, 5)), [3, 4, 5, 9, 10, 6]), (Filter(frozenset({0}), ('print', 'send'), None, 3, (0, 4)), [5])])
+    (Filter(value=7), [3, 9]), (Filter(value=0), []),
+    (Filter(span=(2, 5)), [3, 4, 5, 9, 10, 6]), (Filter(frozenset({0}), ('print', 'send'), 3, (0, 4)), [5])])
 def test_filters(it: Filter, lines: list[int]) -> None:
     """Each filter with the lines of the report that it leaves."""
     report = Report.parse(REPORT)

@@ -197,25 +197,19 @@ class Runs(unittest.TestCase):
         kinds = set(chance.sample(KINDS, 3)) if chance.random() < .5 else None
         motes = {it.number for it in run.motes if chance.random() < .6}
         motes_asked = motes if motes and chance.random() < .4 else None
-        process = chance.choice(('etimer', 'radio', *run.motes[0].program.processes)) if chance.random() < .3 else None
         value = chance.choice((0, 1, 2, 3, 7)) if chance.random() < .3 else None
         first = chance.randint(0, run.end) if chance.random() < .4 else 0
         last = chance.randint(0, run.end) if chance.random() < .4 else None
         asked = ['log', file]
-        for name, its in (('--kind', kinds and ','.join(sorted(kinds))), ('--process', process), ('--value', value),
+        for name, its in (('--kind', kinds and ','.join(sorted(kinds))), ('--value', value),
                           ('--mote', motes_asked and ','.join(map(str, sorted(motes_asked)))),
                           ('--from', first or None), ('--to', last)):
             asked += [] if its is None else [name, str(its)]
-        wanted = PageLog(run).lines(motes_asked, kinds, process, value, first, last)
+        wanted = PageLog(run).lines(motes_asked, kinds, value, first, last)
         with self.subTest(report=run.report(), asked=asked):
             rows = [json.loads(row) for row in self.written([*asked, '--json']).splitlines()]
             self.assertEqual([(row['at'], row['mote'], row['line'], row['words']) for row in rows],
                              [(it.at, it.mote, run.number(it), it.words) for it in wanted])
-            head, *table = [row.split() for row in self.written([*asked, '--counts']).splitlines()]
-            own = {int(row[0]): {kind: int(count) for kind, count in zip(head[2:], row[2:]) if count != '0'}
-                   for row in table[:-1]}
-            self.assertEqual(own, {mote: dict(counts) for mote, counts in PageLog.counts(wanted).items()})
-            self.assertEqual(table[-1][:2], ['net', str(len(wanted))])
         return bool(wanted)
 
     @staticmethod

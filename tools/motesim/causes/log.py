@@ -10,7 +10,6 @@ from collections.abc import Iterable, Iterator, Sequence
 from itertools import chain
 from typing import NamedTuple
 
-from motesim.cells import aligned
 from motesim.faults import Fault
 from motesim.judge.links import Span, within
 from motesim.report import FIELDS, Report
@@ -30,7 +29,6 @@ class Filter(NamedTuple):
     """The conditions that a line has to meet to be shown."""
     motes: frozenset[int] | None = None
     kinds: tuple[str, ...] = KINDS
-    process: str | None = None
     value: int | None = None
     span: Span = (0, None)
 
@@ -43,9 +41,6 @@ class Filter(NamedTuple):
         if self.kinds != KINDS:
             codes = {CODES[it] for it in self.kinds}
             found = [it for it in found if trace.kind[it] in codes]
-        if self.process is not None:
-            places = trace.numbers_of('process', [self.process])
-            found = [it for it in found if trace.process[it] in places]
         if self.value is not None:
             found = [it for it in found if trace.value[it] == self.value and trace.kind[it] in VALUED]
         if self.span != (0, None):
@@ -69,28 +64,11 @@ def of_sentence(source: Source, sentence: str, it: Filter) -> list[int]:
     return [line for line in it.lines(report) if line + report.trace.mote[line] + 2 in wanted]
 
 
-def counts_of(report: Report, lines: Sequence[int]) -> Counter[tuple[int, str]]:
-    """The number of lines by mote and kind."""
-    counts = Counter(zip(map(report.trace.mote.__getitem__, lines), map(report.trace.kind.__getitem__, lines)))
-    return Counter({(mote, KINDS[code]): count for (mote, code), count in counts.items()})
-
-
-def sums(counts: Counter[tuple[int, str]], report: Report) -> str:
-    """One line with the counts."""
-    total = {kind: sum(count for (_, its), count in counts.items() if its == kind) for kind in FIELDS}
-    shown = ', '.join('%s %d' % it for it in total.items() if it[1])
-    return '%d of %d lines%s' % (counts.total(), len(report.trace), ': ' + shown if shown else '')
-
-
-def table(counts: Counter[tuple[int, str]]) -> Iterator[str]:
-    """The counts by mote, with the net in the last row."""
-    kinds = [kind for kind in FIELDS if any(its == kind for _, its in counts)]
-    motes = sorted({mote for mote, _ in counts})
-    numbers = [[counts[mote, kind] for kind in kinds] for mote in motes]
-    numbers.append([sum(column) for column in zip(*numbers)])
-    texts = [['mote', 'lines', *kinds]]
-    texts += [[str(it) for it in (name, sum(its), *its)] for name, its in zip([*motes, 'net'], numbers)]
-    return aligned(texts)
+def sums(report: Report, lines: Sequence[int]) -> str:
+    """One line with the number of lines of each kind."""
+    counts = Counter(map(report.trace.kind.__getitem__, lines))
+    shown = ', '.join('%s %d' % (kind, counts[CODES[kind]]) for kind in FIELDS if counts[CODES[kind]])
+    return '%d of %d lines%s' % (len(lines), len(report.trace), ': ' + shown if shown else '')
 
 
 def shown(rows: Iterable[Row], report: Report, form: str, fields: Sequence[Field] = ()) -> Iterator[str]:
@@ -139,19 +117,13 @@ def status_of(asked: argparse.Namespace) -> int:
     except Fault as fault:
         raise Fault('%s: %s' % (asked.file, fault)) from None
     motes = numbers_of(asked.mote, len(report.motes) - 1, '--mote') if asked.mote is not None else None
-    wanted = Filter(motes, kinds, asked.process, asked.value, (asked.first, asked.last))
+    wanted = Filter(motes, kinds, asked.value, (asked.first, asked.last))
     if asked.sentence is not None and scenario is None:
         raise Fault('an expectation needs the scenario of the report: --scenario FILE')
     lines = (wanted.lines(report) if asked.sentence is None or scenario is None else
              of_sentence(Source(asked.file, data, scenario), asked.sentence, wanted))
-    lines = lines[:asked.first_lines and max(0, asked.first_lines)]
-    if asked.last_lines is not None:
-        lines = lines[len(lines) - min(len(lines), max(0, asked.last_lines)):]
-    if asked.counts:
-        print('\n'.join(table(counts_of(report, lines))))
-        return 0
     form = 'csv' if asked.csv else 'json' if asked.json else 'text'
     sys.stdout.writelines(shown(rows_of(data, report, lines), report, form, scenario.fields if scenario else ()))
     if form == 'text':
-        print(sums(counts_of(report, lines), report))
+        print(sums(report, lines))
     return 0
