@@ -1,5 +1,6 @@
 mod Answered
 mod AskedAnswers
+mod Served
 mod SharedNames
 mod Surveyed
 mod WordFacts

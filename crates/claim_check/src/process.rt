@@ -18,7 +18,11 @@ use std::{env, io};
 fn borrow_words(alloc: Global, words: &[String]) -> Result<Vec<&str>, AllocError>
     ensures texts { IfOk result (λ all. texts_of all.items ≡ map string_bytes words.now) }
 {
-    words.iter().map(|word| word.as_str()).collect(alloc)
+    let mut texts = Vec::new(alloc);
+    for word in words {
+        texts.push(word.as_str())?;
+    }
+    Ok(texts)
 }
 
 /// Returns the arguments of the process.
