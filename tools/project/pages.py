@@ -100,10 +100,9 @@ def program_errors() -> Iterator[str]:
 
 
 def said(name: str, key: Key) -> str:
-    """A key of a plan with its values and its default value."""
-    default = '' if key.is_needed else ', optional' if key.default in ({}, None) else ', by default `%s`' % str(
-        key.default).lower()
-    return '`%s`: %s' % (name, key.may(name).partition(': ')[2].replace('a whole number, ', '') + default)
+    """A key of a plan, with its default value if it may be left out."""
+    default = '' if key.is_needed else ' (optional)' if key.default in ({}, None) else ' (%s)' % str(key.default).lower()
+    return '`%s`%s' % (name, default)
 
 
 def plan_keys() -> Iterator[str]:
@@ -114,9 +113,9 @@ def plan_keys() -> Iterator[str]:
         tables |= {'`places`, rule `%s`' % rule: keys for rule, keys in plan.PLACES.items()}
         tables |= {'`loss`, rule `%s`' % rule: keys for rule, keys in plan.LOSSES.items()}
         for place, keys in tables.items():
-            yield place, '; '.join(said(name, key) for name, key in keys.items())
+            yield place, ', '.join(said(name, key) for name, key in keys.items())
 
-    return table(('Table', 'Keys'), rows())
+    return table(('Table', 'Keys, with default values in parentheses'), rows())
 
 
 

@@ -58,13 +58,8 @@ def test_the_first_error_of_a_program(text: str, kind: str, line: str, column: s
     assert any(may in it for it in fault.may), fault.may
 
 
-def test_the_examples_and_the_kinds_of_the_page() -> None:
+def test_the_kinds_of_the_page() -> None:
     page = (TOP / 'docs/use/LANGUAGE.md').read_text('utf-8')
-    rows = re.findall(r'^\| `(code a .*)` \| (\d+) on line 2', page, re.M)
-    assert len(rows) > 3
-    for text, kind in rows:
-        fault = reader.find_fault('process a;\n' + text)
-        assert fault and (fault.kind, fault.token.line) == (int(kind), 2)
     rules = re.findall(r'^\| (\d+) \| (\w+) \|', page, re.M)
     assert rules == [(str(number), name) for number, (name, _) in enumerate(program_faults.RULES.values(), 1)]
     assert all(name in explain.rule_of('program p fault %s line 1' % kind) for kind, name in rules)
