@@ -18,7 +18,7 @@ from motesim.typed import name_of_command
 # The options that may name a file.
 TABLES = '--csv', '--json'
 # Options that have got other names.
-RENAMED = {'bytes': 'report', 'set': 'param', 'vary': 'param', 'where': 'param'}
+RENAMED = {'bytes': 'report', 'faults': 'links', 'repeat': 'param', 'set': 'param', 'vary': 'param', 'where': 'param'}
 
 
 class Version(argparse.Action):

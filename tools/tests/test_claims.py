@@ -1,11 +1,9 @@
 """The claims that expectations mean: their texts; the verdicts of motecheck on random runs, which are those of a judge
 that was written from the page alone, and of a second judge of claims; and a survey of motecheck."""
 import contextlib
-import json
 import os
 import random
 import re
-import shutil
 import subprocess
 import unittest
 from itertools import permutations
@@ -18,7 +16,6 @@ from motesim.judge.claims import Claims, NoClaim
 from motesim.judge.names import names_of
 from motesim.judge.sentences import read_sentence
 from motesim.report.run import program_path
-from motesim.runner.programs import CHECKER, module_program
 from motesim.scenario import Scenario
 from page_judge import PageJudge
 from page_sentences import Sentences, running_net_of
@@ -39,20 +36,6 @@ class Texts(unittest.TestCase):
         (room / 'net.toml').write_text(SCENARIO + '[[loss]]\nfrom = 2\nto = 3\nevery = 1\n')
         (room / 'net.expect.toml').write_text('report = ""\nexpect = %r' % sentences)
         self.assertEqual(call('expect', 'net.toml', '--claims', cwd=room).stdout, wanted)
-
-    def test_lines_halt_of_a_mote_that_fails_count_before_that_moment(self) -> None:
-        scenario = Scenario.parse(SCENARIO)
-        claims, names = Claims(scenario), names_of(scenario)
-        for words, moment, claim in (
-                ('no mote halts', 9, 'exactly 0 of these: motes 0, 2 to 3: at least 1 line "halt"; '
-                 'mote 1: at least 1 line "halt" from 0 to 8'),
-                ('mote 1 never halts after 20', 9, 'mote 1: exactly 0 lines of no kind from 21 on'),
-                ('mote 1 never halts', 0, 'mote 1: exactly 0 lines of no kind'),
-                ('all motes together never halt by 9', 0, 'the net: exactly 0 lines "halt" of motes 0, 2 to 3 together from '
-                 '0 to 9'), ('mote 1 never sends', 9, 'mote 1: exactly 0 lines "send"')):
-            self.assertEqual([it.text for it in claims.of(read_sentence(words, names), {1: moment})], [claim])
-        with self.assertRaises(NoClaim):
-            claims.of(read_sentence("mote 1 never writes 'halt' or 'send'", names), {1: 9})
 
 
 class Verdicts(unittest.TestCase):
@@ -106,41 +89,6 @@ class Surveys(unittest.TestCase):
         self.assertEqual(alone, 'broken: ' + claims[0])
         self.assertEqual([tuple(map(int, re.findall(r'\d+', it))) for it in (first, second)], lost)
         self.assertEqual(covered, 'covered: all sets of at most 1 of 40 faults; runs: 41')
-
-
-class Searches(unittest.TestCase):
-    def test_a_search_finds_the_same_with_a_survey(self) -> None:
-        need_built()
-        need_motecheck(self)
-        room = room_of(self)
-        (room / 'without').write_text('#!/bin/sh\ncase $1 in --*) exit 2 ;; esac\nexec %s "$@"\n' % CHECK)
-        (room / 'without').chmod(0o755)
-        hops = '"mote 8 prints news 7", "every mote never prints news at 1 plus 0 for each hop from mote 0"'
-        its = '"every mote but 0 prints just news 7", "every mote sends at most once"'
-        (room / 'net.toml').write_bytes((TOP / 'examples/news.toml').read_bytes())
-        for faults, sentences in ('links,motes', its), ('links', hops), ('motes', hops):
-            (room / 'net.expect.toml').write_text('expect = [%s]' % sentences)
-            found = []
-            for program in CHECK, room / 'without':
-                done = call('search', 'net.toml', '--faults', faults, '--at-most', '2', '--json', '-', cwd=room,
-                            env={**os.environ, 'MOTECHECK': str(program)})
-                tried = len((room / 'net.search/tried.txt').read_text().splitlines()) - 1
-                found.append((tried, done.returncode, {**json.loads(done.stdout), 'seconds': 0}))
-            (few, *one), (many, *other) = found
-            self.assertEqual(one, other)
-            self.assertLess(few, many / 2)
-
-    def test_a_search_in_node_runs_only_the_set_that_a_survey_lists(self) -> None:
-        need_built()
-        script, room = module_program(CHECKER), room_of(self)
-        if script is None:
-            self.skipTest('node or the module of these sources is missing')
-        for name in 'news.toml', 'news.expect.toml':
-            shutil.copy(TOP / 'examples' / name, room)
-        done = call('search', 'news.toml', '--faults', 'links', '--at-most', '2', cwd=room,
-                    env={**os.environ, 'MOTECHECK': str(script)})
-        self.assertIn('link 1 to 2 loses everything; link 4 to 2 loses everything', done.stdout)
-        self.assertEqual(len((room / 'news.search/tried.txt').read_text().splitlines()), 2)
 
 
 def need_motecheck(case: unittest.TestCase) -> None:

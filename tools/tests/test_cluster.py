@@ -1,14 +1,12 @@
-"""Work by a real Dask scheduler with two workers: what tools/sweep and tools/search find is the same as without it."""
+"""Work by a real Dask scheduler with two workers: what tools/sweep finds is the same as without it."""
 import os
 import subprocess
 import tempfile
 from pathlib import Path
 
 from here import text_of
-import test_search
 import test_sweep
-from motesim.runner import program_path
-from skips import interpreter_with, long, need_built
+from skips import interpreter_with, long
 
 # A scheduler with two workers. It prints its address, and then runs each line that it gets.
 CLUSTER = text_of('cluster.py.txt')
@@ -51,16 +49,6 @@ class Cluster(test_sweep.Bed):
         # (standard error may show the progress, on a busy machine)
         self.assertEqual((done.returncode, done.stdout), (0, 'dask.csv: 6 runs, 6 of them now, 0 with an error\n'))
         self.assertEqual((self.room / 'dask.csv').read_bytes(), (self.room / 'net.csv').read_bytes())
-
-    def test_the_sets_are_the_same(self) -> None:
-        need_built()
-        self.tell_program(program_path())
-        words = '--faults', 'links,motes', '--at-most', '2'
-        with test_search.folder_with() as folder:
-            alone = test_search.minimal_sets(folder, *words)
-            there = test_search.minimal_sets(folder, *words, '--dask', self.address)
-        self.assertEqual(there[0], alone[0])
-        self.assertEqual(there[1]['covered'], alone[1]['covered'])
 
     def test_what_the_cluster_lacks_is_reported(self) -> None:
         """The built program, workers, and a scheduler."""

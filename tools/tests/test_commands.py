@@ -12,7 +12,7 @@ from motesim.commands import export, search, shrink, studio, sweep
 from motesim.experiments import asked
 from motesim.export.command import ENDS
 from motesim.runner.programs import CHECKER, PROGRAM
-from motesim.search.work import LIMITS
+from motesim.surveys.searching import LIMITS
 from motesim.studio import runs
 from skips import need_built
 
@@ -47,7 +47,7 @@ class Commands(unittest.TestCase):
         for words, said in ((('plot', 'a.csv', '--confidence', 'x'), "argument --confidence: invalid float value: 'x'"),
                             (('plot', 'a.csv', '--measure', 'x', '--against', 'y', '--measure', 'z'),
                              '--measure is given twice: give it only once'),
-                            (('search', 'a.toml', '--step', 'x'), "argument --step: invalid int value: 'x'"),
+                            (('search', 'a.toml', '--at-most', 'x'), "argument --at-most: invalid int value: 'x'"),
                             (('sweep', 'a.toml', '--jobs', '0'), 'argument --jobs: 0 is not a whole number of at least 1'),
                             (('scenario', 'a.plan.toml', '-o', '-'), NO_NAME),
                             (('grade', 'a.toml', 'b.toml', '-o', '-'), NO_NAME),

@@ -6,14 +6,14 @@ from pathlib import Path
 
 import pytest
 from here import TOP
-from motesim.search.study import check_studies
+from motesim.surveys.study import check_studies
 from skips import long, need_built
 
 FILES = sorted((TOP / 'examples/faults').glob('*.toml'))
 
 
 def test_there_are_studies() -> None:
-    assert {it.stem for it in FILES} >= {'flooding', 'collection_tree', 'leader_ring', 'tdma', 'tdma_without_slots'}
+    assert {it.stem for it in FILES} >= {'flooding', 'collection_tree', 'leader_ring', 'tdma'}
 
 
 @long

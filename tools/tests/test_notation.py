@@ -12,8 +12,7 @@ from motesim.notation.reader import find_fault, read_program
 from motesim.notation.tokens import text_of
 from motesim.notation.tree import Value, last_of
 from motesim.report.run import answer
-from motesim.search.added import DIES, LATE, NoRoom, changed_program
-from motesim.search.smaller import programs
+from motesim.surveys.smaller import programs
 from project.differential.random_program import RandomProgram
 from properties import given, settings, st
 from skips import need_built
@@ -127,19 +126,6 @@ class Edits(unittest.TestCase):
         self.assertEqual(made[:found.edits[0].first - 1], rows[:found.edits[0].first - 1])
         self.assertEqual(made[len(made) - len(rows) + last:], rows[last:])
         self.assertNotEqual(find_fault('\n'.join(made)), fault)
-
-    @given(RIGHT, st.sampled_from([DIES, LATE]), st.integers(0, 200_000))
-    def test_a_process_is_added_and_all_else_stays(self, text: str, kind: str, moment: int) -> None:
-        try:
-            added = read_program(changed_program(text, kind, moment))
-        except NoRoom:
-            return
-        before = read_program(text)
-        self.assertIsNone(added.fault)
-        codes, its = ([text_of(one.tokens[code.token.number + 1:code.last.number]) for code in one.codes]
-                      for one in (before, added))
-        self.assertEqual((codes, [it.name.text for it in before.declared], [it.text for it in before.processes]), (
-            its[:-1], [it.name.text for it in added.declared], [it.text for it in added.processes[:-1]]))
 
     @given(RIGHT)
     def test_a_smaller_program_still_reads(self, text: str) -> None:

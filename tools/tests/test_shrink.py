@@ -22,17 +22,15 @@ from motesim.report.report import Report
 from motesim.report.run import answer, program_path
 from motesim.runner import Runner
 from motesim.runner.programs import IN_NODE
+from motesim.scenario.fault_text import read_faults
 from motesim.scenario.scenario import Scenario
-from motesim.search.faults import EFFECTS, FaultyPart
-from motesim.search.following import follow
-from motesim.search.forms import FORMS, form_of
-from motesim.search.found import Found
-from motesim.search.net import loss_steps, mote_steps, net_of, number_steps, parts, program_steps, without_motes
-from motesim.search.shrink import Shrinking, case_of, moved, parts_and_sentences
-from motesim.search.shrink_command import STOPPED
-from motesim.search.shrink_found import chosen
-from motesim.search.smaller import smaller_numbers
-from motesim.search.work import LIMITS
+from motesim.surveys.following import follow
+from motesim.surveys.net import loss_steps, mote_steps, net_of, number_steps, parts, program_steps, without_motes
+from motesim.surveys.searching import LIMITS, Found
+from motesim.surveys.shrink import Shrinking, case_of, parts_and_sentences
+from motesim.surveys.shrink_command import STOPPED
+from motesim.surveys.shrink_found import chosen
+from motesim.surveys.smaller import smaller_numbers
 from motesim.causes.cause import Cause, cause_of
 from motesim.causes.source import Source
 from sessions import TABLES, Table
@@ -40,7 +38,7 @@ from skips import need_built
 
 TABLE = Table(TABLES / 'shrink.toml')
 DIAMOND, ALL = TABLE.texts['diamond'], TABLE.texts['all']
-REACHED, SILENT = 'mote 3 prints flood 7', (('silent', 0),)
+REACHED, SILENT = 'mote 3 prints flood 7', read_faults(['mote 0 is silent'])
 NAMES = Names(('flood',), 10)
 
 
@@ -104,12 +102,6 @@ def test_numbers_follow(sentence: str, removed: set[int], wanted: str | None) ->
     assert follow(sentence, NAMES, frozenset(removed)) == wanted
 
 
-@pytest.mark.parametrize('effect, removed, wanted', [
-    (('lose', 3, 5, 2), {1, 4}, ('lose', 2, 3, 2)), (('silent', 3), {3}, None), (('number', 'range', 3), {1}, ('number', 'range', 3))])
-def test_faults_follow(effect: tuple[str | int, ...], removed: set[int], wanted: tuple[str | int, ...] | None) -> None:
-    assert moved(effect, frozenset(removed)) == wanted
-
-
 # What is left.
 
 @pytest.fixture
@@ -118,9 +110,9 @@ def program() -> Runner:
     return Runner(program_path(), LIMITS)
 
 
-def way(text: str, sentence: str) -> Any:
+def way(text: str, sentence: str, *faults: str) -> Any:
     """Whether a scenario breaks a sentence, by the judge of the tests: whether no line shows it, and the report's length."""
-    found = answer(text.encode())
+    found = Runner(faults=faults).answer(text.encode())
     if found.status:
         return None
     scenario = Scenario.parse(text)
@@ -136,7 +128,7 @@ def test_no_single_step_more_is_possible(program: Runner) -> None:
     # Both ways of the diamond are cut, in a net that has two motes more; mote 3 hears nothing.
     text = DIAMOND + ''.join('[[mote]]\nx = %d\ny = 40\nprogram = "p"\n' % (5 * it) for it in (0, 1))
     text += ''.join('[[loss]]\nfrom = %d\nto = %d\nevery = 1\n' % it for it in ((0, 1), (2, 3), (3, 2)))
-    shrinking = Shrinking(program, case_of(text, REACHED, (), ('mote 2 prints flood 7',)))
+    shrinking = Shrinking(program, case_of(Scenario.parse(text), REACHED, (), ('mote 2 prints flood 7',)))
     shrinking.run()
     net, (sentence, kept) = shrinking.case.net, (shrinking.case.sentence, *shrinking.case.keeps)
     # Motes 0, 2 and 3 are named or needed, and mote 3 has only to be out of reach.
@@ -155,26 +147,27 @@ def test_no_single_step_more_is_possible(program: Runner) -> None:
 
 def test_faults_stay_what_breaks_it(program: Runner) -> None:
     # Without the fault the message arrives, with it it doesn't, in the small scenario too.
-    shrinking = Shrinking(program, case_of(DIAMOND + '[[mote]]\nx = 18\ny = 6\nprogram = "p"\n', REACHED, SILENT))
+    more = Scenario.parse(DIAMOND + '[[mote]]\nx = 18\ny = 6\nprogram = "p"\n')
+    shrinking = Shrinking(program, case_of(more, REACHED, [*SILENT, *read_faults(['mote 4 is silent'])]))
     shrinking.run()
     case = shrinking.case
-    assert way(case.net.text, case.sentence) is None and way(shrinking.text, case.sentence) is not None
-    assert (len(case.net.motes), case.effects) == (2, SILENT)
+    assert way(case.net.text, case.sentence) is None and way(case.net.text, case.sentence, 'mote 0 is silent') is not None
+    assert (len(case.net.motes), [*case.faults]) == (2, SILENT)
 
 
 def test_lines_that_are_only_late_are_not_missing(program: Runner) -> None:
     own = 'process p;\nautostart p;\ncode p { etimer t; body { set t 50; yield_until fired(t); %s } }\n'
     texts = [diamond_of(own % it) for it in ('if (self == 0) { print 1; }', 'print 1;')]
-    shrinking = Shrinking(program, case_of(texts[0], 'mote 1 prints'))
+    shrinking = Shrinking(program, case_of(Scenario.parse(texts[0]), 'mote 1 prints'))
     for text, end, is_same in (texts[0], 10, True), (texts[1], 10, False), (texts[1], 49, False):
-        case = case_of(text, 'mote 1 prints')
+        case = case_of(Scenario.parse(text), 'mote 1 prints')
         assert (shrinking.way_now(case._replace(net=case.net._replace(end=end))) == shrinking.way) == is_same
 
 
 def test_parts_that_are_kept(program: Runner) -> None:
     assert parts_and_sentences(['end, places', 'mote 0 sends', 'medium']) == (
         frozenset(('end', 'places', 'medium')), ('mote 0 sends',))
-    shrinking = Shrinking(program, case_of(DIAMOND, REACHED, SILENT), keeps=frozenset(('end', 'medium', 'places', 'numbers')))
+    shrinking = Shrinking(program, case_of(Scenario.parse(DIAMOND), REACHED, SILENT), keeps=frozenset(('end', 'medium', 'places', 'numbers')))
     shrinking.run()
     net = shrinking.case.net
     assert (net.end, net.range, net.base, net.per) == (100, 10, 2, 1000)
@@ -195,20 +188,13 @@ def test_another_cause_is_told() -> None:
 
 
 def test_it_says_which_set_it_makes_small() -> None:
-    part = FaultyPart('motes', 'mote 0 is silent', (), ())
-    one, other, pair = Found([part], ['s']), Found([part], ['s']), Found([part, part], ['s'])
+    fault = 'mote 0 is silent'
+    one, other, pair = Found((fault,), ['s']), Found((fault,), ['s']), Found((fault, fault), ['s'])
     assert [chosen(one, it).removeprefix('made from: mote 0 is silent') for it in ([one], [one, pair], [one, other, pair])] == [
         '', ' (the smallest set)', ' (the worst of 2 sets of this size)']
 
 
 # The command.
-
-def test_the_helps_list_the_forms_of_a_fault() -> None:
-    assert {*FORMS, 'parameter'} == {*EFFECTS}
-    for tool in 'search', 'shrink':
-        said = ' '.join(call(tool, '--help').stdout.split())
-        assert all('%s %s' % (form_of(name), words) in said for name, (_, words) in FORMS.items())
-
 
 @pytest.fixture
 def folder(tmp_path: Path) -> Path:
@@ -231,7 +217,7 @@ def test_an_interrupt_ends_it_at_once_and_writes_the_smallest_scenario_so_far(fo
     (folder / 'slow').chmod(0o755)
     source = 'import sys\nsys.path.insert(0, %r)\nimport motesim.progress\nmotesim.progress.ELSEWHERE = %d\n%sfrom motesim.commands.shrink ' \
              'import main\nmain()\n' % (str(TOOLS), SECONDS, before)
-    with subprocess.Popen([sys.executable, '-B', '-c', source, 'diamond.toml', REACHED, '--fault', 'silent 0', '--seconds', '600'],
+    with subprocess.Popen([sys.executable, '-B', '-c', source, 'diamond.toml', REACHED, '--fault', 'mote 0 is silent', '--seconds', '600'],
                           cwd=folder, stdin=subprocess.PIPE, stdout=subprocess.PIPE, stderr=subprocess.PIPE, text=True) as running:
         assert running.stdout
         while running.stdout.readline() not in ('', 'now\n'):

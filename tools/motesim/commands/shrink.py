@@ -1,22 +1,23 @@
 """Makes a scenario that fails an expectation as small as possible.
 
-  tools/shrink flooding.search/flooding_silent_0.toml "mote 6 prints flood 1"
+  tools/shrink news.toml "mote 2 prints news 7" --fault "link 1 to 2 is broken" --fault "link 4 to 2 is broken"
 
 The tool removes motes, losses, processes and statements, simplifies expressions, and makes numbers smaller. After each
 step it runs the scenario, and keeps the step only if the expectation is still broken in the same way, for example with
 too few lines, even up to the first end. But the cause may then differ from that in your scenario, and the tool says so.
 Two options make this less likely:
 
-  --fault "lose 0 1 1"   the expectation has to hold without the fault, and to be broken with it
-  --keep EXPECTATION     this expectation has to hold after each step
-  --keep end,medium      these parts stay: end, medium, places, programs, or numbers (the values of `self` and `from`)
+  --fault FAULT        the expectation has to hold without the faults, and to be broken with them
+  --keep EXPECTATION   this expectation has to hold after each step
+  --keep end,medium    these parts stay: end, medium, places, programs, or numbers (the values of `self` and `from`)
 
-If motes get other numbers, the tool changes their numbers in expectations and faults too. If EXPECTATION is a file, the
+If motes get other numbers, the tool changes their numbers in expectations and faults too, and it leaves out faults that
+aren't needed. If EXPECTATION is a file, the
 tool uses the first broken expectation in this file. Without EXPECTATION, the file is NAME.expect.toml, next to the
 scenario NAME.toml.
 
-The tool writes the result to NAME.small.toml, next to the scenario, with its expectation next to it, and says so if it
-replaces an earlier result; it never replaces another file that you haven't named. In the result no single further step
+The tool writes the result to NAME.small.toml, next to the scenario, with its expectation and its faults next to it, and
+says so if it replaces an earlier result; it never replaces another file that you haven't named. In the result no single further step
 is possible. A large net may need minutes. After Ctrl-C, or at a limit, the tool writes the smallest scenario so far, or
 no file if it has taken no step. docs/use/TESTING.md has an example.
 
@@ -31,10 +32,9 @@ from types import FrameType
 
 from motesim.command import command
 from motesim.faults import INTERRUPTED
-from motesim.search.forms import with_forms
-from motesim.words import Words, add_expectation, add_limits, one_of, words_of
+from motesim.words import Words, add_expectation, add_faults, add_limits, one_of, words_of
 
-# The limit of a run: that of motesim.search.work.
+# The limit of a run: that of motesim.surveys.searching.
 SECONDS = 10.0
 
 
@@ -45,7 +45,7 @@ def end_at_once(number: int, frame: FrameType | None) -> None:
 
 
 def parser() -> Words:
-    words = words_of(with_forms(__doc__))
+    words = words_of(__doc__)
     words.add_argument('scenario', metavar='SCENARIO', help='a scenario, NAME.toml')
     words.add_argument('expectation', nargs='?', metavar='EXPECTATION',
                        help='an expectation of tools/expect, or a file of expectations')
@@ -53,9 +53,7 @@ def parser() -> Words:
     words.add_argument('--keep', action='append', default=[], metavar='KEPT',
                        help='an expectation that has to hold after each step; or parts that stay, with commas between '
                             'them: end, medium, places, numbers (the values of `self` and `from`), programs')
-    words.add_argument('--fault', action='append', default=[], metavar='FAULT',
-                       help='add this fault to the scenario, such as `lose 0 1 1` (--help lists the forms); the '
-                            'expectation has to hold without the fault, and to be broken with it')
+    add_faults(words)
     words.add_argument('--steps', action='store_true', help='show each step')
     words.add_argument('--most-runs', type=int, metavar='N', help='make at most N runs')
     words.add_argument('--most-seconds', type=float, metavar='N', help='begin no more runs after N seconds')
@@ -71,7 +69,7 @@ def main() -> int:
     asked = parser().parse_intermixed_args()
     # (an exception would be lost if it came during some parts of an import)
     before = signal.signal(signal.SIGINT, end_at_once)
-    from motesim.search.shrink_command import status_of
+    from motesim.surveys.shrink_command import status_of
     signal.signal(signal.SIGINT, before)
     asked.expectation = one_of(asked.expectation, asked.expect)
     return status_of(asked)

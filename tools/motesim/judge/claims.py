@@ -5,8 +5,7 @@ the claims are about the report alone.
 """
 from __future__ import annotations
 
-from collections.abc import Mapping, Sequence
-from contextlib import suppress
+from collections.abc import Sequence
 from dataclasses import replace
 
 from motesim.faults import Fault
@@ -18,7 +17,7 @@ from motesim.judge.hearing import hearing
 from motesim.judge.links import Apart, Links, Span
 from motesim.judge.meaning import (
     Copies, Count, Deed as Action, Does, Hears, Lines, MediumLine, Motes, Or, Packets, Part, Pattern, Refused, Relation,
-    Sentence, Value, Window, parts_of)
+    Sentence, Value, Window)
 from motesim.judge.names import processes_of
 from motesim.notation.grammar import SYSTEM
 from motesim.notation.reader import read_program
@@ -31,7 +30,6 @@ FIRST_DECLARED, MOST = 0x8b, (1 << 64) - 1
 # The parts of a pattern in their order, and the part that a field of a line is.
 PARTS = ('process', 'serial', 'event', 'sender', 'packet', 'value')
 PART_OF = {'number': 'packet', 'word': 'value'}
-OF_LINKS = ('distance', 'nearer', 'heard', 'linked')
 # The sentences about texts, which no claim can say, with the reasons.
 OF_TEXT = {Refused: 'it is about a scenario without a report', MediumLine: 'claims have no whole lines of the medium'}
 
@@ -43,13 +41,6 @@ class NoClaim(Fault):
         super().__init__('no claim: ' + why)
 
 
-def values_of_links(it: object) -> list[Value]:
-    """The values in sentences that depend on the links of the net; a time for each hop depends on a distance."""
-    parts = list(parts_of(it))
-    found = [Value('distance', it.root) for it in parts if isinstance(it, Window) and it.root is not None]
-    return list(dict.fromkeys([*found, *(it for it in parts if isinstance(it, Value) and it.kind in OF_LINKS)]))
-
-
 class _Program:
     """The numbers of a program's processes and declared events."""
 
@@ -59,26 +50,20 @@ class _Program:
 
 
 class Claims:
-    """A scenario whose sentences are translated. `same` has the claims of sentences that mean the same in a scenario from
-    which this one differs only in its links."""
+    """A scenario whose sentences are translated."""
 
-    def __init__(self, scenario: Scenario, same: Mapping[Sentence, list[Claim]] = {}):
-        self.scenario, self.links, self.same = scenario, Links(scenario), same
+    def __init__(self, scenario: Scenario):
+        self.scenario, self.links = scenario, Links(scenario)
         programs = {name: _Program(text) for name, text in scenario.programs.items()}
         self.programs = [programs[it.program] for it in scenario.places]
         # (motes with other names have claims with numbers)
         self.is_named = all(it.processes == self.programs[0].processes for it in self.programs)
         # The motes of the last sentence that have no distance. They have no case, and count as motes that don't do it.
         self.apart: list[int] = []
-        # The motes of this sentence that fail, with the moments.
-        self.failing: Mapping[int, int] = {}
 
-    def of(self, it: Sentence, failing: Mapping[int, int] = {}) -> list[Claim]:
-        """The claims that a sentence means. Raises `NoClaim` if claims can't say it. The lines `halt` of motes that
-        fail don't count from the moment on at which they fail."""
-        self.apart, self.failing = [], failing
-        if it in self.same and not failing:
-            return self.same[it]
+    def of(self, it: Sentence) -> list[Claim]:
+        """The claims that a sentence means. Raises `NoClaim` if claims can't say it."""
+        self.apart = []
         if isinstance(it, (MediumLine, Refused)):
             raise NoClaim(OF_TEXT[type(it)])
         return [self.one_of(it)] if isinstance(it, Or) else self.of_part(it)
@@ -114,15 +99,6 @@ class Claims:
         return Claim((1, None), tuple(found), fewer)
 
     # Lines
-
-    def same_with_all_links(self, sentences: Sequence[Sentence]) -> dict[Sentence, list[Claim]]:
-        """The claims of those sentences that mean the same whatever the links are."""
-        found = dict[Sentence, list[Claim]]()
-        for it in sentences:
-            with suppress(NoClaim):
-                if not isinstance(it, Hears) and not values_of_links(it):
-                    found[it] = self.of(it)
-        return found
 
     def field(self, mote: int, field: str, wanted: str | Value, is_named: bool) -> str | None:
         """The part of a pattern that wants this word or value in a field; None if no line has it. A process has its name
@@ -161,27 +137,14 @@ class Claims:
 
     def deed(self, patterns: Sequence[Pattern], motes: Sequence[int], spans: Sequence[Span]) -> Deed:
         """The lines of motes, each in its span."""
-        early = [self.before_failure(patterns, mote, span) for mote, span in zip(motes, spans)]
         its = [self.patterns(mote, patterns, self.is_named)[:0 if is_empty(span) else None]
-               for mote, span in zip(motes, early)]
+               for mote, span in zip(motes, spans)]
         named = next((self.patterns(mote, patterns, True, True) for mote, own in zip(motes, its) if own), ())
-        # (without a pattern, the moments don't matter)
-        spans = [part if own else span for part, span, own in zip(early, spans, its)]
         found = {it for it in its if it} or {()}
         if len(found) > 1:
             raise NoClaim('a claim counts lines of several motes by one pattern, which differs here')
         return Deed(found.pop(), tuple((mote, span) for mote, span, own in zip(motes, spans, its)
                                        if own or len(motes) == 1), tuple(patterns), named)
-
-    def before_failure(self, patterns: Sequence[Pattern], mote: int, span: Span) -> Span:
-        """The part of a span in which lines `halt` of a mote count."""
-        kinds = {words[0] for words in patterns}
-        if mote not in self.failing or 'halt' not in kinds:
-            return span
-        if len(kinds) > 1:
-            raise NoClaim('a claim has one interval for all lines of a mote, and lines `halt` of a mote that fails differ')
-        last = self.failing[mote] - 1
-        return span[0], last if span[1] is None else min(span[1], last)
 
     # Sentences about motes
 

@@ -1,7 +1,7 @@
 """Verdicts: the proved program `motecheck` runs a scenario, and decides the claims that sentences mean."""
 from __future__ import annotations
 
-from collections.abc import Callable, Iterator, Mapping, Sequence
+from collections.abc import Callable, Iterator, Sequence
 from pathlib import Path
 
 from motesim.judge.breaks import Break, read_break
@@ -36,12 +36,11 @@ def answers(scenario: bytes, claims: Sequence[str], *options: str, program: Path
 
 
 def decided(claims: Claims, text: str, sentences: Sequence[Sentence], limits: Limits = Limits(),
-            failing: Mapping[int, int] = {}, program: Path | None = None) -> list[Break | None]:
+            program: Path | None = None) -> list[Break | None]:
     """For each sentence about the run of a scenario, with its faults: what breaks it, or None if it holds or is about a
-    text. `failing` has motes that fail, as in `Claims.of`. Raises a `NoClaim` if claims can't say a sentence, and a
-    `ProgramFault` if there is no verdict."""
+    text. Raises a `NoClaim` if claims can't say a sentence, and a `ProgramFault` if there is no verdict."""
     found: list[Break | None] = [None] * len(sentences)
-    for places, its in _pieces(claims, sentences, failing, MOST_BYTES - len(text.encode())):
+    for places, its in _pieces(claims, sentences, MOST_BYTES - len(text.encode())):
         lines = answers(text.encode(), [it.text for it in its], program=program, limits=limits,
                         faults=claims.scenario.faults)
         # (behind the answers, a line for each fault that names no copy which the run sends)
@@ -60,13 +59,12 @@ def _break_in(line: str, claim: Claim) -> Break | None:
     return read_break(line.partition(' -- ')[2], claim) if line.startswith('broken: ') else None
 
 
-def _pieces(claims: Claims, sentences: Sequence[Sentence], failing: Mapping[int, int], most: int
-            ) -> Iterator[tuple[list[int], list[Claim]]]:
+def _pieces(claims: Claims, sentences: Sequence[Sentence], most: int) -> Iterator[tuple[list[int], list[Claim]]]:
     """The claims that the sentences mean, in pieces that aren't too long, each with the places of its sentences."""
     places, found, length = list[int](), list[Claim](), 0
     for place, it in enumerate(sentences):
         if type(it) not in OF_TEXT:
-            its = claims.of(it, failing)
+            its = claims.of(it)
             more = sum(len(claim.text) + 1 for claim in its)
             if found and length + more > most:
                 yield places, found

@@ -256,6 +256,10 @@ class Runner:
                  asks_end: Callable[[], bool] = lambda: False, faults: Sequence[str] = ()):
         self.program, self.limits, self.asks_end, self.faults = program, limits, asks_end, faults
 
+    def with_faults(self, faults: Sequence[str]) -> Runner:
+        """The same runner, of runs with these faults."""
+        return Runner(None, self.limits, self.asks_end, faults) if faults else self
+
     def start(self, scenario: bytes, *words: str, files: Mapping[str, bytes] = {}) -> Running:
         """Begins a run of a scenario. Words that are names of `files` name files with these bytes."""
         path = self.program or program_path(CHECKER if self.faults else PROGRAM)

@@ -11,7 +11,6 @@ from __future__ import annotations
 import argparse
 import re
 from collections.abc import Iterable, Set
-from pathlib import Path
 from typing import NamedTuple
 
 from motesim.scenario.encodings import decoded, read_file

@@ -33,7 +33,7 @@ from motesim.command import command
 from motesim.faults import Fault
 from motesim.runner import Limits, Runner, pool
 from motesim.runner.programs import TOP, is_module, program_path
-from motesim.search.net import loss_steps, mote_steps, net_of, number_steps, program_steps
+from motesim.surveys.net import loss_steps, mote_steps, net_of, number_steps, program_steps
 from motesim.scenario import Scenario, ScenarioFault
 from motesim.words import words_of
 from project.differential.coverage import Coverage

@@ -6,7 +6,7 @@ search ends when no step is left, so the result is one-minimal.
 """
 from __future__ import annotations
 
-from collections.abc import Callable, Iterator, Sequence
+from collections.abc import Callable, Iterable, Iterator, Sequence
 from dataclasses import dataclass, field
 from typing import NamedTuple
 
@@ -21,12 +21,11 @@ from motesim.judge.sentences import read_sentence
 from motesim.judge.verdicts import decided, reason
 from motesim.report.lazy import LazyReport
 from motesim.runner import ProgramFault, Runner
+from motesim.scenario.fault_text import NetFault
 from motesim.scenario.fields import Field
 from motesim.scenario.scenario import Scenario
-from motesim.search.change import Base, Change
-from motesim.search.faults import MOTES_OF, Effect, put_into
-from motesim.search.following import follow, names_motes_in_quotes
-from motesim.search.net import PARTS, Net, NetStep, loss_steps, mote_steps, net_of, number_steps, program_steps
+from motesim.surveys.following import follow, names_motes_in_quotes
+from motesim.surveys.net import PARTS, Net, NetStep, loss_steps, mote_steps, net_of, number_steps, program_steps
 from motesim.causes.cause import NO_CAUSE, Cause, cause_of
 from motesim.causes.source import Source
 
@@ -35,11 +34,11 @@ STEPS: dict[str, Callable[[Net], Iterator[NetStep]]] = {
     'motes': mote_steps, 'losses': loss_steps, 'programs': program_steps, 'numbers': number_steps}
 
 class Case(NamedTuple):
-    """A net, the sentence that it breaks, faults that are added to it (without them the sentence has to hold), and
+    """A net, the sentence that it breaks, the faults with which it is run (without them the sentence has to hold), and
     sentences that have to hold even with the faults."""
     net: Net
     sentence: str
-    effects: tuple[Effect, ...] = ()
+    faults: tuple[NetFault, ...] = ()
     keeps: tuple[str, ...] = ()
 
 
@@ -57,26 +56,6 @@ def way_of(broken: Broken) -> Way:
     """The way in which a sentence is broken."""
     lacks = broken.lacks
     return Way(broken.kind, lacks is not None, lacks is not None and not lacks.found, broken.row is not None)
-
-
-def moved(effect: Effect, removed: frozenset[int]) -> Effect | None:
-    """The effect of a fault after motes are removed, or None if it concerns one of these."""
-    found = list(effect)
-    for at in MOTES_OF.get(str(effect[0]), ()):
-        mote = int(effect[at])
-        if mote in removed:
-            return None
-        found[at] = mote - sum(it < mote for it in removed)
-    return tuple(found)
-
-
-def with_effects(text: str, effects: tuple[Effect, ...]) -> str:
-    """A scenario with the faults in it."""
-    if not effects:
-        return text
-    base, change = Base(text, NAME, is_checked=True), Change()
-    put_into(change, base, effects)
-    return base.text(change)
 
 
 class Seen(NamedTuple):
@@ -122,25 +101,25 @@ class Shrinking:
         self.longest = self.last
         self.seen_first = self.now = self.judged
         if self.way is None:
-            more = (' with these faults, or breaks it even without them' if self.case.effects else
+            more = (' with these faults, or breaks it even without them' if self.case.faults else
                     ', or breaks an expectation of --keep' * bool(self.case.keeps))
             raise Fault('the scenario does not break `%s`%s' % (self.case.sentence, more))
 
-    def seen(self, text: str, words: Sequence[str], is_first_broken: bool, failed: dict[int, int] = {}) -> Seen | None:
-        """The report of a text, with what breaks these sentences: the first one is broken, or holds, and the others hold.
-        None if they are otherwise, or can't be read; if there is no report; or if it is too long. Lines `halt` of motes
-        that failed don't count."""
+    def seen(self, text: str, words: Sequence[str], is_first_broken: bool, faults: Sequence[NetFault] = ()) -> Seen | None:
+        """The report of a text with faults, with what breaks these sentences: the first one is broken, or holds, and the
+        others hold. None if they are otherwise, or can't be read; if there is no report; or if it is too long."""
         scenario = self.scenario(text)
+        scenario.faults = tuple(it.text for it in faults)
         read = [it for it in (read_or_none(it, scenario) for it in words) if it]
         if len(read) < len(words):
             return None
         self.runs += 1
         is_wanted = [is_first_broken, *[False] * (len(words) - 1)]
         try:
-            said = decided(Claims(scenario), text, read, self.program.limits, failed)
+            said = decided(Claims(scenario), text, read, self.program.limits)
             if any(type(it) not in OF_TEXT and bool(its) != wanted for it, its, wanted in zip(read, said, is_wanted)):
                 return None
-            answer = self.program.answer(text.encode())
+            answer = self.program.with_faults(scenario.faults).answer(text.encode())
         except ProgramFault:
             return None
         self.last = max(self.last, len(answer.report))
@@ -159,7 +138,7 @@ class Shrinking:
     def way_now(self, case: Case) -> Way | None:
         """The way in which a case breaks its sentence, or None if it doesn't, or if it breaks it even without its
         faults."""
-        if case.effects and self.seen(case.net.text, [case.sentence], False) is None:
+        if case.faults and self.seen(case.net.text, [case.sentence], False) is None:
             return None
         found = self.seen_with_faults(case)
         if found is None:
@@ -175,9 +154,8 @@ class Shrinking:
 
     def seen_with_faults(self, case: Case) -> Seen | None:
         """The report of a case."""
-        failed = {int(it[1]): int(it[2]) for it in case.effects if it[0] == 'fails'}
         try:
-            return self.seen(with_effects(case.net.text, case.effects), [case.sentence, *case.keeps], True, failed)
+            return self.seen(case.net.text, [case.sentence, *case.keeps], True, case.faults)
         except Fault:
             return None
 
@@ -188,10 +166,9 @@ class Shrinking:
             return case._replace(net=step.net)
         names = names_of(self.scenario(case.net.text))
         sentences = [follow(it, names, step.removed) for it in (case.sentence, *case.keeps)]
-        effects = [moved(it, step.removed) for it in case.effects]
         known = [it for it in sentences if it is not None and not names_motes_in_quotes(it)]
-        left = tuple(it for it in effects if it is not None)
-        if len(known) < len(sentences) or len(left) < len(effects):
+        left = tuple(found for it in case.faults if (found := it.without(step.removed)))
+        if len(known) < len(sentences) or len(left) < len(case.faults):
             return None
         return Case(step.net, known[0], left, tuple(known[1:]))
 
@@ -199,12 +176,22 @@ class Shrinking:
         """Takes steps until none is left, or the user ends it."""
         goes_on = True
         while goes_on:
-            goes_on = False
+            goes_on = self.drop_faults()
             for name in STEPS:
                 goes_on |= self.take_all(name)
                 if self.is_over():
                     self.is_whole = False
                     return
+
+    def drop_faults(self) -> bool:
+        """Removes faults without which the sentence is still broken in the same way; returns whether there is one."""
+        before = self.case.faults
+        for it in before:
+            case = self.case._replace(faults=tuple(one for one in self.case.faults if one != it))
+            if case.faults and not self.is_over() and self.way_now(case) == self.way:
+                self.case, self.now = case, self.judged
+                self.taken.append('removes the fault `%s`' % it.text)
+        return self.case.faults != before
 
     def take_all(self, name: str) -> bool:
         """Takes steps of one sort, as long as there are any; returns whether one was taken."""
@@ -237,16 +224,11 @@ class Shrinking:
         """The motes that have other numbers than at first, as in `mote 0 was 3, mote 1 was 4`, or an empty text."""
         return ', '.join('mote %d was %d' % it for it in enumerate(self.motes) if it[0] != it[1])
 
-    @property
-    def text(self) -> str:
-        """The present scenario, with its faults."""
-        return with_effects(self.case.net.text, self.case.effects)
 
-
-def case_of(text: str, sentence: str, effects: tuple[Effect, ...] = (), keeps: tuple[str, ...] = (),
+def case_of(scenario: Scenario, sentence: str, faults: Iterable[NetFault] = (), keeps: tuple[str, ...] = (),
             keeps_programs: bool = False) -> Case:
-    """The case of a scenario's text."""
-    return Case(net_of(Scenario.parse(text), keeps_programs), sentence, effects, keeps)
+    """The case of a scenario."""
+    return Case(net_of(scenario, keeps_programs), sentence, tuple(faults), keeps)
 
 
 def parts_and_sentences(words: Sequence[str]) -> tuple[frozenset[str], tuple[str, ...]]:

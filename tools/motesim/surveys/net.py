@@ -9,7 +9,7 @@ from motesim.notation.reader import read_program
 from motesim.notation.tree import Program
 from motesim.plan.text import escaped, is_literal
 from motesim.scenario.scenario import Scenario
-from motesim.search.smaller import Step, instead, programs, renumbered, smaller_numbers, without
+from motesim.surveys.smaller import Step, instead, programs, renumbered, smaller_numbers, without
 
 
 class Mote(NamedTuple):

@@ -11,41 +11,45 @@ from pathlib import Path
 from motesim import output
 from motesim.runner.interrupt import Break
 from motesim.faults import INTERRUPTED, Fault
+from motesim.explain.within import answer_within
 from motesim.files import refuse_inputs
 from motesim.judge.expectations import beside, fields_beside, parts_of, text_of
 from motesim.judge.names import names_of
 from motesim.judge.several import read_all
+from motesim.judge.finder import Finder
+from motesim.judge.verdicts import breaks
+from motesim.report.run import refuse_others, run_of
 from motesim.runner import Runner, program_path
+from motesim.scenario.fault_text import faults_asked, read_faults
 from motesim.scenario.made import MADE_SMALL
+from motesim.scenario.refused import check
 from motesim.scenario.scenario import Scenario
-from motesim.search.change import Base
-from motesim.search.faults import effect_of
-from motesim.search.found import expectations_text, write_whole
-from motesim.search.net import PARTS, Net, net_of
-from motesim.search.prepare import plain_run
-from motesim.search.progress import ProgressOfSearch, told
-from motesim.search.say import counted
-from motesim.search.shrink import Case, Shrinking, case_of, parts_and_sentences
-from motesim.search.smaller import statements_in
-from motesim.search.work import LIMITS
+from motesim.surveys.found import expectations_text, faults_text, write_whole
+from motesim.surveys.net import PARTS, Net
+from motesim.surveys.progress import ProgressOfSearch, told
+from motesim.surveys.say import counted
+from motesim.surveys.searching import LIMITS
+from motesim.surveys.shrink import Case, Shrinking, case_of, parts_and_sentences
+from motesim.surveys.smaller import statements_in
 from motesim.causes.say import of_cause
 
 OTHER_CAUSE = 'Another cause now: --fault, or --keep with an expectation or parts of the scenario, may prevent it'
 STOPPED = 'it was stopped before the first step, so no file is written'
 
 
-def first_broken(base: Base, path: Path, program: Runner) -> str:
-    """The first sentence of a file of expectations that a scenario breaks."""
+def first_broken(name: str, scenario: Scenario, path: Path, program: Runner) -> str:
+    """The first sentence of a file of expectations that the run of a scenario breaks, with its faults."""
     texts = parts_of(text_of(path), str(path))[0].sentences
-    broken = plain_run(base, program, read_all(texts, names_of(base.scenario_itself))).broken
-    if broken:
-        return texts[broken[0]]
-    raise Fault('%s breaks no expectation of %s' % (base.name, path))
+    report = run_of(name, scenario.text.encode(), program).report
+    broken = breaks(read_all(texts, names_of(scenario)), Finder(report, scenario))
+    for text, its in zip(texts, broken):
+        if its:
+            return text
+    raise Fault('%s breaks no expectation of %s' % (name, path))
 
 
-def sizes(text: str) -> str:
+def sizes(net: Net) -> str:
     """The sizes of a scenario, in words."""
-    net = net_of(Scenario.parse(text))
     statements = sum(statements_in(program) for _, program in net.programs)
     parts = [(len(net.motes), 'mote', 'motes'), (len(net.losses), 'loss', 'losses'),
              (len(net.programs), 'program', 'programs'), (statements, 'statement', 'statements')]
@@ -60,6 +64,13 @@ def motes_before(shrinking: Shrinking, net: Net, name: str) -> str:
         mote, before, name, net.motes[before].x, net.motes[before].y) for mote, before in enumerate(shrinking.motes))
 
 
+def scenario_of(name: str, text: str) -> Scenario:
+    """A scenario from a file of this name."""
+    refuse_others(name)
+    check(name, text.encode())
+    return Scenario.parse(text)
+
+
 def is_made(path: Path) -> bool:
     """Returns whether a file is an earlier result."""
     with contextlib.suppress(OSError):
@@ -68,18 +79,20 @@ def is_made(path: Path) -> bool:
 
 
 def write_result(shrinking: Shrinking, net: Net, name: str, path: Path) -> None:
-    """Writes the scenario with its expectation. `net` is the one from which it was made."""
+    """Writes the scenario with its expectation, and with its faults. `net` is the one from which it was made."""
     case = shrinking.case
     head = '%s%s. It still breaks: %s\n' % (MADE_SMALL, name, ' '.join(case.sentence.split()))
     head += motes_before(shrinking, net, name)
-    write_whole(path, head + shrinking.text)
+    write_whole(path, head + case.net.text)
     write_whole(beside(path), expectations_text((case.sentence, *case.keeps), shrinking.fields))
+    if case.faults:
+        write_whole(path.with_suffix('.faults'), faults_text([it.text for it in case.faults]))
 
 
 def runs_of(case: Case) -> int:
     """The most runs that a step needs: one with the faults, one up to the first end and, if there are faults, one
     without them."""
-    return 3 if case.effects else 2
+    return 3 if case.faults else 2
 
 
 def why_over(is_stopped: bool, seconds: tuple[float, float | None], runs: tuple[int, int | None]) -> str:
@@ -134,51 +147,60 @@ class Work:
     def status(self) -> int:
         """Makes the scenario small, and shows the result; returns the status."""
         asked, path = self.asked, self.path
-        base = Base(text_of(path), asked.scenario)
-        base.scenario_itself.fields = fields_beside(path)
+        scenario = scenario_of(asked.scenario, text_of(path))
+        scenario.fields, scenario.faults = fields_beside(path), faults_asked(asked)
         is_file = not asked.expectation or asked.expectation.endswith('.toml')
         expected = Path(asked.expectation) if asked.expectation else beside(path)
-        for made in self.output, beside(self.output):
-            refuse_inputs(made, [path, expected])
+        for made in self.output, beside(self.output), self.output.with_suffix('.faults'):
+            refuse_inputs(made, [path, expected, asked.faults])
         if self.is_over_another and not (asked.output or is_made(self.output)):
             raise Fault('%s exists, and isn\'t an earlier result of tools/shrink: name another file with -o' % self.output)
-        sentence = first_broken(base, expected, self.program) if is_file else asked.expectation
+        sentence = asked.expectation
+        if is_file:
+            sentence = first_broken(asked.scenario, scenario, expected, self.program.with_faults(scenario.faults))
         parts, wanted = parts_and_sentences(asked.keep)
-        read_all([sentence, *wanted], names_of(base.scenario_itself))
-        effects = tuple(effect_of(it, base.scenario_itself.motes) for it in asked.fault)
-        case = case_of(base.source, sentence, effects, wanted, 'programs' in parts)
+        read_all([sentence, *wanted], names_of(scenario))
+        # (a limit, or an error in a fault, is told before the first step)
+        answer_within(asked.scenario, scenario.text.encode(), self.program.limits, scenario.faults)
+        case = case_of(scenario, sentence, read_faults(scenario.faults), wanted, 'programs' in parts)
         ran = int(is_file)
         self.need_runs(ran, self.why_over(ran + runs_of(case)))
-        shrinking = Shrinking(self.program, case, keeps=parts, fields=base.scenario_itself.fields)
+        shrinking = Shrinking(self.program, case, keeps=parts, fields=scenario.fields)
         shrinking.runs += ran
         shrinking.is_over = partial(self.is_over, shrinking)
-        before = shrinking.text
         shrinking.run()
         self.progress.end()
         why = '' if shrinking.is_whole else self.why_over(shrinking.runs + runs_of(shrinking.case))
         if not shrinking.taken:
             self.need_runs(shrinking.runs, why)
         write_result(shrinking, case.net, path.name, self.output)
-        self.show(shrinking, before, why)
+        self.show(shrinking, why)
         return INTERRUPTED if self.stop.is_asked and why else 0
 
-    def show(self, shrinking: Shrinking, before: str, why: str) -> None:
+    def show(self, shrinking: Shrinking, why: str) -> None:
         """Prints the lines about the result. `why` is the reason why the tool stopped, or an empty text."""
         if self.asked.steps:
             for number, it in enumerate(shrinking.taken, 1):
                 print('%3d %s' % (number, it))
-        print('before: %s' % sizes(before))
-        print('now:    %s' % sizes(shrinking.text))
+        print('before: %s' % sizes(shrinking.first.net))
+        print('now:    %s' % sizes(shrinking.case.net))
         kept = ' or '.join(it for it in PARTS if it in shrinking.keeps)
         whole = 'no further step is possible' + ' without a change of %s' % kept * bool(kept)
         print('%d steps, %d runs; %s' % (len(shrinking.taken), shrinking.runs,
                                          'STOPPED: more steps may be possible (%s)' % why if why else whole))
         print('%s%s breaks: %s' % (self.output, ', written over an earlier file,' * self.is_over_another,
                                    shrinking.case.sentence))
-        if shrinking.renumbered:
-            print('  in %s, %s' % (self.path.name, shrinking.renumbered))
+        for line in more_of(shrinking, self.output, self.path.name):
+            print('  ' + line)
         for line in differing(shrinking):
             print(line)
+
+
+def more_of(shrinking: Shrinking, path: Path, name: str) -> list[str]:
+    """The lines about the faults of a small scenario, and about motes that have other numbers than at first."""
+    faults = '; '.join(it.text for it in shrinking.case.faults)
+    return ['with the faults of %s: %s' % (path.with_suffix('.faults'), faults)] * bool(faults) + [
+        'in %s, %s' % (name, shrinking.renumbered)] * bool(shrinking.renumbered)
 
 
 def differing(shrinking: Shrinking) -> list[str]:
