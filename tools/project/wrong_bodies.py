@@ -20,7 +20,7 @@ import math
 import os
 from collections.abc import Mapping, Sequence
 from functools import partial
-from itertools import groupby
+from itertools import chain, groupby
 from pathlib import Path
 from typing import Any
 
@@ -35,6 +35,8 @@ from project.mutants.edits import Edit, edits_of, groups
 from project.tree import commit
 
 GATE = 'gate-bodies'
+# The gate tries at most one of so many mutants, and at most so many batches, each of which one check judges.
+SHARE, MOST_BATCHES = 20, 5
 
 
 def words() -> argparse.Namespace:
@@ -43,8 +45,8 @@ def words() -> argparse.Namespace:
     asked.add_argument('--changed', action='store_true',
                        help='leave out mutants that were refused, or left open, with exactly the same texts')
     asked.add_argument('--gate', action='store_true',
-                       help="try the gate's choice: a twentieth of all mutants that aren't known to be open, first "
-                            "those in %s that have changed" % GATE)
+                       help="try the gate's choice: at most a twentieth of all mutants that aren't known to be open, "
+                            "in at most %d checks, first those in %s that have changed" % (MOST_BATCHES, GATE))
     asked.add_argument('names', nargs='*', metavar='CRATE or CRATE/NAME', help='crates, or mutants (all)')
     found: argparse.Namespace = asked.parse_args()
     return found
@@ -59,15 +61,15 @@ def named(edits: Sequence[Edit], names: Sequence[str]) -> list[Edit]:
     return [it for it in edits if not names or it.name in names or it.crate.name in names]
 
 
-def in_order(edits: Sequence[Edit], new: Sequence[Edit], seed: str) -> list[Edit]:
-    """Mutants in the order in which the gate tries them: crate by crate, because each crate needs a control, and batch by
-    batch. First the crates with new mutants, and in each crate the batches with them; the seed decides the rest."""
+def batches(edits: Sequence[Edit], new: Sequence[Edit], seed: str) -> list[list[Edit]]:
+    """Mutants in the batches and the order in which the gate tries them: crate by crate, because each crate needs a
+    control. First the crates with new mutants, and in each crate the batches with them; the seed decides the rest."""
     def place(edit: Edit) -> list[bytes]:
         return [hashlib.sha256((seed + it).encode()).digest() for it in (edit.crate.name, edit.name)]
 
     first = {edit.crate.name for edit in new}
     ordered = sorted(edits, key=lambda it: (it.crate.name not in first, place(it)[0], it not in new, place(it)[1]))
-    return [it for _, of_crate in groupby(ordered, lambda it: it.crate) for group in groups([*of_crate]) for it in group]
+    return [group for _, of_crate in groupby(ordered, lambda it: it.crate) for group in groups([*of_crate])]
 
 
 def without_open(edits: Sequence[Edit]) -> list[Edit]:
@@ -78,12 +80,12 @@ def without_open(edits: Sequence[Edit]) -> list[Edit]:
 
 
 def of_gate(edits: Sequence[Edit]) -> list[Edit]:
-    """The mutants that the gate tries: a twentieth of those that aren't known to be open, of few crates, and first those
-    of the gate that have changed."""
+    """The mutants that the gate tries, without those that are known to be open: a twentieth at most, of few crates,
+    and first those of the gate that have changed."""
     seed, new = commit(), log.changed(it for it in edits if it.file.parent.name == GATE)
     decided = [*dict.fromkeys([*without_open(edits), *new])]
-    chosen = in_order(decided, new, seed)[:math.ceil(len(decided) / 20)]
-    print('%d of %d in %s that have changed, and %d others, chosen by the commit %s; known to be open, and not tried: %d' % (
+    chosen = [*chain(*batches(decided, new, seed)[:MOST_BATCHES])][:math.ceil(len(decided) / SHARE)]
+    print('%d of %d in %s that have changed, and %d others, chosen by the commit %s; open, and not tried: %d' % (
         len([it for it in chosen if it in new]), len(new), GATE, len([it for it in chosen if it not in new]), seed[:8],
         len(edits) - len(decided)), flush=True)
     return [it for it in edits if it in chosen]

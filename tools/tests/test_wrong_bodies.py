@@ -270,7 +270,8 @@ def test_what_is_noted_over_the_same_is_not_tried_again(kept: Log) -> None:
     kinds = {'low/a': CONTRACT, 'low/b': ANSWER, 'low/c': checks.NOT_REFUSED}
     chosen = [edit_of(name) for name in [*kinds, 'low/d', 'low/e']]
     kept.note({edit_of(name): Verdict(kind, 'f', 'g') for name, kind in kinds.items()}, '1', chosen)
-    kept.note({edit_of('low/d'): Verdict(CONTRACT, 'f', 'proofs/f/Answers.antt:1:5: error: `a`: as printed, two differ')}, '2', chosen)
+    why = 'proofs/f/Answers.antt:1:5: error: `a`: as printed, the two differ'
+    kept.note({edit_of('low/d'): Verdict(CONTRACT, 'f', why)}, '2', chosen)
     assert log.noted()['low/d'].verdict.why == 'a (by hand)'
     with mock.patch.object(log, 'digest', lambda edit: '1'):
         assert [it.name for it in log.changed(chosen)] == ['low/c', 'low/d', 'low/e']
@@ -286,8 +287,8 @@ def test_each_mutant_can_be_applied() -> None:
 
 def test_promises_of_exported_functions(tmp_path: Path) -> None:
     lib = CODE_OF_A_CRATE.split('\n---\n')
-    crate_at(tmp_path, {'crates/one/src/lib.rt': lib[0], 'crates/one/src/two.rt': lib[1], 'crates/one/src/three.rt': lib[2],
-                        'crates/one/src/laws.rt': lib[1], 'crates/one_tests/src/lib.rt': lib[1]})
+    texts = dict(zip(('lib.rt', 'two.rt', 'three.rt', 'laws.rt'), [*lib, lib[1]]))
+    crate_at(tmp_path, {'crates/one_tests/src/lib.rt': lib[1]} | {'crates/one/src/' + it: text for it, text in texts.items()})
     assert public.public_functions(tmp_path) == {
         'one::two::free', 'one::three::Kept::long', 'one::three::KeptTrait::of_trait'}
 
@@ -337,6 +338,11 @@ def test_a_share_begins_with_the_batches_of_changed_mutants_of_the_gate() -> Non
     few, many = of_gate('one', *gate[:3], every=gate), of_gate('one', *gate[::2], every=gate)
     assert (len(few), len(many)) == (6, 6) and {*gate[:3]} <= {*few} and {*many} <= {*gate[::2]}
     assert {len({it.crate.name for it in of_gate(str(seed), *gate[::2], every=gate)}) for seed in range(20)} == {1}
+
+
+def test_a_share_needs_few_checks() -> None:
+    alone = [replace(it, may_share=False) for it in EVERY * 3]
+    assert len(of_gate('one', every=alone)) == wrong_bodies.MOST_BATCHES
 
 
 def test_known_open_mutants_are_left_out() -> None:

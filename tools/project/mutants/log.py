@@ -129,12 +129,17 @@ def changed(edits: Iterable[Edit]) -> list[Edit]:
             or kept[it.name].digest != digest(it)]
 
 
+def shown(why: str) -> str:
+    """The goals or the error in one line, without the place of a proof by hand."""
+    return ' '.join(BY_HAND.sub(r'\1 (by hand)', why)[:MOST_LETTERS].split())
+
+
 def note(found: Mapping[Edit, Verdict], edits: Iterable[Edit]) -> None:
     """Notes today's verdicts on mutants. Mutants that aren't among all edits are forgotten."""
     today, names = time.strftime('%Y-%m-%d'), {it.name for it in edits}
     kept = {name: it for name, it in noted().items() if name in names}
     kept |= {it.name: Tried(today, verdict, digest(it)) for it, verdict in found.items()}
-    rows = ['\t'.join([name, day, kind, function, ' '.join(BY_HAND.sub(r'\1 (by hand)', why)[:MOST_LETTERS].split()), digest]) + '\n'
+    rows = ['\t'.join([name, day, kind, function, shown(why), digest]) + '\n'
             for name, (day, (kind, function, why), digest) in sorted(kept.items())]
     KEPT.parent.mkdir(exist_ok=True)
     KEPT.write_text(HEAD_LINE + ''.join(rows), 'utf-8')

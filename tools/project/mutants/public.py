@@ -37,8 +37,8 @@ def promises(file: Path, exported: set[str]) -> Iterator[tuple[str, str, str]]:
             trait, type_of = (found[1] or '', found[2]) if found else ('', '')
         head = HEAD.match(line)
         if head and (head[2] or trait):
-            ends = (it for it in range(at, len(lines)) if lines[it].startswith(head[1]) and lines[it].endswith(('{', '{}')))
-            end = next(it for it in ends if not lines[it].startswith(head[1] + ' '))
+            ends = (it for it in range(at, len(lines)) if lines[it].endswith(('{', '{}')))
+            end = next(it for it in ends if re.match(head[1] + '(?! )', lines[it]))
             is_empty = lines[end].endswith('{}') or lines[end + 1] == head[1] + '}'
             is_promise = not is_empty and any(it.lstrip().startswith('ensures ') for it in lines[at:end + 1])
             if is_promise and (type_of or head[3]) in exported:
@@ -47,7 +47,7 @@ def promises(file: Path, exported: set[str]) -> Iterator[tuple[str, str, str]]:
 
 def public_functions(top: Path = TOP) -> set[str]:
     """The public functions that make a promise, as checks print them, without laws: CRATE::MODULE::NAME, with TYPE or
-    TYPETRAIT before NAME. For a function of a type the module is that in which the type is declared."""
+    TYPETRAIT before NAME. For a function of a type, the module is the one that declares the type."""
     found = set()
     for root in (it for it in sorted(top.glob('crates/*/src/lib.rt')) if not is_of_tests(it.parents[1])):
         names = {it.strip() for both in EXPORTS.findall(root.read_text('utf-8')) for it in ','.join(both).split(',')}
