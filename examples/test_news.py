@@ -2,6 +2,8 @@
 
     PYTHONPATH=tools python3 -m pytest -p motesim.api.fixture examples/test_news.py
 """
+from pathlib import Path
+
 import pytest
 
 import motesim
@@ -30,3 +32,7 @@ def test_the_news_reach_the_last_mote_over_two_hops(run: motesim.Run) -> None:
 def test_mote_2_does_not_get_the_news_without_its_two_links(run: motesim.Run) -> None:
     assert run.mote(5).prints('news')
     assert not run.mote(2).prints('news')
+
+
+def test_no_single_broken_link_stops_the_news() -> None:
+    assert motesim.search(Path(__file__).with_name('news.toml'), 'every mote but 0 prints news 7', links=True)

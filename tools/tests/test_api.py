@@ -5,6 +5,7 @@ import sys
 from pathlib import Path
 from unittest import mock
 
+import pytest
 from here import TOOLS, TOP, Room, scenario_of, text_of
 import motesim
 from skips import need_built
@@ -82,6 +83,22 @@ class Calls(Room):
             motesim.nothing
 
 
+def test_a_search_finds_the_faults_that_break_expectations() -> None:
+    need_built()
+    name, expected = TOP / 'examples/news.toml', ['every mote sends at most once', 'every mote but 0 prints news']
+    found = motesim.search(name, expected, links=True, at_most=2)
+    pair = 'link 1 to 2 is broken', 'link 4 to 2 is broken'
+    assert [(it.faults, it.expectations) for it in found.found] == [(pair, ('every mote but 0 prints news',))]
+    assert (found.holding, found.broken, bool(found)) == (('every mote sends at most once',), (), False)
+    assert repr(found).startswith('every mote but 0 prints news: broken with link 1 to 2 is broken and link 4 to 2 is broken; cov')
+    assert not motesim.run(name, faults=pair).mote(2).prints('news')
+    assert motesim.search(name.read_bytes(), expected, links=True) and motesim.search(name, expected[0], late=[1, 4])
+    assert motesim.search(name, 'no mote sends', silent=True).broken == ('no mote sends',)
+    assert motesim.search(name, expected, links=True, at_most=2, runs=9).ended_by
+    with pytest.raises(motesim.Fault, match='expectation 1 is not known'):
+        motesim.search(name, 'every mote sings')
+
+
 def pytest_on(*names: object) -> subprocess.CompletedProcess[str]:
     return subprocess.run([sys.executable, '-m', 'pytest', '-p', 'no:cacheprovider', '-p', 'motesim.api.fixture', '-q',
                            *map(str, names)], capture_output=True, text=True, env={**os.environ, 'PYTHONPATH': str(TOOLS)})
@@ -97,6 +114,6 @@ def test_two(run):
     assert run
 """ % str(TOP / 'examples/news.toml'))
     done = pytest_on(TOP / 'examples/test_news.py', tmp_path / 'test_mine.py')
-    assert '1 failed, 4 passed, 1 error' in done.stdout, done.stdout
+    assert '1 failed, 5 passed, 1 error' in done.stdout, done.stdout
     assert 'E       assert broken: mote 8 prints news 7 by 40 -- not for mote 8: at least 1 line "print' in done.stdout
     assert "write @pytest.mark.scenario('NAME.toml') above the test" in done.stdout

@@ -1,8 +1,8 @@
 """The modules that scripts load: `import motesim` is quick as long as they are few.
 
-Only `expect` and `why` need more lines than the others: `expect` reads expectations and the scenario's programs, makes
-claims of them, runs `motecheck`, and finds in the report's lines why an expectation is broken; `why` also runs motes again.
-Both take the result of `run`, which loads half of these lines.
+Only `expect`, `search` and `why` need more lines than the others: `expect` reads expectations and the scenario's programs, makes
+claims of them, runs `motecheck`, and finds in the report's lines why an expectation is broken; `search` has it
+survey faults; `why` runs motes again.
 """
 import subprocess
 import sys
@@ -11,7 +11,7 @@ import unittest
 from here import TOOLS, text_of
 import motesim
 
-MOST_LINES, MORE = 4_000, {'expect': 5_900, 'why': 10_000}
+MOST_LINES, MORE = 4_000, {'expect': 5_900, 'why': 10_000, 'search': 9_000}
 LOADED = text_of('loaded.py.txt')
 
 

@@ -1,4 +1,4 @@
-"""What `expect` and `compare` return."""
+"""What `expect`, `compare` and `search` return."""
 from __future__ import annotations
 
 from dataclasses import dataclass
@@ -39,3 +39,39 @@ class Comparison:
     same: bool
     at: int | None
     text: str
+
+
+@dataclass(frozen=True)
+class FaultSet:
+    """A smallest set of faults, and the expectations that it breaks: each of them holds with each smaller set in it.
+    `motesim.run(FILE, faults=it.faults)` makes its run."""
+    faults: tuple[str, ...]
+    expectations: tuple[str, ...]
+
+
+@dataclass(frozen=True, repr=False)
+class Searched:
+    """What a search has found. It is true if no fault breaks an expectation, so a test can `assert` it.
+
+    found     the smallest sets that break an expectation, the worst first
+    broken    the expectations that are broken without a fault
+    holding   those that no covered set breaks
+    unsaid    those that claims can't say, so that no set was tried
+    covered   which sets were tried, in the words of motecheck
+    ended_by  why not all sets were tried; an empty text if they were
+    """
+    found: list[FaultSet]
+    broken: tuple[str, ...]
+    holding: tuple[str, ...]
+    unsaid: tuple[str, ...]
+    covered: str
+    ended_by: str
+
+    def __bool__(self) -> bool:
+        return not (self.found or self.broken or self.unsaid or self.ended_by)
+
+    def __repr__(self) -> str:
+        """In words: a test that fails shows them."""
+        said = ['broken without a fault: ' + it for it in self.broken] + ['not tried: ' + it for it in self.unsaid]
+        said += ['%s: broken with %s' % (', '.join(it.expectations), ' and '.join(it.faults)) for it in self.found]
+        return '; '.join(said + [self.covered] + [self.ended_by] * bool(self.ended_by))

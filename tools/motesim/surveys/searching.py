@@ -98,7 +98,8 @@ class Result:
 
     def least(self, expectation: str) -> Found | None:
         """One of the smallest sets that break an expectation."""
-        return min((it for it in self.found if expectation in it.expectations), key=lambda it: len(it.faults), default=None)
+        its = sorted((it for it in self.found if expectation in it.expectations), key=lambda it: len(it.faults))
+        return its[0] if its else None
 
 
 Shown = Callable[[int, Survey | None, float], None]
