@@ -41,6 +41,8 @@ function beginCard() {
     card.hidden = true;
     closeWhy();
   });
+  // (in a narrow window it covers the text)
+  byId('write').addEventListener('pointerdown', () => { if (matchMedia('(max-width: 900px)').matches) card.hidden = true; });
   document.addEventListener('keydown', ({key, target}) => {
     if (key === 'Escape') card.hidden = true;
     const {line} = page.chosen, isWhy = 'wW'.includes(key) && line >= 0 && card.contains(byId('why-chain'));
