@@ -80,6 +80,8 @@ class Texts(InPage):
         self.put('# my hour of work\n' + FLOODING)
         self.wait('run.rows === 1072')
         self.example()
+        # (a visit in another tab, which has no steps of this one)
+        self.value('(m.reactions.left.length = 0, 1)')
         self.browser.open(self.page)
         self.assertTrue(self.value('text').startswith('# my hour of work'))
         self.example()
