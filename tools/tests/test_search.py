@@ -22,8 +22,9 @@ from motesim.runner.interrupt import Break
 from motesim.runner.programs import CHECKER
 from motesim.scenario import Scenario
 from motesim.surveys.cuts import Cuts, broken_by
-from motesim.surveys.searching import LIMITS, MOST_MEASURED, Asked, Result, found_in, search_of
-from motesim.surveys.shrink_found import Allowance
+from motesim.surveys.progress import ProgressOfSearch
+from motesim.surveys.searching import LIMITS, MOST_MEASURED, Asked, found_in, search_of
+from motesim.surveys.shrink_command import Allowance
 from motesim.surveys.survey import Bounds, Survey, minimal, read_survey
 from sessions import TABLES, Table
 from skips import need_built
@@ -133,8 +134,7 @@ def test_the_limits_also_end_the_shrinking() -> None:
             assert (status, small.exists()) == (1, limit > 7)
             assert [it in said for it in ('NOT MADE SMALL', 'STOPPED')] == [
                 it == said_of_it for it in ('NOT MADE SMALL', 'STOPPED')], said
-    asked = Asked(Scenario.parse(DIAMOND), [], seconds=0.0)
-    assert Allowance(Result(asked, None, [], [], {}, [], [], '', 0.0), Break()).why_over(1)
+    assert Allowance(0.0, None, Break(), ProgressOfSearch()).why_over(1)
 
 
 def test_a_run_that_reaches_a_limit_has_no_file() -> None:

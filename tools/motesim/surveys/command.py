@@ -18,7 +18,7 @@ from motesim.report.run import refuse_others
 from motesim.runner.interrupt import Break
 from motesim.scenario import Scenario
 from motesim.scenario.refused import check
-from motesim.surveys.found import as_csv, as_json, write_files, write_whole
+from motesim.surveys.found import as_csv, as_json, write_files, write_text
 from motesim.surveys.kinds import kinds_asked
 from motesim.surveys.progress import ProgressOfSearch, told
 from motesim.surveys.say import last_lines, lines_of, repeated_lines, result_line, verdict_lines
@@ -104,8 +104,13 @@ def refuse_all_inputs(words: argparse.Namespace, asked: Asked, plan: Plan | None
             refuse_inputs(name, inputs)
 
 
-def searched(words: argparse.Namespace, asked: Asked, folder: Path) -> Result:
-    """Searches, and writes the counter-examples into a folder."""
+def stem_of(words: argparse.Namespace) -> str:
+    """The name of the scenario or the plan, without its ending."""
+    return Path(words.scenario).name.removesuffix('.toml').removesuffix('.plan')
+
+
+def searched(words: argparse.Namespace, asked: Asked, folder: Path, is_made: bool) -> Result:
+    """Searches, and writes the counter-examples into a folder, with the scenario if it `is_made` from a plan."""
     progress = ProgressOfSearch(words.progress)
     with Break() as stop:
         result = search_of(asked, words.jobs, LIMITS._replace(seconds=words.seconds, report=words.report * MEGABYTE),
@@ -118,7 +123,9 @@ def searched(words: argparse.Namespace, asked: Asked, folder: Path) -> Result:
         raise Fault('%s is a file: name a folder with -o' % folder)
     folder.mkdir(parents=True, exist_ok=True)
     write_files(result.found, words.scenario, folder)
-    write_whole(folder / 'found.csv', as_csv(result.found))
+    write_text(folder / 'found.csv', as_csv(result.found))
+    if is_made:
+        write_text(folder / (stem_of(words) + '.toml'), asked.scenario.text)
     return result
 
 
@@ -127,16 +134,16 @@ def status_of_result(result: Result) -> int:
     return 1 if result.found else 2 if result.ended_by else 0
 
 
-def show(words: argparse.Namespace, result: Result, folder: Path) -> int:
-    """Shows the results; returns the status."""
+def show(words: argparse.Namespace, result: Result, folder: Path, scenario: Path) -> int:
+    """Shows the results for the scenario in a file; returns the status."""
     tables = {words.csv: as_csv(result.found), words.json: as_json(result, words.scenario) if words.json else ''}
     for name, table in tables.items():
         if name not in (None, '-'):
-            write_whole(Path(name), table)
+            write_text(Path(name), table)
     if '-' in tables:
         print(tables['-'], end='')
     else:
-        for row in (*lines_of(result), *verdict_lines(result, words.all), '', *last_lines(result, folder, words.scenario)):
+        for row in (*lines_of(result), *verdict_lines(result, words.all), '', *last_lines(result, folder, scenario)):
             print(row)
     if result.ended_by == 'it was stopped':
         return INTERRUPTED
@@ -156,7 +163,7 @@ def repeated(words: argparse.Namespace, plan: Plan, choices: list[Given], folder
         shown = ', '.join('%s = %s' % (name, text_of_value(it)) for name, it in given.items())
         try:
             result = searched(words, asked_of(words, scenario_of(words, plan, given)),
-                              folder / shown.replace(' = ', '_').replace(', ', '_'))
+                              folder / shown.replace(' = ', '_').replace(', ', '_'), True)
         except Fault as fault:
             print('%s: %s' % (shown, fault))
             continue
@@ -189,11 +196,11 @@ def carried_out(words: argparse.Namespace) -> int:
     if words.studies:
         return checked(words.studies, words.jobs)
     plan = plan_of(Path(words.scenario))
-    stem = Path(words.scenario).name.removesuffix('.toml').removesuffix('.plan')
-    folder = Path(words.output) if words.output else output.beside(words.scenario, stem + '.search')
+    folder = Path(words.output) if words.output else output.beside(words.scenario, stem_of(words) + '.search')
     choices = list(choices_of(words, plan))
     if plan and len(choices) > 1:
         return repeated(words, plan, choices, folder)
     asked = asked_of(words, scenario_of(words, plan, choices[0]))
     refuse_all_inputs(words, asked, plan, folder)
-    return show(words, searched(words, asked, folder), folder)
+    scenario = folder / (stem_of(words) + '.toml') if plan else Path(words.scenario)
+    return show(words, searched(words, asked, folder, plan is not None), folder, scenario)

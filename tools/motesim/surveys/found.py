@@ -4,19 +4,18 @@ from __future__ import annotations
 import csv
 import io
 import json
-import os
 import re
 from collections.abc import Sequence
+from contextlib import suppress
 from pathlib import Path
 from typing import Any
 
-from motesim.faults import Fault
+from motesim.files import write_whole
 from motesim.scenario.fields import Field
 from motesim.surveys.cuts import Cut
 from motesim.surveys.searching import Found, Result
 
-# The most characters of a name, and those that are read of a first line.
-LONGEST_FILE_NAME, LONGEST_LINE = 120, 1000
+LONGEST_FILE_NAME = 120
 # The first line of a counter-example.
 BREAKS = '# %s with these faults breaks:'
 OF_SEARCH = re.compile(BREAKS % '.*')
@@ -39,14 +38,9 @@ def faults_text(faults: Sequence[str], head: Sequence[str] = ()) -> str:
     return ''.join('%s\n' % it for it in (*head, *faults))
 
 
-def write_whole(path: Path, text: str) -> None:
+def write_text(path: Path, text: str) -> None:
     """Writes a file completely or not at all."""
-    beside = path.with_name('.%s.new' % path.name)
-    try:
-        beside.write_text(text, 'utf-8', newline='')
-        os.replace(beside, path)
-    except OSError as fault:
-        raise Fault('%s: %s' % (path, fault.strerror)) from None
+    write_whole(path, [text.encode()])
 
 
 def write_files(found: Sequence[Found], name: str, folder: Path) -> None:
@@ -62,19 +56,16 @@ def write_files(found: Sequence[Found], name: str, folder: Path) -> None:
         while stem in names:
             stem += 'x'
         names.add(stem)
-        path = folder / (stem + '.faults')
-        write_whole(path, faults_text(it.faults, [BREAKS % Path(name).name, *('#   %s' % ' '.join(text.split())
-                                                                             for text in it.expectations)]))
-        it.file = str(path)
+        it.file = str(folder / (stem + '.faults'))
+        head = [BREAKS % Path(name).name, *('#   ' + ' '.join(text.split()) for text in it.expectations)]
+        write_text(Path(it.file), faults_text(it.faults, head))
 
 
 def _is_counter_example(path: Path) -> bool:
     """Returns whether a search has written a file, by its first line."""
-    try:
-        with path.open(encoding='utf-8') as file:
-            return OF_SEARCH.match(file.readline(LONGEST_LINE)) is not None
-    except (OSError, UnicodeDecodeError):
-        return False
+    with suppress(OSError, UnicodeDecodeError):
+        return OF_SEARCH.match(path.read_text('utf-8')) is not None
+    return False
 
 
 def cut_text(cut: Cut) -> str:

@@ -100,15 +100,16 @@ def result_line(result: Result) -> str:
     return said + '; {:,} runs'.format(result.runs)
 
 
-def last_lines(result: Result, folder: Path, name: str) -> Iterator[str]:
-    """How many expectations hold, and where the counter-examples are."""
+def last_lines(result: Result, folder: Path, scenario: Path) -> Iterator[str]:
+    """How many expectations hold, and where the counter-examples are, to the scenario in a file."""
     if result.covers < 0:
         yield 'nothing is covered, so nothing is known: %s' % result.ended_by
         return
     yield result_line(result)
     if result.found:
-        yield '%s in %s, with the table found.csv; `tools/studio %s --faults FILE` shows one' % (
-            counted(sum(bool(it.file) for it in result.found), 'counter-example is', 'counter-examples are'), folder, name)
+        count = sum(bool(it.file) for it in result.found)
+        yield '%s in %s, with the table found.csv; `tools/timeline %s --faults FILE` draws one' % (
+            counted(count, 'counter-example is', 'counter-examples are'), folder, scenario)
     if result.ended_by:
         yield 'NOT ALL WAS TRIED: %s' % result.ended_by
 

@@ -24,7 +24,7 @@ from motesim.scenario.fault_text import faults_asked, read_faults
 from motesim.scenario.made import MADE_SMALL
 from motesim.scenario.refused import check
 from motesim.scenario.scenario import Scenario
-from motesim.surveys.found import expectations_text, faults_text, write_whole
+from motesim.surveys.found import expectations_text, faults_text, write_text
 from motesim.surveys.net import PARTS, Net
 from motesim.surveys.progress import ProgressOfSearch, told
 from motesim.surveys.say import counted
@@ -64,13 +64,6 @@ def motes_before(shrinking: Shrinking, net: Net, name: str) -> str:
         mote, before, name, net.motes[before].x, net.motes[before].y) for mote, before in enumerate(shrinking.motes))
 
 
-def scenario_of(name: str, text: str) -> Scenario:
-    """A scenario from a file of this name."""
-    refuse_others(name)
-    check(name, text.encode())
-    return Scenario.parse(text)
-
-
 def is_made(path: Path) -> bool:
     """Returns whether a file is an earlier result."""
     with contextlib.suppress(OSError):
@@ -83,10 +76,10 @@ def write_result(shrinking: Shrinking, net: Net, name: str, path: Path) -> None:
     case = shrinking.case
     head = '%s%s. It still breaks: %s\n' % (MADE_SMALL, name, ' '.join(case.sentence.split()))
     head += motes_before(shrinking, net, name)
-    write_whole(path, head + case.net.text)
-    write_whole(beside(path), expectations_text((case.sentence, *case.keeps), shrinking.fields))
+    write_text(path, head + case.net.text)
+    write_text(beside(path), expectations_text((case.sentence, *case.keeps), shrinking.fields))
     if case.faults:
-        write_whole(path.with_suffix('.faults'), faults_text([it.text for it in case.faults]))
+        write_text(path.with_suffix('.faults'), faults_text([it.text for it in case.faults]))
 
 
 def runs_of(case: Case) -> int:
@@ -95,23 +88,30 @@ def runs_of(case: Case) -> int:
     return 3 if case.faults else 2
 
 
-def why_over(is_stopped: bool, seconds: tuple[float, float | None], runs: tuple[int, int | None]) -> str:
-    """The reason why no more runs can be made; an empty text if they can. The seconds and the runs are given with their
-    limits."""
-    if is_stopped:
-        return 'it was stopped'
-    if seconds[1] is not None and seconds[0] >= seconds[1]:
-        return 'the limit of %g seconds was reached' % seconds[1]
-    if runs[1] is not None and runs[0] > runs[1]:
-        return 'the limit of {:,} runs was reached'.format(runs[1])
-    return ''
+class Allowance:
+    """The seconds and the runs that are left for making scenarios small: those of the limits, if there are any."""
 
+    def __init__(self, seconds: float | None, runs: int | None, stop: Break, progress: ProgressOfSearch) -> None:
+        self.seconds, self.most, self.stop, self.progress = seconds, runs, stop, progress
+        self.begun, self.runs = time.monotonic(), 0
 
-def limit_in_words(seconds: float | None, runs: int | None) -> str:
-    """The limits of making a scenario small, for a line about its progress."""
-    limits = [] if runs is None else ['{:,} runs'.format(runs)]
-    limits += [] if seconds is None else ['%g seconds' % seconds]
-    return 'at most %s' % ' and '.join(limits) if limits else 'no limit: --most-runs sets one'
+    def why_over(self, runs: int) -> str:
+        """The reason why this many more runs can't be made; an empty text if they can."""
+        if self.stop.is_asked:
+            return 'it was stopped'
+        if self.seconds is not None and time.monotonic() - self.begun >= self.seconds:
+            return 'the limit of %g seconds was reached' % self.seconds
+        if self.most is not None and self.runs + runs > self.most:
+            return 'the limit of {:,} runs was reached'.format(self.most)
+        return ''
+
+    def is_over(self, shrinking: Shrinking, name: str) -> bool:
+        """Shows the progress; returns whether the next step can't be tried."""
+        limits = [] if self.most is None else ['{:,} runs'.format(self.most - self.runs)]
+        limits += [] if self.seconds is None else ['%g seconds' % self.seconds]
+        self.progress.show_shrinking(name, len(shrinking.taken), shrinking.runs, 'at most %s' % ' and '.join(limits)
+                                     if limits else 'no limit: --most-runs sets one')
+        return bool(self.why_over(shrinking.runs + runs_of(shrinking.case)))
 
 
 class Work:
@@ -123,19 +123,8 @@ class Work:
         self.output = Path(asked.output) if asked.output else output.beside(
             asked.scenario, self.path.name.removesuffix('.toml') + '.small.toml')
         self.is_over_another = self.output.exists()
-        self.begun = time.monotonic()
         self.progress = ProgressOfSearch(asked.progress)
-
-    def why_over(self, runs: int) -> str:
-        """The reason why the tool can't make this many runs; an empty text if it can."""
-        return why_over(self.stop.is_asked, (time.monotonic() - self.begun, self.asked.most_seconds),
-                        (runs, self.asked.most_runs))
-
-    def is_over(self, shrinking: Shrinking) -> bool:
-        """Shows the progress; returns whether the next step can't be tried."""
-        limit = limit_in_words(self.asked.most_seconds, self.asked.most_runs)
-        self.progress.show_shrinking(self.output.name, len(shrinking.taken), shrinking.runs, limit)
-        return bool(self.why_over(shrinking.runs + runs_of(shrinking.case)))
+        self.allowance = Allowance(asked.most_seconds, asked.most_runs, stop, self.progress)
 
     def need_runs(self, ran: int, why: str) -> None:
         """Raises a fault if the tool stops before the first step, after this many runs. `why` is the reason, or an
@@ -147,7 +136,10 @@ class Work:
     def status(self) -> int:
         """Makes the scenario small, and shows the result; returns the status."""
         asked, path = self.asked, self.path
-        scenario = scenario_of(asked.scenario, text_of(path))
+        refuse_others(path)
+        text = text_of(path)
+        check(asked.scenario, text.encode())
+        scenario = Scenario.parse(text)
         scenario.fields, scenario.faults = fields_beside(path), faults_asked(asked)
         is_file = not asked.expectation or asked.expectation.endswith('.toml')
         expected = Path(asked.expectation) if asked.expectation else beside(path)
@@ -164,13 +156,13 @@ class Work:
         answer_within(asked.scenario, scenario.text.encode(), self.program.limits, scenario.faults)
         case = case_of(scenario, sentence, read_faults(scenario.faults), wanted, 'programs' in parts)
         ran = int(is_file)
-        self.need_runs(ran, self.why_over(ran + runs_of(case)))
+        self.need_runs(ran, self.allowance.why_over(ran + runs_of(case)))
         shrinking = Shrinking(self.program, case, keeps=parts, fields=scenario.fields)
         shrinking.runs += ran
-        shrinking.is_over = partial(self.is_over, shrinking)
+        shrinking.is_over = partial(self.allowance.is_over, shrinking, self.output.name)
         shrinking.run()
         self.progress.end()
-        why = '' if shrinking.is_whole else self.why_over(shrinking.runs + runs_of(shrinking.case))
+        why = '' if shrinking.is_whole else self.allowance.why_over(shrinking.runs + runs_of(shrinking.case))
         if not shrinking.taken:
             self.need_runs(shrinking.runs, why)
         write_result(shrinking, case.net, path.name, self.output)

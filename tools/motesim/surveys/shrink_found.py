@@ -3,7 +3,6 @@ from __future__ import annotations
 
 import argparse
 import sys
-import time
 from functools import partial
 from pathlib import Path
 
@@ -14,30 +13,10 @@ from motesim.surveys.progress import ProgressOfSearch
 from motesim.surveys.say import counted
 from motesim.surveys.searching import LIMITS, Found, Result
 from motesim.surveys.shrink import Shrinking, case_of
-from motesim.surveys.shrink_command import differing, limit_in_words, more_of, runs_of, sizes, why_over, write_result
+from motesim.surveys.shrink_command import Allowance, differing, more_of, runs_of, sizes, write_result
 
 # The parts of the scenario that stay, and the sentences that have to hold.
 Keeps = tuple[frozenset[str], tuple[str, ...]]
-
-
-class Allowance:
-    """The runs and seconds that a search has left for making its counter-examples small."""
-
-    def __init__(self, result: Result, stop: Break) -> None:
-        self.result, self.stop, self.begun = result, stop, time.monotonic()
-        self.runs = result.runs
-
-    def why_over(self, runs: int) -> str:
-        """The reason why this many more runs can't be made; an empty text if they can."""
-        asked, seconds = self.result.asked, self.result.seconds + time.monotonic() - self.begun
-        return why_over(self.stop.is_asked, (seconds, asked.seconds), (self.runs + runs, asked.bounds.runs))
-
-    def is_over(self, shrinking: Shrinking, progress: ProgressOfSearch, name: str) -> bool:
-        """Shows the progress; returns whether the next step can't be tried."""
-        asked = self.result.asked
-        limit = limit_in_words(asked.seconds, None if asked.bounds.runs is None else asked.bounds.runs - self.runs)
-        progress.show_shrinking(name, len(shrinking.taken), shrinking.runs, limit)
-        return bool(self.why_over(shrinking.runs + runs_of(shrinking.case)))
 
 
 def shrink_each(result: Result, words: argparse.Namespace, folder: Path, is_quiet: bool, keeps: Keeps) -> bool:
@@ -47,7 +26,8 @@ def shrink_each(result: Result, words: argparse.Namespace, folder: Path, is_quie
     program, progress = Runner(program_path(), LIMITS._replace(seconds=words.seconds)), ProgressOfSearch(words.progress)
     warnings, scenario, name = sys.stderr if is_quiet else sys.stdout, result.asked.scenario, Path(words.scenario).name
     with Break() as stop:
-        allowance = Allowance(result, stop)
+        allowance = Allowance(result.asked.seconds, result.asked.bounds.runs, stop, progress)
+        allowance.begun, allowance.runs = allowance.begun - result.seconds, result.runs
         for number, sentence in enumerate(result.asked.texts, 1):
             sets = [it for it in result.found if sentence in it.expectations]
             first = min(sets, key=lambda it: (bool(it.cut), len(it.faults)), default=None)
@@ -60,7 +40,7 @@ def shrink_each(result: Result, words: argparse.Namespace, folder: Path, is_quie
                 print('NOT MADE SMALL: %s (%s)' % (sentence, why), file=warnings)
                 continue
             shrinking = Shrinking(program, case, keeps=keeps[0], fields=scenario.fields)
-            shrinking.is_over = partial(allowance.is_over, shrinking, progress, path.name)
+            shrinking.is_over = partial(allowance.is_over, shrinking, path.name)
             shrinking.run()
             progress.end()
             why = '' if shrinking.is_whole else allowance.why_over(shrinking.runs + runs_of(shrinking.case))
