@@ -28,7 +28,8 @@ OF_MOTECHECK = {
     'the lines print process have in any order exactly the values', 'at least line send value',
     'at least line recv sender value', 'exactly lines halt', 'each of motes mote', 'the net', 'to', 'holds broken',
     'line of mote at', 'for mote', 'from to at', 'line', 'missing superfluous', 'link to is broken', 'mote is silent',
-    'covered nothing all sets of at most of faults before the limit runs', 'motecheck fault s fault line column'}
+    'covered nothing all sets of at most of faults before the limit runs', 'covered nothing all sets of at most of faults',
+    'motecheck fault s fault line column'}
 
 
 def sentences_in(row: str) -> list[str]:

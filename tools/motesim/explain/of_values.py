@@ -27,11 +27,6 @@ def of_values(name: str, program: Program) -> Iterator[Warned]:
             yield from of_value(name, statement, fixed)
 
 
-def of_numbers(name: str, program: Program) -> Iterator[Warned]:
-    """The warnings about calculations, whose numbers may be values of parameters of a plan."""
-    yield from (it for it in of_values(name, program) if it.name in ('too-large', 'no-time'))
-
-
 def fixed_in(code: Code) -> dict[str, int]:
     """The variables of a code to which no statement assigns, with their values."""
     assigned = {it.name for it in code.statements() if it.kind == '='} | {

@@ -9,7 +9,7 @@ from collections.abc import Collection, Iterator
 
 from motesim.explain.of_nets import of_halts, of_moments, of_net
 from motesim.explain.of_structure import of_structure
-from motesim.explain.of_values import of_numbers, of_values
+from motesim.explain.of_values import of_values
 from motesim.explain.of_waits import of_waits
 from motesim.explain.say import ABOUT_ZERO
 from motesim.explain.warned import Warned, together
@@ -31,12 +31,6 @@ def of_program(name: str, source: str) -> Iterator[Warned]:
     program = read_program(source)
     for rule in of_structure, of_waits, of_values:
         yield from rule(name, program)
-
-
-def of_numbers_in(scenario: Scenario, text: str) -> list[Warned]:
-    """The warnings about calculations of programs, whose numbers may be values of a plan's parameters."""
-    return list(silenced((it for name, source in scenario.programs.items() for it in of_numbers(
-        name, read_program(source))), text))
 
 
 def of_run(scenario: Scenario, report: Report | None) -> Iterator[Warned]:

@@ -39,6 +39,7 @@ class NoClaim(Fault):
 
     def __init__(self, why: str):
         super().__init__('no claim: ' + why)
+        self.why = why
 
 
 class _Program:

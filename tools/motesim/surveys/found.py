@@ -79,7 +79,7 @@ def as_csv(found: Sequence[Found]) -> str:
     rows = csv.writer(text, lineterminator='\n')
     rows.writerow(['expectation', 'size', 'faults', 'file', 'missing', 'wanted', 'cut'])
     for it in found:
-        lines = [*it.measured.lacks] if it.measured else ['', '']
+        lines: list[int | str] = [*it.measured.lacks] if it.measured else ['', '']
         rows.writerows([text, len(it.faults), it.words, it.file, *lines, cut_text(it.cut)] for text in it.expectations)
     return text.getvalue()
 

@@ -41,7 +41,7 @@ def lines_of(result: Result) -> Iterator[str]:
     for text in result.broken:
         yield 'broken without a fault, so left out (tools/expect shows why): %s' % text
     for text, why in result.unsaid.items():
-        yield 'left out, because no claim can say it (%s): %s' % (why.removeprefix('no claim: '), text)
+        yield 'left out, because no claim can say it (%s): %s' % (why, text)
     yield 'faults: %s' % kinds_in_words(result.asked.kinds)
     yield result.survey.said if result.survey else 'covered: nothing'
 

@@ -112,7 +112,7 @@ def search_of(asked: Asked, workers: int = os.cpu_count() or 1, limits: Limits =
     begun = time.monotonic()
     claims, unsaid = claims_of(asked)
     if not claims:
-        raise Fault('; '.join('%s: %s' % it for it in unsaid.items()) or 'there is no expectation on a report')
+        raise Fault('; '.join('%s: no claim: %s' % it for it in unsaid.items()) or 'there is no expectation on a report')
     survey, ended_by = surveyed(asked, [it for its in claims.values() for it in its], workers, asks_end,
                                 lambda size, last: shown(size, last, time.monotonic() - begun), begun)
     sets = sets_of(claims, survey)
@@ -134,7 +134,7 @@ def claims_of(asked: Asked) -> tuple[dict[str, list[Claim]], dict[str, str]]:
             if not isinstance(it, Refused):
                 found[text] = claims.of(it)
         except NoClaim as fault:
-            unsaid[text] = str(fault)
+            unsaid[text] = fault.why
     return found, unsaid
 
 
