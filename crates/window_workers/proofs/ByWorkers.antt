@@ -25,9 +25,9 @@ use Rattle.copy_exchange.specs.Takers.{taken_by, gathered_by}
 use Rattle.worker_cut.proofs.CrossesTo.{crossed_once}
 use Rattle.worker_cut.proofs.Windows.{coming, coming_pending, senders}
 use Rattle.worker_window.specs.declared.share.Ended.{Ended}
-use Rattle.all_workers.specs.declared.workers.WorkerGroup.{WorkerGroup}
-use Rattle.all_workers.specs.WorkerGroup.{IsAt, IsWorkerAt}
-use Rattle.all_workers.proofs.Lookups.{there, read, zip_inside, zip_long}
+use Rattle.window_workers.specs.declared.group.WorkerGroup.{WorkerGroup}
+use Rattle.window_workers.specs.WorkerGroup.{IsAt, IsWorkerAt}
+use Rattle.window_workers.proofs.Lookups.{there, read, zip_inside, zip_long}
 use Rattle.mote_net.specs.declared.report.Report.{Report}
 use Rattle.mote_net.specs.Report.{Packet, ReportModel, trace_lines_in, line_model, report_of}
 use Rattle.window_workers.specs.Crossed.{Pair, logged_packets, CrossedTo, AllCrossed}
@@ -35,10 +35,10 @@ use Rattle.serial_run.specs.NetRun.{packet_with_fates, IsReportOf}
 use Rattle.window_workers.specs.Over.{TellsWhatItKept, logs_of, IsLogOf, AreTracesOf}
 use Rattle.serial_run.proofs.ByWindows.{windows_commute}
 use Rattle.serial_run.proofs.Handed.{traces_hand_on}
-use Rattle.window_workers.proofs.Joined.{is_joined, is_report, left_is, takers_long, traces_are}
+use Rattle.window_workers.proofs.AllTraces.{is_joined, is_report, left_is, takers_long, traces_are}
 use Rattle.window_workers.proofs.Pairs.{each_mapped, second_at}
 use Rattle.serial_run.proofs.Stamps.{sent_packets}
-use Rattle.window_workers.proofs.Waiting.{taken_by_end}
+use Rattle.window_workers.proofs.Left.{taken_by_end}
 
 abbrev reported_of : List (List Line) → List Packet → ℕ → ReportModel
 reported_of traces log left = record { traces = traces; log = log; left = left }

@@ -3,7 +3,7 @@ use Rattle.std.proofs.Common.{◌≡◌, ◌⊎◌, ℕ, ◌<◌, ◌≤◌, tru
 use Rattle.std.specs.List.{list_all, AllByRecursion as Each}
 use Rattle.std.proofs.lemmas.Bool.{cases_Bool, and_parts, ltb-true}
 use Rattle.std.proofs.lemmas.Bool.Decides.{nat_tests}
-use Rattle.all_workers.specs.WorkerGroup.{IsCut}
+use Rattle.window_workers.specs.WorkerGroup.{IsCut}
 use Rattle.window_workers.specs.Fits.{cut_fault}
 
 all_there : (workers : ℕ) (owners : List ℕ) → list_all (λ worker. ltb worker workers) owners ≡ true → Each (λ worker. worker < workers) owners

@@ -14,9 +14,9 @@ use Rattle.worker_window.specs.declared.share.Ended.{Ended}
 use Rattle.worker_window.specs.Share.{Motes, IsWholeShare}
 use Rattle.worker_window.specs.Ended.{TellsAtEnd}
 use Rattle.worker_window.specs.Log.{packets_in}
-use Rattle.all_workers.specs.declared.workers.WorkerGroup.{WorkerGroup}
-use Rattle.all_workers.specs.WindowLength.{HasSoundMedium}
-use Rattle.all_workers.specs.WorkerGroup.{IsAt}
+use Rattle.window_workers.specs.declared.group.WorkerGroup.{WorkerGroup}
+use Rattle.window_workers.specs.WindowLength.{HasSoundMedium}
+use Rattle.window_workers.specs.WorkerGroup.{IsAt}
 use Rattle.mote_net.specs.declared.report.LogLine.{LogLine}
 use Rattle.mote_net.specs.Report.{Packet}
 use Rattle.serial_run.specs.NetRun.{packet_with_fates}

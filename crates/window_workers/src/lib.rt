@@ -3,15 +3,22 @@
 
 mod ended;
 mod fits;
+mod group;
+mod joins;
+pub mod laws;
+mod marks;
 mod medium_log;
 mod refusal;
 mod sync;
+mod threads;
 mod traces;
+mod windows;
+mod worker;
 mod workers;
 
 pub use fits::MOST_WORKERS;
 pub use mote_net::{LogLine, Report};
-pub use serial_run::{RunError, laws, run_serial};
+pub use serial_run::{RunError, run_serial};
 pub use sync::SyncKind;
 pub use worker_cut::Cut;
 pub use worker_window::{Gate, MoteWindow, NoGate, WindowOut};

@@ -8,7 +8,7 @@ use Rattle.mote_net.specs.declared.report.Report.{Report}
 use Rattle.mote_net.specs.Report.{report_of}
 use Rattle.window_workers.specs.Crossed.{Pair, AllCrossed}
 use Rattle.window_workers.proofs.ByWorkers.{reported_equals, all_crossed}
-use Rattle.window_workers.proofs.Joined.{all_fates, all_places, workers_there}
+use Rattle.window_workers.proofs.AllTraces.{all_fates, all_places, workers_there}
 use Rattle.window_workers.proofs.Logs.{as_many, places_kept, traces_kept}
 use Rattle.window_workers.proofs.Pairs.{each_zip, firsts}
 use Rattle.window_workers.proofs.workers.make_report.Goals as goal

@@ -10,8 +10,8 @@ use Rattle.mote_net.specs.Net.{NetModel}
 use Rattle.copy_inbox.specs.Gathered.{known_of}
 use Rattle.copy_inbox.specs.Handles.{InboxId, TakerView}
 use Rattle.copy_exchange.specs.Inboxes.{IsFresh, IsSettled}
-use Rattle.all_workers.specs.Start.{AreFirst}
-use Rattle.all_workers.specs.WorkerGroup.{IsCut}
+use Rattle.window_workers.specs.Start.{AreFirst}
+use Rattle.window_workers.specs.WorkerGroup.{IsCut}
 use Rattle.mote_net.specs.declared.report.Report.{Report}
 use Rattle.mote_net.specs.Report.{report_of}
 use Rattle.window_workers.specs.Crossed.{Pair, AllCrossed}
@@ -22,7 +22,7 @@ use Rattle.window_workers.specs.Sync.{IsForKind}
 use Rattle.window_workers.specs.declared.sync.SyncKind.TheVariants.{Marks}
 use Rattle.window_workers.proofs.ByWorkers.{one_trace_each, all_hand_on}
 use Rattle.window_workers.proofs.Fitting.{fits_is}
-use Rattle.window_workers.proofs.Marked.{none_known}
+use Rattle.window_workers.proofs.NoneKnown.{none_known}
 use Rattle.window_workers.proofs.Pairs.{zip_each, seconds_have, if_ok, all_ok}
 use Rattle.window_workers.proofs.workers.run_fitting.Goals as goal
 

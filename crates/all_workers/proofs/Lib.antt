@@ -1,9 +1,0 @@
-pub mod Choose
-pub mod Held
-pub mod Lookups
-pub mod Numbered
-pub mod Same
-pub mod Sent
-pub mod Starts
-pub mod Step
-pub mod Waiting

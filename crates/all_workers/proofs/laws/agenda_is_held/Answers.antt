@@ -1,5 +1,0 @@
-use Rattle.all_workers.proofs.Held.{agenda_is_held}
-use Rattle.all_workers.proofs.laws.agenda_is_held.Goals as goal
-
-pub returns : goal.returns
-returns c = record { agenda_is_held = agenda_is_held }

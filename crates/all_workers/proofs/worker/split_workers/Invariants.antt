@@ -1,9 +1,0 @@
-use Rattle.std.proofs.Common.{◌≡◌, map}
-use Rattle.all_workers.specs.declared.worker.Worker.{Worker}
-use Rattle.all_workers.proofs.worker.split_workers.Given as goal
-
-abbrev pub invariant-loop-worker : goal.invariant-loop-worker
-invariant-loop-worker l = record {
-  shares : l.shares.items ≡ map (λ (worker : Worker). worker.share) l.yielded;
-  endpoints : l.endpoints.items ≡ map (λ (worker : Worker). worker.endpoint) l.yielded;
-}

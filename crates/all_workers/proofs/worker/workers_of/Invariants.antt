@@ -1,6 +1,0 @@
-use Rattle.std.proofs.Common.{◌≡◌, map}
-use Rattle.all_workers.specs.Worker.{make_worker}
-use Rattle.all_workers.proofs.worker.workers_of.Given as goal
-
-abbrev pub invariant-loop-share : goal.invariant-loop-share
-invariant-loop-share l = l.workers.items ≡ map make_worker l.yielded

@@ -1,6 +1,0 @@
-use Rattle.mote_net.specs.Meaning.{net_of}
-use Rattle.all_workers.specs.Start.{AreFirst}
-use Rattle.all_workers.proofs.workers.first_shares.Given as goal
-
-abbrev pub invariant-loop-worker : goal.invariant-loop-worker
-invariant-loop-worker l = AreFirst (net_of l.net) l.owners l.worker l.shares.items

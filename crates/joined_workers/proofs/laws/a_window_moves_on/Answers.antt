@@ -1,5 +1,0 @@
-use Rattle.joined_workers.proofs.Moved.{moved}
-use Rattle.joined_workers.proofs.laws.a_window_moves_on.Goals as goal
-
-pub returns : goal.returns
-returns c = record { window_moves_on = λ n fine owners from until old new at up short all. moved n fine owners from until old new at up short all }

@@ -1,4 +1,0 @@
-pub mod Laws
-pub mod Next
-pub mod Run
-pub mod Worker

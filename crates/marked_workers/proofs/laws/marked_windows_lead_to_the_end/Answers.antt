@@ -1,5 +1,0 @@
-use Rattle.marked_workers.proofs.Ends.{ends}
-use Rattle.marked_workers.proofs.laws.marked_windows_lead_to_the_end.Goals as goal
-
-pub returns : goal.returns
-returns c = record { marked_windows_lead_to_the_end = λ n fine owners width windows short are group all. ends n fine owners width windows short are group all }

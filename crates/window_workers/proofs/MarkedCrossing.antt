@@ -1,0 +1,15 @@
+-- Threads may share a run and the rest of the data of each worker's thread.
+use denote.Param.Send.{IsSync, sendable}
+use denote.Param.SendFields.{declared_sync}
+use denote.Ref.{NamedLft}
+use denote.RattleType.{RattleType}
+use Rattle.copy_inbox.proofs.inbox.Inbox.TheSendSync as inbox
+use Rattle.mote_net.proofs.NetCrossing.{net_sync}
+use Rattle.window_workers.specs.contracts.marks.thread.MarkRunner as MarkRunner
+use Rattle.window_workers.specs.contracts.marks.thread.WorkersRun as WorkersRun
+
+run_sync : (κ : NamedLft) → IsSync (WorkersRun.the_row κ)
+run_sync κ = declared_sync (WorkersRun.the_type κ) (search (net_sync, sendable), (search sendable, (search (inbox.the_sync, sendable), (search sendable, tt))))
+
+pub runner_sync : (κ : NamedLft) (R G : RattleType) → IsSync R → IsSync G → IsSync (MarkRunner.the_row κ R G)
+runner_sync κ R G r g = let w = run_sync κ in declared_sync (MarkRunner.the_type κ R G) (search sendable, (search sendable, (w, tt)))

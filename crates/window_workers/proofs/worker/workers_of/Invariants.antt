@@ -1,0 +1,6 @@
+use Rattle.std.proofs.Common.{◌≡◌, map}
+use Rattle.window_workers.specs.Worker.{make_worker}
+use Rattle.window_workers.proofs.worker.workers_of.Given as goal
+
+abbrev pub invariant-loop-share : goal.invariant-loop-share
+invariant-loop-share l = l.workers.items ≡ map make_worker l.yielded
