@@ -44,3 +44,12 @@ class Layers(unittest.TestCase):
                             *TOOLS.glob('tests/texts/*.txt')]):
             if path.name != 'here.py':
                 self.assertIsNone(time.search(path.read_text('utf-8').replace(time.pattern, '')), path)
+
+
+class Crates(unittest.TestCase):
+    def test_the_list_of_crates_has_each_below_those_that_it_uses(self) -> None:
+        uses = dict(re.findall(r'(?m)^(\w+)[^:#\n]*:(.*)$', (TOP / 'crates.txt').read_text('utf-8')))
+        listed = re.findall(r'(?m)^- `(\w+)`: ', (TOP / 'crates/README.md').read_text('utf-8'))
+        self.assertEqual(sorted(listed), sorted(uses))
+        for place, name in enumerate(listed):
+            self.assertLessEqual({*uses[name].split()} & {*uses}, {*listed[:place]}, name)

@@ -1,7 +1,7 @@
 //! The exchange of copies between workers through their inboxes, window by window: the copies of a window and, in a
 //! run with marks, a mark after them. No copy that one worker delivers to another is lost, duplicated or invented, and
 //! the copies of each mote stay in order. With marks, a worker takes items until the marks of a window have arrived.
-//! `marked_workers` ensures that a worker begins no window before the marks of the previous one have arrived.
+//! `window_workers` ensures that a worker begins no window before the marks of the previous one have arrived.
 #![tactic(auto)]
 
 mod endpoint;
