@@ -6,7 +6,7 @@ ghost use Rattle.copy_exchange.specs.Takers.{taken_by, gathered_by};
 ghost use Rattle.copy_exchange.specs.Inboxes.{IsFresh, IsSettled};
 
 use copy_inbox::{Inbox, InboxError, Taker};
-use std::alloc::Global;
+use std::alloc::{AllocError, Global};
 
 /// Makes `count` inboxes, each with its taker, with marks or without.
 ///
@@ -43,19 +43,19 @@ fn make_inbox(alloc: Global, marked: bool) -> Result<(Inbox, Taker), InboxError>
 /// Separates the inboxes from their takers.
 ///
 /// # Errors
-/// `Memory` if an allocation fails. Then the inboxes and takers are dropped.
+/// `AllocError` if an allocation fails. Then the inboxes and takers are dropped.
 pub fn split_pairs(
     alloc: Global,
     pairs: Vec<(Inbox, Taker)>,
-) -> Result<(Vec<Inbox>, Vec<Taker>), InboxError>
+) -> Result<(Vec<Inbox>, Vec<Taker>), AllocError>
     ensures inboxes { IfOk result (λ r. r.0.items ≡ map (λ pair. pair.0) pairs.items) }
     ensures takers { IfOk result (λ r. r.1.items ≡ map (λ pair. pair.1) pairs.items) }
 {
     let mut inboxes = Vec::with_capacity(alloc, pairs.len())?;
     let mut takers = Vec::with_capacity(alloc, pairs.len())?;
     for (inbox, taker) in pairs {
-        inboxes.push_reserved(inbox);
-        takers.push_reserved(taker);
+        inboxes.push(inbox)?;
+        takers.push(taker)?;
     }
     Ok((inboxes, takers))
 }
@@ -63,17 +63,17 @@ pub fn split_pairs(
 /// Pairs each inbox with its taker.
 ///
 /// # Errors
-/// `Memory` if an allocation fails. Then the inboxes and takers are dropped.
+/// `AllocError` if an allocation fails. Then the inboxes and takers are dropped.
 pub fn pair_inboxes(
     alloc: Global,
     inboxes: Vec<Inbox>,
     takers: Vec<Taker>,
-) -> Result<Vec<(Inbox, Taker)>, InboxError>
+) -> Result<Vec<(Inbox, Taker)>, AllocError>
     ensures pairs { IfOk result (λ pairs. pairs.items ≡ zip inboxes.items takers.items) }
 {
     let mut pairs = Vec::with_capacity(alloc, inboxes.len())?;
     for pair in inboxes.into_iter().zip(takers) {
-        pairs.push_reserved(pair);
+        pairs.push(pair)?;
     }
     Ok(pairs)
 }

@@ -11,7 +11,7 @@ ghost use Rattle.copy_exchange.specs.Steps.{gather_into, GathersRow, GathersBack
 
 use crate::endpoint::Endpoint;
 use copy_inbox::{Inbox, InboxError, Sender, Taker};
-use std::alloc::Global;
+use std::alloc::{AllocError, Global};
 use std::sync::Wait;
 
 /// Makes an endpoint for each worker before a window, with a new sender on the inbox of each other worker.
@@ -38,11 +38,14 @@ pub fn endpoints(
     }
     let mut endpoints = Vec::with_capacity(alloc, inboxes.len())?;
     for (taker, senders) in takers.into_iter().zip(rows) {
-        endpoints.push_reserved(Endpoint {
+        let endpoint = Endpoint {
             worker: endpoints.len() as u16,
             taker,
             senders,
-        });
+        };
+        let Ok(()) = endpoints.push(endpoint) else {
+            return Err(InboxError::Memory);
+        };
     }
     Ok(endpoints)
 }
@@ -126,7 +129,7 @@ type Rows = Vec<Vec<Option<Sender>>>;
 fn split_endpoints(
     alloc: Global,
     endpoints: Vec<Endpoint>,
-) -> Result<(Vec<Taker>, Rows), InboxError>
+) -> Result<(Vec<Taker>, Rows), AllocError>
     ensures takers { IfOk result (λ r. r.0.items ≡ map (λ endpoint. endpoint.taker) endpoints.items) }
     ensures rows { IfOk result (λ r. r.1.items ≡ map (λ endpoint. endpoint.senders) endpoints.items) }
 {
@@ -134,8 +137,8 @@ fn split_endpoints(
     let mut rows = Vec::with_capacity(alloc, endpoints.len())?;
     for endpoint in endpoints {
         let (taker, senders) = endpoint.into_parts();
-        takers.push_reserved(taker);
-        rows.push_reserved(senders);
+        takers.push(taker)?;
+        rows.push(senders)?;
     }
     Ok((takers, rows))
 }

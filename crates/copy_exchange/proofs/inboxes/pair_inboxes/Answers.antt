@@ -15,5 +15,5 @@ returns c = record {
       (YieldsList-from_vec c.args.inboxes.items (ap (λ s. s.a.rest.items) d ∙ (ap (λ s. s.rest.items) z.first ∙ c.into_iter.ensures.rest)) (ap (λ s. s.a.rest.len) d ∙ (ap (λ s. s.rest.len) z.first ∙ (c.into_iter.ensures.len ∙ inboxes_len))))
       (YieldsList-from_vec c.args.takers.items (ap (λ s. s.b.rest.items) d ∙ z.second.0) (ap (λ s. s.b.rest.len) d ∙ (z.second.1 ∙ takers_len))))
       c.loop-pair.yielded c.loop-pair.pair-iterator c.loop-pair.yielded_by c.next.result c.next.new.self c.in-None.is c.next.ensures.steps in
-      c.loop-pair.invariant.pairs ∙ (sym (map-id c.loop-pair.yielded) ∙ t.0);
+      c.loop-pair.invariant ∙ (sym (map-id c.loop-pair.yielded) ∙ t.0);
 }

@@ -10,7 +10,7 @@ use Rattle.copy_exchange.specs.Endpoints.{Together, StartsAs, HasMarks, HasPushe
 use Rattle.copy_exchange.proofs.AfterWindow.{Row}
 use Rattle.copy_exchange.proofs.Starts.{opens_no_rows, opens_more_rows, built, built_more, together, starts, pushed_nothing, has_marks}
 use Rattle.copy_exchange.proofs.window.endpoints.Goals as goal
-use Rattle.copy_exchange.proofs.window.endpoints.Goals.{After-drop-taker-iterator-2}
+use Rattle.copy_exchange.proofs.window.endpoints.Goals.{After-drop-taker-iterator-3}
 
 pub senders_of-requires : goal.senders_of-requires
 senders_of-requires c = record { are_takers_of = c.loop-worker.invariant.opened.takers }
@@ -41,64 +41,22 @@ loop-worker-preserved c =
       room = omega arith;
     }
 
-pub overflow_cast-len : goal.overflow_cast-len
-overflow_cast-len c =
-    let d = c.into_iter-taker-iterator.ensures.into_iter_gives in
-    let z = c.zip-taker-items.ensures in
-    let takers_len : vec_len c.loop-worker.takers ≡ length c.loop-worker.takers.items = search rules in
-    let rows_len : vec_len c.loop-worker.rows ≡ length c.loop-worker.rows.items = search rules in
-    let t = YieldsList-turn (YieldsList-from_zip
-    (YieldsList-from_vec c.loop-worker.takers.items (ap (λ s. s.a.rest.items) d ∙ (ap (λ s. s.rest.items) z.first ∙ c.into_iter.ensures.rest)) (ap (λ s. s.a.rest.len) d ∙ (ap (λ s. s.rest.len) z.first ∙ (c.into_iter.ensures.len ∙ takers_len))))
-    (YieldsList-from_vec c.loop-worker.rows.items (ap (λ s. s.b.rest.items) d ∙ z.second.0) (ap (λ s. s.b.rest.len) d ∙ (z.second.1 ∙ rows_len))))
-    c.loop-taker.yielded c.loop-taker.taker-iterator c.loop-taker.yielded_by c.next.result c.next.new.self (c.in-Some.taker, c.in-Some.senders) c.in-Some.is c.next.ensures.steps in
-    let less = t.0 in
-    let n = length-zip c.loop-worker.takers.items c.loop-worker.rows.items in
-    let i = c.loop-taker.invariant in
-    let long = i.long in
-    let room = i.room in
-    let count = c.loop-worker.invariant.opened.takers.count in
-    let few = c.requires.inboxes_bounded in
-    let is = c.len.ensures in
-    let low : c.len.result < 2 ^ 16 = omega arith in
-    search (rules, arith)
-
-pub push_reserved-requires-in-loop-taker : goal.push_reserved-requires-in-loop-taker
-push_reserved-requires-in-loop-taker c =
-    let d = c.into_iter-taker-iterator.ensures.into_iter_gives in
-    let z = c.zip-taker-items.ensures in
-    let takers_len : vec_len c.loop-worker.takers ≡ length c.loop-worker.takers.items = search rules in
-    let rows_len : vec_len c.loop-worker.rows ≡ length c.loop-worker.rows.items = search rules in
-    let t = YieldsList-turn (YieldsList-from_zip
-    (YieldsList-from_vec c.loop-worker.takers.items (ap (λ s. s.a.rest.items) d ∙ (ap (λ s. s.rest.items) z.first ∙ c.into_iter.ensures.rest)) (ap (λ s. s.a.rest.len) d ∙ (ap (λ s. s.rest.len) z.first ∙ (c.into_iter.ensures.len ∙ takers_len))))
-    (YieldsList-from_vec c.loop-worker.rows.items (ap (λ s. s.b.rest.items) d ∙ z.second.0) (ap (λ s. s.b.rest.len) d ∙ (z.second.1 ∙ rows_len))))
-    c.loop-taker.yielded c.loop-taker.taker-iterator c.loop-taker.yielded_by c.next.result c.next.new.self (c.in-Some.taker, c.in-Some.senders) c.in-Some.is c.next.ensures.steps in
-    let less = t.0 in
-    let n = length-zip c.loop-worker.takers.items c.loop-worker.rows.items in
-    let i = c.loop-taker.invariant in
-    let long = i.long in
-    let room = i.room in
-    let count = c.loop-worker.invariant.opened.takers.count in
-    omega arith
-
 pub loop-taker-preserved : goal.loop-taker-preserved
 loop-taker-preserved c =
     let i = c.loop-taker.invariant in
-    let p = c.push_reserved-in-loop-taker.ensures in
+    let p = c.in-Ok.ensures in
     let len = p.len in
-    let capacity = p.capacity in
     let long = i.long in
-    let room = i.room in
     let pair : TakerView × Row = (c.in-Some.taker, c.in-Some.senders) in
     let more : length (c.loop-taker.yielded ++ pair ∷ []) ≡ length c.loop-taker.yielded + 1 = length-append c.loop-taker.yielded (pair ∷ []) in
     let place : c.len.result ≡ 0 + length c.loop-taker.yielded = let is = c.len.ensures in omega arith in
     record {
       built = p.items ∙ ((λ j. i.built j ++ record { worker = place j; taker = c.in-Some.taker; senders = c.in-Some.senders } ∷ []) ∙ sym (built_more 0 c.loop-taker.yielded pair));
       long = omega arith;
-      room = omega arith;
     }
 
 -- all endpoints are made
-all_built : (c : After-drop-taker-iterator-2) → c.loop-taker.endpoints.items ≡ built 0 (zip c.loop-worker.takers.items c.loop-worker.rows.items)
+all_built : (c : After-drop-taker-iterator-3) → c.loop-taker.endpoints.items ≡ built 0 (zip c.loop-worker.takers.items c.loop-worker.rows.items)
 all_built c =
     let d = c.into_iter-taker-iterator.ensures.into_iter_gives in
     let z = c.zip-taker-items.ensures in

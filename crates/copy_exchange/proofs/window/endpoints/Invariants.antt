@@ -13,5 +13,4 @@ abbrev pub invariant-loop-taker : goal.invariant-loop-taker
 invariant-loop-taker l = record {
   built : l.endpoints.items ≡ built 0 l.yielded;
   long : vec_len l.endpoints ≡ length l.yielded;
-  room : length l.inboxes ≤ vec_capacity l.endpoints;
 }
