@@ -58,17 +58,7 @@ impl Page {
     pub fn new(alloc: Global) -> Result<Page, AllocError>
         ensures empty { IfOk result (λ page. page ≡ []) }
     {
-        Page::with_room(alloc, ROOM)
-    }
-
-    /// Makes an empty page with room for this many bytes.
-    ///
-    /// # Errors
-    /// If an allocation failed.
-    pub fn with_room(alloc: Global, room: usize) -> Result<Page, AllocError>
-        ensures empty { IfOk result (λ page. page ≡ []) }
-    {
-        let bytes = vec![in alloc; 0u8; room]?;
+        let bytes = vec![in alloc; 0u8; ROOM]?;
         Ok(Page { bytes, len: 0 })
     }
 

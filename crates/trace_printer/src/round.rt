@@ -13,10 +13,6 @@ use std::io::Write;
 use std::thread;
 use std::thread::Threads;
 
-/// The number of bytes for which a worker's page has room at first: a page that grows has its new room filled with 0,
-/// which would take longer than all other work for its lines.
-const ROOM: usize = 262_144;
-
 /// Makes a page with at most `count` of the lines, after the first `skip`.
 fn page_of<T: Numbered>(
     alloc: Global,
@@ -26,7 +22,7 @@ fn page_of<T: Numbered>(
 ) -> Result<Page, AllocError>
     ensures text { IfOk result (λ page. page ≡ part_text (T.texts lines.now) skip count) }
 {
-    let mut page = Page::with_room(alloc, ROOM)?;
+    let mut page = Page::new(alloc)?;
     lines.put(&mut page, skip, count)?;
     Ok(page)
 }
