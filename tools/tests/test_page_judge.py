@@ -1,11 +1,10 @@
 """Sentences and reports by chance: their claims have the verdicts of a judge that was written from the page alone, what is
-broken has a reason, the same in a report that is read as far as it is needed, and so has a question to tools/why."""
+broken has a reason, and so has a question to tools/why."""
 import os
 import random
 import unittest
 from collections import Counter
 from contextlib import suppress
-from itertools import product
 
 import here  # noqa: F401
 from claim_judge import deciding_by
@@ -17,15 +16,11 @@ from motesim.judge.names import names_of
 from motesim.judge.sentences import read_sentence
 from motesim.judge.verdicts import breaks
 from motesim.report import Report
-from motesim.report.columns import KINDS
-from motesim.report.lazy import LazyReport
-from motesim.report.run import answer
 from motesim.scenario import Scenario
 from motesim.causes.question import Asker, Missing, Unasked
 from motesim.causes.source import Source
 from page_judge import PageJudge
-from page_sentences import Sentences, net_of, running_net_of
-from skips import need_built
+from page_sentences import Sentences, net_of
 
 # The seeds of the nets, and the number of sentences about each net.
 NETS, SENTENCES = range(int(os.environ.get('PAGE_JUDGE_NETS', '60'))), 25
@@ -38,14 +33,13 @@ class Verdicts(unittest.TestCase):
             chance = random.Random(seed)
             scenario, report, motes = net_of(chance)
             page, its = PageJudge(scenario, report), Scenario.parse(scenario)
-            whole, lazy = Finder(Report.parse(report), its), Finder(LazyReport(report.encode()), its)
+            whole = Finder(Report.parse(report), its)
             names, sentences, asker = names_of(its), Sentences(chance, motes), Asker(Source('test', report.encode(), its))
             for text, meaning in (sentences.sentence() for _ in range(SENTENCES)):
                 with self.subTest(seed=seed, sentence=text), suppress(NoClaim), deciding_by(report):
                     sentence, holds = read_sentence(text, names), page.holds(meaning)
                     broken, = breaks([sentence], whole)
                     self.assertEqual(broken is None, holds, report)
-                    self.assertEqual(breaks([sentence], lazy), [broken], report)
                     found[holds] += 1
                     answers[self.answer(asker, sentence, broken)] += 1
         self.assertEqual(set(answers), {'line', 'line that breaks it', 'missing', 'no line', 'no line breaks it'}, answers)
@@ -64,18 +58,3 @@ class Verdicts(unittest.TestCase):
         self.assertEqual(found.holds, broken is None)
         self.assertTrue(broken is None or asker.line(broken.row) == found.where)
         return 'line that breaks it' if broken else 'line'
-
-
-class Reading(unittest.TestCase):
-    def test_a_report_that_is_read_as_far_as_needed_has_the_same_lines(self) -> None:
-        need_built()
-        for seed in range(8):
-            text, motes = running_net_of(random.Random(seed))
-            data = answer(text.encode()).report
-            whole, lazy = Report.parse(data), LazyReport(data)
-            self.assertEqual((lazy.left, lazy.length, lazy.medium_row, lazy.log),
-                             (whole.left, whole.length, whole.medium_row, whole.log))
-            for mote, kind in product(range(motes), KINDS):
-                one, other = ([trace.rows(mote, kind), [*trace.moments(mote, kind)], [*trace.lines(mote, kinds=(kind,))]]
-                              for trace in (lazy.trace, whole.trace))
-                self.assertEqual(one, other)

@@ -2,8 +2,7 @@
 from __future__ import annotations
 
 import operator
-from collections.abc import Iterable, Iterator
-from dataclasses import dataclass, field, fields, is_dataclass
+from dataclasses import dataclass, field
 
 COMPARES = {
     'at least': operator.ge, 'at most': operator.le, 'exactly': operator.eq, 'more than': operator.gt,
@@ -197,11 +196,3 @@ class Or:
 
 
 Sentence = Does | Copies | Packets | Lines | MediumLine | Hears | Refused | Or
-
-
-def parts_of(it: object) -> Iterator[object]:
-    """A sentence, or sentences, with all of their parts."""
-    yield it
-    parts: Iterable[object] = it if isinstance(it, (tuple, list)) else ()
-    for part in [getattr(it, its.name) for its in fields(it)] if is_dataclass(it) else parts:
-        yield from parts_of(part)

@@ -109,11 +109,11 @@ class Found(NamedTuple):
 class _Reader:
     """Reads the lines of a report from the first to the last."""
 
-    def __init__(self, text: str, motes: int | None = None):
+    def __init__(self, text: str):
         self.rows = text.split('\n')
         self.at = 0
         # (no other line has this beginning: a trace's lines and the medium's begin with a moment)
-        self.count = text.startswith('mote ') + text.count('\nmote ') if motes is None else motes
+        self.count = text.startswith('mote ') + text.count('\nmote ')
         self.programs, self.trace, self.log = list[str](), Trace([]), Log()
         self.moments = Numbers('a moment', MOST_MOMENT)
         self.numbers, self.words = Numbers('a number', MOST_NUMBER), Numbers('a word of 16 bits', MOST_WORD)
@@ -246,10 +246,3 @@ class _Reader:
 def read(text: str) -> Found:
     """Reads a report; any other text raises a `ReportFault`."""
     return _Reader(text).read()
-
-
-def log_of(text: str, motes: int) -> Log:
-    """The log of the medium, from the lines of a report below the word `medium`."""
-    reader = _Reader(text, motes)
-    reader.read_log()
-    return reader.log

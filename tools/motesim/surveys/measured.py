@@ -7,7 +7,7 @@ from typing import NamedTuple
 from motesim.judge.claim_words import Claim, Deed
 from motesim.judge.finder import Finder
 from motesim.judge.shortfall import Shortfall, shortfall_of
-from motesim.report.lazy import LazyReport
+from motesim.report import Report
 from motesim.runner import Limits, Runner
 from motesim.scenario import Scenario
 from motesim.scenario.fault_text import read_fault
@@ -36,7 +36,7 @@ class Measured(NamedTuple):
 def runs_of(work: Work) -> Callable[[Set], Measured]:
     """The function that makes the run with a set of faults."""
     def run(faults: Set) -> Measured:
-        report = LazyReport(Runner(limits=work.limits, faults=faults).report(work.scenario.text.encode()))
+        report = Report.parse(Runner(limits=work.limits, faults=faults).report(work.scenario.text.encode()))
         finder = Finder(report, work.scenario)
         missing = [test.deed for claim in work.claims for case in claim.cases for test in case.tests
                    if test.deed and test.least > len(finder.lines(test.deed))]
@@ -44,7 +44,7 @@ def runs_of(work: Work) -> Callable[[Set], Measured]:
     return run
 
 
-def moment_of(text: str, report: LazyReport) -> int | None:
+def moment_of(text: str, report: Report) -> int | None:
     """The moment at which the packet that a fault names is sent; None if it names none that is sent."""
     fault = read_fault(text)
     if fault is None or 'PACKET' not in fault.numbers:

@@ -19,7 +19,7 @@ from motesim.judge.names import names_of
 from motesim.judge.sentence_fault import SentenceFault
 from motesim.judge.sentences import read_sentence
 from motesim.judge.verdicts import decided, reason
-from motesim.report.lazy import LazyReport
+from motesim.report import Report
 from motesim.runner import ProgramFault, Runner
 from motesim.scenario.fault_text import NetFault
 from motesim.scenario.fields import Field
@@ -126,7 +126,7 @@ class Shrinking:
         is_long = self.longest is not None and len(answer.report) > self.longest and scenario.end < self.first_end
         if answer.status or is_long:
             return None
-        finder = Finder(LazyReport(answer.report), scenario)
+        finder = Finder(Report.parse(answer.report), scenario)
         broken = [reason(*its, finder) for its in zip(said, read)]
         return Seen(answer.report, scenario, broken) if [it is not None for it in broken] == is_wanted else None
 
