@@ -91,6 +91,16 @@ class Tables(unittest.TestCase):
                 self.assertEqual(find_fault('\n'.join(swapped) % '') is None, is_free)
 
 
+class Readme(unittest.TestCase):
+    def test_the_two_programs_that_it_shows_are_those_of_the_example(self) -> None:
+        shown = re.search(r'```text\n(.*?)```', (TOP / 'README.md').read_text(), re.S)
+        assert shown
+        lines, example = shown[1].splitlines(), ' '.join((TOP / 'examples/transfer.toml').read_text().split())
+        middle = lines[0].index('code file')
+        for column in ([it[:middle] for it in lines], [it[middle:] for it in lines]):
+            self.assertIn(' '.join(' '.join(column).split()), example)
+
+
 class Card(unittest.TestCase):
     """The page to print: each form on it is one."""
     def test_its_forms_are_read(self) -> None:
