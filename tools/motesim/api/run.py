@@ -35,7 +35,7 @@ class Run(Found):
 
 
 class Mote(NamedTuple):
-    """A mote of a run. Each method is the expectation of its words: docs/use/TESTING.md has the forms."""
+    """A mote of a run. Each method is the expectation of its words: docs/use/EXPECTATIONS.md has the forms."""
     run: Run
     number: int
 

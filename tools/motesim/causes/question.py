@@ -1,4 +1,4 @@
-"""Finds the line of a report that a question is about: a sentence as in docs/use/TESTING.md, or a line by its
+"""Finds the line of a report that a question is about: a sentence as in docs/use/EXPECTATIONS.md, or a line by its
 number.
 
 If a sentence holds, a line shows it. If an extra line breaks it, the question is about this line. A sentence that
