@@ -17,7 +17,7 @@ others. Each run has limits (--seconds of processor time, --memory, --report), a
 it again.
 
 The tool ignores tables `[[change]]` of EXPECTATIONS, because they replace texts of one particular solution. -o writes
-the grades to a file: NAME.csv for a spreadsheet, NAME.toml, or a page NAME.html. The page links the first broken
+the grades to a file: NAME.csv for a spreadsheet, or a page NAME.html. The page links the first broken
 expectation of each solution to a timeline. --why NAME shows, for one solution, what breaks each expectation. If
 `motesim` refuses the solution, --why shows the place of the error. --write FOLDER writes each program in each net as a
 scenario, such as FOLDER/anna.toml_in_hidden.toml, for the studio and the other tools.
@@ -31,7 +31,7 @@ from pathlib import Path
 from motesim.command import command
 from motesim.words import Words, add_jobs, add_limits, add_parameter, add_table, words_of
 
-FORMATS = ('.csv', '.toml', '.html')
+FORMATS = ('.csv', '.html')
 
 
 def parser() -> Words:
@@ -47,7 +47,7 @@ def parser() -> Words:
     add_limits(words, 20, 1024, 16)
     add_jobs(words)
     words.add_argument('-o', dest='output', action='append', default=[], metavar='FILE', type=Path,
-                       help='write the grades: NAME.csv, NAME.toml or NAME.html')
+                       help='write the grades: NAME.csv or NAME.html')
     words.add_argument('--write', metavar='FOLDER', type=Path,
                        help='also write each program in each net as a scenario, which the studio can open')
     add_table(words, 'csv', 'write the grades in CSV')
@@ -61,7 +61,7 @@ def main() -> int:
     asked = words.parse_args()
     for path in asked.output:
         if path.suffix not in FORMATS:
-            words.error('%s: a file of grades ends in .csv, .toml or .html' % path)
+            words.error('%s: a file of grades ends in .csv or .html' % path)
     from motesim.grading.command import status_of
     from motesim.output import output_to
     with output_to(asked.csv, [asked.expectations, *asked.net, *asked.hidden]):

@@ -83,8 +83,6 @@ def write(path: Path, marked: Sequence[Marks], sentences: Sequence[str], task: T
     """Writes the marks into a file, in the format that its ending names."""
     if path.suffix == '.csv':
         text = tables.csv_of(marked, sentences)
-    elif path.suffix == '.toml':
-        text = tables.toml_of(marked, sentences, one_line(str(expectations)), [net.name for net in task.nets])
     else:
         text = page.page_of(marked, sentences, 'Grades: %s' % one_line(expectations.name), pages_of(path).name,
                             time.strftime('%Y-%m-%d at %H:%M'), bool(task.nets))

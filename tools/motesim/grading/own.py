@@ -8,10 +8,9 @@ from pathlib import Path
 from motesim.grading.pages import NAMES, OF_PAGES, names_in
 
 # The beginnings of marks.
-OF_TOML = '# Written by tools/grade.'
 OF_PAGE = '<!DOCTYPE html>\n<html lang="en">\n<head>\n<meta name="generator" content="tools/grade">\n'
 COLUMNS = ('scenario', 'holds', 'of', 'error')
-HEADS = {'.toml': OF_TOML + '\n', '.html': OF_PAGE, '.csv': ','.join([*('"%s"' % it for it in COLUMNS), ''])}
+HEADS = {'.html': OF_PAGE, '.csv': ','.join([*('"%s"' % it for it in COLUMNS), ''])}
 
 
 def is_marks(path: Path) -> bool:

@@ -1,4 +1,4 @@
-"""The marks of a class as text, CSV and TOML."""
+"""The marks of a class as text and CSV."""
 from __future__ import annotations
 
 import csv
@@ -9,9 +9,8 @@ from collections.abc import Sequence
 
 from motesim.cells import aligned
 from motesim.grading.marks import Mark, Marks
-from motesim.grading.own import COLUMNS, OF_TOML
+from motesim.grading.own import COLUMNS
 from motesim.judge.expectations import REQUIRED
-from motesim.plan.text import escaped
 
 # How many nets a line names.
 MOST_NAMED = 3
@@ -98,35 +97,9 @@ def csv_of(marked: Sequence[Marks], sentences: Sequence[str]) -> str:
     return out.getvalue()
 
 
-def quoted(text: str) -> str:
-    """A text of TOML."""
-    return '"%s"' % escaped(text)
-
-
 def holds(marks: Marks, number: int) -> bool:
     """True if a sentence holds for a solution. If the solution has no run, no sentence holds."""
     return len(marks.marks) >= number and marks.marks[number - 1].holds
-
-
-def toml_of(marked: Sequence[Marks], sentences: Sequence[str], expectations: str, nets: Sequence[str]) -> str:
-    """The marks as a TOML document."""
-    lines = [OF_TOML, 'expectations = %s' % quoted(expectations),
-             'nets = [%s]' % ', '.join(map(quoted, nets)), 'expect = [',
-             *('  %s,' % quoted(it) for it in sentences), ']']
-    required = required_of(marked)
-    lines += ['required = [%s]' % ', '.join(map(str, required))] if required else []
-    for it in marked:
-        lines += ['', '[[solution]]', 'name = %s' % quoted(it.name)]
-        if it.has_mark:
-            broken = [number for number in range(1, len(sentences) + 1) if not holds(it, number)]
-            lines.append('holds = %d' % it.held)
-            lines.append('broken = [%s]' % ', '.join(map(str, broken)))
-        lines.append('of = %d' % len(sentences))
-        lines += ['error = %s' % quoted(it.fault)] if it.fault else []
-        failed = it.first_failed
-        if failed is not None and it.marks[failed].more:
-            lines.append('first_failed = %s' % quoted('\n'.join(it.marks[failed].more)))
-    return '\n'.join(lines) + '\n'
 
 
 def in_nets(nets: Sequence[str]) -> str:
