@@ -11,7 +11,7 @@ ghost use Rattle.trace_printer.specs.TraceLines.{net_lines};
 
 use crate::error::PrintError;
 use crate::numbered::count_lines;
-use crate::page::Page;
+use crate::page::{Page, ROOM};
 use crate::report::{write_end, write_report};
 use crate::report_lines::{Numbered, ReportLines};
 use crate::round::write_round;
@@ -87,7 +87,7 @@ fn write_by<R: Threads + Sync, W: Write>(
     ensures writes { let text = report_text (net_of net.now) (report_of report.now)
         in Writes (W.contents writer.old) (W.contents writer.new) result text }
 {
-    let mut page = Page::new(alloc)?;
+    let mut page = Page::new(alloc, ROOM)?;
     let all = lines + report.medium.len() + 1;
     let shown = ReportLines { net, report, lines };
     write_all(rt, alloc, workers, &shown, all, writer)?;

@@ -7,8 +7,8 @@ use std::alloc::{AllocError, Global};
 use std::io::Write;
 use std::marker::Model;
 
-/// The number of bytes for which a page has room at first.
-const ROOM: usize = 65_536;
+/// The number of bytes for which a page that is written again and again has room at first.
+pub const ROOM: usize = 65_536;
 
 /// The number of bytes at which a page is full and is written. It then still has room for a line half as long as the
 /// page, and for a few more bytes.
@@ -51,14 +51,14 @@ pub fn make_room(bytes: &mut Vec<u8>, len: usize, room: usize) -> Result<(), All
 }
 
 impl Page {
-    /// Makes an empty page with room for its text.
+    /// Makes an empty page with room for this many bytes.
     ///
     /// # Errors
     /// If an allocation failed.
-    pub fn new(alloc: Global) -> Result<Page, AllocError>
+    pub fn new(alloc: Global, room: usize) -> Result<Page, AllocError>
         ensures empty { IfOk result (λ page. page ≡ []) }
     {
-        let bytes = vec![in alloc; 0u8; ROOM]?;
+        let bytes = vec![in alloc; 0u8; room]?;
         Ok(Page { bytes, len: 0 })
     }
 

@@ -13,7 +13,7 @@ ghost use Rattle.trace_printer.specs.Words.{line_of};
 use crate::error::PrintError;
 use crate::lines::{put_head, put_left, put_medium, put_packet, put_trace_line};
 use crate::output::WriteFault;
-use crate::page::Page;
+use crate::page::{Page, ROOM};
 use mote_net::{LogLine, Net, Report};
 use program_tree::Program;
 use std::alloc::Global;
@@ -172,7 +172,7 @@ pub fn write_report<W: Write>(
     ensures writes { let text = report_text (net_of net.now) (report_of report.now)
         in Writes (W.contents writer.old) (W.contents writer.new) result text }
 {
-    let mut page = Page::new(alloc)?;
+    let mut page = Page::new(alloc, ROOM)?;
     print_motes(writer, &mut page, net, &report.traces)?;
     write_medium(writer, &mut page, report)
 }

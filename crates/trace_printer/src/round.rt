@@ -13,6 +13,10 @@ use std::io::Write;
 use std::thread;
 use std::thread::Threads;
 
+/// The number of bytes for which a worker's page has room at first, so that it seldom grows: new room is filled with 0,
+/// byte by byte.
+const ROOM: usize = 262_144;
+
 /// Makes a page with at most `count` of the lines, after the first `skip`.
 fn page_of<T: Numbered>(
     alloc: Global,
@@ -22,7 +26,7 @@ fn page_of<T: Numbered>(
 ) -> Result<Page, AllocError>
     ensures text { IfOk result (λ page. page ≡ part_text (T.texts lines.now) skip count) }
 {
-    let mut page = Page::new(alloc)?;
+    let mut page = Page::new(alloc, ROOM)?;
     lines.put(&mut page, skip, count)?;
     Ok(page)
 }
