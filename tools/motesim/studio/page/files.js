@@ -2,7 +2,8 @@
 // Files of the studio: opening, saving, and the page of the run as one file.
 import {byId, handOut, makeButton, stored} from '../../timeline/page/dom.js';
 import {page} from '../../timeline/page/stage.js';
-import {attempt, change, open, say, setOpened, setOutcome} from '../../web/page/web.js';
+import {attempt, say, setOutcome} from '../../web/page/outcome.js';
+import {change, open, setOpened} from '../../web/page/web.js';
 
 const {web} = page;
 
@@ -51,7 +52,7 @@ async function save(over = false, named = '') {
   forgetDraft();
   setOpened({document: {...file, ...said, maySave: true}, saved: text});
   nameDocument();
-  say(`It is saved as ${said.name}.`);
+  setOutcome(`It is saved as ${said.name}.`);
 }
 
 function saveAs() {

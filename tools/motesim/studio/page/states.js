@@ -2,7 +2,7 @@
 // The tab *State*: a mote after the selected line, from the server's replay: variables, waits, timers and the queue.
 import {byId, element, withPlaces} from '../../timeline/page/dom.js';
 import {page} from '../../timeline/page/stage.js';
-import {attempt} from '../../web/page/web.js';
+import {attempt} from '../../web/page/outcome.js';
 
 /** Shows the state of the mote after the selected line, or after its last one up to the moment that is shown, if this
  * has changed. */

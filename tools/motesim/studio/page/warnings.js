@@ -2,7 +2,8 @@
 // Warnings about a run, and what its server knows of its values.
 import {byId, makeButton} from '../../timeline/page/dom.js';
 import {page} from '../../timeline/page/stage.js';
-import {attempt, goTo} from '../../web/page/web.js';
+import {attempt} from '../../web/page/outcome.js';
+import {goTo} from '../../web/page/web.js';
 
 /** Shows warnings about what is legal but probably not meant. A click leads to its place. */
 async function showWarnings(text, number) {

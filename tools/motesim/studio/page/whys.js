@@ -5,7 +5,7 @@ import {byId, onSubmit} from '../../timeline/page/dom.js';
 import {page} from '../../timeline/page/stage.js';
 import {showTab} from '../../timeline/page/tabs.js';
 import {sayWhy, showChain} from '../../timeline/page/why.js';
-import {attempt} from '../../web/page/web.js';
+import {attempt} from '../../web/page/outcome.js';
 
 const ask = asked => page.backend.ask('why', {text: page.web.shown, ...asked});
 

@@ -13,7 +13,8 @@ import {KINDS, claimsIn, claimsOfLine, faultOf, faultsIn, patternOf, suggestions
   withClaim, withFaults, withoutClaim, wordsOf} from './claims.js';
 import {edit} from './edits.js';
 import {whyMissing} from './missing.js';
-import {attempt, change, say, sayOutcome} from './web.js';
+import {attempt, say, sayOutcome} from './outcome.js';
+import {change} from './web.js';
 
 const {web, checks} = page;
 /** The kinds of faults that are tried if the text names none. */

@@ -8,7 +8,8 @@ import {page} from '../../timeline/page/stage.js';
 import {Alone} from './alone.js';
 import {beginChecks} from './checks.js';
 import {drafts, keepDraft, keepInAddress, keepSession, textToOpen} from './keeping.js';
-import {begin, open, openExample, say} from './web.js';
+import {say} from './outcome.js';
+import {begin, open, openExample} from './web.js';
 
 const ORIGINS = {link: 'This net came with the link.', page: 'This net was saved with the page.',
   draft: 'This is your text of the last time.'};

@@ -2,20 +2,22 @@
 // The page on which a scenario is written: it runs while it is changed, with its map, its lanes, and the effect of each
 // change in a sentence. A backend runs the texts.
 import {selectNothing} from '../../timeline/page/details.js';
-import {byId, element, makeButton} from '../../timeline/page/dom.js';
+import {byId, element} from '../../timeline/page/dom.js';
 import {drawAll} from '../../timeline/page/draw.js';
 import {beginDrawer, showSums} from '../../timeline/page/drawer.js';
 import {readColours} from '../../timeline/page/forms.js';
 import {showInstead, showRuns, whole} from '../../timeline/page/main.js';
 import {setNow, startPlaying, stopPlaying} from '../../timeline/page/play.js';
-import {page, Refused} from '../../timeline/page/stage.js';
+import {page} from '../../timeline/page/stage.js';
 import {beginTabs} from '../../timeline/page/tabs.js';
 import {count} from '../../timeline/page/words.js';
 import {difference, drawDifference, effectInWords, goToDifference} from './diff.js';
 import {edit} from './edits.js';
+import {markFault, sayFault, showFault} from './errors.js';
 import {beginGallery, firstSentence} from './gallery.js';
 import {beginFiles, showSharing} from './keeping.js';
 import {beginMotes, renewMotes, restoreMotes, sayOnMap} from './motes.js';
+import {attempt, reverting, say, setOutcome} from './outcome.js';
 import {Pad} from './pad.js';
 import {programsOf} from './scenario.js';
 import {lineAndColumn, offsetOf} from './text.js';
@@ -25,43 +27,6 @@ const PAUSE = 150, LONG = 500, KEEP = 1000;
 
 const {web} = page;
 const react = (name, ...words) => page.reactions[name].forEach(does => does(...words));
-
-/** Shows a sentence, with those of its buttons that belong to it, and others: pairs of a name and a function.
- * @param {string} words @param {string[]} buttons @param {[string, () => void][]} offers */
-export function say(words, is = '', buttons = [], offers = []) {
-  byId('said').textContent = words;
-  byId('sentence').dataset.is = is;
-  for (const id of ['try', 'show', 'revert']) byId(id).hidden = !buttons.includes(id);
-  byId('offers').replaceChildren(...offers.map(([name, does]) => makeButton(name, does)));
-}
-
-/** Says what a run showed, and before that what the checks say of it. */
-export function sayOutcome() {
-  const {words, is, buttons, offers} = web.outcome, {checks} = page;
-  say([checks.words, checks.words && is === 'same' ? '' : words].filter(Boolean).join(' '), checks.is || is, buttons, offers);
-}
-
-/** Keeps what a run showed, and says it.
- * @param {string} words @param {string[]} buttons @param {[string, () => void][]} offers */
-export function setOutcome(words, is = '', buttons = [], offers = []) {
-  web.outcome = {words, is, buttons, offers};
-  sayOutcome();
-}
-
-/** The button that goes back, if there is a text before. */
-const reverting = () => web.history.before ? ['revert'] : [];
-
-/** Does something that may be refused: then says why, and returns null.
- * @param {() => any} work */
-export async function attempt(work) {
-  try {
-    return await work();
-  } catch (fault) {
-    if (!(fault instanceof Refused)) throw fault;
-    say(fault.message, 'bad');
-    return null;
-  }
-}
 
 /** Says what the text is about, and where it came from; and offers the change of an example. */
 function sayIntro() {
@@ -192,42 +157,6 @@ async function runNow() {
   else if (answer) showLimit(answer);
   page.ready = true;
   if (!page.panes.length) byId('about').textContent = 'No run yet';
-}
-
-/** The line of a place, as the numbers beside the text have it. */
-function lineInWords(row) {
-  const {pad} = web, shown = row - pad.rowsBefore, isShown = shown >= 0 && shown < pad.rows;
-  return isShown ? `line ${shown + 1}` : `line ${row + 1} of all text`;
-}
-
-/** Shows an error, and then its correction, if the backend finds one. */
-async function showFault(fault, text) {
-  const {asked} = web;
-  drawFault(fault);
-  const better = fault.corrected || !page.backend.mend ? null : await page.backend.mend(text, fault);
-  if (better && asked === web.asked) drawFault(better);
-}
-
-function drawFault(fault) {
-  const {line, words, place, corrected} = web.fault = fault;
-  markFault(place, [...words, line].join('\n'));
-  byId('fault-place').hidden = !place;
-  byId('fault-correct').hidden = !corrected;
-  sayFault();
-}
-
-function sayFault() {
-  const {place} = web.fault;
-  say(`The text has an error${place ? ` in ${lineInWords(place[0])}` : ''}${
-    !page.panes.length ? '' : web.fresh ? ': the run that is shown is of the text before' : ': the last run is shown'}.`, 'bad', reverting());
-}
-
-/** Marks the place of an error, and shows the words about it; or that there is none. */
-function markFault(place = null, words = '') {
-  if (!words) web.fault = null;
-  byId('fault').hidden = !words;
-  byId('fault').querySelector('pre').textContent = words;
-  web.pad.mark(place);
 }
 
 /** Says that a run was stopped. */
