@@ -8,8 +8,8 @@ from skips import need_built
 # The tools that read a scenario, and what they need besides.
 TOOLS: dict[str, list[str]] = {
     'compare': ['{}'], 'expect': ['--expect', 'no mote halts'], 'export': ['--to', 'csv', '-o', 'a'], 'log': [],
-    'search': ['--expect', 'no mote halts'], 'shrink': ['no mote halts'], 'summary': [], 'timeline': ['-o', 'a.html'],
-    'why': ['no mote halts']}
+    'motecheck': ['claims'], 'search': ['--expect', 'no mote halts'], 'shrink': ['no mote halts'], 'summary': [],
+    'timeline': ['-o', 'a.html'], 'why': ['no mote halts']}
 # (a search reads plans, too)
 READ = {('search', 'a.plan.toml')}
 # Words behind the name of a scenario, the tools that take such words, and what each of them says.
@@ -31,6 +31,7 @@ REST = SCENARIO.replace('end = 60\n', '', 1)
 class Refusals(Room):
     def test_a_file_that_can_not_be_used_has_one_message_in_all_tools(self) -> None:
         (self.room / 'folder.toml').mkdir()
+        self.put('claims')
         for name, text, said in rows_of('refusals.tsv'):
             if text != '-':
                 whole = text.replace('SCENARIO', SCENARIO).replace('REST', REST)
