@@ -1,4 +1,6 @@
-"""The reference inside the pages: the notation at a glance and the grammar of claims, from docs/use."""
+"""The reference inside the pages: the notation at a glance, the forms of expectations and faults, and the grammar of
+claims, from docs/use.
+"""
 from __future__ import annotations
 
 import html
@@ -8,6 +10,7 @@ from collections.abc import Iterator
 from motesim.runner.programs import TOP
 
 PARTS = [('LANGUAGE.md', 'The notation', '## At a glance\n', '\n## '),
+         ('CARD.md', 'Expectations', '## Expectations\n', '\n## '), ('CARD.md', 'Faults', '## Faults\n', '\n## '),
          ('EXPECTATIONS.md', 'Claims', '<!-- written by tools/dev/pages: grammar of claims -->\n', '<!-- end -->')]
 
 
