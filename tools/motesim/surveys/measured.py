@@ -11,6 +11,7 @@ from motesim.report import Report
 from motesim.runner import Limits, Runner
 from motesim.scenario import Scenario
 from motesim.scenario.fault_text import read_fault
+from motesim.surveys.cuts import broken_by
 from motesim.surveys.survey import Set
 
 
@@ -25,7 +26,7 @@ class Measured(NamedTuple):
     """A run with faults.
 
     lacks    the number of lines that the claims want, and of those that it lacks
-    missing  the deeds that have too few lines
+    missing  the deeds that have too few lines, if a fault breaks links
     moments  for each fault that names a packet, when it is sent; otherwise None
     """
     lacks: Shortfall = Shortfall()
@@ -39,7 +40,7 @@ def runs_of(work: Work) -> Callable[[Set], Measured]:
         report = Report.parse(Runner(limits=work.limits, faults=faults).report(work.scenario.text.encode()))
         finder = Finder(report, work.scenario)
         missing = [test.deed for claim in work.claims for case in claim.cases for test in case.tests
-                   if test.deed and test.least > len(finder.lines(test.deed))]
+                   if test.deed and test.least > len(finder.lines(test.deed))] if broken_by(faults, work.scenario) else []
         return Measured(shortfall_of(finder, work.claims), missing, [moment_of(it, report) for it in faults])
     return run
 

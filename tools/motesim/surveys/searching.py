@@ -29,7 +29,7 @@ from motesim.surveys.survey import Bounds, Set, Survey, minimal, survey_of
 # The usual limits of a run with one set of faults.
 LIMITS = Limits(10.0, 1 << 30, 16 << 20)
 # The most sets whose runs are made again, for the lines that they lack; and the limits of a survey, which has none.
-MOST_MEASURED, NO_LIMITS = 1000, Limits(float('inf'))
+MOST_MEASURED, NO_LIMITS = 200, Limits(float('inf'))
 
 
 class Asked(NamedTuple):
