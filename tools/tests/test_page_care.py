@@ -187,6 +187,14 @@ class Answers(InPage):
         said, text = self.value('[by("said"), by("text")].map(it => it.getBoundingClientRect())'
                                 '.map(it => [it.top, it.bottom])')
         self.assertTrue(0 <= said[0] and said[1] < text[1] <= 845, (said, text))
+        self.press('tab-checks')
+        self.assertLessEqual(self.value('by("suggested").getBoundingClientRect().bottom'), 845)
+        self.value('find("mote 24 prints")')
+        self.browser.key('w', 'KeyW', 87)
+        self.wait('!by("card").hidden')
+        self.value('by("text").scrollIntoView({block: "start"})')
+        self.browser.click(200, self.value('Math.max(0, by("text").getBoundingClientRect().top)') + 200)
+        self.assertTrue(self.value('by("card").hidden'))
 
     def test_escape_adds_no_mote(self) -> None:
         self.open()

@@ -66,5 +66,7 @@ export function beginDrawer() {
     showSums();
     drawLegend();
     redraw();
+    // (in a narrow window the panel is below all else)
+    if (open) byId('drawer').scrollIntoView({block: 'nearest'});
   }, true);
 }
