@@ -123,16 +123,13 @@ class SmallNets(unittest.TestCase):
         need_built()
         for name in 'a flood along a line', 'two numbers, each twice':
             self.check(name, 2, KINDS, lambda fault: True)
+        self.check('a number, three times', 3, ['--lost'], is_lost)
 
     @long
     def test_surveys_of_all_nets_list_the_sets_that_a_brute_force_finds(self) -> None:
         need_built()
         for name in NETS:
             self.check(name, 2, KINDS, lambda fault: True)
-
-    def test_three_lost_packets(self) -> None:
-        need_built()
-        for name in 'two numbers, each twice', 'a number, three times', 'two that tell', 'a flood that is answered':
             self.check(name, 3, ['--lost'], is_lost)
 
 
