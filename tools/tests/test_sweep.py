@@ -62,8 +62,8 @@ def test_what_is_measured(words: str, name: str, value: str) -> None:
     ('delivery: mote 1 prints a -> every mote prints a', 'own-message'),
     ('delivery: motes 1 and 2 print a 8 -> motes 1 and 2 print a', 'own-message'),
     *(('delivery: mote 1 prints a -> %s prints a' % it, '') for it in ('every mote but 1', 'some mote', 'mote 1', 'mote 2')),
-    ('delivery: mote 1 prints a 9 -> every mote prints a', ''), ('flow ratio: print a', ''),
-    ('delivery: every mote prints a -> mote 2 prints a', 'same-value'), ('flow ratio: print a -> print a', 'same-value'),
+    ('delivery: mote 1 prints a 9 -> every mote prints a', ''),
+    ('delivery: every mote prints a -> mote 2 prints a', 'same-value'),
     ('delivery: every mote sends -> mote 2 prints a', '')])
 def test_messages_that_count_wrongly_have_a_warning(words: str, code: str) -> None:
     """A mote that has to receive its own message, and sources of the same value in two motes."""
@@ -82,7 +82,7 @@ def test_a_function_that_fails_is_told_with_its_line(words: str, source: str, sa
 
 
 @pytest.mark.parametrize('words, seen', [
-    ('rato', 'did you mean ratio'), ('flow raeched: print a', 'did you mean reached'),
+    ('rato', 'did you mean ratio'),
     ('moment: at least 2 motes print a', 'has no moment'),
     ('motes: every mote finally prints a 4', 'Write `every mote prints a 4`')])
 def test_the_measure_that_was_meant_is_named(words: str, seen: str) -> None:

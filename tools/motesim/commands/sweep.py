@@ -15,7 +15,6 @@ and 100). With `name = MEASURE` the column of a measure gets this name. The meas
   reachable                     the share of the motes that packets of mote 0 can reach, directly or through others,
                                 if no packet is lost
   loss                          the share of the copies that are lost by the scenario's losses
-  flow most: print sink         a column of tools/summary --flow, for the net
   holds: no mote halts          1 if this expectation of tools/expect holds, otherwise 0
   moment: every mote prints flood 1
                                 the first moment at which each mote has printed it

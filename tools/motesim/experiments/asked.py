@@ -6,7 +6,7 @@ from collections.abc import Iterator, Mapping, Sequence
 from dataclasses import dataclass
 from functools import cached_property
 
-from motesim.experiments.measures import mote_of, processes_of_flow, read_measure
+from motesim.experiments.measures import mote_of, read_measure
 from motesim.cells import text_of
 from motesim.experiments.results import MADE, Row
 from motesim.faults import Fault
@@ -148,8 +148,6 @@ def measures_of(sweep: Sweep, names: Names, sources: Mapping[str, str]) -> dict[
             measure = read_measure(words, names, sources)
         except SentenceFault as fault:
             raise Fault('in the measure %r\n%s' % (words, fault.explained)) from None
-        for process in set(processes_of_flow(words)).difference(names.processes or ()):
-            raise Fault('in the measure %r: no program has a process %s' % (words, process))
         if (mote_of(words) or 0) >= (names.motes or 0):
             raise Fault('in the measure %r: the largest net has the motes 0 to %d' % (words, (names.motes or 0) - 1))
         if measure.name in (*found, *sweep.plan.parameters, *MADE):

@@ -16,12 +16,10 @@ from functools import cached_property
 
 from motesim.experiments.doubts import OWN_LINE, OWN_MESSAGE, SAME_VALUE
 from motesim.cells import Cell
-from motesim.text import known
 from motesim.text import nearest
 from motesim.summary import counts
 from motesim.faults import Fault
-from motesim.summary.flows import NAMES as FLOW_NAMES
-from motesim.summary.flows import FlowFault, flow_rows, read_flow, same_sources, same_value
+from motesim.summary.flows import same_value
 from motesim.summary.shares import share
 from motesim.judge.breaks import Break
 from motesim.judge.finder import Finder
@@ -40,7 +38,6 @@ from motesim.judge.verdicts import is_broken
 
 SUMMARY = ('sent', 'copies', *OUTCOMES, 'ratio', *counts.COUNTED.values(), 'halt')
 REACHABLE, LOSS = 'reachable', 'loss'
-FLOWS = tuple(FLOW_NAMES[1:])
 # Measures of one sentence, and those of two, `A -> B`.
 OF_TWO = ('delay', 'delivery')
 # Measures of single lines, in which a number of lines, such as `twice`, has no meaning.
@@ -48,7 +45,6 @@ OF_LINES = ('last', 'count', 'delivery')
 KINDS = ('holds', 'moment', 'last', 'count', 'motes', *OF_TWO)
 NAMED = re.compile(r'\s*([A-Za-z][A-Za-z0-9_ -]{0,39}?)\s*=(?!=)\s*(.*)', re.S)
 OF_SUMMARY = re.compile(r'([a-z]+)(?:\s+of\s+mote\s+([0-9]{1,4}))?')
-OF_FLOW = re.compile(r'flow\s+([a-z]+)\s*:(.*)', re.S)
 OF_SENTENCE = re.compile(r'(%s)\s*:(.*)' % '|'.join(KINDS), re.S)
 OF_PYTHON = re.compile(r'python\s*:(.*)', re.S)
 
@@ -135,10 +131,6 @@ def loss(bench: Bench) -> float | None:
     """The share of the copies that the medium lost by the scenario's losses; copies on the way at the end don't
     count."""
     return share(bench.net['lost'], bench.net['copies'] - bench.net['left'])
-
-
-def _of_flow(name: str, words: str) -> Callable[[Bench], Cell]:
-    return lambda bench: flow_rows(bench.run.report, bench.run.scenario, words)[-1][name]
 
 
 def _groups(finder: Finder, motes: Motes) -> list[tuple[int, ...]]:
@@ -356,12 +348,6 @@ def file_of(words: str) -> str:
     return found[0] if found else ''
 
 
-def processes_of_flow(words: str) -> list[str]:
-    """The processes that the flow of a measure such as `flow reached: print flood` names."""
-    found = OF_FLOW.fullmatch(_parts(words)[1])
-    return sorted({it.process for it in read_flow(found[2]) if it.process}) if found else []
-
-
 def sentence_of(words: str, names: Names) -> Sentence | None:
     """The sentence of a measure such as `holds: no mote halts`, if it can be read."""
     found = OF_SENTENCE.fullmatch(_parts(words)[1])
@@ -379,26 +365,17 @@ def mote_of(words: str) -> int | None:
 def read_measure(words: str, names: Names = Names(), sources: Mapping[str, str] = {}) -> Measure:
     """A measure from its text, with the sources of users' files."""
     name, text = name_of(words), _parts(words)[1]
-    python, flow, sentence = python_of(text), OF_FLOW.fullmatch(text), OF_SENTENCE.fullmatch(text)
+    python, sentence = python_of(text), OF_SENTENCE.fullmatch(text)
     parameter = PARAMETER.search(words)
     if parameter and not python:
         raise MeasureFault(NO_PARAMETERS % (words, parameter[0]))
-    try:
-        if python:
-            return Measure(name, text, _of_python(*python, sources))
-        if flow and flow[1] not in FLOWS:
-            raise MeasureFault('%r is not a measure: a flow has no %s; %s' % (text, flow[1], known(flow[1], FLOWS)))
-        if flow:
-            begin = read_flow(flow[2])[0]
-            return Measure(name, text, _of_flow(flow[1], flow[2]), lambda bench: SAME_VALUE if same_sources(
-                bench.run.report, begin) else '', True)
-        if sentence and sentence[1] == 'delivery':
-            return Measure(name, text, _of_sentence(sentence[1], sentence[2], names),
-                           _warning_of_delivery(sentence[2], names), True)
-        if sentence:
-            return Measure(name, text, _of_sentence(sentence[1], sentence[2], names))
-    except FlowFault as fault:
-        raise MeasureFault(str(fault)) from None
+    if python:
+        return Measure(name, text, _of_python(*python, sources))
+    if sentence and sentence[1] == 'delivery':
+        return Measure(name, text, _of_sentence(sentence[1], sentence[2], names),
+                       _warning_of_delivery(sentence[2], names), True)
+    if sentence:
+        return Measure(name, text, _of_sentence(sentence[1], sentence[2], names))
     if text == REACHABLE:
         return Measure(name, text, lambda bench: reachable(bench.run.scenario))
     if text == LOSS:
@@ -407,6 +384,6 @@ def read_measure(words: str, names: Names = Names(), sources: Mapping[str, str] 
     if plain and plain[1] in SUMMARY:
         return Measure(name, text, _of_summary(plain[1], plain[2]), is_of_arrivals=plain[1] in ('ratio', 'received'))
     near = nearest(plain[1] if plain else text, [*SUMMARY, REACHABLE, LOSS])
-    raise MeasureFault('%r is not a measure%s A measure is one of %s, or begins with %s, python: or flow NAME:' % (
+    raise MeasureFault('%r is not a measure%s A measure is one of %s, or begins with %s or python:' % (
         text, '; did you mean %s?' % near if near else '.', ', '.join((*SUMMARY, REACHABLE, LOSS)),
         ', '.join(kind + ':' for kind in KINDS)))
