@@ -3,8 +3,8 @@
   tools/search examples/flooding.toml --links --silent --at-most 2
 
 The proved program `motecheck` tries all single faults, then all pairs, and so on, up to --at-most faults at once. For
-each smallest set of faults that breaks an expectation, the tool writes a file of faults into the folder NAME.search, or
-into the folder that -o names; all tools take such a file with --faults. The expectations are those of tools/expect. If
+each smallest set of faults that breaks an expectation, the tool writes a file of faults into the folder NAME.search,
+or into the folder that -o names; all tools take such a file with --faults. The expectations are those of tools/expect. If
 no file is named, they are in NAME.expect.toml next to the scenario NAME.toml.
 
 Without an option for a kind of faults, the tool tries --links, --silent and --lost. Other values, places, losses or
@@ -12,8 +12,8 @@ lengths of queues are parameters of a plan: tools/sweep measures runs with them.
 
 docs/use/TESTING.md begins with a protocol that looks right, and explains what the result of a search means.
 
-The tool ends with status 0 if all expectations hold with all sets of faults, 1 if one is broken, 2 if there is no result
-or a limit was reached before one was broken, and 130 after Ctrl-C.
+The tool ends with status 0 if all expectations hold with all sets of faults, 1 if one is broken, 2 if there is no
+result or a limit was reached before one was broken, and 130 after Ctrl-C.
 """
 from __future__ import annotations
 

@@ -11,15 +11,14 @@ Two options make this less likely:
   --keep EXPECTATION   this expectation has to hold after each step
   --keep end,medium    these parts stay: end, medium, places, programs, or numbers (the values of `self` and `from`)
 
-If motes get other numbers, the tool changes their numbers in expectations and faults too, and it leaves out faults that
-aren't needed. If EXPECTATION is a file, the
-tool uses the first broken expectation in this file. Without EXPECTATION, the file is NAME.expect.toml, next to the
-scenario NAME.toml.
+If motes get other numbers, the tool changes their numbers in expectations and faults too. It leaves out faults that
+aren't needed. If EXPECTATION is a file, the tool uses the first broken expectation in this file. Without EXPECTATION,
+the file is NAME.expect.toml, next to the scenario NAME.toml.
 
-The tool writes the result to NAME.small.toml, next to the scenario, with its expectation and its faults next to it, and
-says so if it replaces an earlier result; it never replaces another file that you haven't named. In the result no single further step
-is possible. A large net may need minutes. After Ctrl-C, or at a limit, the tool writes the smallest scenario so far, or
-no file if it has taken no step. docs/use/TESTING.md has an example.
+The tool writes the result to NAME.small.toml, next to the scenario, with its expectation and its faults next to it,
+and says so if it replaces an earlier result; it never replaces another file that you haven't named. In the result no
+single further step is possible. A large net may need minutes. After Ctrl-C, or at a limit, the tool writes the
+smallest scenario so far, or no file if it has taken no step. docs/use/TESTING.md has an example.
 
 The tool ends with status 0, with 2 after an error, for instance if the scenario doesn't break the expectation or if a
 limit allows no step, and with 130 after Ctrl-C.

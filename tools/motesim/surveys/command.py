@@ -44,7 +44,7 @@ def texts_of(words: argparse.Namespace) -> list[str]:
     if words.expect:
         return list(words.expect)
     if not words.expectations and scenario.exists() and not path.exists():
-        raise Fault('there is no file %s next to %s: name another, or give expectations with --expect' % (path, scenario))
+        raise Fault('there is no file %s next to %s: name another, or use --expect' % (path, scenario))
     if ' ' in str(path) and not path.exists():
         raise Fault('there is no file %s: if this is an expectation, write --expect before it' % path)
     part = parts_of(text_of(path), str(path))[0]
@@ -76,7 +76,7 @@ def scenario_of(words: argparse.Namespace, plan: Plan | None, given: Given) -> S
 
 
 def choices_of(words: argparse.Namespace, plan: Plan | None) -> Iterator[Given]:
-    """The values of parameters with which a plan is searched: each choice of one value for each parameter of --param."""
+    """The values with which a plan is searched: each choice of one value for each parameter of --param."""
     asked = dict[str, list[Value]]()
     for name, _, text in (it.partition('=') for it in words.param):
         if plan is None or not text:
@@ -89,7 +89,8 @@ def choices_of(words: argparse.Namespace, plan: Plan | None) -> Iterator[Given]:
 
 def asked_of(words: argparse.Namespace, scenario: Scenario) -> Asked:
     """The search that the command line asks for."""
-    return Asked(scenario, texts_of(words), kinds_asked(words), Bounds(words.at_most, words.most_runs), words.most_seconds)
+    bounds = Bounds(words.at_most, words.most_runs)
+    return Asked(scenario, texts_of(words), kinds_asked(words), bounds, words.most_seconds)
 
 
 def refuse_all_inputs(words: argparse.Namespace, asked: Asked, plan: Plan | None, folder: Path) -> None:
@@ -117,8 +118,8 @@ def searched(words: argparse.Namespace, asked: Asked, folder: Path, is_made: boo
                            lambda: stop.is_asked, progress.show_size)
     progress.end()
     if not result.wanted:
-        raise Fault('%s breaks each of the expectations without a fault, so there is nothing to search for; tools/expect '
-                    'shows why' % words.scenario)
+        raise Fault('%s breaks each of the expectations without a fault, so there is nothing to search for; '
+                    'tools/expect shows why' % words.scenario)
     if folder.exists() and not folder.is_dir():
         raise Fault('%s is a file: name a folder with -o' % folder)
     folder.mkdir(parents=True, exist_ok=True)
@@ -156,8 +157,8 @@ def repeated(words: argparse.Namespace, plan: Plan, choices: list[Given], folder
     """Searches once with each choice of values, and shows in how many of these searches each set breaks an expectation,
     and how many lines it lacks in all of them. Returns the status."""
     if words.shrink or words.json or words.csv:
-        raise Fault('several values of --param can\'t be combined with --shrink, --json or --csv: there is a found.csv in '
-                    'each folder')
+        raise Fault('several values of --param can\'t be combined with --shrink, --json or --csv: there is a found.csv '
+                    'in each folder')
     results = list[tuple[str, Result]]()
     for given in choices:
         shown = ', '.join('%s = %s' % (name, text_of_value(it)) for name, it in given.items())

@@ -53,7 +53,8 @@ def verdict_lines(result: Result, shows_all: bool) -> Iterator[str]:
         yield from ('  ' + it for it in result.holding)
     numbers = {text: number for number, text in enumerate(result.asked.texts, 1) if result.least(text)}
     if numbers:
-        yield from ('', 'broken:', *('  %d  %s%s' % (number, text, bears(result, text)) for text, number in numbers.items()))
+        yield from ('', 'broken:')
+        yield from ('  %d  %s%s' % (number, text, bears(result, text)) for text, number in numbers.items())
         yield from ('', *table_of(result, numbers, shows_all))
 
 

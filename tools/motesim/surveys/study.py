@@ -104,9 +104,9 @@ def wrong_with(study: dict[str, Any], asked: Asked, jobs: int) -> list[str]:
         counts = Counter(len(it.faults) for it in result.found)
         sizes = [counts[size] for size in range(1, asked.bounds.at_most + 1)]
         return rows if sizes == study['counts'] else [*rows, 'counts = %r, and not %r' % (sizes, study['counts'])]
-    sets, wanted = {it.words for it in result.found}, study['breaks']
+    sets, wanted = dict.fromkeys(it.words for it in result.found), study['breaks']
     rows += ['no expectation is broken any more by: ' + it for it in wanted if it not in sets]
-    return rows + ['an expectation is broken unexpectedly by: ' + it.words for it in result.found if it.words not in wanted]
+    return rows + ['an expectation is broken unexpectedly by: ' + it for it in sets if it not in wanted]
 
 
 def check_studies(path: Path, jobs: int) -> tuple[int, int]:

@@ -65,7 +65,8 @@ def read_survey(lines: Sequence[str]) -> Survey:
     if last is None:
         raise ProgramFault('the last line of motecheck isn\'t that of a survey: %s' % lines[-1])
     faults = last['faults']
-    return Survey(sets, int(last['size'] or -1), not last['limit'], int(faults) if faults else None, int(last['runs']), lines[-1])
+    return Survey(sets, int(last['size'] or -1), not last['limit'], int(faults) if faults else None, int(last['runs']),
+                  lines[-1])
 
 
 def minimal(sets: Iterable[Set]) -> list[Set]:
