@@ -31,10 +31,10 @@ class ProgressOfSearch(Progress):
     def show_size(self, size: int, survey: Survey | None, seconds: float) -> None:
         if not self.is_due():
             return
-        told = {'size': size, 'runs': survey.runs if survey else 0, 'seconds': round(seconds, 1),
-                'found': len({it for its in survey.sets for it in its}) if survey else 0}
-        self.show(json.dumps(told) if self.as_json else 'sets of {size}, for {seconds} seconds; smaller sets: {runs:,} '
-                  'runs, {found:,} found'.format_map(told))
+        now = {'size': size, 'runs': survey.runs if survey else 0, 'seconds': round(seconds, 1),
+               'found': len({it for its in survey.sets for it in its}) if survey else 0}
+        self.show(json.dumps(now) if self.as_json else 'sets of {size}, for {seconds} seconds; smaller sets: {runs:,} '
+                  'runs, {found:,} found'.format_map(now))
 
     def show_shrinking(self, name: str, steps: int, runs: int, limit: str) -> None:
         """The progress of making a counter-example small: the steps that were taken, and the runs that were made, with

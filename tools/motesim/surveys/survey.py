@@ -4,6 +4,7 @@ from __future__ import annotations
 
 import re
 from collections.abc import Callable, Iterable, Sequence
+from itertools import combinations
 from typing import NamedTuple
 
 from motesim.judge.verdicts import answers
@@ -64,16 +65,15 @@ def read_survey(lines: Sequence[str]) -> Survey:
         sets[-1].append(() if found == NOTHING else tuple(found.split(AND)))
     if last is None:
         raise ProgramFault('the last line of motecheck isn\'t that of a survey: %s' % lines[-1])
-    faults = last['faults']
-    return Survey(sets, int(last['size'] or -1), not last['limit'], int(faults) if faults else None, int(last['runs']),
-                  lines[-1])
+    size, faults, runs = int(last['size'] or -1), int(last['faults']) if last['faults'] else None, int(last['runs'])
+    return Survey(sets, size, not last['limit'], faults, runs, lines[-1])
 
 
 def minimal(sets: Iterable[Set]) -> list[Set]:
     """The sets that have no other one within, each once, the smaller ones first."""
     found = dict[frozenset[str], Set]()
     for it in sorted(sets, key=len):
-        members = frozenset(it)
-        if not any(other <= members for other in found):
-            found[members] = it
+        parts = (frozenset(part) for size in range(len(it) + 1) for part in combinations(it, size))
+        if not any(map(found.__contains__, parts)):
+            found[frozenset(it)] = it
     return list(found.values())
