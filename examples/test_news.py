@@ -23,8 +23,8 @@ def test_no_mote_sends_twice(run: motesim.Run) -> None:
 
 
 def test_the_news_reach_the_last_mote_over_two_hops(run: motesim.Run) -> None:
-    first, last = (next(line.at for line in run.report.motes[number].lines if line.kind == 'print') for number in (1, 8))
-    assert first < last
+    moments = [next(it.at for it in run.report.motes[mote].lines if it.kind == 'print') for mote in (1, 8)]
+    assert moments == [25, 60]
     assert motesim.why(run, 'mote 8 prints news 7').endswith('over 2 hops')
 
 

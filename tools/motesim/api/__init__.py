@@ -1,1 +1,2 @@
-"""The functions of `import motesim`: `run`, `expect` and `compare`, and what they return."""
+"""The functions of `import motesim`: `run`, `expect`, `search`, `why` and `compare`, and what they return; and a
+fixture for pytest."""

@@ -19,7 +19,7 @@ import pytest
 import motesim
 from motesim.api.run import Run
 
-MARK = 'scenario(file, ..): the scenario or plan of the fixture `run`, next to the test, and what motesim.run gets with it'
+MARK = 'scenario(file, ..): the scenario or plan of the fixture `run`, next to the test, and what motesim.run gets too'
 RUNS = pytest.StashKey[dict[str, Run]]()
 
 
@@ -34,7 +34,8 @@ def fixture_run(request: pytest.FixtureRequest) -> Run:
     """The run of the scenario that the mark `scenario` of a test, a class or a module names."""
     mark = request.node.get_closest_marker('scenario')
     if mark is None or not mark.args:
-        raise pytest.UsageError("the fixture `run` needs a scenario: write @pytest.mark.scenario('NAME.toml') above the test")
+        raise pytest.UsageError(
+            "the fixture `run` needs a scenario: write @pytest.mark.scenario('NAME.toml') above the test")
     name, *given = mark.args
     path, runs = request.path.parent / name, request.config.stash[RUNS]
     key = repr((path, given, sorted(mark.kwargs.items())))

@@ -47,7 +47,7 @@ class Mote(NamedTuple):
         return self.run.expect(' '.join(['mote', str(self.number), *map(str, words)]))
 
     def prints(self, *words: str | int) -> Kept:
-        """`prints('news')`, `prints('news', 7)`, `prints('just news 1 to 3 in any order')`, `prints('news at most once')`"""
+        """`prints('news')`, `prints('news', 7)`, `prints('news at most once')`, `prints('just news 1 to 3')`"""
         return self.does('prints', *words)
 
     def sends(self, *words: str | int) -> Kept:

@@ -15,11 +15,12 @@ from motesim.surveys.searching import LIMITS, Asked, search_of
 from motesim.surveys.survey import Bounds
 
 
-def search(scenario: str | Path | bytes, expectations: Sequence[str] | str, *, links: bool = False, silent: bool = False,
-           lost: bool = False, late: Sequence[int] = (), at_most: int = 1, runs: int | None = None,
-           seconds: float | None = None, limits: Limits = LIMITS, workers: int = os.cpu_count() or 1) -> Searched:
-    """Searches for faults that break expectations of a scenario, the name of its file or its text in bytes, as tools/search
-    does: all sets of at most `at_most` faults of the chosen kinds are tried.
+def search(scenario: str | Path | bytes, expectations: Sequence[str] | str, *, links: bool = False,
+           silent: bool = False, lost: bool = False, late: Sequence[int] = (), at_most: int = 1,
+           runs: int | None = None, seconds: float | None = None, limits: Limits = LIMITS,
+           workers: int = os.cpu_count() or 1) -> Searched:
+    """Searches for faults that break expectations of a scenario, the name of its file or its text in bytes, as
+    tools/search does: all sets of at most `at_most` faults of the chosen kinds are tried.
 
     links    broken links, each in one direction
     silent   silent motes, which no mote hears
@@ -27,14 +28,16 @@ def search(scenario: str | Path | bytes, expectations: Sequence[str] | str, *, l
     late     packets that reach one mote so many moments later
     runs     the most runs, and `seconds` the most seconds; without them, all sets are covered
 
-    Without a kind, links, silent motes and lost packets are tried. Raises a `Fault` if the scenario is refused, or if an
-    expectation can't be read.
+    Without a kind, links, silent motes and lost packets are tried. Raises a `Fault` if the scenario is refused, or if
+    an expectation can't be read.
     """
     name, data = ('scenario', scenario) if isinstance(scenario, bytes) else (str(scenario), read_file(scenario))
     check(name, data)
     chosen = {'links': links, 'silent': silent, 'lost': lost, 'late': bool(late)}
     kinds = {kind: ','.join(map(str, late)) if kind == 'late' else '' for kind, is_asked in chosen.items() if is_asked}
     texts = [expectations] if isinstance(expectations, str) else list(expectations)
-    found = search_of(Asked(Scenario.parse(data, name), texts, kinds or USUAL, Bounds(at_most, runs), seconds), workers, limits)
-    return Searched([FaultSet(it.faults, tuple(it.expectations)) for it in found.found], tuple(found.broken),
-                    tuple(found.holding), tuple(found.unsaid), found.survey.said if found.survey else '', found.ended_by)
+    asked = Asked(Scenario.parse(data, name), texts, kinds or USUAL, Bounds(at_most, runs), seconds)
+    found = search_of(asked, workers, limits)
+    sets = [FaultSet(it.faults, tuple(it.expectations)) for it in found.found]
+    return Searched(sets, tuple(found.broken), tuple(found.holding), tuple(found.unsaid),
+                    found.survey.said if found.survey else '', found.ended_by)

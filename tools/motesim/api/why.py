@@ -13,8 +13,8 @@ if TYPE_CHECKING:
 
 
 def why(found: Run, question: str) -> str:
-    """The answer of tools/why to a question about a run, as text: an expectation, such as `mote 0 prints news`, or a line
-    of the report. docs/use/DEBUGGING.md has the forms.
+    """The answer of tools/why to a question about a run, as text: an expectation, such as `mote 0 prints news`, or a
+    line of the report. docs/use/DEBUGGING.md has the forms.
 
     Raises a `Fault` for a question that can't be read, and for a run whose scenario isn't known.
     """

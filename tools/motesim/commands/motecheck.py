@@ -28,10 +28,11 @@ def parser() -> Words:
     words.add_argument('--links', action='store_true', help='survey broken links')
     words.add_argument('--silent', action='store_true', help='survey silent motes, which no mote hears')
     words.add_argument('--lost', action='store_true', help='survey lost packets, each on its way to one mote')
-    words.add_argument('--late', metavar='MOMENTS', help='survey packets that reach one mote so much later, such as 1,4')
+    words.add_argument('--late', metavar='MOMENTS', help='survey packets that reach one mote so much later: 1,4')
     words.add_argument('--at-most', metavar='K', help='the greatest number of faults in a set of a survey (1)')
     words.add_argument('--runs', metavar='N', help='the greatest number of runs of a survey')
-    words.add_argument('--workers', metavar='N', help='only of a compiled motecheck: share the work among N threads, 1 to 16')
+    words.add_argument('--workers', metavar='N',
+                       help='only of a compiled motecheck: share the work among N threads, 1 to 16')
     return words
 
 

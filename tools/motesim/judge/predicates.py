@@ -1,4 +1,4 @@
-"""Functions in Python that decide what no sentence can say. A file of expectations names them: `python = "checks.py:agree"`.
+"""Functions in Python that decide what no sentence can say: `python = "checks.py:agree"` in a file of expectations.
 
     def agree(report):
         last = {mote.lines[-1].value for mote in report.motes}
@@ -20,7 +20,7 @@ NOT_PROVED = 'not proved: a function in Python decides it'
 
 
 class Predicate(NamedTuple):
-    """A function that returns the reason why a report isn't right, or nothing; and its words in the file of expectations."""
+    """A function that returns the reason why a report isn't right, or nothing; and its words in the file."""
     words: str
     work: Callable[[Report], object]
 
@@ -29,8 +29,8 @@ class Predicate(NamedTuple):
         found = self.work(report)
         if found is None or isinstance(found, str):
             return ' '.join((found or '').split())
-        raise Fault('`python = "%s"`: the function returns %s, but must return the reason as a text, or None if the report is '
-                    'right' % (self.words, type(found).__name__))
+        raise Fault('`python = "%s"`: the function returns %s, but must return the reason as a text, or None if the '
+                    'report is right' % (self.words, type(found).__name__))
 
 
 def predicates_of(texts: Sequence[str], folder: Path) -> list[Predicate]:
@@ -41,7 +41,8 @@ def predicates_of(texts: Sequence[str], folder: Path) -> list[Predicate]:
 def _predicate_of(words: str, folder: Path) -> Predicate:
     its = named(words)
     if its is None:
-        raise Fault('`python = "%s"` is not the name of a file and of one of its functions, as in %s' % (words, EXAMPLE))
+        raise Fault('`python = "%s"` is not the name of a file and of one of its functions, as in %s' % (
+            words, EXAMPLE))
     if not (folder / its[0]).is_file():
         raise Fault('`python = "%s"`: there is no file %s: its name is relative to the file of expectations' % (
             words, folder / its[0]))
@@ -50,5 +51,6 @@ def _predicate_of(words: str, folder: Path) -> Predicate:
     except CodeFault as fault:
         raise Fault('`python = "%s"`: %s' % (words, fault)) from None
     if needed_by(work) != 1:
-        raise Fault('`python = "%s"`: the function needs one argument, the report: `def %s(report):`' % (words, its[1]))
+        raise Fault('`python = "%s"`: the function needs one argument, the report: `def %s(report):`' % (
+            words, its[1]))
     return Predicate(words, work)
