@@ -2,8 +2,8 @@
 // Files of the studio: opening, saving, and the page of the run as one file.
 import {byId, handOut, makeButton, stored} from '../../timeline/page/dom.js';
 import {page} from '../../timeline/page/stage.js';
-import {attempt, say, setOutcome} from '../../web/page/outcome.js';
-import {change, open, setOpened} from '../../web/page/web.js';
+import {attempt, setOutcome} from '../../web/page/outcome.js';
+import {change, open, runNow, setOpened} from '../../web/page/web.js';
 
 const {web} = page;
 
@@ -45,8 +45,10 @@ async function save(over = false, named = '') {
   const {text} = web.history, file = {returns: false, mark: false, stamp: '', ...web.document};
   const said = await attempt(() => page.backend.ask('save', {...file, text, over, ...(named ? {new: named} : {})}));
   if (!said) return;
+  // (what a run that is still to come shows would hide the answer)
+  if (web.shown !== text) await runNow();
   if (said.changed) {
-    return say(`${said.changed}.`, 'bad', [], named ? [] : [['Overwrite it with mine', () => save(true)],
+    return setOutcome(`${said.changed}.`, 'bad', [], named ? [] : [['Overwrite it with mine', () => save(true)],
       ['Load the other', () => openFile(web.document.name)]]);
   }
   forgetDraft();

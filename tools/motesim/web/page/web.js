@@ -143,7 +143,7 @@ export function goTo(row, from, to) {
 // Runs.
 
 /** Runs the text, and shows its run, its error, or its limit. */
-async function runNow() {
+export async function runNow() {
   clearTimeout(web.timer);
   const asked = ++web.asked, {step} = web.history;
   setTimeout(() => { byId('stop').hidden = asked !== web.asked || web.ran === asked; }, LONG);
