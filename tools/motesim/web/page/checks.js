@@ -30,7 +30,9 @@ const isBroken = ({holds}) => !holds;
 
 /** Decides what must hold about the run of a text, and then tries single faults. */
 export async function judge(text, number) {
-  const others = await page.backend.expectations(web.document, text), isOld = () => number !== web.number;
+  // (a run that goes on is of a newer text, and shares the worker)
+  const isOld = () => number !== web.number || web.ran !== web.asked;
+  const others = await page.backend.expectations(web.document, text);
   if (isOld()) return;
   const {run} = page.panes[0], motes = run.begins.length;
   const items = [...claimsIn(text).map(claim => ({words: wordsOf(claim, motes), claims: [claim], isOwn: true})), ...others];
