@@ -93,7 +93,8 @@ class Runs:
         found: list[list[frozenset[str]]] = [[] for _ in self.claims]
         faults = self.fixed()
         for size in range(most + 1):
-            for chosen in map(frozenset, combinations(sorted(filter(is_wanted, faults)), size)):
+            for its in combinations(sorted(filter(is_wanted, faults)), size):
+                chosen = frozenset(its)
                 broken, copies = self.run(chosen)
                 faults = faults | copies
                 for number in broken:
@@ -110,7 +111,7 @@ class SmallNets(unittest.TestCase):
     def check(self, name: str, most: int, options: Sequence[str], is_wanted: Callable[[str], bool]) -> None:
         text, claims = net_of(name)
         wanted = Runs(text, claims).smallest(most, is_wanted)
-        for shared in [], workers(3):
+        for shared in list[str](), workers(3):
             with self.subTest(net=name, workers=shared):
                 survey = read_survey(answers(self, text, claims, *options, '--at-most=%d' % most, *shared))
                 for its in survey.sets:
@@ -144,7 +145,7 @@ class Options(unittest.TestCase):
 
     def test_what_is_covered_is_told_whether_a_survey_ends_or_not(self) -> None:
         text, claims = net_of('two numbers, each twice')
-        for runs, size in ([], 2), (['--runs=0'], -1), (['--runs=1'], 0), (['--runs=20'], 1):
+        for runs, size in (list[str](), 2), (['--runs=0'], -1), (['--runs=1'], 0), (['--runs=20'], 1):
             lines = answers(self, text, claims, '--lost', '--at-most=2', *runs)
             survey = read_survey(lines)
             self.assertEqual((survey.size, survey.is_whole, survey.said), (size, not runs, lines[-1]))
