@@ -1,5 +1,5 @@
 -- The keys that a run offers are those of the faults that may change it.
-use Rattle.std.proofs.Common.{◌≡◌, ℕ, zero, suc, ◌+◌, ◌-◌, ◌*◌, ◌/◌, ◌%◌, ◌<◌, ◌≤◌, ◌⊎◌, ◌^◌, Bool, true, false, ◌&&◌, ltb, eqb, if◌then◌else◌, List, [], ◌∷◌, ◌++◌, length, get_or, map, refl, ap, sym, subst, inl, inr, arith, ◌∙◌}
+use Rattle.std.proofs.Common.{◌≡◌, ℕ, zero, suc, ◌+◌, ◌-◌, ◌*◌, ◌/◌, ◌%◌, ◌<◌, ◌≤◌, ◌⊎◌, ◌^◌, Bool, true, false, ◌&&◌, ◌||◌, ltb, eqb, if◌then◌else◌, List, [], ◌∷◌, ◌++◌, length, get_or, map, refl, ap, sym, subst, inl, inr, arith, ◌∙◌}
 use Rattle.std.specs.List.{Contains, filter, flat_map, list_any, range_with_len}
 use Rattle.std.proofs.lemmas.Bool.{cases_Bool, cases_lt, eqb-true, eq-eqb, lt-ltb, ltb-true}
 use Rattle.std.proofs.lemmas.List.Elements.{Contains-append_left, Contains-append_right, Contains-append_cases}
@@ -10,7 +10,7 @@ use Rattle.radio_faults.specs.declared.fault.Fault.TheVariants.{Silent}
 use Rattle.radio_faults.specs.Faults.{names}
 use Rattle.mote_net.specs.Net.{NetModel}
 use Rattle.mote_net.specs.Report.{Packet, ReportModel}
-use Rattle.serial_run.specs.FaultLaws.{is_some, names_copy_in, names_copy_of}
+use Rattle.serial_run.specs.FaultLaws.{is_of_motes, is_some, may_change, names_copy_in, names_copy_of}
 use Rattle.serial_run.specs.FaultRun.{IsReportWith}
 use Rattle.survey.specs.Premise.{Runs, OffersAll}
 use Rattle.offer_laws.specs.Offers.{AreRunsOf, IsOffered}
@@ -73,6 +73,19 @@ named_of fault r p f there fated is some =
     any_of (names_copy_of fault) r.log p there
     (any_of (λ (g : Fate). names fault p.sent.sender p.sent.number g.to && is_some g.at) p.fates f fated
     (and_true (names fault p.sent.sender p.sent.number f.to) (is_some f.at) is some))
+
+or_right : (a b : Bool) → b ≡ true → (a || b) ≡ true
+or_right true b h = refl
+or_right false b h = h
+
+other_or : (a b : Bool) → a ≡ false → (a || b) ≡ true → b ≡ true
+other_or true b e h = absurd (cc)
+other_or false b e h = h
+
+-- no mote is off because of a copy's fault
+of_copies : (kind : CopyFault) (s n r : ℕ) → is_of_motes (fault_of_copy kind s n r) ≡ false
+of_copies Lost s n r = refl
+of_copies (Late by) s n r = refl
 
 if_true : {X : Type 0} (b : Bool) (x y : X) → b ≡ true → (if b then x else y) ≡ x
 if_true true x y h = refl
@@ -152,13 +165,13 @@ module _ (fixed : List Fault) (kinds : List CopyFault) where
       some_kinds zero q lt = absurd (omega arith)
       some_kinds (suc v) q lt = omega arith
 
-  named_in : (r : ReportModel) (k : ℕ) → Contains (named_keys fixed kinds r) k → (k < bound_of fixed kinds) × (names_copy_in (fault_of fixed kinds k) r ≡ true)
+  named_in : (r : ReportModel) (k : ℕ) → Contains (named_keys fixed kinds r) k → (k < bound_of fixed kinds) × (may_change (fault_of fixed kinds k) r ≡ true)
   named_in r k at =
       elim (Contains-append_cases (fixed_keys fixed r) (flat_map (keys_of_packet fixed kinds) r.log) k at) [
         | inl front ↦
-            let a = filter_in (λ j. names_copy_in (get_or fixed j (Silent 0)) r) (range_with_len 0 (length fixed)) k front in
+            let a = filter_in (λ j. may_change (get_or fixed j (Silent 0)) r) (range_with_len 0 (length fixed)) k front in
             let lt : k < length fixed = (let x = range_in 0 (length fixed) k a.0 in omega arith) in
-            (omega arith, ap (λ f. names_copy_in f r) (fixed_fault k lt) ∙ a.1)
+            (omega arith, ap (λ f. may_change f r) (fixed_fault k lt) ∙ a.1)
         | inr back ↦
             let a = in_flat (keys_of_packet fixed kinds) r.log k back in
             let p = a.0 in
@@ -166,19 +179,20 @@ module _ (fixed : List Fault) (kinds : List CopyFault) where
             let f = b.0 in
             let c = in_if (is_some f.at) (keys_of_copy fixed kinds p.sent.sender p.sent.number f.to) k b.2 in
             let d = copy_keys p.sent.sender p.sent.number f.to k c.1 in
-            (d.0, named_of (fault_of fixed kinds k) r p f a.1 b.1 d.1 c.0)
+            (d.0, or_right (is_of_motes (fault_of fixed kinds k)) (names_copy_in (fault_of fixed kinds k) r) (named_of (fault_of fixed kinds k) r p f a.1 b.1 d.1 c.0))
       ]
 
-  in_named : (r : ReportModel) (k : ℕ) → k < bound_of fixed kinds → names_copy_in (fault_of fixed kinds k) r ≡ true → Contains (named_keys fixed kinds r) k
+  in_named : (r : ReportModel) (k : ℕ) → k < bound_of fixed kinds → may_change (fault_of fixed kinds k) r ≡ true → Contains (named_keys fixed kinds r) k
   in_named r k lt is =
       elim (cases_lt k (length fixed)) [
         | inl small ↦
             let C : ℕ → Type 0 = λ x. Contains (range_with_len 0 (length fixed)) x in
             let in' : Contains (range_with_len 0 (length fixed)) k = subst C (omega arith) (range_has 0 (length fixed) k small) in
             Contains-append_left (fixed_keys fixed r) (flat_map (keys_of_packet fixed kinds) r.log) k
-            (filter_has (λ j. names_copy_in (get_or fixed j (Silent 0)) r) (range_with_len 0 (length fixed)) k in' (ap (λ f. names_copy_in f r) (sym (fixed_fault k small)) ∙ is))
+            (filter_has (λ j. may_change (get_or fixed j (Silent 0)) r) (range_with_len 0 (length fixed)) k in' (ap (λ f. may_change f r) (sym (fixed_fault k small)) ∙ is))
         | inr large ↦
-            let a = named_from (fault_of fixed kinds k) r is in
+            let copies : is_of_motes (fault_of fixed kinds k) ≡ false = ap is_of_motes (copy_fault k large) ∙ of_copies (get_or kinds ((k - length fixed) % length kinds) Lost) _ _ _ in
+            let a = named_from (fault_of fixed kinds k) r (other_or (is_of_motes (fault_of fixed kinds k)) (names_copy_in (fault_of fixed kinds k) r) copies is) in
             let p = a.0 in
             let f = a.2 in
             let key = key_of k p.sent.sender p.sent.number f.to large lt a.4 in
@@ -199,9 +213,9 @@ keys_offer_all net fixed kinds report reports claims holds =
           let m = new_members F [] (named_keys fixed kinds (report F)) (fine_none F) in
           let named : Contains (named_keys fixed kinds (report F)) k = elim (m.1 k at) [ inl one ↦ one | inr none ↦ absurd (omega arith) ] in
           let is = named_in fixed kinds (report F) k named in
-          record { below = is.0; fresh = λ there. m.0.1 k at there; named = is.1 };
+          record { below = is.0; fresh = λ there. m.0.1 k at there; felt = is.1 };
       all_offered = λ F k is.
           let m = new_members F [] (named_keys fixed kinds (report F)) (fine_none F) in
-          m.3 k (in_named fixed kinds (report F) k is.below is.named) is.fresh;
+          m.3 k (in_named fixed kinds (report F) k is.below is.felt) is.fresh;
       once = λ F. (new_members F [] (named_keys fixed kinds (report F)) (fine_none F)).0.0;
     })

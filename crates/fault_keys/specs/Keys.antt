@@ -6,7 +6,7 @@ use Rattle.radio_packet.specs.declared.fate.Fate.{Fate}
 use Rattle.radio_faults.specs.declared.fault.Fault.{Fault}
 use Rattle.radio_faults.specs.declared.fault.Fault.TheVariants.{Silent, Lost as LostCopy, Late as LateCopy}
 use Rattle.mote_net.specs.Report.{Packet, ReportModel}
-use Rattle.serial_run.specs.FaultLaws.{is_some, names_copy_in}
+use Rattle.serial_run.specs.FaultLaws.{is_some, may_change}
 use Rattle.fault_keys.specs.declared.candidates.CopyFault.{CopyFault}
 use Rattle.fault_keys.specs.declared.candidates.CopyFault.TheVariants.{Lost, Late}
 
@@ -46,11 +46,11 @@ keys_of_fate fixed kinds s n fate = if is_some fate.at then keys_of_copy fixed k
 abbrev pub keys_of_packet : (fixed : List Fault) → List CopyFault → Packet → List ℕ
 keys_of_packet fixed kinds packet = flat_map (keys_of_fate fixed kinds packet.sent.sender packet.sent.number) packet.fates
 
--- the keys of the fixed faults that name a copy in the report which isn't lost
+-- the keys of the fixed faults that may change the run with this report
 abbrev pub fixed_keys : (fixed : List Fault) → ReportModel → List ℕ
-fixed_keys fixed r = filter (λ k. names_copy_in (slice_index_or fixed k (Silent 0)) r) (range_with_len 0 (length fixed))
+fixed_keys fixed r = filter (λ k. may_change (slice_index_or fixed k (Silent 0)) r) (range_with_len 0 (length fixed))
 
--- the keys of all faults that name a copy in the report which isn't lost
+-- the keys of all faults that may change the run with this report
 abbrev pub named_keys : (fixed : List Fault) → List CopyFault → ReportModel → List ℕ
 named_keys fixed kinds r = fixed_keys fixed r ++ flat_map (keys_of_packet fixed kinds) r.log
 

@@ -33,7 +33,7 @@ impl CopyFault {
 /// The faults that come into question in a net.
 #[derive(Drop)]
 pub struct Candidates {
-    /// Broken links and silent motes.
+    /// Broken links, silent motes, and motes that are off.
     pub fixed: Vec<Fault>,
     /// What may happen to each copy.
     pub copies: Vec<CopyFault>,

@@ -1,4 +1,4 @@
-//! The faults that a net may have, each with a key: broken links and silent motes, and the faults of single copies. Which
+//! The faults that a net may have, each with a key: broken links, motes that are silent or off, and faults of copies. Which
 //! copies there are depends on the run.
 #![tactic(auto)]
 

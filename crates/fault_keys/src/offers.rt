@@ -4,7 +4,7 @@ ghost use Rattle.std.specs.Prelude.{◌≡◌, ◌<◌, ◌≤◌, ◌++◌, ◌
 ghost use Rattle.std.specs.List.{list_any};
 ghost use Rattle.radio_faults.specs.Faults.{names};
 ghost use Rattle.mote_net.specs.Report.{line_model, report_of};
-ghost use Rattle.serial_run.specs.FaultLaws.{is_some, names_copy_in, names_copy_of};
+ghost use Rattle.serial_run.specs.FaultLaws.{is_of_motes, is_some, may_change, names_copy_in, names_copy_of};
 ghost use Rattle.fault_keys.specs.Keys.{fixed_keys, keys_of_copy, keys_of_fate, keys_of_packet, named_keys, new_keys};
 ghost use Rattle.fault_keys.specs.Keys.{offered_keys, with_new};
 
@@ -44,6 +44,23 @@ fn names_copy_among(fault: Fault, lines: &[LogLine]) -> bool
     lines.iter().any(|line| names_copy_of(fault, line))
 }
 
+/// Returns `true` if a mote is off because of this fault.
+fn is_of_motes(fault: Fault) -> bool
+    ensures value { result ≡ is_of_motes fault }
+{
+    match fault {
+        Fault::OffFrom { .. } | Fault::OffUntil { .. } => true,
+        _ => false,
+    }
+}
+
+/// Returns `true` if a fault may change the run with this report.
+fn may_change(fault: Fault, report: &Report) -> bool
+    ensures value { result ≡ may_change fault (report_of report.now) }
+{
+    is_of_motes(fault) || names_copy_in(fault, report)
+}
+
 /// Appends a key, if its fault is there.
 fn add_if(keys: &mut Vec<u64>, is_there: bool, key: u64) -> Result<(), AllocError>
     ensures appended { OnOk result (keys.new.items ≡ keys.old.items ++ (if is_there then key ∷ [] else [])) }
@@ -54,7 +71,7 @@ fn add_if(keys: &mut Vec<u64>, is_there: bool, key: u64) -> Result<(), AllocErro
     Ok(())
 }
 
-/// Appends the keys of the fixed faults that name a copy in a report which isn't lost.
+/// Appends the keys of the fixed faults that may change the run with this report.
 fn add_fixed_keys(
     candidates: &Candidates,
     report: &Report,
@@ -64,7 +81,7 @@ fn add_fixed_keys(
         ≡ keys.old.items ++ fixed_keys candidates.now.fixed.items (report_of report.now)) }
 {
     for key in 0..candidates.fixed.len() {
-        let is_there = names_copy_in(candidates.fixed[key], report);
+        let is_there = may_change(candidates.fixed[key], report);
         add_if(keys, is_there, key as u64)?;
     }
     Ok(())
@@ -120,7 +137,7 @@ fn add_packet_keys(
     Ok(())
 }
 
-/// The keys of all faults that name a copy in a report which isn't lost.
+/// The keys of all faults that may change the run with this report.
 fn named_keys(
     alloc: Global,
     candidates: &Candidates,
@@ -160,8 +177,8 @@ fn add_new(set: &[u64], key: u64, known: &mut Vec<u64>) -> Result<(), AllocError
     Ok(())
 }
 
-/// The keys that the run with a set offers, if this is its report: those of the faults that aren't in the set, and name a
-/// copy which isn't lost.
+/// The keys that the run with a set offers, if this is its report: those of the faults that aren't in the set and may
+/// change the run, because a mote is off or a copy that isn't lost comes late or not at all.
 ///
 /// # Errors
 /// `AllocError` if an allocation fails, or if a mote sent more than 134 million packets.

@@ -1,6 +1,6 @@
 -- The order of faults means nothing: what they make of a copy depends only on whether one of them loses it, and on the sum of
 -- the moments by which the others make it late.
-use Rattle.std.proofs.Common.{◌≡◌, ℕ, ◌+◌, ◌||◌, Bool, true, false, List, [], ◌∷◌, map, Option, Some, None, option_map, if◌then◌else◌, refl, sym, ap, ap₂, ◌∙◌, arith}
+use Rattle.std.proofs.Common.{◌≡◌, ℕ, ◌+◌, ◌≤◌, nat_lt, max, ◌||◌, inl, inr, Bool, true, false, List, [], ◌∷◌, map, Option, Some, None, option_map, if◌then◌else◌, refl, sym, ap, ap₂, ◌∙◌, arith}
 use Rattle.std.specs.List.{filter_map, cons_option, list_any, sum_by}
 use Rattle.std.specs.Option.{option_and_then}
 use Rattle.std.specs.Prelude.{IsPermutation}
@@ -10,8 +10,11 @@ use Rattle.radio_packet.specs.declared.copy.RadioCopy.{RadioCopy}
 use Rattle.radio_packet.specs.declared.fate.Fate.{Fate}
 use Rattle.radio_packet.specs.declared.sent.Sent.{Sent}
 use Rattle.radio_faults.specs.declared.fault.Fault.{Fault}
-use Rattle.radio_faults.specs.declared.fault.Fault.TheVariants.{Link, Silent, Lost, LostToAll, Late}
+use Rattle.radio_faults.specs.declared.fault.Fault.TheVariants.{Link, Silent, Lost, LostToAll, Late, OffFrom, OffUntil}
 use Rattle.radio_faults.specs.Faults.{names, arrival_after, copy_after, copies_with, fate_after, fates_with}
+use Rattle.radio_faults.specs.Off.{keeps_off, start_after, start_of}
+use Rattle.std.proofs.lemmas.Bool.{cases_lt}
+use Rattle.std.proofs.lemmas.Bool.Decides.{nat_tests}
 use Rattle.fault_laws.specs.Laws.{OrderMeansNothing}
 
 -- packet n of mote s, on its way to mote r
@@ -52,6 +55,8 @@ module _ (s n r : ℕ) where
   one_more (Lost sender number to) false delays at = lost_if (names (Lost sender number to) s n r) delays at
   one_more (LostToAll sender number) false delays at = lost_if (names (LostToAll sender number) s n r) delays at
   one_more (Late sender number to by) false delays at = late_if (names (Late sender number to by) s n r) by delays at
+  one_more (OffFrom mote from) false delays at = lost_if false delays at
+  one_more (OffUntil mote until) false delays at = lost_if false delays at
 
   -- one more fault after all others
   after_all : (fault : Fault) (faults : List Fault) (at : ℕ) → option_and_then (arrival_after fault s n r) (with_all faults at) ≡ with_all (fault ∷ faults) at
@@ -130,8 +135,35 @@ same_fates some others permuted sent (fate ∷ fates) =
     same None = refl
     same (Some at) = same_with_all sent.sender sent.number fate.to some others permuted at
 
+-- motes that are off
+
+-- a number that is above the same numbers as another isn't above it
+not_above : (a b : ℕ) → ((t : ℕ) → nat_lt t a ≡ nat_lt t b) → b ≤ a
+not_above a b same = elim (cases_lt a b) [ inl lt ↦ (let e = same a in absurd (grind (arith, nat_tests))) | inr le ↦ le ]
+
+above_both : (t a b : ℕ) → nat_lt t (max a b) ≡ (nat_lt t a || nat_lt t b)
+above_both t a b = grind (arith, nat_tests)
+
+starts_later : (faults : List Fault) (mote t : ℕ) → nat_lt t (start_of faults mote) ≡ list_any (λ fault. nat_lt t (start_after fault mote)) faults
+starts_later [] mote t = grind (arith, nat_tests)
+starts_later (fault ∷ faults) mote t =
+    above_both t (start_after fault mote) (start_of faults mote) ∙ ap (λ later. nat_lt t (start_after fault mote) || later) (starts_later faults mote t)
+
+same_start : (some others : List Fault) → IsPermutation some others → (mote : ℕ) → start_of some mote ≡ start_of others mote
+same_start some others permuted mote =
+    let same : (t : ℕ) → nat_lt t (start_of some mote) ≡ nat_lt t (start_of others mote) = λ t. starts_later some mote t
+    ∙ list_any-IsPermutation (λ fault. nat_lt t (start_after fault mote)) some others permuted
+    ∙ sym (starts_later others mote t) in
+    let le = not_above (start_of some mote) (start_of others mote) same in
+    let ge = not_above (start_of others mote) (start_of some mote) (λ t. sym (same t)) in
+    omega arith
+
 pub order_means_nothing : OrderMeansNothing
 order_means_nothing = record {
+  of_motes = λ some others permuted end. record {
+    off = λ mote moment le. list_any-IsPermutation (λ fault. keeps_off fault mote moment) some others permuted;
+    starts = λ mote moment le. ap (λ start. if nat_lt moment start then Some start else None) (same_start some others permuted mote);
+  };
   of_copies = λ some others permuted copies. copies_at_once some copies
       ∙ same_filter_map (all_of_copy some) (all_of_copy others)
       (λ copy. ap (option_map (λ (at : ℕ). record copy { at = at })) (same_with_all copy.sender copy.number copy.to some others permuted copy.at)) copies

@@ -33,14 +33,14 @@ module _ {S L : Type 0} (system : System S L) where
       sent_by_end end rest (every_append (λ (sent : Sent). sent.at ≤ end) net.log _ all (all_stamped end moment mote (turned_at system moment mote net).sends le))
 
 pub prefix_law : {S L : Type 0} (system : System S L) → PrefixLaw system
-prefix_law {S} {L} system some others end moment one other run run' same earlier lt le =
+prefix_law {S} {L} system some others end moment one other run run' same earlier lt le off =
     let parts = split (with_faults some system) end earlier le run in
     let parts' = split (with_faults others system) end earlier le run' in
     let state = parts.0 in
     let before = begins (with_faults some system) end (λ (sent : Sent). sent.at < moment → MakeTheSame system some others sent) parts.2 same in
     let sent = sent_by_end (with_faults some system) earlier parts.1 tt in
     let same' = every_weaker _ (MakeTheSame system some others) (λ (sent : Sent) h. h.0 (let k = h.1 in omega arith)) state.log (every_both _ _ state.log before sent) in
-    let over : RunsWith others system earlier state = copies_decide system some others earlier state parts.1 same' in
+    let over : RunsWith others system earlier state = copies_decide system some others earlier state parts.1 off same' in
     let is : parts'.0 ≡ state = run_is_one (with_faults others system) earlier over parts'.1 in (
       state,
       record { before = parts.1; after = parts.2 },

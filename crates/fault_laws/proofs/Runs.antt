@@ -1,16 +1,19 @@
--- Runs with the same copies.
-use Rattle.std.proofs.Common.{◌≡◌, ℕ, List, [], ◌∷◌, ◌++◌, map, refl, ap, ap₂, subst}
+-- Runs with the same turns and the same copies.
+use Rattle.std.proofs.Common.{◌≡◌, ℕ, ◌≤◌, ◌==◌, nat_lt, Bool, true, false, ◌&&◌, if◌then◌else◌, List, [], ◌∷◌, ◌++◌, map, max, Option, Some, None, refl, ap, ap₂, ◌∙◌, subst, arith}
+use Rattle.std.proofs.lemmas.Bool.Decides.{nat_tests}
 use Rattle.std.specs.List.{filter, filter_map, flat_map, AllByRecursion}
 use Rattle.radio_packet.specs.declared.sent.Sent.{Sent}
 use Rattle.radio_packet.specs.declared.copy.RadioCopy.{RadioCopy}
-use Rattle.window_laws.specs.System.{System}
+use Rattle.window_laws.specs.System.{System, Turned}
 use Rattle.window_laws.specs.Agenda.{Packet, is_left, wake_items}
-use Rattle.window_laws.specs.NetStep.{NetState, Run, Done, Turn, put, sends_of, turned_at}
+use Rattle.window_laws.specs.NetStep.{NetState, Run, Done, Turn, after_turn, put, sends_of, turned_at}
 use Rattle.window_laws.proofs.Lists.{every_weaker}
 use Rattle.radio_faults.specs.declared.fault.Fault.{Fault}
+use Rattle.radio_faults.specs.declared.fault.Fault.TheVariants.{Link, Silent, Lost, LostToAll, Late, OffFrom, OffUntil}
 use Rattle.radio_faults.specs.Faults.{copies_with, copy_after}
-use Rattle.fault_laws.specs.WithFaults.{with_faults}
-use Rattle.fault_laws.specs.Laws.{CopiesDecide, IsUnnamed, UnsentIsNothing}
+use Rattle.radio_faults.specs.Off.{is_off, keeps_off, next_start, start_after, start_of}
+use Rattle.fault_laws.specs.WithFaults.{no_turn, turn_with, with_faults}
+use Rattle.fault_laws.specs.Laws.{AreOffTheSame, CopiesDecide, IsUnnamed, LeavesOn, UnsentIsNothing}
 
 both_parts : {X : Type 0} (P : X → Type 0) (xs ys : List X) → AllByRecursion P (xs ++ ys) → AllByRecursion P xs × AllByRecursion P ys
 both_parts P [] ys all = (tt, all)
@@ -26,39 +29,66 @@ module _ {S L : Type 0} (system : System S L) (end : ℕ) where
   begins P (Done late) all = all
   begins P {net} (Turn moment mote least le rest) all = (both_parts P net.log (sends_of moment mote (turned_at system moment mote net)) (begins P rest all)).0
 
-  -- the same motes, with other copies
-  abbrev pub with_copies : (Sent → List RadioCopy) → (lookahead : ℕ) → System S L
-  with_copies copies lookahead = record { motes = system.motes; first = system.first; turn = system.turn; copies = copies; lookahead = lookahead }
+  -- another system makes the same of each turn up to the end
+  abbrev pub TurnsAre : System S L → Type 0
+  TurnsAre other = (mote : ℕ) (state : S) (moment : ℕ) (given : List RadioCopy) → moment ≤ end → system.turn mote state moment given ≡ other.turn mote state moment given
 
-  pub run_with_same_copies : (copies : Sent → List RadioCopy) (lookahead : ℕ) {net last : NetState S L} → Run system end net last
-      → AllByRecursion (λ sent. system.copies sent ≡ copies sent) last.log → Run (with_copies copies lookahead) end net last
-  run_with_same_copies copies lookahead (Done late) same = Done late
-  run_with_same_copies copies lookahead {net} {last} (Turn moment mote least le rest) same =
+  pub run_with_same : (other : System S L) → TurnsAre other → {net last : NetState S L} → Run system end net last
+      → AllByRecursion (λ sent. system.copies sent ≡ other.copies sent) last.log → Run other end net last
+  run_with_same other turns (Done late) same = Done late
+  run_with_same other turns {net} {last} (Turn moment mote least le rest) same =
       let turned = turned_at system moment mote net in
-      let sent = (both_parts (λ sent. system.copies sent ≡ copies sent) net.log (sends_of moment mote turned) (begins (λ sent. system.copies sent ≡ copies sent) rest same)).1 in
-      Turn moment mote least le
-      (subst
-      (λ given. Run (with_copies copies lookahead) end
+      let sent = (both_parts (λ sent. system.copies sent ≡ other.copies sent) net.log (sends_of moment mote turned) (begins (λ sent. system.copies sent ≡ other.copies sent) rest same)).1 in
+      let next : Run other end (after_turn other moment mote net turned) last = subst
+      (λ given. Run other end
       (record {
         states = put net.states mote turned.state;
         traces = put net.traces mote (net.traces mote ++ turned.lines);
         agenda = filter (is_left moment mote) net.agenda ++ (wake_items mote turned.wake ++ map Packet given);
         log = net.log ++ sends_of moment mote turned;
       }) last)
-      (same_flat system.copies copies (sends_of moment mote turned) sent)
-      (run_with_same_copies copies lookahead rest same))
+      (same_flat system.copies other.copies (sends_of moment mote turned) sent)
+      (run_with_same other turns rest same) in
+      Turn moment mote least le (subst (λ (t : Turned S L). Run other end (after_turn other moment mote net t) last) (turns mote (net.states mote) moment _ le) next)
 
 -- a fault that names none of some copies leaves them
 pub untouched : (fault : Fault) (copies : List RadioCopy) → AllByRecursion (IsUnnamed fault) copies → copies ≡ filter_map (copy_after fault) copies
 untouched fault [] all = refl
 untouched fault (copy ∷ copies) all = rw all.0 (ap (λ t. copy ∷ t) (untouched fault copies all.1))
 
+-- a fault that leaves all motes on says of no mote that it starts later
+no_start : (fault : Fault) (end mote : ℕ) → LeavesOn fault end → start_after fault mote ≡ 0
+no_start (Link from to) end mote on = refl
+no_start (Silent k) end mote on = refl
+no_start (Lost sender number to) end mote on = refl
+no_start (LostToAll sender number) end mote on = refl
+no_start (Late sender number to by) end mote on = refl
+no_start (OffFrom k from) end mote on = refl
+no_start (OffUntil k until) end mote on = none (k == mote) (on mote 0 (omega arith))
+  where
+    none : (is : Bool) → (is && nat_lt 0 until) ≡ false → (if is then until else 0) ≡ 0
+    none false e = refl
+    none true e = grind (arith, nat_tests)
+
+pub still_on : (fault : Fault) (faults : List Fault) (end : ℕ) → LeavesOn fault end → AreOffTheSame faults (fault ∷ faults) end
+still_on fault faults end on = record {
+  off = λ mote moment le. rw (on mote moment le) refl;
+  starts = λ mote moment le. ap (λ start. if nat_lt moment start then Some start else None) (same mote);
+}
+  where
+    same : (mote : ℕ) → start_of faults mote ≡ max (start_after fault mote) (start_of faults mote)
+    same mote = let none = no_start fault end mote on in omega arith
+
 module _ {S L : Type 0} (system : System S L) where
+  same_turns : (some others : List Fault) (end : ℕ) → AreOffTheSame some others end → TurnsAre (with_faults some system) end (with_faults others system)
+  same_turns some others end same mote state moment given le =
+      ap₂ (λ (off : Bool) wake. if off then no_turn state wake else system.turn mote state moment given) (same.off mote moment le) (same.starts mote moment le)
+
   pub copies_decide : CopiesDecide system
-  copies_decide some others end last run same =
-      run_with_same_copies (with_faults some system) end (λ sent. copies_with others (system.copies sent)) system.lookahead run same
+  copies_decide some others end last run off same =
+      run_with_same (with_faults some system) end (with_faults others system) (same_turns some others end off) run same
 
   pub unsent_is_nothing : UnsentIsNothing system
-  unsent_is_nothing faults fault end last run none =
-      copies_decide faults (fault ∷ faults) end last run
+  unsent_is_nothing faults fault end last run on none =
+      copies_decide faults (fault ∷ faults) end last run (still_on fault faults end on)
       (every_weaker _ _ (λ sent all. untouched fault (copies_with faults (system.copies sent)) all) last.log none)

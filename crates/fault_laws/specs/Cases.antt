@@ -1,9 +1,11 @@
 -- Cases by hand. The faults are the examples of sentences about faults, one of each kind, and two sentences at once; each
 -- is tried on copies that it speaks of and on those that differ in one thing.
-use Rattle.std.specs.Prelude.{◌≡◌, ℕ, [], ◌∷◌}
+use Rattle.std.specs.Prelude.{◌≡◌, ℕ, List, [], ◌∷◌, Some, None}
 use Rattle.radio_packet.specs.declared.copy.RadioCopy.{RadioCopy}
-use Rattle.radio_faults.specs.declared.fault.Fault.TheVariants.{Link, Silent, Lost, LostToAll, Late}
+use Rattle.radio_faults.specs.declared.fault.Fault.TheVariants.{Link, Silent, Lost, LostToAll, Late, OffFrom, OffUntil}
 use Rattle.radio_faults.specs.Faults.{copies_with}
+use Rattle.window_laws.specs.System.{System}
+use Rattle.fault_laws.specs.WithFaults.{no_turn, turn_with}
 
 -- the copy of packet n of mote s that arrives at mote r at moment 20
 abbrev pub copy : (s n r : ℕ) → RadioCopy
@@ -47,3 +49,25 @@ pub record LinkIsBrokenAndMoteIsSilent : Type 0 where
   pub of_1 : copies_with (Link 1 3 ∷ Silent 2 ∷ []) (copy 1 0 2 ∷ copy 1 0 3 ∷ []) ≡ copy 1 0 2 ∷ []
   pub of_2 : copies_with (Link 1 3 ∷ Silent 2 ∷ []) (copy 2 0 1 ∷ copy 2 0 3 ∷ []) ≡ []
   pub of_3 : copies_with (Link 1 3 ∷ Silent 2 ∷ []) (copy 3 0 1 ∷ copy 3 0 2 ∷ []) ≡ copy 3 0 1 ∷ copy 3 0 2 ∷ []
+
+-- "mote 4 is off from 40 on": it takes its turn at 39, and none at 40 or later; mote 3 takes each turn
+pub record MoteIsOffFrom {S L : Type 0} (system : System S L) (state : S) (given : List RadioCopy) : Type 0 where
+  pub before : turn_with (OffFrom 4 40 ∷ []) system 4 state 39 given ≡ system.turn 4 state 39 given
+  pub at : turn_with (OffFrom 4 40 ∷ []) system 4 state 40 given ≡ no_turn state None
+  pub later : turn_with (OffFrom 4 40 ∷ []) system 4 state 99 given ≡ no_turn state None
+  pub other : turn_with (OffFrom 4 40 ∷ []) system 3 state 40 given ≡ system.turn 3 state 40 given
+
+-- "mote 4 is off from 0 to 40": in its turns before 40 it does nothing but wait for 40, and then it takes its first turn;
+-- mote 3 takes each turn
+pub record MoteIsOffUntil {S L : Type 0} (system : System S L) (state : S) (given : List RadioCopy) : Type 0 where
+  pub first : turn_with (OffUntil 4 40 ∷ []) system 4 state 0 given ≡ no_turn state (Some 40)
+  pub last : turn_with (OffUntil 4 40 ∷ []) system 4 state 39 given ≡ no_turn state (Some 40)
+  pub at : turn_with (OffUntil 4 40 ∷ []) system 4 state 40 given ≡ system.turn 4 state 40 given
+  pub other : turn_with (OffUntil 4 40 ∷ []) system 3 state 0 given ≡ system.turn 3 state 0 given
+
+-- of two moments at which a mote starts the later one counts; and a mote that is off from a moment on doesn't start later
+pub record MoteIsOffTwice {S L : Type 0} (system : System S L) (state : S) (given : List RadioCopy) : Type 0 where
+  pub later : turn_with (OffUntil 4 40 ∷ OffUntil 4 60 ∷ []) system 4 state 0 given ≡ no_turn state (Some 60)
+  pub not_yet : turn_with (OffUntil 4 40 ∷ OffUntil 4 60 ∷ []) system 4 state 40 given ≡ no_turn state (Some 60)
+  pub never : turn_with (OffUntil 4 60 ∷ OffFrom 4 50 ∷ []) system 4 state 60 given ≡ no_turn state None
+  pub between : turn_with (OffUntil 4 40 ∷ OffFrom 4 50 ∷ []) system 4 state 49 given ≡ system.turn 4 state 49 given

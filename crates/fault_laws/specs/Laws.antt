@@ -6,6 +6,7 @@ use Rattle.radio_packet.specs.declared.fate.Fate.{Fate}
 use Rattle.radio_packet.specs.declared.sent.Sent.{Sent}
 use Rattle.radio_faults.specs.declared.fault.Fault.{Fault}
 use Rattle.radio_faults.specs.Faults.{copies_with, fates_with, names}
+use Rattle.radio_faults.specs.Off.{is_off, next_start, keeps_off}
 use Rattle.window_laws.specs.System.{System}
 use Rattle.window_laws.specs.Forward.{RunsForward}
 use Rattle.window_laws.specs.NetStep.{NetState}
@@ -23,34 +24,46 @@ FaultsRunForward system = (faults : List Fault) → RunsForward system → RunsF
 abbrev pub MakeTheSame : {S L : Type 0} → System S L → (some others : List Fault) → Sent → Type 0
 MakeTheSame system some others sent = copies_with some (system.copies sent) ≡ copies_with others (system.copies sent)
 
--- the run with some faults is that with others if both make the same of the copies of each packet that it sends
+-- with these faults a mote is off at the same moments up to the end, and then asks for the same wakes
+pub record AreOffTheSame (some others : List Fault) (end : ℕ) : Type 0 where
+  pub off : (mote moment : ℕ) → moment ≤ end → is_off some mote moment ≡ is_off others mote moment
+  pub starts : (mote moment : ℕ) → moment ≤ end → next_start some mote moment ≡ next_start others mote moment
+
+-- the run with some faults is that with others if motes are off the same up to the end, and both make the same of the
+-- copies of each packet that it sends
 abbrev pub CopiesDecide : {S L : Type 0} → System S L → Type 0
 CopiesDecide {S} {L} system = (some others : List Fault) (end : ℕ) (last : NetState S L) → RunsWith some system end last
-    → AllByRecursion (MakeTheSame system some others) last.log → RunsWith others system end last
+    → AreOffTheSame some others end → AllByRecursion (MakeTheSame system some others) last.log
+    → RunsWith others system end last
 
 abbrev pub IsUnnamed : Fault → RadioCopy → Type 0
 IsUnnamed fault copy = names fault copy.sender copy.number copy.to ≡ false
 
--- a fault may be added that names no copy which the other faults leave of the packets of the run
+-- no mote is off because of this fault up to the end
+abbrev pub LeavesOn : Fault → (end : ℕ) → Type 0
+LeavesOn fault end = (mote moment : ℕ) → moment ≤ end → keeps_off fault mote moment ≡ false
+
+-- a fault may be added that leaves all motes on, and names no copy which the other faults leave of the packets of the run
 abbrev pub UnsentIsNothing : {S L : Type 0} → System S L → Type 0
 UnsentIsNothing {S} {L} system = (faults : List Fault) (fault : Fault) (end : ℕ) (last : NetState S L)
-    → RunsWith faults system end last
+    → RunsWith faults system end last → LeavesOn fault end
     → AllByRecursion (λ sent. AllByRecursion (IsUnnamed fault) (copies_with faults (system.copies sent))) last.log
     → RunsWith (fault ∷ faults) system end last
 
--- faults in another order make the same of all copies, and of all fates
+-- faults in another order make the same of all copies, and of all fates, and motes are off at the same moments
 pub record OrderMeansNothing : Type 0 where
+  pub of_motes : (some others : List Fault) → IsPermutation some others → (end : ℕ) → AreOffTheSame some others end
   pub of_copies : (some others : List Fault) → IsPermutation some others → (copies : List RadioCopy)
       → copies_with some copies ≡ copies_with others copies
   pub of_fates : (some others : List Fault) → IsPermutation some others → (sent : Sent) (fates : List Fate)
       → fates_with some sent fates ≡ fates_with others sent fates
 
--- If two lists of faults make the same of each packet that the run with the first ones sends before a moment, then both
--- runs pass through the same state at each earlier moment.
+-- If two lists of faults make the same of each packet that the run with the first ones sends before a moment, and motes are
+-- off the same before it, then both runs pass through the same state at each earlier moment.
 abbrev pub PrefixLaw : {S L : Type 0} → System S L → Type 0
 PrefixLaw {S} {L} system = (some others : List Fault) (end moment : ℕ) (one other : NetState S L)
     → RunsWith some system end one → RunsWith others system end other
     → AllByRecursion (λ sent. sent.at < moment → MakeTheSame system some others sent) one.log
-    → (earlier : ℕ) → earlier < moment → earlier ≤ end
+    → (earlier : ℕ) → earlier < moment → earlier ≤ end → AreOffTheSame some others earlier
     → (state : NetState S L) × PassesThrough some system earlier state end one
     × PassesThrough others system earlier state end other

@@ -7,7 +7,7 @@ use Rattle.std.specs.List.{slice_split}
 use Rattle.std.proofs.lemmas.Fmt.{decimal_by_steps}
 use Rattle.std.proofs.lemmas.List.Splits.{slice_split_at, slice_split_none}
 use Rattle.radio_faults.specs.declared.fault.Fault.{Fault}
-use Rattle.radio_faults.specs.declared.fault.Fault.TheVariants.{Link, Silent, Lost, LostToAll, Late}
+use Rattle.radio_faults.specs.declared.fault.Fault.TheVariants.{Link, Silent, Lost, LostToAll, Late, OffFrom, OffUntil}
 use Rattle.fault_text.specs.FaultText.{fault_text, way_text}
 use Rattle.fault_text.specs.FaultLines.{FitsFault, ReadsLine, column_of, delay_of, mote_of, nearest, number_behind, number_of, shared, words_of}
 use Rattle.fault_text.specs.declared.error.FaultsError.TheVariants.{NotAFault}
@@ -65,6 +65,23 @@ silent_words a fa =
     ap words_of (append_assoc (codes "mote ") (decimal a) (codes " is silent"))
     ∙ ap (λ ws. codes "mote" ∷ ws) (number_word a fa (codes "is silent"))
 
+off_from_words : (a t : ℕ) → a < 2 ^ 64 → t < 2 ^ 64
+    → words_of (fault_text (OffFrom a t)) ≡ codes "mote" ∷ decimal a ∷ codes "is" ∷ codes "off" ∷ codes "from" ∷ decimal t ∷ codes "on" ∷ []
+off_from_words a t fa ft =
+    ap words_of (grouped5 (codes "mote ") (decimal a) (codes " is off from ") (decimal t) (codes " on"))
+    ∙ (ap (λ ws. codes "mote" ∷ ws) (number_word a fa (codes "is off from " ++ (decimal t ++ codes " on")))
+    ∙ ap (λ ws. codes "mote" ∷ decimal a ∷ codes "is" ∷ codes "off" ∷ codes "from" ∷ ws) (number_word t ft (codes "on")))
+
+grouped4 : (a b c d : List ℕ) → (a ++ b ++ c ++ d) ≡ a ++ (b ++ (c ++ d))
+grouped4 a b c d = simp append_assoc refl
+
+off_until_words : (a t : ℕ) → a < 2 ^ 64 → t < 2 ^ 64
+    → words_of (fault_text (OffUntil a t)) ≡ codes "mote" ∷ decimal a ∷ codes "is" ∷ codes "off" ∷ codes "from" ∷ codes "0" ∷ codes "to" ∷ decimal t ∷ []
+off_until_words a t fa ft =
+    ap words_of (grouped4 (codes "mote ") (decimal a) (codes " is off from 0 to ") (decimal t))
+    ∙ (ap (λ ws. codes "mote" ∷ ws) (number_word a fa (codes "is off from 0 to " ++ decimal t))
+    ∙ ap (λ ws. codes "mote" ∷ decimal a ∷ codes "is" ∷ codes "off" ∷ codes "from" ∷ codes "0" ∷ codes "to" ∷ ws) (last_word t ft))
+
 -- the words of a packet, and of what follows
 packet_words : (s n : ℕ) (rest : List ℕ) → s < 2 ^ 64 → n < 2 ^ 64
     → words_of (codes "packet " ++ (decimal n ++ (codes " of mote " ++ (decimal s ++ 32 ∷ rest)))) ≡ codes "packet" ∷ decimal n ∷ codes "of" ∷ codes "mote" ∷ decimal s ∷ words_of rest
@@ -107,6 +124,11 @@ again (Late s n r d) fits =
     ap nearest (late_words s n r d (wide s fits.0) fits.1 (wide r fits.2) (long d fits.3))
     ∙ (ap₂ (λ x y. Some (Late x y (mote_of (decimal r)) (delay_of (decimal d)))) (mote_again s fits.0) (number_again n fits.1)
     ∙ ap₂ (λ x y. Some (Late s n x y)) (mote_again r fits.2) (delay_again d fits.3))
+
+again (OffFrom a t) fits =
+    ap nearest (off_from_words a t (wide a fits.0) fits.1) ∙ ap₂ (λ x y. Some (OffFrom x y)) (mote_again a fits.0) (number_again t fits.1)
+again (OffUntil a t) fits =
+    ap nearest (off_until_words a t (wide a fits.0) fits.1) ∙ ap₂ (λ x y. Some (OffUntil x y)) (mote_again a fits.0) (number_again t fits.1)
 
 some_is_one : (f g : Fault) → Some f ≡ Some g → f ≡ g
 some_is_one f g same = cc

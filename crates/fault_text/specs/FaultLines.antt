@@ -1,11 +1,11 @@
 -- The lines of a text that are faults, and the line that isn't read.
-use Rattle.std.specs.Prelude.{◌≡◌, ◌≢◌, ◌<◌, ◌+◌, ◌*◌, ◌-◌, ◌^◌, ℕ, min, Bool, true, false, ◌==◌, not, Option, Some, None}
+use Rattle.std.specs.Prelude.{◌≡◌, ◌≢◌, ◌<◌, ◌+◌, ◌*◌, ◌-◌, ◌^◌, ℕ, min, Bool, true, false, ◌==◌, not, if◌then◌else◌, Option, Some, None}
 use Rattle.std.specs.Prelude.{List, [], ◌∷◌, ◌++◌, All, filter, length, map, Result, Ok, Err}
 use Rattle.std.specs.List.{slice_split, take_while, zip}
 use Rattle.fault_text.specs.declared.error.FaultsError.{FaultsError}
 use Rattle.fault_text.specs.declared.error.FaultsError.TheVariants.{Memory, NotAFault}
 use Rattle.radio_faults.specs.declared.fault.Fault.{Fault}
-use Rattle.radio_faults.specs.declared.fault.Fault.TheVariants.{Link, Silent, Lost, LostToAll, Late}
+use Rattle.radio_faults.specs.declared.fault.Fault.TheVariants.{Link, Silent, Lost, LostToAll, Late, OffFrom, OffUntil}
 use Rattle.fault_text.specs.FaultText.{fault_text}
 
 -- the lines of a text, without their line feeds
@@ -32,6 +32,8 @@ FitsFault (Silent mote) = mote < 2 ^ 16
 FitsFault (Lost sender number to) = (sender < 2 ^ 16) × (number < 2 ^ 64) × (to < 2 ^ 16)
 FitsFault (LostToAll sender number) = (sender < 2 ^ 16) × (number < 2 ^ 64)
 FitsFault (Late sender number to by) = (sender < 2 ^ 16) × (number < 2 ^ 64) × (to < 2 ^ 16) × (by < 2 ^ 32)
+FitsFault (OffFrom mote from) = (mote < 2 ^ 16) × (from < 2 ^ 64)
+FitsFault (OffUntil mote until) = (mote < 2 ^ 16) × (until < 2 ^ 64)
 
 -- the number that digits write behind others, or the largest that fits
 abbrev pub number_behind : ℕ → (digits : List ℕ) → ℕ
@@ -55,11 +57,24 @@ nearest_of sender number (_ ∷ by ∷ _ ∷ _ ∷ _ ∷ _ ∷ _ ∷ _ ∷ to �
     Some (Late sender number (mote_of to) (delay_of by))
 nearest_of sender number words = None
 
--- the fault whose text has as many words, with the numbers of these words
+-- the fault of a mote that is off that has as many words behind `is off from`, with their numbers
+abbrev pub nearest_off : (mote : ℕ) → (words : List (List ℕ)) → Option Fault
+nearest_off mote (from ∷ _ ∷ []) = Some (OffFrom mote (number_of from))
+nearest_off mote (_ ∷ _ ∷ until ∷ []) = Some (OffUntil mote (number_of until))
+nearest_off mote words = None
+
+-- the word begins with the letter m
+abbrev pub begins_with_m : (word : List ℕ) → Bool
+begins_with_m [] = false
+begins_with_m (first ∷ rest) = first == 109
+
+-- the fault whose text begins the same and has as many words, with the numbers of these words
 abbrev pub nearest : (words : List (List ℕ)) → Option Fault
 nearest (_ ∷ mote ∷ _ ∷ _ ∷ []) = Some (Silent (mote_of mote))
 nearest (_ ∷ from ∷ _ ∷ to ∷ _ ∷ _ ∷ []) = Some (Link (mote_of from) (mote_of to))
-nearest (_ ∷ number ∷ _ ∷ _ ∷ sender ∷ more) = nearest_of (mote_of sender) (number_of number) more
+nearest (first ∷ number ∷ _ ∷ _ ∷ sender ∷ more) =
+    if begins_with_m first then nearest_off (mote_of number) more
+    else nearest_of (mote_of sender) (number_of number) more
 nearest words = None
 
 -- the number of bytes at which two texts begin alike
@@ -70,7 +85,7 @@ abbrev pub column_of : Option Fault → (line : List ℕ) → ℕ
 column_of None line = 1
 column_of (Some fault) line = shared (fault_text fault) line + 1
 
--- the column at which a line first differs from the text of the fault that has as many words
+-- the column at which a line first differs from the text of the fault that begins the same and has as many words
 abbrev pub column_in : (line : List ℕ) → ℕ
 column_in line = column_of (nearest (words_of line)) line
 

@@ -1,7 +1,7 @@
 -- The text of a fault.
 use Rattle.std.specs.Prelude.{ℕ, List, ◌++◌, codes, decimal}
 use Rattle.radio_faults.specs.declared.fault.Fault.{Fault}
-use Rattle.radio_faults.specs.declared.fault.Fault.TheVariants.{Link, Silent, Lost, LostToAll, Late}
+use Rattle.radio_faults.specs.declared.fault.Fault.TheVariants.{Link, Silent, Lost, LostToAll, Late, OffFrom, OffUntil}
 
 abbrev pub packet_text : (sender number : ℕ) → List ℕ
 packet_text sender number = codes "packet " ++ decimal number ++ codes " of mote " ++ decimal sender
@@ -16,3 +16,5 @@ fault_text (Lost sender number to) = packet_text sender number ++ (codes " is lo
 fault_text (LostToAll sender number) = packet_text sender number ++ codes " is lost"
 fault_text (Late sender number to by) =
     packet_text sender number ++ (codes " is " ++ (decimal by ++ (codes " late" ++ way_text to)))
+fault_text (OffFrom mote from) = codes "mote " ++ decimal mote ++ codes " is off from " ++ decimal from ++ codes " on"
+fault_text (OffUntil mote until) = codes "mote " ++ decimal mote ++ codes " is off from 0 to " ++ decimal until

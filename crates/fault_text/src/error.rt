@@ -10,7 +10,7 @@ pub enum FaultsError {
     /// An allocation failed.
     Memory,
     /// A line that isn't the text of a fault: its number among all lines, from 1, and a column, from 1. There the line
-    /// first differs from the text of the fault that has as many words.
+    /// first differs from the text of the fault that begins the same and has as many words.
     NotAFault { line: usize, column: usize },
 }
 

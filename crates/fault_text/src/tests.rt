@@ -4,7 +4,7 @@ use radio_faults::Fault;
 use std::test::Fail;
 
 /// Texts that aren't read, each with the line and the column of its error.
-static REFUSED: [(&str, usize, usize); 8] = [
+static REFUSED: [(&str, usize, usize); 10] = [
     ("link 1 to 2 is brken", 1, 18),
     ("link 1 to 65536 is broken", 1, 15),
     ("mote 3 is silent ", 1, 1),
@@ -17,13 +17,16 @@ static REFUSED: [(&str, usize, usize); 8] = [
         1,
         32,
     ),
+    ("mote 4 is off from 40 onwards", 1, 25),
+    ("mote 4 is off from 5 to 40", 1, 20),
 ];
 
 #[test]
 fn each_kind_is_read(rt: HostRuntime) -> Result<(), Fail> {
     let text = "# of each kind\nlink 1 to 2 is broken\nmote 3 is silent\n\n\
         packet 3 of mote 2 is lost on the way to mote 5\npacket 18446744073709551615 of mote 65535 is lost\n\
-        packet 3 of mote 2 is 4294967295 late on the way to mote 5";
+        packet 3 of mote 2 is 4294967295 late on the way to mote 5\n\
+        mote 4 is off from 40 on\nmote 4 is off from 0 to 18446744073709551615";
     let read = read_faults(rt.alloc(), text.as_bytes());
     let faults = read.ok().ok_or("refused")?;
     let wanted = [
@@ -43,6 +46,11 @@ fn each_kind_is_read(rt: HostRuntime) -> Result<(), Fail> {
             number: 3,
             to: 5,
             by: u32::MAX,
+        },
+        Fault::OffFrom { mote: 4, from: 40 },
+        Fault::OffUntil {
+            mote: 4,
+            until: u64::MAX,
         },
     ];
     assert_eq!(rt; faults.as_slice(), wanted.as_slice());

@@ -64,6 +64,8 @@ impl fmt::Display for FaultText {
                 let way = WayText(to);
                 write!(f, "{packet} is {by} late{way}")
             }
+            Fault::OffFrom { mote, from } => write!(f, "mote {mote} is off from {from} on"),
+            Fault::OffUntil { mote, until } => write!(f, "mote {mote} is off from 0 to {until}"),
         }
     }
 }

@@ -1,6 +1,7 @@
 //! Reads the words of a line.
 ghost use Rattle.std.specs.Prelude.{◌≡◌, map, IfOk};
-ghost use Rattle.fault_text.specs.FaultLines.{delay_of, mote_of, nearest, nearest_of, number_of, words_of};
+ghost use Rattle.fault_text.specs.FaultLines.{begins_with_m, delay_of, mote_of, nearest, nearest_of, nearest_off, number_of};
+ghost use Rattle.fault_text.specs.FaultLines.{words_of};
 
 use radio_faults::Fault;
 use std::alloc::{AllocError, Global};
@@ -69,18 +70,47 @@ fn nearest_of(sender: u16, number: u64, words: &[&[u8]]) -> Option<Fault>
     }
 }
 
-/// Returns the fault that has as many words, with the numbers of these words.
+/// Returns the fault of a mote that is off that has as many words behind `is off from`, with their numbers.
+fn nearest_off(mote: u16, words: &[&[u8]]) -> Option<Fault>
+    ensures value { result ≡ nearest_off mote (map (λ word. word.now) words.now) }
+{
+    match words {
+        [from, _] => Some(Fault::OffFrom {
+            mote,
+            from: number_of(from),
+        }),
+        [_, _, until] => Some(Fault::OffUntil {
+            mote,
+            until: number_of(until),
+        }),
+        _ => None,
+    }
+}
+
+/// Returns `true` if a word begins with the letter m, as `mote`.
+fn begins_with_m(word: &[u8]) -> bool
+    ensures value { result ≡ begins_with_m word.now }
+{
+    match word {
+        [] => false,
+        [first, ..] => *first == b'm',
+    }
+}
+
+/// Returns the fault whose text begins the same and has as many words, with the numbers of these words.
 pub fn nearest(words: &[&[u8]]) -> Option<Fault>
     ensures value { result ≡ nearest (map (λ word. word.now) words.now) }
 {
     match words {
         [_, mote, _, _] => Some(Fault::Silent(mote_of(mote))),
         [_, from, _, to, _, _] => Some(Fault::Link(mote_of(from), mote_of(to))),
-        [_, number, _, _, sender, more @ ..] => nearest_of(
-            mote_of(sender),
-            number_of(number),
-            more,
-        ),
+        [first, number, _, _, sender, more @ ..] => {
+            if begins_with_m(first) {
+                nearest_off(mote_of(number), more)
+            } else {
+                nearest_of(mote_of(sender), number_of(number), more)
+            }
+        }
         _ => None,
     }
 }

@@ -2,7 +2,8 @@
 
 ghost use Rattle.std.specs.Prelude.{◌≡◌, ◌<◌, ◌++◌, ◌∷◌, [], if◌then◌else◌, length, IfOk, OnOk};
 ghost use Rattle.mote_net.specs.Meaning.{net_of};
-ghost use Rattle.net_survey.specs.Candidates.{fixed_faults, link_faults, links_from, silent_motes};
+ghost use Rattle.net_survey.specs.Candidates.{fixed_faults, link_faults, links_from, off_at, off_faults, silent_motes};
+ghost use Rattle.net_survey.specs.Candidates.{off_motes};
 
 use fault_keys::{Candidates, CopyFault};
 use mote_net::Net;
@@ -17,6 +18,27 @@ pub struct Kinds {
     pub links: bool,
     /// Silent motes.
     pub silent: bool,
+}
+
+/// When a mote may be off.
+#[derive(Clone, Copy, Debug, PartialEq, Eq)]
+pub enum Off {
+    /// From a moment on.
+    From(u64),
+    /// Until a moment.
+    Until(u64),
+}
+
+impl Off {
+    /// The fault of a mote that is off then.
+    fn of(self, mote: u16) -> Fault
+        ensures value { result ≡ off_at self mote }
+    {
+        match self {
+            Off::From(from) => Fault::OffFrom { mote, from },
+            Off::Until(until) => Fault::OffUntil { mote, until },
+        }
+    }
 }
 
 /// The faults of these kinds in a net: first the links, by sender, then receiver; then the motes; and these faults of
@@ -98,6 +120,35 @@ fn add_silent(medium: &Medium, motes: u16, all: &mut Vec<Fault>) -> Result<(), A
 {
     for mote in 0..motes {
         all.push(Fault::Silent(mote))?;
+    }
+    Ok(())
+}
+
+/// Appends each mote as one that is off at this time.
+fn add_off_at(
+    medium: &Medium,
+    motes: u16,
+    time: Off,
+    all: &mut Vec<Fault>,
+) -> Result<(), AllocError>
+    requires motes { motes ≡ length medium.now.places }
+    ensures appended { OnOk result (all.new.items ≡ all.old.items ++ off_motes medium.now time) }
+{
+    for mote in 0..motes {
+        all.push(time.of(mote))?;
+    }
+    Ok(())
+}
+
+/// Appends each mote as one that is off at each of these times: first all motes at the first time.
+///
+/// # Errors
+/// `AllocError` if an allocation fails.
+pub fn add_off(net: &Net, times: &[Off], all: &mut Vec<Fault>) -> Result<(), AllocError>
+    ensures appended { OnOk result (all.new.items ≡ all.old.items ++ off_faults times.now (net_of net.now).radio) }
+{
+    for time in times {
+        add_off_at(net.medium(), net.motes(), *time, all)?;
     }
     Ok(())
 }

@@ -9,7 +9,7 @@ use Rattle.radio_faults.specs.declared.fault.Fault.{Fault}
 use Rattle.mote_net.specs.Net.{NetModel}
 use Rattle.mote_net.specs.Report.{ReportModel}
 use Rattle.serial_run.specs.FaultRun.{IsReportWith}
-use Rattle.serial_run.specs.FaultLaws.{names_copy_in}
+use Rattle.serial_run.specs.FaultLaws.{may_change}
 use Rattle.serial_run.proofs.FaultLaws.{order_means_nothing, unsent_is_nothing}
 use Rattle.serial_run.proofs.Unique.{report_is_one}
 use Rattle.survey.specs.FaultSet.{IsSet}
@@ -26,8 +26,8 @@ module _ (net : NetModel) (fault_of : ℕ → Fault) (report : List ℕ → Repo
   -- a fault that isn't offered leaves the report as it is
   unchanged : (F : List ℕ) (k : ℕ) → IsSet runs.bound (F ++ k ∷ []) → (Contains (runs.offers F) k → ⊥) → report (F ++ k ∷ []) ≡ report F
   unchanged F k set none =
-      elim (cases_Bool (names_copy_in (fault_of k) (report F))) [
-        | inl named ↦ absurd (none (are.all_offered F k (record { below = last_below runs.bound F k set; fresh = last_fresh runs.bound F k set; named = named })))
+      elim (cases_Bool (may_change (fault_of k) (report F))) [
+        | inl felt ↦ absurd (none (are.all_offered F k (record { below = last_below runs.bound F k set; fresh = last_fresh runs.bound F k set; felt = felt })))
         | inr unsent ↦
             same_report (F ++ k ∷ []) (k ∷ F) (IsPermutation-to_front F k)
             ∙ report_is_one (map fault_of (k ∷ F)) net (report F) (report (k ∷ F)) (unsent_is_nothing (map fault_of F) (fault_of k) net (report F) (are.reports F) unsent) (are.reports (k ∷ F))
@@ -45,6 +45,6 @@ nets_offer_all net fault_of report claim runs are = record {
       are.all_offered F j (record {
         below = o.below;
         fresh = λ there. o.fresh (Contains-append_left F (k ∷ []) j there);
-        named = ap (names_copy_in (fault_of j)) (sym (unchanged net fault_of report claim runs are F k set none)) ∙ o.named;
+        felt = ap (may_change (fault_of j)) (sym (unchanged net fault_of report claim runs are F k set none)) ∙ o.felt;
       });
 }

@@ -5,18 +5,18 @@ use Rattle.radio_faults.specs.declared.fault.Fault.{Fault}
 use Rattle.mote_net.specs.Net.{NetModel}
 use Rattle.mote_net.specs.Report.{ReportModel}
 use Rattle.serial_run.specs.FaultRun.{IsReportWith}
-use Rattle.serial_run.specs.FaultLaws.{names_copy_in}
+use Rattle.serial_run.specs.FaultLaws.{may_change}
 use Rattle.survey.specs.FaultSet.{IsOnce}
 use Rattle.survey.specs.Premise.{Runs, OffersAll}
 
--- the fault of this key isn't in the set F, and names a copy which isn't lost in the run with F
+-- the fault of this key isn't in the set F, and may change the run with F
 pub record IsOffered (bound : ℕ) (fault_of : ℕ → Fault) (report : List ℕ → ReportModel) (F : List ℕ) (k : ℕ) : Type 0 where
   pub below : k < bound
   pub fresh : Contains F k → ⊥
-  pub named : names_copy_in (fault_of k) (report F) ≡ true
+  pub felt : may_change (fault_of k) (report F) ≡ true
 
 -- the runs of a net with sets of faults, for which keys stand, and a question about each report; a run offers exactly the
--- faults that name a copy which isn't lost in it
+-- faults that may change it
 pub record AreRunsOf (net : NetModel) (fault_of : ℕ → Fault) (report : List ℕ → ReportModel) (claim : ReportModel → ℕ → Bool)
     (runs : Runs) : Type 0 where
   pub reports : (F : List ℕ) → IsReportWith (map fault_of F) net (report F)

@@ -1,5 +1,5 @@
 -- Faults of a net, and what they make of copies on their way.
-use Rattle.std.specs.Prelude.{ℕ, ◌+◌, ◌==◌, ◌&&◌, Bool, if◌then◌else◌, List, [], ◌∷◌, map, Option, Some, None}
+use Rattle.std.specs.Prelude.{ℕ, ◌+◌, ◌==◌, ◌&&◌, Bool, false, if◌then◌else◌, List, [], ◌∷◌, map, Option, Some, None}
 use Rattle.std.specs.Prelude.{option_map}
 use Rattle.std.specs.List.{filter_map}
 use Rattle.std.specs.Option.{option_and_then}
@@ -7,7 +7,7 @@ use Rattle.radio_packet.specs.declared.copy.RadioCopy.{RadioCopy}
 use Rattle.radio_packet.specs.declared.fate.Fate.{Fate}
 use Rattle.radio_packet.specs.declared.sent.Sent.{Sent}
 use Rattle.radio_faults.specs.declared.fault.Fault.{Fault}
-use Rattle.radio_faults.specs.declared.fault.Fault.TheVariants.{Link, Silent, Lost, LostToAll, Late}
+use Rattle.radio_faults.specs.declared.fault.Fault.TheVariants.{Link, Silent, Lost, LostToAll, Late, OffFrom, OffUntil}
 
 -- the fault names the copy of packet n of mote s for mote r
 abbrev pub names : Fault → (s n r : ℕ) → Bool
@@ -16,6 +16,8 @@ names (Silent mote) s n r = mote == s
 names (Lost sender number to) s n r = (sender == s) && (number == n) && (to == r)
 names (LostToAll sender number) s n r = (sender == s) && (number == n)
 names (Late sender number to by) s n r = (sender == s) && (number == n) && (to == r)
+names (OffFrom mote from) s n r = false
+names (OffUntil mote until) s n r = false
 
 -- when a copy arrives that the fault names, if it arrives at this moment without it: a late copy so much later, and each
 -- other copy never

@@ -3,8 +3,8 @@
 ghost use Rattle.std.specs.Prelude.{◌≡◌};
 ghost use Rattle.radio_faults.specs.Faults.{names};
 
-/// A fault of a net: what happens to some of the copies on their way. All faults are of the way from one mote to another,
-/// in this direction. A packet has a number: that of the packets that its mote had sent before.
+/// A fault of a net: what happens to some of the copies on their way, or when a mote is off. A way is that from one mote to
+/// another, in this direction. A packet has a number: that of the packets that its mote had sent before.
 #[derive(Clone, Copy, Debug, PartialEq, Eq)]
 pub enum Fault {
     /// The link from one mote to another is broken: each packet is lost on it.
@@ -28,6 +28,16 @@ pub enum Fault {
         number: u64,
         to: u16,
         by: u32,
+    },
+    /// The mote is off from a moment on. It takes no turns then, and what arrives vanishes.
+    OffFrom {
+        mote: u16,
+        from: u64,
+    },
+    /// The mote is off before a moment: it starts then, and what arrives before vanishes.
+    OffUntil {
+        mote: u16,
+        until: u64,
     },
 }
 
@@ -54,6 +64,7 @@ impl Fault {
                 to: r,
                 by: _,
             } => s == sender && n == number && r == to,
+            Fault::OffFrom { .. } | Fault::OffUntil { .. } => false,
         }
     }
 }

@@ -20,7 +20,7 @@ use Rattle.net_agenda.specs.NetSystem.{system_of}
 use Rattle.mote_net.specs.Report.{ReportModel}
 use Rattle.serial_run.specs.FaultRun.{net_with, packet_with, IsReportWith}
 use Rattle.window_laws.specs.NetStep.{NetState, Run, Done, Turn, sends_of, turned_at, turn_at, boot}
-use Rattle.serial_run.specs.Counted.{is_after, is_late, LateCopiesStay, LeftIsCounted, FatesTellLeft}
+use Rattle.serial_run.specs.Counted.{is_after, LateCopiesStay}
 use Rattle.radio_faults.specs.declared.fault.Fault.{Fault}
 use Rattle.radio_faults.specs.Faults.{copies_with, fates_with}
 use Rattle.radio_faults.proofs.Copies.{fates_tell_copies}
@@ -89,35 +89,3 @@ module _ {S L : Type 0} (system : System S L) where
 pub late_copies_stay : LateCopiesStay
 unfolding system_of
 late_copies_stay faults n r report = late_run (net_with faults n) n.end report.run (all_boot (net_with faults n) (is_after n.end))
-
-left_is : (faults : List Fault) (n : NetModel) (r : ReportModel) (report : IsReportWith faults n r) → r.left ≡ length (filter (is_after n.end) (all_copies faults n.radio report.last.log))
-left_is faults n r report = ap (λ t. t.left) report.matches ∙ ap length (late_copies_stay faults n r report)
-
-pub left_is_counted : LeftIsCounted
-left_is_counted faults n r report = left_is faults n r report ∙ length-filter (is_after n.end) (all_copies faults n.radio report.last.log)
-
--- a packet has the same number of late copies and late fates
-module _ (faults : List Fault) (radio : Radio) (end : ℕ) where
-  fates_tell : (sent : Sent) (fs : List Fate) → length (filter (is_after end) (filter_map (copy_of sent) fs)) ≡ length (filter (is_late end) fs)
-  fates_tell sent [] = refl
-  fates_tell sent (f ∷ fs) = of f.at refl (fates_tell sent fs)
-    where
-      of : (o : Option ℕ) → f.at ≡ o → length (filter (is_after end) (filter_map (copy_of sent) fs)) ≡ length (filter (is_late end) fs)
-          → length (filter (is_after end) (filter_map (copy_of sent) (f ∷ fs))) ≡ length (filter (is_late end) (f ∷ fs))
-      of None e ih = rw e ih
-      of (Some at) e ih = elim (cases_Bool (ltb end at)) [ inl g ↦ rw (e, g) (ap suc ih) | inr g ↦ rw (e, g) ih ]
-
-  packet_tells : (sent : Sent) → length (filter (is_after end) (copies_with faults (copies radio sent))) ≡ length (filter (is_late end) (fates_with faults sent (fates radio sent)))
-  unfolding copies
-  packet_tells sent = ap (λ l. length (filter (is_after end) l)) (sym (fates_tell_copies faults sent (fates radio sent))) ∙ fates_tell sent (fates_with faults sent (fates radio sent))
-
-  log_tells : (log : List Sent) → length (filter (is_after end) (all_copies faults radio log)) ≡ length (filter (is_late end) (flat_map (λ packet. packet.fates) (map (packet_with faults radio) log)))
-  log_tells [] = refl
-  log_tells (sent ∷ log) = simp (filter-append, length-append) (rw (packet_tells sent, log_tells log) refl)
-
-pub fates_tell_left : FatesTellLeft
-fates_tell_left faults n r report =
-    left_is faults n r report
-    ∙ (log_tells faults n.radio n.end report.last.log
-    ∙ (ap (λ (t : ReportModel). length (filter (is_late n.end) (flat_map (λ packet. packet.fates) t.log))) (sym report.matches)
-    ∙ length-filter (is_late n.end) (flat_map (λ packet. packet.fates) r.log)))

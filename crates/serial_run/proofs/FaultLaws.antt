@@ -1,5 +1,5 @@
 -- Reports with other faults.
-use Rattle.std.proofs.Common.{◌≡◌, ℕ, ◌&&◌, Bool, true, false, List, [], ◌∷◌, map, Option, Some, None, refl, sym, ap, ap₂, ◌∙◌, length, if◌then◌else◌}
+use Rattle.std.proofs.Common.{◌≡◌, ℕ, ◌≤◌, ◌&&◌, ◌||◌, Bool, true, false, List, [], ◌∷◌, map, Option, Some, None, refl, sym, ap, ap₂, ◌∙◌, length, if◌then◌else◌}
 use Rattle.std.specs.List.{AllByRecursion, filter_map, list_any}
 use Rattle.std.specs.Option.{option_and_then}
 use Rattle.std.proofs.lemmas.Bool.{or_parts}
@@ -7,6 +7,13 @@ use Rattle.radio_packet.specs.declared.fate.Fate.{Fate}
 use Rattle.radio_packet.specs.declared.sent.Sent.{Sent}
 use Rattle.radio_medium.specs.Medium.{copies, copy_of, fates, lookahead}
 use Rattle.radio_faults.specs.declared.fault.Fault.{Fault}
+use Rattle.radio_faults.specs.declared.fault.Fault.TheVariants.{Link, Silent, Lost, LostToAll, Late, OffFrom, OffUntil}
+use Rattle.radio_faults.specs.Off.{is_off, keeps_off}
+use Rattle.radio_faults.specs.LossTables.{IsOfLinks}
+use Rattle.radio_packet.specs.declared.copy.RadioCopy.{RadioCopy}
+use Rattle.mote_node.specs.Turn.{Node}
+use Rattle.fault_laws.specs.Laws.{AreOffTheSame, LeavesOn}
+use Rattle.fault_laws.specs.WithFaults.{turn_with}
 use Rattle.radio_faults.specs.Faults.{names, named_arrival, copies_with, fate_after, fates_with}
 use Rattle.radio_faults.specs.LossTables.{radio_with}
 use Rattle.radio_faults.proofs.Broken.{loss_tables_agree as of_medium}
@@ -14,13 +21,13 @@ use Rattle.radio_faults.proofs.Copies.{fates_tell_copies}
 use Rattle.window_laws.specs.Agenda.{packets, up_to}
 use Rattle.window_laws.proofs.Lists.{every_weaker}
 use Rattle.fault_laws.proofs.Order.{order_means_nothing as of_faults}
-use Rattle.fault_laws.proofs.Runs.{copies_decide, run_with_same_copies}
+use Rattle.fault_laws.proofs.Runs.{copies_decide, run_with_same, still_on}
 use Rattle.mote_net.specs.Net.{NetModel}
 use Rattle.mote_net.specs.Report.{Packet, ReportModel}
 use Rattle.net_agenda.specs.NetSystem.{system_of}
 use Rattle.serial_run.specs.FaultRun.{net_with, packet_with, IsReportWith}
 use Rattle.serial_run.specs.NetRun.{packet_with_fates}
-use Rattle.serial_run.specs.FaultLaws.{is_some, names_copy_of, names_copy_in, net_losing, UnsentIsNothing, OrderMeansNothing, LossTablesAgree, SomeAreUnsent}
+use Rattle.serial_run.specs.FaultLaws.{is_of_motes, is_some, names_copy_of, names_copy_in, net_losing, UnsentIsNothing, OrderMeansNothing, LossTablesAgree, SomeAreUnsent}
 
 same_map : {X Y : Type 0} (f g : X → Y) (xs : List X) → AllByRecursion (λ x. f x ≡ g x) xs → map f xs ≡ map g xs
 same_map f g [] same = refl
@@ -40,11 +47,11 @@ module _ (model : NetModel) where
   same_copies some others sent same =
       sym (fates_tell_copies some sent (fates model.radio sent)) ∙ (ap (filter_map (copy_of sent)) same ∙ fates_tell_copies others sent (fates model.radio sent))
 
-  same_report : (some others : List Fault) (r : ReportModel) (report : IsReportWith some model r) → AllByRecursion (SameFates some others) report.last.log → IsReportWith others model r
+  same_report : (some others : List Fault) → AreOffTheSame some others model.end → (r : ReportModel) (report : IsReportWith some model r) → AllByRecursion (SameFates some others) report.last.log → IsReportWith others model r
   unfolding system_of
-  same_report some others r report same = record {
+  same_report some others off r report same = record {
     last = report.last;
-    run = copies_decide (system_of model) some others model.end report.last report.run (every_weaker _ _ (same_copies some others) report.last.log same);
+    run = copies_decide (system_of model) some others model.end report.last report.run off (every_weaker _ _ (same_copies some others) report.last.log same);
     matches = report.matches
         ∙ ap (λ (log : List Packet). let x : ReportModel = record { traces = map report.last.traces (up_to (length model.motes)); log = log; left = length (packets report.last.agenda) } in x)
         (same_map _ _ report.last.log (every_weaker _ _ (λ sent same. ap (λ (fs : List Fate). let x : Packet = record { sent = sent; fates = fs } in x) same) report.last.log same));
@@ -52,7 +59,7 @@ module _ (model : NetModel) where
 
 pub order_means_nothing : OrderMeansNothing
 order_means_nothing some others model r permuted report =
-    same_report model some others r report (always _ (λ sent. of_faults.of_fates some others permuted sent (fates model.radio sent)) report.last.log)
+    same_report model some others (of_faults.of_motes some others permuted model.end) r report (always _ (λ sent. of_faults.of_fates some others permuted sent (fates model.radio sent)) report.last.log)
 
 -- a fault that names no copy of a packet but those that are lost changes none of its fates
 untouched : (fault : Fault) (sent : Sent) (fs : List Fate) → list_any (λ (fate : Fate). names fault sent.sender sent.number fate.to && is_some fate.at) fs ≡ false → fs ≡ map (fate_after fault sent) fs
@@ -72,9 +79,21 @@ all_untouched faults fault model (sent ∷ log) none =
     let parts = or_parts (names_copy_of fault (packet_with faults model.radio sent)) _ none in
     (untouched fault sent (fates_with faults sent (fates model.radio sent)) parts.0, all_untouched faults fault model log parts.1)
 
+-- a fault of copies leaves all motes on
+leaves_on : (fault : Fault) (end : ℕ) → is_of_motes fault ≡ false → LeavesOn fault end
+leaves_on (Link from to) end e mote moment le = refl
+leaves_on (Silent k) end e mote moment le = refl
+leaves_on (Lost sender number to) end e mote moment le = refl
+leaves_on (LostToAll sender number) end e mote moment le = refl
+leaves_on (Late sender number to by) end e mote moment le = refl
+leaves_on (OffFrom k from) end e mote moment le = absurd (cc)
+leaves_on (OffUntil k until) end e mote moment le = absurd (cc)
+
 pub unsent_is_nothing : UnsentIsNothing
 unsent_is_nothing faults fault model r report none =
-    same_report model faults (fault ∷ faults) r report (all_untouched faults fault model report.last.log (ap (names_copy_in fault) (sym report.matches) ∙ none))
+    let parts = or_parts (is_of_motes fault) (names_copy_in fault r) none in
+    same_report model faults (fault ∷ faults) (still_on fault faults model.end (leaves_on fault model.end parts.0)) r report
+    (all_untouched faults fault model report.last.log (ap (names_copy_in fault) (sym report.matches) ∙ parts.1))
 
 module _ (faults : List Fault) (model : NetModel) where
   -- the fates of a packet are those with the losses
@@ -88,13 +107,31 @@ module _ (faults : List Fault) (model : NetModel) where
   same_packet : (sent : Sent) → AreAsLost sent → packet_with faults model.radio sent ≡ packet_with_fates (radio_with faults model.radio) sent
   same_packet sent same = ap (λ (fs : List Fate). let x : Packet = record { sent = sent; fates = fs } in x) same
 
+-- faults of links leave all motes on
+none_off : (faults : List Fault) → AllByRecursion IsOfLinks faults → (mote moment : ℕ) → is_off faults mote moment ≡ false
+none_off [] are mote moment = refl
+none_off (fault ∷ faults) are mote moment = one fault are.0 (none_off faults are.1 mote moment)
+  where
+    one : (fault : Fault) → IsOfLinks fault → is_off faults mote moment ≡ false → (keeps_off fault mote moment || is_off faults mote moment) ≡ false
+    one (Link from to) is rest = rest
+    one (Silent k) is rest = rest
+    one (Lost sender number to) is rest = absurd is
+    one (LostToAll sender number) is rest = absurd is
+    one (Late sender number to by) is rest = absurd is
+    one (OffFrom k from) is rest = absurd is
+    one (OffUntil k until) is rest = absurd is
+
+same_turns : (faults : List Fault) → AllByRecursion IsOfLinks faults → (model : NetModel) (mote : ℕ) (state : Node) (moment : ℕ) (given : List RadioCopy)
+    → turn_with faults (system_of model) mote state moment given ≡ (system_of model).turn mote state moment given
+same_turns faults are model mote state moment given = rw (none_off faults are mote moment) refl
+
 pub loss_tables_agree : LossTablesAgree
 unfolding system_of
 loss_tables_agree = record {
   there = λ faults model r are report.
       let same = always (AreAsLost faults model) (λ sent. of_medium model.radio faults are sent) report.last.log in record {
         last = report.last;
-        run = run_with_same_copies (net_with faults model) model.end (copies (radio_with faults model.radio)) (lookahead (radio_with faults model.radio) model.end) report.run
+        run = run_with_same (net_with faults model) model.end (system_of (net_losing faults model)) (λ mote state moment given le. same_turns faults are model mote state moment given) report.run
             (every_weaker _ _ (as_lost faults model) report.last.log same);
         matches = report.matches
             ∙ ap (λ (log : List Packet). let x : ReportModel = record { traces = map report.last.traces (up_to (length model.motes)); log = log; left = length (packets report.last.agenda) } in x)
@@ -103,7 +140,7 @@ loss_tables_agree = record {
   back = λ faults model r are report.
       let same = always (AreAsLost faults model) (λ sent. of_medium model.radio faults are sent) report.last.log in record {
         last = report.last;
-        run = run_with_same_copies (system_of (net_losing faults model)) model.end (λ sent. copies_with faults (copies model.radio sent)) (lookahead model.radio model.end) report.run
+        run = run_with_same (system_of (net_losing faults model)) model.end (net_with faults model) (λ mote state moment given le. sym (same_turns faults are model mote state moment given)) report.run
             (every_weaker _ _ (λ sent same. sym (as_lost faults model sent same)) report.last.log same);
         matches = report.matches
             ∙ ap (λ (log : List Packet). let x : ReportModel = record { traces = map report.last.traces (up_to (length model.motes)); log = log; left = length (packets report.last.agenda) } in x)

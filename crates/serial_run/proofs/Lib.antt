@@ -2,12 +2,11 @@ pub mod ByWindows
 pub mod Counted
 pub mod FaultLaws
 pub mod Given
-pub mod GivenAll
 pub mod Handed
-pub mod Kept
+pub mod Inside
+pub mod OnTime
 pub mod OneReport
 pub mod OneWake
-pub mod OnTime
 pub mod Reached
 pub mod Reports
 pub mod Stamped

@@ -24,9 +24,10 @@ use Rattle.serial_run.specs.OnTime.{CanTurn, IsNotAfter, IsOnTime}
 use Rattle.serial_run.specs.IsInState.{IsEngineAt}
 use Rattle.radio_faults.specs.declared.fault.Fault.{Fault}
 use Rattle.serial_run.specs.FaultRun.{net_with}
+use Rattle.fault_laws.proofs.Forward.{turn_either}
 
 -- comparisons of plain numbers
-then_later : (t m u k : ℕ) → k ≡ m → (ltb t u || (eqb u t && not (ltb k (suc m)))) ≡ true → nat_le u t ≡ false
+then_later : (t m u k : ℕ) → k ≡ m → (ltb t u || (eqb u t && not (ltb k (suc m)))) ≡ true → t < u
 then_later t m u k e h = grind (arith, nat_tests)
 
 above : (t u : ℕ) → t < u → nat_le u t ≡ false
@@ -41,9 +42,13 @@ still_after at t None h le = tt
 still_after at t (Some last) h le = omega arith
 
 module _ (faults : List Fault) (n : NetModel) where
-  turn_ends : (t m : ℕ) (net : NetState Node Line) → (turned_at (net_with faults n) t m net).state.last ≡ Some t
+  turn_ends : (at t m : ℕ) (net : NetState Node Line) → IsNotAfter at (net.states m).last → at ≤ t → IsNotAfter t (turned_at (net_with faults n) t m net).state.last
   unfolding system_of turn_of
-  turn_ends t m net = refl
+  turn_ends at t m net before le =
+      turn_either (system_of n) faults m (net.states m) t _ (λ (turned : Turned Node Line). IsNotAfter t turned.state.last) (λ wake later. still_after at t (net.states m).last before le) (low t)
+    where
+      low : (t : ℕ) → t ≤ t
+      low t = omega arith
 
   pub boot_on_time : IsOnTime 0 (boot (net_with faults n))
   unfolding system_of new_node
@@ -73,19 +78,22 @@ module _ (faults : List Fault) (n : NetModel) where
         turn_every (net_with faults n) IsAheadElsewhere t m net (every_filter _ _ (is_left t m) (λ item h e ne. h) net.agenda on_time.ahead) (λ u e ne. absurd (ne refl))
         (λ s. every_weaker (IsCopyOf (net_with faults n) (stamped t m s)) (λ (copy : RadioCopy). IsAheadElsewhere (Packet copy)) (λ (copy : RadioCopy) h ne. no_turn_after at t copy.at (net.states copy.to).last (on_time.turned copy.to) reached (let l = fine.some_lookahead in let k = h.later in omega arith)) _ (fine.copies_later (stamped t m s)))
 
+    ends : IsNotAfter t next.state.last
+    ends = turn_ends at t m net (on_time.turned m) reached
+
     abbrev later_on : ℕ → Option ℕ
     later_on k = ((turn_at (net_with faults n) t m net).states k).last
 
     one_ahead : (item : Item) → is_from t (suc m) item ≡ true → IsAheadElsewhere item → is_past (moment_of item) (later_on (mote_of item)) ≡ false
     one_ahead item from h =
         put_each (λ k (x : Node). mote_of item ≡ k → is_past (moment_of item) x.last ≡ false) net.states m next.state
-        (λ e. ap (is_past (moment_of item)) (turn_ends t m net) ∙ then_later t m (moment_of item) (mote_of item) e from)
+        (λ e. no_turn_after t t (moment_of item) next.state.last ends (omega arith) (then_later t m (moment_of item) (mote_of item) e from))
         (λ k ne e. subst (λ j. is_past (moment_of item) (net.states j).last ≡ false) e (h (λ f. ne (sym e ∙ f)))) (mote_of item) refl
 
     pub turn_on_time : IsOnTime t (turn_at (net_with faults n) t m net)
     turn_on_time = record {
       coming = every_weaker _ _ (λ item h. no_sooner t (suc m) (moment_of item) (mote_of item) h) _ ahead;
-      turned = put_each (λ k (x : Node). IsNotAfter t x.last) net.states m next.state (subst (IsNotAfter t) (sym (turn_ends t m net)) (omega arith)) (λ k ne. still_after at t (net.states k).last (on_time.turned k) reached);
+      turned = put_each (λ k (x : Node). IsNotAfter t x.last) net.states m next.state ends (λ k ne. still_after at t (net.states k).last (on_time.turned k) reached);
       ahead = every_weaker _ _ (λ item h. one_ahead item h.0 h.1) _ (every_both _ _ (turn_at (net_with faults n) t m net).agenda ahead elsewhere);
     }
       where

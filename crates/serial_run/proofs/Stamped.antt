@@ -1,6 +1,6 @@
 -- In a net's run the packets of a turn already have the moment and the mote with which they are stamped.
 use Rattle.std.proofs.Common.{◌≡◌, ℕ, List, [], ◌∷◌, map, refl, ap₂, ◌∙◌, subst}
-use Rattle.std.proofs.lemmas.List.Elements.{All-head, All-tail}
+use Rattle.std.proofs.lemmas.List.Elements.{All-head, All-nil, All-tail}
 use Rattle.trace_lines.specs.declared.line.Line.{Line}
 use Rattle.radio_packet.specs.declared.sent.Sent.{Sent}
 use Rattle.kernel_laws.specs.Stamps.{PacketsBear}
@@ -14,6 +14,8 @@ use Rattle.serial_run.specs.Stamps.{AreStamped, SendsAreStamped}
 use Rattle.serial_run.specs.Ended.{AreNumbered}
 use Rattle.radio_faults.specs.declared.fault.Fault.{Fault}
 use Rattle.serial_run.specs.FaultRun.{net_with}
+use Rattle.fault_laws.proofs.Forward.{turn_either}
+use Rattle.window_laws.specs.System.{Turned}
 
 pub stamped_is : (t m : ℕ) (sends : List Sent) → PacketsBear t m sends → map (stamped t m) sends ≡ sends
 stamped_is t m [] h = refl
@@ -31,11 +33,11 @@ module _ (faults : List Fault) (n : NetModel) where
 
   number_kept : (t m : ℕ) (net : NetState Node Line) → (turned_at (net_with faults n) t m net).state.mote.state.mote ≡ (net.states m).mote.state.mote
   unfolding system_of
-  number_kept t m net = (turns_stamp t _ (net.states m)).mote
+  number_kept t m net = turn_either (system_of n) faults m (net.states m) t _ (λ (turned : Turned Node Line). turned.state.mote.state.mote ≡ (net.states m).mote.state.mote) (λ wake later. refl) (turns_stamp t _ (net.states m)).mote
 
   sends_bear : (t m : ℕ) (net : NetState Node Line) → PacketsBear t (net.states m).mote.state.mote (turned_at (net_with faults n) t m net).sends
   unfolding system_of
-  sends_bear t m net = (turns_stamp t _ (net.states m)).packets
+  sends_bear t m net = turn_either (system_of n) faults m (net.states m) t _ (λ (turned : Turned Node Line). PacketsBear t (net.states m).mote.state.mote turned.sends) (λ wake later. All-nil _) (turns_stamp t _ (net.states m)).packets
 
   pub turn_numbered : (t m : ℕ) (net : NetState Node Line) → AreNumbered net → AreNumbered (turn_at (net_with faults n) t m net)
   turn_numbered t m net numbered =

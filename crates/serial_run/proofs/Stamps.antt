@@ -15,7 +15,7 @@ use Rattle.mote_laws.proofs.Stamps.{turns_stamp, new_is}
 use Rattle.mote_node.specs.Turn.{Node}
 use Rattle.mote_node.proofs.WakeLaws.{wakes_later}
 use Rattle.radio_medium.proofs.Copies.{copies_later}
-use Rattle.fault_laws.proofs.Forward.{with_later}
+use Rattle.fault_laws.proofs.Forward.{turn_either, with_later}
 use Rattle.mote_net.specs.Net.{NetModel}
 use Rattle.window_laws.specs.System.{Turned}
 use Rattle.window_laws.specs.Forward.{IsLater}
@@ -44,11 +44,11 @@ module _ (faults : List Fault) (n : NetModel) where
 
   lines_bear : (t m : ℕ) (net : NetState Node Line) → LinesBear t (next t m net).lines
   unfolding system_of
-  lines_bear t m net = (turns_stamp t _ (net.states m)).lines
+  lines_bear t m net = turn_either (system_of n) faults m (net.states m) t _ (λ (turned : Turned Node Line). LinesBear t turned.lines) (λ wake later. All-nil (λ (l : Line). l.at ≡ t)) (turns_stamp t _ (net.states m)).lines
 
   wake_is_later : (t m : ℕ) (net : NetState Node Line) → IsLater t (next t m net).wake
   unfolding system_of
-  wake_is_later t m net = wakes_later t _ (net.states m)
+  wake_is_later t m net = turn_either (system_of n) faults m (net.states m) t _ (λ (turned : Turned Node Line). IsLater t turned.wake) (λ wake later. later) (wakes_later t _ (net.states m))
 
   copies_are_later : (sent : Sent) → AllByRecursion (λ copy. sent.at ≤ copy.at) ((net_with faults n).copies sent)
   unfolding system_of
@@ -129,11 +129,11 @@ sent_of node = node.mote.state.sent
 module _ (faults : List Fault) (n : NetModel) where
   sends_numbered : (t m : ℕ) (net : NetState Node Line) → AreNumberedFrom (sent_of (net.states m)) (turned_at (net_with faults n) t m net).sends
   unfolding system_of
-  sends_numbered t m net = (turns_stamp t _ (net.states m)).numbered
+  sends_numbered t m net = turn_either (system_of n) faults m (net.states m) t _ (λ (turned : Turned Node Line). AreNumberedFrom (sent_of (net.states m)) turned.sends) (λ wake later. refl) (turns_stamp t _ (net.states m)).numbered
 
   sends_counted : (t m : ℕ) (net : NetState Node Line) → sent_of (turned_at (net_with faults n) t m net).state ≡ sent_of (net.states m) + length (turned_at (net_with faults n) t m net).sends
   unfolding system_of
-  sends_counted t m net = (turns_stamp t _ (net.states m)).counted
+  sends_counted t m net = turn_either (system_of n) faults m (net.states m) t _ (λ (turned : Turned Node Line). sent_of turned.state ≡ sent_of (net.states m) + length turned.sends) (λ wake later. omega arith) (turns_stamp t _ (net.states m)).counted
 
   own_counts : (t m : ℕ) (net : NetState Node Line) → Counts net m → Counts (turn_at (net_with faults n) t m net) m
   own_counts t m net c =

@@ -1,19 +1,20 @@
 -- A turn of the engine is the turn of the net.
-use Rattle.std.proofs.Common.{◌≡◌, ℕ, ◌<◌, Bool, true, false, not, ◌&&◌, ◌||◌, List, ◌++◌, length, map, get_or}
-use Rattle.std.proofs.Common.{refl, sym, ap, ◌∙◌, subst, arith, append_assoc, Option, Some, None, option_map}
+use Rattle.std.proofs.Common.{◌≡◌, ℕ, ◌<◌, Bool, true, false, not, ◌&&◌, ◌||◌, eqb, if◌then◌else◌, List, [], ◌∷◌, ◌++◌, length, map, get_or, slice_set}
+use Rattle.std.proofs.Common.{refl, sym, ap, ◌∙◌, subst, arith, append_assoc, Option, Some, None, option_map, inl, inr}
 use Rattle.std.proofs.Common.{get_or-set_same, get_or-set_other}
 use Rattle.std.specs.Prelude.{IfSome, Vec}
 use Rattle.std.specs.declared.alloc.Global.{Global}
-use Rattle.std.specs.List.{filter}
-use Rattle.std.proofs.lemmas.List.{map-append}
+use Rattle.std.specs.List.{filter, flat_map}
+use Rattle.std.proofs.lemmas.Bool.{cases_Bool, cases_eq, eq-eqb}
+use Rattle.std.proofs.lemmas.List.{length-set, map-append}
 use Rattle.program_tree.specs.Code.{Tree}
 use Rattle.radio_packet.specs.declared.arrival.Arrival.{Arrival}
 use Rattle.trace_lines.specs.declared.line.Line.{Line}
 use Rattle.radio_packet.specs.declared.sent.Sent.{Sent}
 use Rattle.mote_node.specs.declared.mote.Mote.{Mote}
 use Rattle.mote_node.specs.declared.mote.TurnOut.{TurnOut}
-use Rattle.mote_node.specs.Turn.{Node, turn_of, wake_of}
-use Rattle.mote_node.specs.Public.{node_in, turn_given, wake_in}
+use Rattle.mote_node.specs.Turn.{Node, turn_of}
+use Rattle.mote_node.specs.Public.{node_in, turn_given}
 use Rattle.kernel_laws.specs.Stamps.{PacketsBear}
 use Rattle.mote_laws.proofs.Stamps.{turns_stamp}
 use Rattle.mote_node.specs.Turn as node
@@ -22,15 +23,19 @@ use Rattle.mote_net.specs.Report.{line_model}
 use Rattle.serial_run.specs.declared.engine.Engine.{Engine}
 use Rattle.window_laws.specs.Agenda.{Item, Packet, comes_at, is_wake_of, is_left, wake_items}
 use Rattle.net_agenda.specs.Buckets.{HoldsItems, arrivals_at, wake_but_at}
-use Rattle.net_agenda.specs.NetSystem.{system_of, tree_at}
+use Rattle.net_agenda.specs.NetSystem.{system_of, tree_at, turned_of}
+use Rattle.fault_laws.specs.WithFaults.{no_turn}
+use Rattle.radio_faults.specs.Off.{is_off, next_start}
+use Rattle.radio_packet.specs.declared.copy.RadioCopy.{RadioCopy}
+use Rattle.window_laws.specs.System.{Turned}
 use Rattle.serial_run.specs.FaultRun.{net_with, packet_with}
-use Rattle.window_laws.specs.NetStep.{NetState, stamped, turn_at}
-use Rattle.serial_run.specs.IsInState.{IsEngineAt, KeepsWakes, OneTakesTurn}
+use Rattle.window_laws.specs.NetStep.{NetState, after_turn, sends_of, stamped, turn_at, turned_at}
+use Rattle.serial_run.specs.IsInState.{IsEngineAt, IsWhole, OneTakesTurn, turn_given_with}
 use Rattle.net_agenda.specs.Traces.{AddsLines}
 use Rattle.window_laws.proofs.Lists.{filter_filter, filter_both}
 use Rattle.window_laws.proofs.Puts.{put_each}
 use Rattle.serial_run.specs.OnTime.{CanTurn}
-use Rattle.serial_run.proofs.Kept.{wake_later}
+use Rattle.window_laws.proofs.Agenda.{wakes_other, wakes_own}
 use Rattle.serial_run.proofs.Stamped.{stamped_is}
 use Rattle.radio_faults.specs.declared.fault.Fault.{Fault}
 use Rattle.serial_run.specs.Counted.{all_copies}
@@ -60,13 +65,61 @@ turn_stamps t m packets (Some n) after out can number e =
     subst (PacketsBear t m) (sym (tells after out (turn_of t packets n) e).sends)
     (subst (λ k. PacketsBear t k (turn_of t packets n).sends) number (turns_stamp t packets n).packets)
 
+-- the mote's wake, without one that is due
+wake_later : (t m : ℕ) (wake : Option ℕ) → filter (λ item. not (comes_at t m item)) (wake_items m wake) ≡ wake_items m (wake_but_at t wake)
+wake_later t m None = refl
+wake_later t m (Some u) =
+    let f : eqb m m ≡ true = eq-eqb m m refl in
+    elim (cases_Bool (eqb u t)) [ inl e ↦ rw (e, f) refl | inr e ↦ rw e refl ]
+
+any_of : {X : Type 0} (xs : List X) (m : ℕ) → m < length xs → X
+any_of [] m h = absurd (omega arith)
+any_of (x ∷ xs) m h = x
+
 neither : (a b : Bool) → not (a || b) ≡ (not a && not b)
 neither true b = refl
 neither false b = refl
 
+module _ (tree : Tree) (faults : List Fault) (t m : ℕ) (packets : List Arrival) where
+  -- while the mote is off, nothing happens in its turn
+  pub stays_off : (motes : List Mote) (out : TurnOut) → is_off faults m t ≡ true → out.lines.items ≡ [] → out.sends.items ≡ [] → out.wake ≡ next_start faults m t
+      → OneTakesTurn tree faults t packets m motes motes out
+  stays_off motes out off lines sends wake = record {
+    count = refl;
+    others = λ j ne d. refl;
+    turned = λ d. same (node_in tree (get_or motes m d));
+  }
+    where
+      same : (o : Option Node) → option_map (turn_given out) o ≡ option_map (turn_given_with faults t m packets) o
+      same None = refl
+      same (Some x) = rw (off, lines, sends, wake) refl
+
+  -- a mote that isn't off takes its own turn
+  pub takes_turn : (old : List Mote) (after : Mote) (out : TurnOut) → is_off faults m t ≡ false → m < length old
+      → ((d : Mote) → option_map (turn_given out) (node_in tree after) ≡ option_map (turn_of t packets) (node_in tree (get_or old m d)))
+      → OneTakesTurn tree faults t packets m old (slice_set old m after) out
+  takes_turn old after out on there turned = record {
+    count = length-set old m after;
+    others = λ j ne d. get_or-set_other old m j after d ne;
+    turned = λ d. ap (λ x. option_map (turn_given out) (node_in tree x)) (get_or-set_same old m after d there) ∙ (turned d ∙ same (node_in tree (get_or old m d)));
+  }
+    where
+      same : (o : Option Node) → option_map (turn_of t packets) o ≡ option_map (turn_given_with faults t m packets) o
+      same None = refl
+      same (Some x) = rw on refl
+
 module _ (faults : List Fault) (n : NetModel) (t m : ℕ) (state : NetState Node Line) where
   abbrev turned : node.TurnGiven
-  turned = turn_of t (arrivals_at t m state.agenda) (state.states m)
+  turned = turn_given_with faults t m (arrivals_at t m state.agenda) (state.states m)
+
+  turned_is : turned_of turned ≡ turned_at (net_with faults n) t m state
+  unfolding system_of
+  turned_is = when (is_off faults m t)
+    where
+      when : (off : Bool) → turned_of (if off then record { node = state.states m; lines = []; sends = []; wake = next_start faults m t } else turn_of t (arrivals_at t m state.agenda) (state.states m))
+          ≡ (if off then no_turn (state.states m) (next_start faults m t) else turned_of (turn_of t (arrivals_at t m state.agenda) (state.states m)))
+      when true = refl
+      when false = refl
 
   -- the agenda after a turn, in the order in which the engine builds it
   abbrev pub agenda_after : Option ℕ → List Sent → List Item
@@ -75,25 +128,31 @@ module _ (faults : List Fault) (n : NetModel) (t m : ℕ) (state : NetState Node
       ++ map Packet (all_copies faults n.radio sends)
 
   pub in_state_turn : (old new : Engine) (tree : Tree) (packets : List Arrival) (out : TurnOut)
-      → m < length n.motes → length old.motes.items ≡ length n.motes → length old.traces.items ≡ length n.motes → IsEngineAt faults n old state
+      → m < length n.motes → IsWhole n old → IsEngineAt faults n old state
       → tree ≡ tree_at n m → packets ≡ arrivals_at t m state.agenda
-      → OneTakesTurn tree t packets m old.motes.items new.motes.items out → PacketsBear t m out.sends.items
+      → OneTakesTurn tree faults t packets m old.motes.items new.motes.items out → new.wakes.items ≡ slice_set old.wakes.items m out.wake → PacketsBear t m out.sends.items
       → AddsLines m out.lines.items old.traces.items new.traces.items
       → HoldsItems new.agenda.buckets (agenda_after out.wake out.sends.items)
       → map line_model new.log.items ≡ map line_model old.log.items ++ map (packet_with faults n.radio) out.sends.items
       → IsEngineAt faults n new (turn_at (net_with faults n) t m state)
   unfolding system_of
-  in_state_turn old new tree packets out there motes traces at tree_is packets_are takes bear adds agenda log = record {
+  in_state_turn old new tree packets out there whole at tree_is packets_are takes put_wake bear adds agenda log = subst (λ (x : Turned Node Line). IsEngineAt faults n new (after_turn (net_with faults n) t m state x)) turned_is (record {
     nodes =
         put_each (λ k (x : Node). k < length n.motes → (d : Mote) → node_in (tree_at n k) (get_or new.motes.items k d) ≡ Some x) state.states m turned.node
-        (λ h d. ap (λ l. node_in (tree_at n m) (get_or l m d)) takes.put ∙ (ap (node_in (tree_at n m)) (get_or-set_same old.motes.items m takes.after d inside) ∙ is.node))
-        (λ k ne h d. ap (λ l. node_in (tree_at n k) (get_or l k d)) takes.put
-        ∙ (ap (node_in (tree_at n k)) (get_or-set_other old.motes.items m k takes.after d ne) ∙ at.nodes k h d));
+        (λ h d. (is d).node)
+        (λ k ne h d. ap (node_in (tree_at n k)) (takes.others k ne d) ∙ at.nodes k h d);
+    wakes = λ k h d. elim (cases_eq k m) [
+      | inl e ↦ subst (λ (j : ℕ). filter (is_wake_of j) after.agenda ≡ wake_items j (get_or new.wakes.items j d)) (sym e)
+          (wakes_own t m turned.wake given state.agenda
+          ∙ ap (wake_items m) (sym (ap (λ l. get_or l m d) put_wake ∙ (get_or-set_same old.wakes.items m out.wake d kept ∙ is_m.wake))))
+      | inr ne ↦ wakes_other t m turned.wake given state.agenda k ne
+          ∙ (at.wakes k h d ∙ ap (wake_items k) (sym (ap (λ l. get_or l k d) put_wake ∙ get_or-set_other old.wakes.items m k out.wake d ne)))
+    ];
     traces =
         put_each (λ k (x : List Line). k < length n.motes → (d : Vec Line Global) → (get_or new.traces.items k d).items ≡ x) state.traces m (state.traces m ++ turned.lines)
         (λ h d. ap (λ l. (get_or l m d).items) adds.put
         ∙ (ap (λ (v : Vec Line Global). v.items) (get_or-set_same old.traces.items m adds.after d traced)
-        ∙ (adds.added d ∙ (ap (λ l. l ++ out.lines.items) (at.traces m there d) ∙ ap (λ l. state.traces m ++ l) is.lines))))
+        ∙ (adds.added d ∙ (ap (λ l. l ++ out.lines.items) (at.traces m there d) ∙ ap (λ l. state.traces m ++ l) is_m.lines))))
         (λ k ne h d. ap (λ l. (get_or l k d).items) adds.put
         ∙ (ap (λ (v : Vec Line Global). v.items) (get_or-set_other old.traces.items m k adds.after d ne) ∙ at.traces k h d));
     log =
@@ -101,42 +160,54 @@ module _ (faults : List Fault) (n : NetModel) (t m : ℕ) (state : NetState Node
         ∙ (ap (λ l. map (packet_with faults n.radio) state.log ++ map (packet_with faults n.radio) l) sent
         ∙ sym (map-append (packet_with faults n.radio) state.log (map (stamped t m) turned.sends))));
     agenda = subst (λ l. HoldsItems new.agenda.buckets l) same agenda;
-  }
+  })
     where
-      inside : m < length old.motes.items
-      inside = omega arith
+      kept : m < length old.wakes.items
+      kept = let e = whole.wakes in omega arith
 
       traced : m < length old.traces.items
-      traced = omega arith
+      traced = let e = whole.traces in omega arith
 
-      is : Tells (node_in (tree_at n m) takes.after) out turned
-      is = tells _ out turned (
-          ap (λ x. option_map (turn_given out) (node_in x takes.after)) (sym tree_is)
-          ∙ (takes.turned takes.after
-          ∙ (ap (λ x. option_map (turn_of t packets) (node_in x (get_or old.motes.items m takes.after))) tree_is
-          ∙ (ap (option_map (turn_of t packets)) (at.nodes m there takes.after) ∙ ap (λ p. Some (turn_of t p (state.states m))) packets_are))))
+      after : NetState Node Line
+      after = after_turn (net_with faults n) t m state (turned_of turned)
+
+      given : List RadioCopy
+      given = flat_map (net_with faults n).copies (sends_of t m (turned_of turned))
+
+      -- the mote after the turn
+      is : (d : Mote) → Tells (node_in (tree_at n m) (get_or new.motes.items m d)) out turned
+      is d = tells _ out turned (
+          ap (λ x. option_map (turn_given out) (node_in x (get_or new.motes.items m d))) (sym tree_is)
+          ∙ (takes.turned d
+          ∙ (ap (λ x. option_map (turn_given_with faults t m packets) (node_in x (get_or old.motes.items m d))) tree_is
+          ∙ (ap (option_map (turn_given_with faults t m packets)) (at.nodes m there d) ∙ ap (λ p. Some (turn_given_with faults t m p (state.states m))) packets_are))))
+
+      some : Mote
+      some = any_of old.motes.items m (let e = whole.motes in omega arith)
+
+      is_m : Tells (node_in (tree_at n m) (get_or new.motes.items m some)) out turned
+      is_m = is some
 
       sent : out.sends.items ≡ map (stamped t m) turned.sends
-      sent = sym (stamped_is t m out.sends.items bear) ∙ ap (map (stamped t m)) is.sends
+      sent = sym (stamped_is t m out.sends.items bear) ∙ ap (map (stamped t m)) is_m.sends
 
       same : agenda_after out.wake out.sends.items ≡ filter (is_left t m) state.agenda ++ (wake_items m turned.wake ++ map Packet (all_copies faults n.radio (map (stamped t m) turned.sends)))
       same =
           append_assoc _ (wake_items m out.wake) _
           ∙ (ap (λ l. l ++ (wake_items m out.wake ++ map Packet (all_copies faults n.radio out.sends.items)))
           (filter_both (λ item. not (is_wake_of m item)) (λ item. not (comes_at t m item)) (is_left t m) (λ item. neither (comes_at t m item) (is_wake_of m item)) state.agenda)
-          ∙ (ap (λ w. filter (is_left t m) state.agenda ++ (wake_items m w ++ map Packet (all_copies faults n.radio out.sends.items))) is.wake
+          ∙ (ap (λ w. filter (is_left t m) state.agenda ++ (wake_items m w ++ map Packet (all_copies faults n.radio out.sends.items))) is_m.wake
           ∙ ap (λ l. filter (is_left t m) state.agenda ++ (wake_items m turned.wake ++ map Packet (all_copies faults n.radio l))) sent))
 
   -- the mote's wake, if the turn doesn't remove it as a due event
-  pub wake_to_drop : (wake other : Option ℕ) (engine : Engine) → m < length n.motes → IsEngineAt faults n engine state → KeepsWakes n state
-      → ((x : Tree) (d : Mote) → wake ≡ wake_in (node_in x (get_or engine.motes.items m d))) → (d : Mote)
-      → other ≡ wake_but_at t wake
+  pub wake_to_drop : (wake other : Option ℕ) (engine : Engine) → m < length n.motes → IsEngineAt faults n engine state
+      → (d : Option ℕ) → wake ≡ get_or engine.wakes.items m d → other ≡ wake_but_at t wake
       → filter (is_wake_of m) (filter (λ item. not (comes_at t m item)) state.agenda) ≡ wake_items m other
-  wake_to_drop wake other engine there at kept wakes d is =
+  wake_to_drop wake other engine there at d kept is =
       filter_filter (is_wake_of m) (λ item. not (comes_at t m item)) state.agenda
-      ∙ (ap (filter (λ item. not (comes_at t m item))) (kept.wakes m there)
-      ∙ (wake_later t m (wake_of (state.states m))
-      ∙ ap (wake_items m) (ap (wake_but_at t) (sym (ap wake_in (at.nodes m there d)) ∙ sym (wakes (tree_at n m) d)) ∙ sym is)))
+      ∙ (ap (filter (λ item. not (comes_at t m item))) (at.wakes m there d)
+      ∙ (wake_later t m (get_or engine.wakes.items m d)
+      ∙ ap (wake_items m) (ap (wake_but_at t) (sym kept) ∙ sym is)))
 
 -- equal values have the same properties
 pub sent_of : {R S : Type 0} (P : R → S → Type 0) {r r' : R} {s s' : S} → r ≡ r' → s ≡ s' → P r s → P r' s'

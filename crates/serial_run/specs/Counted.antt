@@ -1,4 +1,4 @@
--- Each copy that the medium doesn't lose is given to a turn at the copy's moment, or is left after the end.
+-- Each copy that is given to a turn comes at the copy's moment, and the copies that come after the end are left.
 use Rattle.std.specs.Prelude.{◌≡◌, ℕ, nat_lt, ◌==◌, Bool, false, not, ◌&&◌, List}
 use Rattle.std.specs.Prelude.{[], ◌∷◌, length, count_by, None, IsPermutation}
 use Rattle.std.specs.List.{filter, flat_map, AllByRecursion}
@@ -33,20 +33,6 @@ abbrev pub LateCopiesStay : Type 0
 LateCopiesStay = (faults : List Fault) (model : NetModel) (r : ReportModel) (report : IsReportWith faults model r) → packets report.last.agenda
     ≡ filter (is_after model.end) (all_copies faults model.radio report.last.log)
 
--- the number of copies left in a report is the number of copies of the log's packets that arrive after the end
-abbrev pub LeftIsCounted : Type 0
-LeftIsCounted = (faults : List Fault) (model : NetModel) (r : ReportModel) (report : IsReportWith faults model r) → r.left
-    ≡ count_by (is_after model.end) (all_copies faults model.radio report.last.log)
-
--- the copy isn't lost, and arrives after the end
-abbrev pub is_late : (end : ℕ) → Fate → Bool
-is_late end fate = option_map_or (nat_lt end) fate.at false
-
--- the number of copies left in a report is the number of fates in the report whose arrival is after the end
-abbrev pub FatesTellLeft : Type 0
-FatesTellLeft = (faults : List Fault) (model : NetModel) (r : ReportModel) → IsReportWith faults model r → r.left
-    ≡ count_by (is_late model.end) (flat_map (λ packet. packet.fates) r.log)
-
 -- a turn of a run: its moment, its mote, and the copies that it gets
 pub record TurnTaken : Type 0 where
   pub moment : ℕ
@@ -60,12 +46,6 @@ turns {net = net} (Turn moment mote least le rest) =
     record { moment = moment; mote = mote; given = in_order (packets (filter (comes_at moment mote) net.agenda)) }
     ∷ turns rest
 
--- the copies of the log that arrive at or before the end are given to the turns of the run, each exactly once
-abbrev pub CopiesAreGiven : Type 0
-CopiesAreGiven = (faults : List Fault) (model : NetModel) (r : ReportModel) (report : IsReportWith faults model r)
-    → IsPermutation (filter (is_by model.end) (all_copies faults model.radio report.last.log))
-    (flat_map (λ turn. turn.given) (turns report.run))
-
 abbrev pub IsGivenInTime : TurnTaken → Type 0
 IsGivenInTime turn = AllByRecursion (λ (copy : RadioCopy). (copy.at ≡ turn.moment) × (copy.to ≡ turn.mote)) turn.given
 
@@ -73,18 +53,3 @@ IsGivenInTime turn = AllByRecursion (λ (copy : RadioCopy). (copy.at ≡ turn.mo
 abbrev pub CopiesComeInTime : Type 0
 CopiesComeInTime = (faults : List Fault) (model : NetModel) (r : ReportModel) (report : IsReportWith faults model r)
     → AllByRecursion IsGivenInTime (turns report.run)
-
--- a copy for this mote that arrives at this moment
-abbrev pub is_copy_for : (moment mote : ℕ) → RadioCopy → Bool
-is_copy_for moment mote copy = (copy.at == moment) && (copy.to == mote)
-
--- the turn gets exactly those of these copies that are for its mote and its moment, in order
-abbrev pub IsGivenAll : List RadioCopy → TurnTaken → Type 0
-IsGivenAll sent turn = turn.given ≡ in_order (filter (is_copy_for turn.moment turn.mote) sent)
-
--- if the medium has no error and has a place for each mote, a turn gets all copies of the log for its mote and its
--- moment
-abbrev pub TurnsAreGivenAll : Type 0
-TurnsAreGivenAll = (faults : List Fault) (model : NetModel) (r : ReportModel) (report : IsReportWith faults model r) → medium_fault model.radio ≡ None
-    → length model.radio.places ≡ length model.motes
-    → AllByRecursion (IsGivenAll (all_copies faults model.radio report.last.log)) (turns report.run)

@@ -8,7 +8,7 @@ use Rattle.radio_faults.specs.declared.fault.Fault.{Fault}
 use Rattle.window_laws.specs.NetStep.{NetState, Run, boot}
 use Rattle.serial_run.specs.FaultRun.{net_with}
 use Rattle.serial_run.specs.OnTime.{IsOnTime}
-use Rattle.serial_run.specs.IsInState.{IsEngineAt, KeepsWakes}
+use Rattle.serial_run.specs.IsInState.{IsEngineAt, IsInside}
 
 -- each mote has its own number
 abbrev pub AreNumbered : NetState Node Line → Type 0
@@ -19,7 +19,7 @@ AreNumbered net = (k : ℕ) → (net.states k).mote.state.mote ≡ k
 pub record HasReached (faults : List Fault) (model : NetModel) (engine : Engine) : Type 0 where
   pub state : NetState Node Line
   pub in_state : IsEngineAt faults model engine state
-  pub kept : KeepsWakes model state
+  pub inside : IsInside model state
   pub numbered : AreNumbered state
   pub at : ℕ
   pub on_time : IsOnTime at state

@@ -1,9 +1,9 @@
 -- Laws of reports with faults.
-use Rattle.std.specs.Prelude.{◌≡◌, ℕ, ◌&&◌, Bool, true, false, List, [], ◌∷◌, IsPermutation, Option, Some, None}
+use Rattle.std.specs.Prelude.{◌≡◌, ℕ, ◌&&◌, ◌||◌, Bool, true, false, List, [], ◌∷◌, IsPermutation, Option, Some, None}
 use Rattle.std.specs.List.{AllByRecursion, list_any}
 use Rattle.radio_packet.specs.declared.fate.Fate.{Fate}
 use Rattle.radio_faults.specs.declared.fault.Fault.{Fault}
-use Rattle.radio_faults.specs.declared.fault.Fault.TheVariants.{Link, Silent, Lost, LostToAll, Late}
+use Rattle.radio_faults.specs.declared.fault.Fault.TheVariants.{Link, Silent, Lost, LostToAll, Late, OffFrom, OffUntil}
 use Rattle.radio_faults.specs.Faults.{names}
 use Rattle.radio_faults.specs.LossTables.{IsOfLinks, radio_with}
 use Rattle.mote_net.specs.Net.{NetModel}
@@ -24,10 +24,20 @@ names_copy_of fault packet =
 abbrev pub names_copy_in : Fault → ReportModel → Bool
 names_copy_in fault r = list_any (names_copy_of fault) r.log
 
--- a fault that names no copy in a report, but those that are lost anyway, leaves the report as it is
+-- because of the fault a mote is off, whatever is sent
+abbrev pub is_of_motes : Fault → Bool
+is_of_motes (OffFrom mote from) = true
+is_of_motes (OffUntil mote until) = true
+is_of_motes fault = false
+
+-- the fault may change a run with this report
+abbrev pub may_change : Fault → ReportModel → Bool
+may_change fault r = is_of_motes fault || names_copy_in fault r
+
+-- a fault of copies that names none in a report, but those that are lost anyway, leaves the report as it is
 abbrev pub UnsentIsNothing : Type 0
 UnsentIsNothing = (faults : List Fault) (fault : Fault) (model : NetModel) (r : ReportModel)
-    → IsReportWith faults model r → names_copy_in fault r ≡ false → IsReportWith (fault ∷ faults) model r
+    → IsReportWith faults model r → may_change fault r ≡ false → IsReportWith (fault ∷ faults) model r
 
 -- with faults in another order the report is the same
 abbrev pub OrderMeansNothing : Type 0

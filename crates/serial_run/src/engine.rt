@@ -9,7 +9,7 @@ ghost use Rattle.radio_faults.specs.declared.fault.Fault.{Fault};
 ghost use Rattle.net_agenda.specs.Buckets.{wake_but_at};
 ghost use Rattle.net_agenda.specs.NetSystem.{system_of, tree_at};
 ghost use Rattle.window_laws.specs.NetStep.{boot};
-ghost use Rattle.serial_run.specs.IsInState.{CanTurnAt, HasNumberAt, IsEngineAt, IsWakeAt, IsWhole, OneTakesTurn};
+ghost use Rattle.serial_run.specs.IsInState.{CanTurnAt, HasNumberAt, IsEngineAt, IsWhole, OneTakesTurn};
 ghost use Rattle.serial_run.specs.IsInState.{TurnLeads};
 
 use crate::sends::send_all;
@@ -18,14 +18,16 @@ use mote_node::{Mote, MoteError};
 use net_agenda::{Agenda, add_lines, new_mote};
 use process_kernel::{Line, Out};
 use program_tree::Program;
-use radio_faults::Fault;
+use radio_faults::{Fault, is_off, next_start};
 use radio_packet::Arrival;
 use std::alloc::{AllocError, Global};
 
-/// The motes, each with its trace; the packets that were sent; and the pending events.
+/// The motes, each with its next wake and its trace; the packets that were sent; and the pending events.
 #[derive(Drop)]
 pub struct Engine {
     pub motes: Vec<Mote>,
+    /// The wakes that are among the pending events. While a mote is off, this isn't the wake that it asked for.
+    pub wakes: Vec<Option<u64>>,
     pub traces: Vec<Vec<Line>>,
     pub log: Vec<LogLine>,
     pub agenda: Agenda,
@@ -50,11 +52,12 @@ fn wake_but_at(moment: u64, wake: Option<u64>) -> Option<u64>
     }
 }
 
-/// Takes the turn of a mote, and returns the mote's next wake. The mote has not failed, and its last turn, if there was
-/// one, was before this moment. The packets that the mote sends have this moment and the mote's number.
+/// Takes the turn of a mote, unless it is off, and returns the mote's next wake. The mote has not failed, and its last turn,
+/// if there was one, was before this moment. The packets that the mote sends have this moment and the mote's number.
 fn turn_mote(
     motes: &mut Vec<Mote>,
     program: &Program,
+    faults: &[Fault],
     number: u16,
     moment: u64,
     packets: &[Arrival],
@@ -64,23 +67,20 @@ fn turn_mote(
     requires moment_bounded { moment ≤ 2 ^ 40 }
     requires ready { CanTurnAt (tree_of program.now) moment motes.old.items number }
     requires numbered { HasNumberAt (tree_of program.now) motes.old.items number }
-    ensures one_takes_turn { IfOk result (λ wake. OneTakesTurn
-        (tree_of program.now) moment packets.now number motes.old.items motes.new.items (turn_out_of out.new wake)) }
+    ensures one_takes_turn { IfOk result (λ wake. OneTakesTurn (tree_of program.now) faults.now
+        moment packets.now number motes.old.items motes.new.items (turn_out_of out.new wake)) }
     ensures stamped { OnOk result (PacketsBear moment number out.new.sends.items) }
 {
+    if is_off(faults, number, moment) {
+        out.lines.clear();
+        out.sends.clear();
+        return Ok(next_start(faults, number, moment));
+    }
     match motes[usize::from(number)].turn_into(program, moment, packets, out) {
         Ok(wake) => Ok(wake),
         Err(MoteError::Memory) => Err(AllocError),
         Err(MoteError::Failed | MoteError::Past) => unreachable!(),
     }
-}
-
-/// The next wake of one of the motes.
-fn wake_at(motes: &[Mote], number: u16) -> Option<u64>
-    requires mote_exists { number < length motes.now }
-    ensures is_wake_at { IsWakeAt motes.now number result }
-{
-    motes[usize::from(number)].wake()
 }
 
 impl Engine {
@@ -95,6 +95,7 @@ impl Engine {
     {
         let mut engine = Engine {
             motes: Vec::new(alloc),
+            wakes: Vec::new(alloc),
             traces: Vec::new(alloc),
             log: Vec::new(alloc),
             agenda: Agenda::new(alloc),
@@ -104,6 +105,7 @@ impl Engine {
         for number in 0..net.motes() {
             let mote = new_mote(alloc, net, number)?;
             engine.motes.push(mote)?;
+            engine.wakes.push(Some(0))?;
             engine.traces.push(Vec::new(alloc))?;
             engine.agenda.put_wake(0, number)?;
         }
@@ -133,16 +135,18 @@ impl Engine {
     {
         self.agenda
             .take_due_into(moment, number, &mut self.arrivals)?;
-        let wake = wake_but_at(moment, wake_at(&self.motes, number));
+        let wake = wake_but_at(moment, self.wakes[usize::from(number)]);
         let next = turn_mote(
             &mut self.motes,
             net.program(number),
+            faults,
             number,
             moment,
             &self.arrivals,
             &mut self.out,
         )?;
         self.agenda.move_wake(wake, next, number)?;
+        self.wakes[usize::from(number)] = next;
         send_all(
             net.medium(),
             faults,

@@ -1,8 +1,7 @@
 //! Laws of the run of a net. Each is a theorem, stated as the contract of a function. The function is empty, or only
 //! asks for a length.
 
-ghost use Rattle.serial_run.specs.Counted.{CopiesAreGiven, CopiesComeInTime, FatesTellLeft};
-ghost use Rattle.serial_run.specs.Counted.{LateCopiesStay, LeftIsCounted, TurnsAreGivenAll};
+ghost use Rattle.serial_run.specs.Counted.{CopiesComeInTime, LateCopiesStay};
 ghost use Rattle.serial_run.specs.FaultLaws.{LossTablesAgree, OrderMeansNothing, SomeAreUnsent, UnsentIsNothing};
 ghost use Rattle.serial_run.specs.Laws.{AlwaysOneWake, BucketsHoldItems, NetsRunForward, ReportIsOne};
 ghost use Rattle.serial_run.specs.Laws.{ReportIsThere, TracesHandOn, WakesAlwaysDiffer, WindowsCommuteInNets};
@@ -61,31 +60,9 @@ pub fn late_copies_stay()
     ensures late_copies_stay { LateCopiesStay }
 {}
 
-/// The number of copies left in a report is the number of copies of the log's packets that arrive after the end.
-pub fn left_is_counted()
-    ensures left_is_counted { LeftIsCounted }
-{}
-
-/// The number of copies left in a report is the number of fates in the report's log whose arrival is after the end.
-pub fn fates_tell_left()
-    ensures fates_tell_left { FatesTellLeft }
-{}
-
-/// Each copy of the log's packets that arrives at or before the end is given to exactly one turn of the run, exactly
-/// once.
-pub fn copies_are_given()
-    ensures copies_are_given { CopiesAreGiven }
-{}
-
 /// The copies that a turn gets are for its mote, and arrive at its moment.
 pub fn copies_come_in_time()
     ensures copies_come_in_time { CopiesComeInTime }
-{}
-
-/// If the medium has no error and has a place for each mote, a turn gets all copies of the log for its mote and its
-/// moment, in the order of sender, then number. Every `Net` has such a medium.
-pub fn turns_are_given_all()
-    ensures turns_are_given_all { TurnsAreGivenAll }
 {}
 
 /// In a net the moments of each mote's lines never go back, and in the medium's log the packets of each mote are
@@ -112,7 +89,8 @@ pub fn order_means_nothing()
     ensures order_means_nothing { OrderMeansNothing }
 {}
 
-/// A fault that names no copy in a report, but those that are lost anyway, may be added: the report stays the same.
+/// A fault that keeps no mote off, and names no copy in a report but those that are lost anyway, may be added: the report
+/// stays the same.
 pub fn unsent_is_nothing()
     ensures unsent_is_nothing { UnsentIsNothing }
 {}

@@ -37,7 +37,8 @@ fn run_to_end(engine: &mut Engine, net: &Net, faults: &[Fault]) -> Result<(), Al
 }
 
 /// Runs a net with faults on one thread, and returns the report. Its log has the fates with the faults: a copy that a
-/// fault loses is lost, as one that the medium loses, and a late copy has its later moment.
+/// fault loses is lost, as one that the medium loses, and a late copy has its later moment. A copy that arrives while its
+/// mote is off has its moment too, but no line.
 ///
 /// # Errors
 /// `AllocError` if an allocation fails, or if a copy is so late that its moment doesn't fit into 64 bits. The latter takes
@@ -54,6 +55,7 @@ pub fn run_with_faults(alloc: Global, net: &Net, faults: &[Fault]) -> Result<Rep
     run_to_end(&mut engine, net, faults)?;
     let Engine {
         motes: _,
+        wakes: _,
         traces,
         log,
         agenda,

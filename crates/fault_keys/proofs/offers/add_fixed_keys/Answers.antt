@@ -3,7 +3,7 @@ use Rattle.std.proofs.lemmas.List.{get_or_default}
 use Rattle.radio_faults.specs.declared.fault.Fault.{Fault}
 use Rattle.radio_faults.specs.declared.fault.Fault.TheVariants.{Silent}
 use Rattle.mote_net.specs.Report.{report_of}
-use Rattle.serial_run.specs.FaultLaws.{names_copy_in}
+use Rattle.serial_run.specs.FaultLaws.{may_change}
 use Rattle.fault_keys.proofs.Lists.{filter_more}
 use Rattle.fault_keys.proofs.offers.add_fixed_keys.Goals as goal
 
@@ -14,8 +14,8 @@ loop-key-preserved c =
     let key = c.loop-key.key in
     let own : vec_len c.args.candidates.now.fixed ≡ length fixed = search rules in
     let lt : key < length fixed = omega (arith, own, c.len-key-end.ensures, c.loop-key-test.true) in
-    let p : ℕ → Bool = λ k. names_copy_in (get_or fixed k (Silent 0)) r in
+    let p : ℕ → Bool = λ k. may_change (get_or fixed k (Silent 0)) r in
     let at : c.index.result.now ≡ get_or fixed key (Silent 0) = c.index.ensures ∙ get_or_default fixed key c.index.result.now (Silent 0) lt in
-    let is : c.names_copy_in-is_there.result ≡ p key = c.names_copy_in-is_there.ensures.value ∙ ap (λ f. names_copy_in f r) at in
+    let is : c.may_change-is_there.result ≡ p key = c.may_change-is_there.ensures.value ∙ ap (λ f. may_change f r) at in
     filter_more p c.args.keys.now.items c.loop-key.keys.items c.add_if.new.keys.items key c.loop-key.invariant
     (c.in_ok-add_if.ensures.appended ∙ ap (λ (b : Bool). c.loop-key.keys.items ++ (if b then key ∷ [] else [])) is)

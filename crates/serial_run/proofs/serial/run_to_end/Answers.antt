@@ -21,7 +21,7 @@ turns-init c =
 pub turn-requires-clause-mote_exists : goal.turn-requires-clause-mote_exists
 turn-requires-clause-mote_exists c =
     let at = c.turns.invariant.reached in
-    inside_least (net_of c.args.net.now) c.in-Some.moment c.in-Some.number at.state at.kept (c.in-Some.ensures.least at.state.agenda at.in_state.agenda)
+    inside_least (net_of c.args.net.now) c.in-Some.moment c.in-Some.number at.state at.inside (c.in-Some.ensures.least at.state.agenda at.in_state.agenda)
 
 pub turn-requires-clause-ready : goal.turn-requires-clause-ready
 turn-requires-clause-ready c =
@@ -30,13 +30,13 @@ turn-requires-clause-ready c =
     let t = c.in-Some.moment in
     let m = c.in-Some.number in
     let least = c.in-Some.ensures.least at.state.agenda at.in_state.agenda in
-    least_can_turn c.args.faults.now n at.at t m c.turns.engine at.state at.in_state at.on_time least (inside_least n t m at.state at.kept least)
+    least_can_turn c.args.faults.now n at.at t m c.turns.engine at.state at.in_state at.on_time least (inside_least n t m at.state at.inside least)
 
 pub turn-requires-clause-numbered : goal.turn-requires-clause-numbered
 turn-requires-clause-numbered c =
     let at = c.turns.invariant.reached in
     let least = c.in-Some.ensures.least at.state.agenda at.in_state.agenda in
-    numbered_at c.args.faults.now (net_of c.args.net.now) c.turns.engine c.in-Some.number at (inside_least (net_of c.args.net.now) c.in-Some.moment c.in-Some.number at.state at.kept least)
+    numbered_at c.args.faults.now (net_of c.args.net.now) c.turns.engine c.in-Some.number at (inside_least (net_of c.args.net.now) c.in-Some.moment c.in-Some.number at.state at.inside least)
 
 pub turns-smaller : goal.turns-smaller
 unfolding system_of
@@ -48,9 +48,9 @@ turns-smaller c =
     let fault : medium_fault n.radio ≡ None = ap medium_fault (sym c.medium.ensures.value) ∙ c.lookahead-ahead.ensures.no_fault in
     let placed : length n.radio.places ≡ length n.motes = ap (λ (r : Radio). length r.places) (sym c.medium.ensures.value) ∙ c.medium.ensures.placed in
     let least = c.in-Some.ensures.least at.state.agenda at.in_state.agenda in
-    let next = c.in_ok-turn.ensures.in_state at.state at.in_state at.kept in
+    let next = c.in_ok-turn.ensures.in_state at.state at.in_state in
     left_falls (length n.motes) c.end-end.result t m (turn_at (net_with c.args.faults.now n) t m at.state).agenda (first_key c.turns.engine.agenda.buckets) (first_key c.turn.new.self.agenda.buckets)
-    c.turn.new.self.agenda.buckets (sym c.in-Some.ensures.first) (inside_least n t m at.state at.kept least) c.if-moment-end.false
+    c.turn.new.self.agenda.buckets (sym c.in-Some.ensures.first) (inside_least n t m at.state at.inside least) c.if-moment-end.false
     (turn_ahead (net_with c.args.faults.now n) (nets_run_forward c.args.faults.now n fault placed) t m at.state least.is_first) next.agenda refl
 
 pub turns-preserved : goal.turns-preserved

@@ -11,11 +11,11 @@ returns-clause-report c =
     let n = net_of c.args.net.now in
     let at = c.in_ok-run_to_end.ensures.ended in
     let whole = c.in_ok-run_to_end.ensures.is_whole in
-    report_is c.args.faults.now n c.run_to_end.new.engine _ (record { motes = whole.motes; traces = whole.traces }) at refl refl (c.in_ok-left.ensures.count at.last.agenda at.in_state.agenda)
+    report_is c.args.faults.now n c.run_to_end.new.engine _ (record { motes = whole.motes; wakes = whole.wakes; traces = whole.traces }) at refl refl (c.in_ok-left.ensures.count at.last.agenda at.in_state.agenda)
 
 pub returns-clause-handed_on : goal.returns-clause-handed_on
 returns-clause-handed_on c =
     let n = net_of c.args.net.now in
     let at = c.in_ok-run_to_end.ensures.ended in
     let whole = c.in_ok-run_to_end.ensures.is_whole in
-    all_in_order c.args.faults.now n c.run_to_end.new.engine (record { motes = whole.motes; traces = whole.traces }) at
+    all_in_order c.args.faults.now n c.run_to_end.new.engine (record { motes = whole.motes; wakes = whole.wakes; traces = whole.traces }) at

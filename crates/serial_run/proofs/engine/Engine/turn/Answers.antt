@@ -1,13 +1,12 @@
-use Rattle.std.proofs.Common.{◌≡◌, ◌<◌, ◌≤◌, ◌^◌, ◌∙◌, ap, sym, subst, arith, length, not, map, get_or, List, ◌++◌}
+use Rattle.std.proofs.Common.{◌≡◌, ◌<◌, ◌≤◌, ◌^◌, ◌∙◌, ap, sym, subst, arith, length, not, map, get_or, slice_set, List, ◌++◌}
 use Rattle.std.specs.Prelude.{IfSome}
 use Rattle.std.specs.List.{AllByRecursion, filter}
 use Rattle.std.proofs.lemmas.List.Elements.{recursion_from_All}
 use Rattle.window_laws.proofs.Lists.{every_weaker}
 use Rattle.program_tree.specs.Code.{Tree}
 use Rattle.program_tree.specs.Program.{tree_of}
-use Rattle.mote_node.specs.declared.mote.Mote.{Mote}
 use Rattle.mote_node.specs.Turn.{Node}
-use Rattle.mote_node.specs.Public.{node_in, turn_out_of, wake_in}
+use Rattle.mote_node.specs.Public.{node_in, turn_out_of}
 use Rattle.mote_net.specs.Meaning.{net_of}
 use Rattle.radio_medium.specs.Medium.{Radio}
 use Rattle.radio_packet.specs.declared.sent.Sent.{Sent}
@@ -44,23 +43,24 @@ send_all-requires c =
     let Sendable : Sent → Type 0 = λ sent. (sent.sender < length radio.places) × (sent.at ≤ 2 ^ 40) in
     let each : (sent : Sent) → Bears sent → Sendable sent = λ sent bears. (subst (λ k. k < length radio.places) (sym bears.1) inside, subst (λ k. k ≤ 2 ^ 40) (sym bears.0) early) in
     let sends = c.turn_mote.new.out.sends.items in
-    record { sendable = subst (AllByRecursion Sendable) (sym c.deref-3.ensures.value) (every_weaker Bears Sendable each sends (recursion_from_All Bears sends c.in_ok-next.ensures.stamped)) }
+    record { sendable = subst (AllByRecursion Sendable) (sym c.deref-2.ensures.value) (every_weaker Bears Sendable each sends (recursion_from_All Bears sends c.in_ok-next.ensures.stamped)) }
 
 pub returns-clause-in_state : goal.returns-clause-in_state
-returns-clause-in_state c = λ state at kept.
+returns-clause-in_state c = λ state at.
     let faults = c.args.faults.now in
     let n = net_of c.args.net.now in
     let t = c.args.moment in
     let m = c.args.number in
     let takes = c.in_ok-next.ensures.one_takes_turn in
     let taken = c.take_due_into.ensures.rest state.agenda at.agenda in
-    let wakes = λ (x : Tree) (d : Mote). c.wake_at.ensures.is_wake_at x d ∙ ap (λ l. wake_in (node_in x (get_or l m d))) c.deref.ensures.value in
-    let woken = c.in_ok-move_wake.ensures.moves_wake _ taken (wake_to_drop faults n t m state c.wake_at.result c.wake_but_at-wake.result c.args.self.now c.requires.mote_exists at kept wakes takes.after c.wake_but_at-wake.ensures.value) in
+    let wakes = c.args.self.now.wakes.items in
+    let kept = c.index.ensures ∙ ap (λ k. get_or wakes k c.index.result.now) c.from.ensures in
+    let woken = c.in_ok-move_wake.ensures.moves_wake _ taken (wake_to_drop faults n t m state c.index.result.now c.wake_but_at-wake.result c.args.self.now c.requires.mote_exists at c.index.result.now kept c.wake_but_at-wake.ensures.value) in
     let next = c.in_ok-next.next in
     let base : List Item = filter (λ item. not (is_wake_of m item)) (filter (λ item. not (comes_at t m item)) state.agenda) ++ wake_items m next in
     let sent = c.in_ok-send_all.ensures.agenda _ woken in
-    in_state_turn faults n t m state c.args.self.now _ (tree_of c.program.result.now) c.deref-2.result.now (turn_out_of c.turn_mote.new.out next) c.requires.mote_exists c.requires.is_whole.motes c.requires.is_whole.traces at
-    (tree_is n.motes m (tree_of c.program.result.now) c.program.ensures.tree) (c.deref-2.ensures.value ∙ c.in_ok-take_due_into.ensures.copies state.agenda at.agenda)
-    takes c.in_ok-next.ensures.stamped c.in_ok-add_lines.ensures.adds_lines
-    (sent_of (λ (r : Radio) (s : List Sent). HoldsItems c.send_all.new.agenda.buckets (base ++ map Packet (all_copies faults r s))) c.medium.ensures.value c.deref-3.ensures.value sent)
-    (sent_of (λ (r : Radio) (s : List Sent). map line_model c.send_all.new.log.items ≡ map line_model c.args.self.now.log.items ++ map (packet_with faults r) s) c.medium.ensures.value c.deref-3.ensures.value c.in_ok-send_all.ensures.log)
+    in_state_turn faults n t m state c.args.self.now _ (tree_of c.program.result.now) c.deref.result.now (turn_out_of c.turn_mote.new.out next) c.requires.mote_exists c.requires.is_whole at
+    (tree_is n.motes m (tree_of c.program.result.now) c.program.ensures.tree) (c.deref.ensures.value ∙ c.in_ok-take_due_into.ensures.copies state.agenda at.agenda)
+    takes (ap (λ k. slice_set wakes k next) c.from-2.ensures) c.in_ok-next.ensures.stamped c.in_ok-add_lines.ensures.adds_lines
+    (sent_of (λ (r : Radio) (s : List Sent). HoldsItems c.send_all.new.agenda.buckets (base ++ map Packet (all_copies faults r s))) c.medium.ensures.value c.deref-2.ensures.value sent)
+    (sent_of (λ (r : Radio) (s : List Sent). map line_model c.send_all.new.log.items ≡ map line_model c.args.self.now.log.items ++ map (packet_with faults r) s) c.medium.ensures.value c.deref-2.ensures.value c.in_ok-send_all.ensures.log)
