@@ -65,20 +65,20 @@ silent_words a fa =
     ap words_of (append_assoc (codes "mote ") (decimal a) (codes " is silent"))
     ∙ ap (λ ws. codes "mote" ∷ ws) (number_word a fa (codes "is silent"))
 
+grouped4 : (a b c d : List ℕ) → (a ++ b ++ c ++ d) ≡ a ++ (b ++ (c ++ d))
+grouped4 a b c d = simp append_assoc refl
+
 off_from_words : (a t : ℕ) → a < 2 ^ 64 → t < 2 ^ 64
     → words_of (fault_text (OffFrom a t)) ≡ codes "mote" ∷ decimal a ∷ codes "is" ∷ codes "off" ∷ codes "from" ∷ decimal t ∷ codes "on" ∷ []
 off_from_words a t fa ft =
-    ap words_of (grouped5 (codes "mote ") (decimal a) (codes " is off from ") (decimal t) (codes " on"))
+    ap words_of (grouped4 (codes "mote ") (decimal a) (codes " is off from ") (decimal t ++ codes " on"))
     ∙ (ap (λ ws. codes "mote" ∷ ws) (number_word a fa (codes "is off from " ++ (decimal t ++ codes " on")))
     ∙ ap (λ ws. codes "mote" ∷ decimal a ∷ codes "is" ∷ codes "off" ∷ codes "from" ∷ ws) (number_word t ft (codes "on")))
-
-grouped4 : (a b c d : List ℕ) → (a ++ b ++ c ++ d) ≡ a ++ (b ++ (c ++ d))
-grouped4 a b c d = simp append_assoc refl
 
 off_until_words : (a t : ℕ) → a < 2 ^ 64 → t < 2 ^ 64
     → words_of (fault_text (OffUntil a t)) ≡ codes "mote" ∷ decimal a ∷ codes "is" ∷ codes "off" ∷ codes "from" ∷ codes "0" ∷ codes "to" ∷ decimal t ∷ []
 off_until_words a t fa ft =
-    ap words_of (grouped4 (codes "mote ") (decimal a) (codes " is off from 0 to ") (decimal t))
+    ap words_of (grouped4 (codes "mote ") (decimal a) (codes " is off from ") (codes "0 to " ++ decimal t))
     ∙ (ap (λ ws. codes "mote" ∷ ws) (number_word a fa (codes "is off from 0 to " ++ decimal t))
     ∙ ap (λ ws. codes "mote" ∷ decimal a ∷ codes "is" ∷ codes "off" ∷ codes "from" ∷ codes "0" ∷ codes "to" ∷ ws) (last_word t ft))
 

@@ -68,13 +68,17 @@ abbrev pub begins_with_m : (word : List ℕ) → Bool
 begins_with_m [] = false
 begins_with_m (first ∷ rest) = first == 109
 
+-- the fault whose text has these words as the first, the second and the fifth, and as many more, with their numbers
+abbrev pub nearest_long : (first second fifth : List ℕ) → (more : List (List ℕ)) → Option Fault
+nearest_long first second fifth more =
+    if begins_with_m first then nearest_off (mote_of second) more
+    else nearest_of (mote_of fifth) (number_of second) more
+
 -- the fault whose text begins the same and has as many words, with the numbers of these words
 abbrev pub nearest : (words : List (List ℕ)) → Option Fault
 nearest (_ ∷ mote ∷ _ ∷ _ ∷ []) = Some (Silent (mote_of mote))
 nearest (_ ∷ from ∷ _ ∷ to ∷ _ ∷ _ ∷ []) = Some (Link (mote_of from) (mote_of to))
-nearest (first ∷ number ∷ _ ∷ _ ∷ sender ∷ more) =
-    if begins_with_m first then nearest_off (mote_of number) more
-    else nearest_of (mote_of sender) (number_of number) more
+nearest (first ∷ second ∷ _ ∷ _ ∷ fifth ∷ more) = nearest_long first second fifth more
 nearest words = None
 
 -- the number of bytes at which two texts begin alike

@@ -9,6 +9,9 @@ packet_text sender number = codes "packet " ++ decimal number ++ codes " of mote
 abbrev pub way_text : (to : ℕ) → List ℕ
 way_text to = codes " on the way to mote " ++ decimal to
 
+abbrev pub off_text : (mote : ℕ) → List ℕ
+off_text mote = codes "mote " ++ decimal mote ++ codes " is off from "
+
 abbrev pub fault_text : Fault → List ℕ
 fault_text (Link from to) = codes "link " ++ decimal from ++ codes " to " ++ decimal to ++ codes " is broken"
 fault_text (Silent mote) = codes "mote " ++ decimal mote ++ codes " is silent"
@@ -16,5 +19,5 @@ fault_text (Lost sender number to) = packet_text sender number ++ (codes " is lo
 fault_text (LostToAll sender number) = packet_text sender number ++ codes " is lost"
 fault_text (Late sender number to by) =
     packet_text sender number ++ (codes " is " ++ (decimal by ++ (codes " late" ++ way_text to)))
-fault_text (OffFrom mote from) = codes "mote " ++ decimal mote ++ codes " is off from " ++ decimal from ++ codes " on"
-fault_text (OffUntil mote until) = codes "mote " ++ decimal mote ++ codes " is off from 0 to " ++ decimal until
+fault_text (OffFrom mote from) = off_text mote ++ (decimal from ++ codes " on")
+fault_text (OffUntil mote until) = off_text mote ++ (codes "0 to " ++ decimal until)

@@ -1,6 +1,6 @@
 //! Writes faults.
 ghost use Rattle.std.specs.Prelude.{Some};
-ghost use Rattle.fault_text.specs.FaultText.{fault_text, packet_text, way_text};
+ghost use Rattle.fault_text.specs.FaultText.{fault_text, off_text, packet_text, way_text};
 
 use radio_faults::Fault;
 use std::fmt;
@@ -20,6 +20,10 @@ struct PacketText {
 #[derive(Clone, Copy)]
 struct WayText(u16);
 
+/// A mote that is off, in words, up to the first moment.
+#[derive(Clone, Copy)]
+struct OffText(u16);
+
 impl fmt::Display for PacketText {
     ghost output = { λ t. Some (packet_text t.sender t.number) };
 
@@ -35,6 +39,15 @@ impl fmt::Display for WayText {
     fn fmt<W: fmt::Write>(&self, f: &mut fmt::Formatter<W>) -> fmt::Result {
         let WayText(to) = *self;
         write!(f, " on the way to mote {to}")
+    }
+}
+
+impl fmt::Display for OffText {
+    ghost output = { λ t. Some (off_text t.0) };
+
+    fn fmt<W: fmt::Write>(&self, f: &mut fmt::Formatter<W>) -> fmt::Result {
+        let OffText(mote) = *self;
+        write!(f, "mote {mote} is off from ")
     }
 }
 
@@ -64,8 +77,14 @@ impl fmt::Display for FaultText {
                 let way = WayText(to);
                 write!(f, "{packet} is {by} late{way}")
             }
-            Fault::OffFrom { mote, from } => write!(f, "mote {mote} is off from {from} on"),
-            Fault::OffUntil { mote, until } => write!(f, "mote {mote} is off from 0 to {until}"),
+            Fault::OffFrom { mote, from } => {
+                let off = OffText(mote);
+                write!(f, "{off}{from} on")
+            }
+            Fault::OffUntil { mote, until } => {
+                let off = OffText(mote);
+                write!(f, "{off}0 to {until}")
+            }
         }
     }
 }

@@ -1,7 +1,7 @@
 //! Reads the words of a line.
 ghost use Rattle.std.specs.Prelude.{◌≡◌, map, IfOk};
-ghost use Rattle.fault_text.specs.FaultLines.{begins_with_m, delay_of, mote_of, nearest, nearest_of, nearest_off, number_of};
-ghost use Rattle.fault_text.specs.FaultLines.{words_of};
+ghost use Rattle.fault_text.specs.FaultLines.{begins_with_m, delay_of, mote_of, nearest, nearest_long, nearest_of};
+ghost use Rattle.fault_text.specs.FaultLines.{nearest_off, number_of, words_of};
 
 use radio_faults::Fault;
 use std::alloc::{AllocError, Global};
@@ -97,6 +97,18 @@ fn begins_with_m(word: &[u8]) -> bool
     }
 }
 
+/// Returns the fault whose text has these words as the first, the second and the fifth, and as many more, with their
+/// numbers.
+fn nearest_long(first: &[u8], second: &[u8], fifth: &[u8], more: &[&[u8]]) -> Option<Fault>
+    ensures value { result ≡ nearest_long first.now second.now fifth.now (map (λ word. word.now) more.now) }
+{
+    if begins_with_m(first) {
+        nearest_off(mote_of(second), more)
+    } else {
+        nearest_of(mote_of(fifth), number_of(second), more)
+    }
+}
+
 /// Returns the fault whose text begins the same and has as many words, with the numbers of these words.
 pub fn nearest(words: &[&[u8]]) -> Option<Fault>
     ensures value { result ≡ nearest (map (λ word. word.now) words.now) }
@@ -104,13 +116,7 @@ pub fn nearest(words: &[&[u8]]) -> Option<Fault>
     match words {
         [_, mote, _, _] => Some(Fault::Silent(mote_of(mote))),
         [_, from, _, to, _, _] => Some(Fault::Link(mote_of(from), mote_of(to))),
-        [first, number, _, _, sender, more @ ..] => {
-            if begins_with_m(first) {
-                nearest_off(mote_of(number), more)
-            } else {
-                nearest_of(mote_of(sender), number_of(number), more)
-            }
-        }
+        [first, second, _, _, fifth, more @ ..] => nearest_long(first, second, fifth, more),
         _ => None,
     }
 }
