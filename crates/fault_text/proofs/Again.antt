@@ -124,7 +124,6 @@ again (Late s n r d) fits =
     ap nearest (late_words s n r d (wide s fits.0) fits.1 (wide r fits.2) (long d fits.3))
     ∙ (ap₂ (λ x y. Some (Late x y (mote_of (decimal r)) (delay_of (decimal d)))) (mote_again s fits.0) (number_again n fits.1)
     ∙ ap₂ (λ x y. Some (Late s n x y)) (mote_again r fits.2) (delay_again d fits.3))
-
 again (OffFrom a t) fits =
     ap nearest (off_from_words a t (wide a fits.0) fits.1) ∙ ap₂ (λ x y. Some (OffFrom x y)) (mote_again a fits.0) (number_again t fits.1)
 again (OffUntil a t) fits =

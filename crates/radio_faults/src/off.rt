@@ -20,9 +20,7 @@ fn keeps_off(fault: Fault, number: u16, moment: u64) -> bool
 pub fn is_off(faults: &[Fault], number: u16, moment: u64) -> bool
     ensures value { result ≡ is_off faults.now number moment }
 {
-    faults
-        .iter()
-        .any(|fault| keeps_off(*fault, number, moment))
+    faults.iter().any(|fault| keeps_off(*fault, number, moment))
 }
 
 /// The moment at which a mote starts with this fault.
