@@ -9,7 +9,7 @@ use Rattle.std.proofs.lemmas.List.Splits.{slice_split_at, slice_split_none}
 use Rattle.radio_faults.specs.declared.fault.Fault.{Fault}
 use Rattle.radio_faults.specs.declared.fault.Fault.TheVariants.{Link, Silent, Lost, LostToAll, Late, OffFrom, OffUntil}
 use Rattle.fault_text.specs.FaultText.{fault_text, way_text}
-use Rattle.fault_text.specs.FaultLines.{FitsFault, ReadsLine, column_of, delay_of, mote_of, nearest, number_behind, number_of, shared, words_of}
+use Rattle.fault_text.specs.FaultLines.{FitsFault, ReadsLine, column_of, delay_of, mote_of, nearest, nearest_long, number_behind, number_of, shared, words_of}
 use Rattle.fault_text.specs.declared.error.FaultsError.TheVariants.{NotAFault}
 use Rattle.fault_text.proofs.Numbers.{number_again}
 
@@ -113,6 +113,7 @@ late_words s n r d fs fn fr fd =
     ∙ ap (λ ws. codes "packet" ∷ decimal n ∷ codes "of" ∷ codes "mote" ∷ decimal s ∷ codes "is" ∷ decimal d ∷ codes "late" ∷ codes "on" ∷ codes "the" ∷ codes "way" ∷ codes "to" ∷ codes "mote" ∷ ws) (last_word r fr)))
 
 pub again : (f : Fault) → FitsFault f → nearest (words_of (fault_text f)) ≡ Some f
+unfolding nearest_long
 again (Link a b) fits = ap nearest (link_words a b (wide a fits.0) (wide b fits.1)) ∙ ap₂ (λ x y. Some (Link x y)) (mote_again a fits.0) (mote_again b fits.1)
 again (Silent a) fits = ap nearest (silent_words a (wide a fits)) ∙ ap (λ x. Some (Silent x)) (mote_again a fits)
 again (Lost s n r) fits =

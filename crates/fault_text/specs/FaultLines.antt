@@ -69,7 +69,7 @@ begins_with_m [] = false
 begins_with_m (first ∷ rest) = first == 109
 
 -- the fault whose text has these words as the first, the second and the fifth, and as many more, with their numbers
-abbrev pub nearest_long : (first second fifth : List ℕ) → (more : List (List ℕ)) → Option Fault
+unfoldable pub nearest_long : (first second fifth : List ℕ) → (more : List (List ℕ)) → Option Fault
 nearest_long first second fifth more =
     if begins_with_m first then nearest_off (mote_of second) more
     else nearest_of (mote_of fifth) (number_of second) more

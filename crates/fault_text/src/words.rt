@@ -99,6 +99,7 @@ fn begins_with_m(word: &[u8]) -> bool
 
 /// Returns the fault whose text has these words as the first, the second and the fifth, and as many more, with their
 /// numbers.
+#[tactic(auto, unfolding(crate::specs::FaultLines::nearest_long))]
 fn nearest_long(first: &[u8], second: &[u8], fifth: &[u8], more: &[&[u8]]) -> Option<Fault>
     ensures value { result ≡ nearest_long first.now second.now fifth.now (map (λ word. word.now) more.now) }
 {
