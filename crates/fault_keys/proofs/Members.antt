@@ -1,6 +1,6 @@
 -- The keys that a run offers are those of the faults that may change it.
-use Rattle.std.proofs.Common.{◌≡◌, ℕ, zero, suc, ◌+◌, ◌-◌, ◌*◌, ◌/◌, ◌%◌, ◌<◌, ◌≤◌, ◌⊎◌, ◌^◌, Bool, true, false, ◌&&◌, ◌||◌, ltb, eqb, if◌then◌else◌, List, [], ◌∷◌, ◌++◌, length, get_or, map, refl, ap, sym, subst, inl, inr, arith, ◌∙◌}
-use Rattle.std.specs.List.{Contains, filter, flat_map, list_any, range_with_len}
+use Rattle.std.proofs.Common.{◌≡◌, ℕ, zero, suc, ◌+◌, ◌-◌, ◌*◌, ◌/◌, ◌%◌, ◌<◌, ◌≤◌, ◌^◌, Bool, true, false, ◌&&◌, ◌||◌, ltb, eqb, if◌then◌else◌, List, [], length, get_or, map, refl, ap, sym, subst, inl, inr, arith, ◌∙◌}
+use Rattle.std.specs.List.{Contains, flat_map, range_with_len}
 use Rattle.std.proofs.lemmas.Bool.{cases_Bool, cases_lt, eqb-true, eq-eqb, lt-ltb, ltb-true}
 use Rattle.std.proofs.lemmas.List.Elements.{Contains-append_left, Contains-append_right, Contains-append_cases}
 use Rattle.std.proofs.Math.Nat.{mod-lt}
@@ -8,14 +8,10 @@ use Rattle.radio_packet.specs.declared.fate.Fate.{Fate}
 use Rattle.radio_faults.specs.declared.fault.Fault.{Fault}
 use Rattle.radio_faults.specs.declared.fault.Fault.TheVariants.{Silent}
 use Rattle.radio_faults.specs.Faults.{names}
-use Rattle.mote_net.specs.Net.{NetModel}
 use Rattle.mote_net.specs.Report.{Packet, ReportModel}
 use Rattle.serial_run.specs.FaultLaws.{is_of_motes, is_some, may_change, names_copy_in, names_copy_of}
-use Rattle.serial_run.specs.FaultRun.{IsReportWith}
-use Rattle.survey.specs.Premise.{Runs, OffersAll}
-use Rattle.offer_laws.specs.Offers.{AreRunsOf, IsOffered}
 use Rattle.offer_laws.proofs.Offers.{nets_offer_all}
-use Rattle.fault_keys.specs.Keys.{bound_of, fault_of, fault_of_copy, fixed_keys, keys_of_copy, keys_of_fate, keys_of_packet, named_keys, offered_keys, packed, unpacked}
+use Rattle.fault_keys.specs.Keys.{bound_of, fault_of, fault_of_copy, fixed_keys, keys_of_copy, keys_of_fate, keys_of_packet, named_keys, packed, unpacked}
 use Rattle.fault_keys.specs.Laws.{KeysOfferAll, runs_of}
 use Rattle.fault_keys.specs.declared.candidates.CopyFault.{CopyFault}
 use Rattle.fault_keys.specs.declared.candidates.CopyFault.TheVariants.{Lost, Late}

@@ -1,5 +1,5 @@
 -- Runs with the same turns and the same copies.
-use Rattle.std.proofs.Common.{◌≡◌, ℕ, ◌≤◌, ◌==◌, nat_lt, Bool, true, false, ◌&&◌, if◌then◌else◌, List, [], ◌∷◌, ◌++◌, map, max, Option, Some, None, refl, ap, ap₂, ◌∙◌, subst, arith}
+use Rattle.std.proofs.Common.{◌≡◌, ℕ, ◌≤◌, ◌==◌, nat_lt, Bool, true, false, ◌&&◌, if◌then◌else◌, List, [], ◌∷◌, ◌++◌, map, max, Some, None, refl, ap, ap₂, subst, arith}
 use Rattle.std.proofs.lemmas.Bool.Decides.{nat_tests}
 use Rattle.std.specs.List.{filter, filter_map, flat_map, AllByRecursion}
 use Rattle.radio_packet.specs.declared.sent.Sent.{Sent}
@@ -11,8 +11,8 @@ use Rattle.window_laws.proofs.Lists.{every_weaker}
 use Rattle.radio_faults.specs.declared.fault.Fault.{Fault}
 use Rattle.radio_faults.specs.declared.fault.Fault.TheVariants.{Link, Silent, Lost, LostToAll, Late, OffFrom, OffUntil}
 use Rattle.radio_faults.specs.Faults.{copies_with, copy_after}
-use Rattle.radio_faults.specs.Off.{is_off, keeps_off, next_start, start_after, start_of}
-use Rattle.fault_laws.specs.WithFaults.{no_turn, turn_with, with_faults}
+use Rattle.radio_faults.specs.Off.{start_after, start_of}
+use Rattle.fault_laws.specs.WithFaults.{no_turn, with_faults}
 use Rattle.fault_laws.specs.Laws.{AreOffTheSame, CopiesDecide, IsUnnamed, LeavesOn, UnsentIsNothing}
 
 both_parts : {X : Type 0} (P : X → Type 0) (xs ys : List X) → AllByRecursion P (xs ++ ys) → AllByRecursion P xs × AllByRecursion P ys

@@ -1,5 +1,5 @@
 -- The text of each fault is read as this fault.
-use Rattle.std.proofs.Common.{◌≡◌, ◌∙◌, ◌==◌, ℕ, zero, suc, ◌+◌, ◌-◌, ◌*◌, ◌/◌, ◌%◌, ◌^◌, ◌<◌, ◌≤◌, min, Bool, true, false, Option, None, Some, Err, List, [], ◌∷◌, ◌++◌, All, codes, refl, sym, ap, ap₂, append_assoc, arith}
+use Rattle.std.proofs.Common.{◌≡◌, ◌∙◌, ◌==◌, ℕ, zero, suc, ◌+◌, ◌%◌, ◌^◌, ◌<◌, ◌≤◌, min, Bool, false, Option, None, Some, Err, List, [], ◌∷◌, ◌++◌, All, codes, refl, sym, ap, ap₂, append_assoc, arith}
 use Rattle.std.proofs.lemmas.Bool.Decides.{nat_tests}
 use Rattle.std.proofs.lemmas.List.Elements.{All-append}
 use Rattle.std.specs.Fmt.{decimal}
@@ -9,7 +9,7 @@ use Rattle.std.proofs.lemmas.List.Splits.{slice_split_at, slice_split_none}
 use Rattle.radio_faults.specs.declared.fault.Fault.{Fault}
 use Rattle.radio_faults.specs.declared.fault.Fault.TheVariants.{Link, Silent, Lost, LostToAll, Late, OffFrom, OffUntil}
 use Rattle.fault_text.specs.FaultText.{fault_text, way_text}
-use Rattle.fault_text.specs.FaultLines.{FitsFault, ReadsLine, column_of, delay_of, mote_of, nearest, nearest_long, number_behind, number_of, shared, words_of}
+use Rattle.fault_text.specs.FaultLines.{FitsFault, ReadsLine, column_of, delay_of, mote_of, nearest, nearest_long, shared, words_of}
 use Rattle.fault_text.specs.declared.error.FaultsError.TheVariants.{NotAFault}
 use Rattle.fault_text.proofs.Numbers.{number_again}
 

@@ -1,13 +1,12 @@
 -- The lines of a text, one by one.
-use Rattle.std.proofs.Common.{◌≡◌, ◌∙◌, ℕ, ◌+◌, ◌<◌, suc, Bool, Err, List, [], ◌∷◌, ◌++◌, All, length, map, filter, take, drop, get_or, sym, ap, subst, arith, Bor}
+use Rattle.std.proofs.Common.{◌≡◌, ◌∙◌, ℕ, ◌+◌, ◌<◌, suc, List, [], ◌∷◌, ◌++◌, length, map, filter, take, drop, get_or, sym, ap, subst, arith, Bor}
 use Rattle.std.proofs.lemmas.List.{take_more, get_or-map, length-map, length-take-le, take-append-drop}
 use Rattle.std.proofs.lemmas.List.Elements.{filter-append}
 use Rattle.std.proofs.Math.Seq.{drop-cons}
 use Rattle.radio_faults.specs.declared.fault.Fault.{Fault}
 use Rattle.fault_text.specs.declared.error.FaultsError.{FaultsError}
 use Rattle.fault_text.specs.declared.error.FaultsError.TheVariants.{Memory, NotAFault}
-use Rattle.fault_text.specs.FaultText.{fault_text}
-use Rattle.fault_text.specs.FaultLines.{AddsLine, AreFaults, FitsFault, ReadsLine, Refuses, RefusesLine, is_fault_line, lines_of}
+use Rattle.fault_text.specs.FaultLines.{AddsLine, AreFaults, Refuses, RefusesLine, is_fault_line, lines_of}
 
 module _ (bs : List (Bor (List ℕ))) (i : ℕ) (d : Bor (List ℕ)) (below : i < length bs) where
   inside : i < length (map (λ b. b.now) bs)

@@ -1,5 +1,5 @@
 -- A text is read as one list of faults.
-use Rattle.std.proofs.Common.{◌≡◌, ◌∙◌, ℕ, suc, ◌+◌, ◌<◌, List, [], ◌∷◌, All, map, refl, sym, ap₂, arith}
+use Rattle.std.proofs.Common.{◌≡◌, suc, List, [], ◌∷◌, All, map, refl, ap₂, arith}
 use Rattle.radio_faults.specs.declared.fault.Fault.{Fault}
 use Rattle.fault_text.specs.FaultText.{fault_text}
 use Rattle.fault_text.specs.FaultLines.{FitsFault}

@@ -1,8 +1,8 @@
 -- Laws of the text of faults.
-use Rattle.std.specs.Prelude.{◌≡◌, ℕ, List, Option, Some}
+use Rattle.std.specs.Prelude.{◌≡◌, ℕ, List}
 use Rattle.radio_faults.specs.declared.fault.Fault.{Fault}
 use Rattle.fault_text.specs.FaultText.{fault_text}
-use Rattle.fault_text.specs.FaultLines.{FitsFault, IsRead, nearest, words_of}
+use Rattle.fault_text.specs.FaultLines.{FitsFault, IsRead}
 
 -- Two faults don't share a text.
 abbrev pub OneFault : Type 0

@@ -1,9 +1,9 @@
 -- A survey of the one report of a net with each set of faults.
-use Rattle.std.proofs.Common.{◌≡◌, ℕ, List, length, None, Result, Ok, Err, IfOk}
+use Rattle.std.proofs.Common.{◌≡◌, List, length, None, Result, Ok, Err, IfOk}
 use Rattle.std.specs.declared.alloc.AllocError.{AllocError}
 use Rattle.radio_medium.specs.Medium.{medium_fault}
 use Rattle.mote_net.specs.Net.{NetModel}
-use Rattle.mote_net.specs.Report.{ReportModel, report_of}
+use Rattle.mote_net.specs.Report.{report_of}
 use Rattle.mote_net.specs.declared.report.Report.{Report}
 use Rattle.serial_run.specs.FaultRun.{IsReportWith}
 use Rattle.serial_run.proofs.Unique.{report_is_one}

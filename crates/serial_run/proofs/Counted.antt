@@ -1,30 +1,19 @@
 -- The copies of the log that arrive after the end stay on the agenda until the end.
-use Rattle.std.proofs.Common.{◌≡◌, ℕ, suc, ◌<◌, ◌≤◌, Bool, true, false, ◌&&◌, ltb, eqb, List, [], ◌∷◌, ◌++◌}
-use Rattle.std.proofs.Common.{length, map, refl, sym, ap, ◌∙◌, inl, inr, arith, Option, Some, None}
-use Rattle.std.specs.List.{filter, flat_map, filter_map, AllByRecursion}
+use Rattle.std.proofs.Common.{◌≡◌, ℕ, ◌<◌, ◌≤◌, Bool, true, false, ◌&&◌, ltb, eqb, List, [], ◌∷◌, ◌++◌}
+use Rattle.std.proofs.Common.{map, refl, sym, ap, ◌∙◌, inl, inr, arith, Option, Some, None}
+use Rattle.std.specs.List.{filter, flat_map, AllByRecursion}
 use Rattle.std.proofs.lemmas.Bool.{cases_Bool}
 use Rattle.std.proofs.lemmas.Bool.Decides.{nat_tests}
 use Rattle.std.proofs.lemmas.List.Elements.{filter-append}
 use Rattle.std.proofs.lemmas.Grind.{flat_map-append}
-use Rattle.std.proofs.lemmas.List.{length-append}
-use Rattle.std.proofs.lemmas.List.Sums.{length-filter}
-use Rattle.radio_packet.specs.declared.sent.Sent.{Sent}
-use Rattle.radio_packet.specs.declared.fate.Fate.{Fate}
 use Rattle.radio_packet.specs.declared.copy.RadioCopy.{RadioCopy}
-use Rattle.radio_medium.specs.Medium.{Radio, copies, copy_of, fates}
-use Rattle.mote_net.specs.Net.{NetModel}
 use Rattle.window_laws.specs.System.{System}
 use Rattle.window_laws.specs.Agenda.{Item, Wake, Packet, moment_of, comes_at, is_left, packets, wake_items, up_to}
 use Rattle.window_laws.proofs.Agenda.{packets_append, packets_map, packets_wakes}
 use Rattle.net_agenda.specs.NetSystem.{system_of}
-use Rattle.mote_net.specs.Report.{ReportModel}
-use Rattle.serial_run.specs.FaultRun.{net_with, packet_with, IsReportWith}
+use Rattle.serial_run.specs.FaultRun.{net_with}
 use Rattle.window_laws.specs.NetStep.{NetState, Run, Done, Turn, sends_of, turned_at, turn_at, boot}
 use Rattle.serial_run.specs.Counted.{is_after, LateCopiesStay}
-use Rattle.radio_faults.specs.declared.fault.Fault.{Fault}
-use Rattle.radio_faults.specs.Faults.{copies_with, fates_with}
-use Rattle.radio_faults.proofs.Copies.{fates_tell_copies}
-use Rattle.serial_run.specs.Counted.{all_copies}
 
 -- a turn adds a wake, and the copies of its packets
 packets-added : (m : ℕ) (wake : Option ℕ) (cs : List RadioCopy) → packets (wake_items m wake ++ map Packet cs) ≡ cs

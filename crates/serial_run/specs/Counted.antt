@@ -1,11 +1,9 @@
 -- Each copy that is given to a turn comes at the copy's moment, and the copies that come after the end are left.
-use Rattle.std.specs.Prelude.{◌≡◌, ℕ, nat_lt, ◌==◌, Bool, false, not, ◌&&◌, List}
-use Rattle.std.specs.Prelude.{[], ◌∷◌, length, count_by, None, IsPermutation}
+use Rattle.std.specs.Prelude.{◌≡◌, ℕ, nat_lt, Bool, not, List}
+use Rattle.std.specs.Prelude.{[], ◌∷◌}
 use Rattle.std.specs.List.{filter, flat_map, AllByRecursion}
-use Rattle.std.specs.Option.{option_map_or}
 use Rattle.radio_packet.specs.declared.copy.RadioCopy.{RadioCopy}
-use Rattle.radio_packet.specs.declared.fate.Fate.{Fate}
-use Rattle.radio_medium.specs.Medium.{Radio, copies, medium_fault}
+use Rattle.radio_medium.specs.Medium.{Radio, copies}
 use Rattle.radio_faults.specs.declared.fault.Fault.{Fault}
 use Rattle.radio_faults.specs.Faults.{copies_with}
 use Rattle.radio_packet.specs.declared.sent.Sent.{Sent}

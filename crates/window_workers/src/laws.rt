@@ -6,10 +6,9 @@ ghost use Rattle.window_workers.specs.JoinedLaws.{StaysUntilNext, WindowMovesOn}
 ghost use Rattle.window_workers.specs.MarkedAtEnd.{MarkedWindowsLeadToTheEnd};
 
 pub use serial_run::laws::{
-    at_most_one_wake, buckets_hold_items, copies_are_given, copies_come_in_time, fates_tell_left,
-    late_copies_stay, left_is_counted, loss_tables_agree, moments_and_numbers_rise,
-    order_means_nothing, report_is_one, report_is_there, sends_are_stamped, some_are_unsent,
-    traces_hand_on, turns_are_given_all, unsent_is_nothing, windows_commute,
+    at_most_one_wake, buckets_hold_items, copies_come_in_time, late_copies_stay, loss_tables_agree,
+    moments_and_numbers_rise, order_means_nothing, report_is_one, report_is_there,
+    sends_are_stamped, some_are_unsent, traces_hand_on, unsent_is_nothing, windows_commute,
 };
 
 /// Suppose that a net runs forward, and that its workers are ready (`IsAt`) before a window other than the first. Then

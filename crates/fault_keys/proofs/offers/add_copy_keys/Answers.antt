@@ -1,4 +1,4 @@
-use Rattle.std.proofs.Common.{rules, ◌≡◌, ◌∙◌, ◌+◌, ◌*◌, ℕ, List, length, ap, arith, vec_len}
+use Rattle.std.proofs.Common.{rules, ◌≡◌, ◌+◌, ℕ, length, arith, vec_len}
 use Rattle.fault_keys.specs.Keys.{packed}
 use Rattle.fault_keys.proofs.Lists.{map_more}
 use Rattle.fault_keys.proofs.offers.add_copy_keys.Goals as goal

@@ -1,6 +1,5 @@
-use Rattle.std.proofs.Common.{rules, ◌≡◌, ◌∙◌, ◌<◌, ◌++◌, ◌∷◌, [], Bool, if◌then◌else◌, List, ℕ, length, get_or, ap, sym, arith, vec_len}
+use Rattle.std.proofs.Common.{rules, ◌≡◌, ◌∙◌, ◌<◌, ◌++◌, ◌∷◌, [], Bool, if◌then◌else◌, ℕ, length, get_or, ap, arith, vec_len}
 use Rattle.std.proofs.lemmas.List.{get_or_default}
-use Rattle.radio_faults.specs.declared.fault.Fault.{Fault}
 use Rattle.radio_faults.specs.declared.fault.Fault.TheVariants.{Silent}
 use Rattle.mote_net.specs.Report.{report_of}
 use Rattle.serial_run.specs.FaultLaws.{may_change}

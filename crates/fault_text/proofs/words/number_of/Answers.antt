@@ -1,4 +1,4 @@
-use Rattle.std.proofs.Common.{◌≡◌, ◌∙◌, ◌+◌, ◌-◌, ◌*◌, ◌∷◌, ◌++◌, [], min, sym, ap, take, get_or, arith}
+use Rattle.std.proofs.Common.{◌≡◌, ◌∙◌, ◌+◌, ◌-◌, ◌*◌, min, sym, ap, take, get_or, arith}
 use Rattle.std.proofs.lemmas.List.{take_more}
 use Rattle.fault_text.specs.FaultLines.{number_behind}
 use Rattle.fault_text.proofs.Numbers.{one_digit_more}

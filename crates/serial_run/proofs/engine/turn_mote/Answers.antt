@@ -1,4 +1,4 @@
-use Rattle.std.proofs.Common.{◌≡◌, ◌∙◌, ℕ, ap, sym, subst, option_map, get_or, refl, slice_set}
+use Rattle.std.proofs.Common.{◌≡◌, ◌∙◌, ℕ, ap, sym, subst, option_map, get_or, slice_set}
 use Rattle.std.proofs.lemmas.List.{get_or_default}
 use Rattle.program_tree.specs.Program.{tree_of}
 use Rattle.mote_node.specs.declared.mote.Mote.{Mote}
