@@ -114,6 +114,16 @@ fn write_delays(alloc: Global, net: &Net, text: &mut String) -> Result<(), Alloc
     write_run(alloc, net, &[join_is_late(3), ANSWER_IS_LOST], text)
 }
 
+fn write_off(alloc: Global, net: &Net, text: &mut String) -> Result<(), AllocError> {
+    write_run(alloc, net, &[Fault::OffUntil { mote: 1, until: 2 }], text)?;
+    write_run(alloc, net, &[Fault::OffUntil { mote: 1, until: 3 }], text)?;
+    write_run(alloc, net, &[Fault::OffUntil { mote: 0, until: 7 }], text)?;
+    write_run(alloc, net, &[Fault::OffFrom { mote: 1, from: 3 }], text)?;
+    write_run(alloc, net, &[Fault::OffFrom { mote: 1, from: 2 }], text)?;
+    write_run(alloc, net, &[Fault::OffFrom { mote: 0, from: 4 }], text)?;
+    write_run(alloc, net, &[Fault::OffFrom { mote: 0, from: 0 }], text)
+}
+
 /// A lost JOIN is never repeated. A late copy that arrives at the end is received, and after the end it is left.
 #[test]
 fn reports_with_faults(rt: HostRuntime) -> Result<(), Fail> {
@@ -131,5 +141,20 @@ fn reports_with_faults(rt: HostRuntime) -> Result<(), Fail> {
         text.as_str(),
         "0 34 9; 1 2 1; 0.0 1 Some(2); 1.0 0 Some(34); left 0|1 40 1; 0.0 1 Some(40); 1.0 0 Some(42); left 1|\
          0.0 1 Some(41); left 1|1 5 1; 0.0 1 Some(5); 1.0 0 None; left 0|",
+    )
+}
+
+/// A packet that arrives while its mote is off vanishes. A mote that is off until a moment starts at it, and receives what
+/// arrives at it.
+#[test]
+fn reports_with_motes_that_are_off(rt: HostRuntime) -> Result<(), Fail> {
+    let net = read_scenario(rt.alloc(), JOIN)?;
+    let mut text = String::new(rt.alloc());
+    write_off(rt.alloc(), &net, &mut text)?;
+    same_text(
+        text.as_str(),
+        "0 4 9; 1 2 1; 0.0 1 Some(2); 1.0 0 Some(4); left 0|0.0 1 Some(2); left 0|\
+         0 11 9; 1 9 1; 0.0 1 Some(9); 1.0 0 Some(11); left 0|0 4 9; 1 2 1; 0.0 1 Some(2); 1.0 0 Some(4); left 0|\
+         0.0 1 Some(2); left 0|1 2 1; 0.0 1 Some(2); 1.0 0 Some(4); left 0|left 0|",
     )
 }
