@@ -118,6 +118,7 @@ class Card(unittest.TestCase):
             for form in re.findall('`([^`]+)`', forms[row]):
                 with self.subTest(form):
                     read_sentence(frame % form, Names(('p', 'q'), 40))
-        for row in 'a link', 'a mote', 'a packet', 'one copy of it', 'one copy, late':
+        for row in ('a link', 'a mote', 'a mote that fails', 'a mote that starts late', 'a packet', 'one copy of it',
+                    'one copy, late'):
             with self.subTest(row):
                 self.assertIsNotNone(read_fault(forms[row].strip('`')))
