@@ -1,8 +1,8 @@
 """Makes `web/motesim.html`: the page that runs motesim without a server, in one file.
 
-    make_page(module, checker)      the text of the page, from the bytes of web/motesim.wasm and web/motecheck.wasm
+    make_page(module)      the text of the page, from the bytes of web/motecheck.wasm, which also writes reports
 
-The page is a function of the modules, of its sources in tools/motesim, of the examples and of web/run_module.js.
+The page is a function of the module, of its sources in tools/motesim, of the examples and of web/run_module.js.
 """
 from __future__ import annotations
 
@@ -26,15 +26,13 @@ from motesim.timeline.bundle import bundle
 from motesim.timeline.html import MARK, TEMPLATE, style
 
 PAGE = TOP / 'tools/motesim/web/page'
-MODULE, CHECKER = TOP / 'web/motesim.wasm', TOP / 'web/motecheck.wasm'
+MODULE = TOP / 'web/motecheck.wasm'
 RUN, HTML = TOP / 'web/run_module.js', TOP / 'web/motesim.html'
 # The page may fetch nothing, and run only its own scripts and module.
 POLICY = ('<meta http-equiv="Content-Security-Policy" content="default-src \'none\'; script-src \'unsafe-inline\' '
           '\'wasm-unsafe-eval\'; worker-src blob:; style-src \'unsafe-inline\'; img-src data: blob:; base-uri '
           '\'none\'; form-action \'none\'">')
 LONGEST = 720_000
-# The help of an option of `motecheck`: a module with it makes the reports too, and the page needs no other one.
-WRITES_REPORTS = b'Writes the report of the run'
 # (the browsers that the page needs have all of this language)
 MINIFY = ['esbuild', '--minify', '--target=es2022', '--log-level=error']
 NO_ESBUILD = 'this needs esbuild: on Debian `apt-get install esbuild` installs it'
@@ -61,11 +59,11 @@ def packed(module: bytes) -> str:
     return base64.b64encode(gzip.compress(module, 9, mtime=0)).decode('ascii')
 
 
-def make_page(module: bytes, checker: bytes) -> str:
-    """The text of the page, with the modules of `motesim` and of `motecheck`."""
+def make_page(module: bytes) -> str:
+    """The text of the page, with the module of `motecheck`."""
     fill = {
         'HELP': reference(), 'TITLE': 'motesim', 'KIND': 'lone', 'STYLE': style(), 'DATA': data(), 'POLICY': POLICY,
-        'MODULE': '' if WRITES_REPORTS in checker else packed(module), 'CHECKER': packed(checker),
+        'MODULE': packed(module),
         'WORKER': script(PAGE / 'worker.js', RUN.read_text('utf-8')), 'SCRIPT': '<script>\n%s\n</script>' % script(PAGE / 'lone.js'),
     }
     return MARK.sub(lambda mark: fill[mark[1]], TEMPLATE.read_text('utf-8'))
@@ -73,7 +71,7 @@ def make_page(module: bytes, checker: bytes) -> str:
 
 def main() -> int:
     """Writes the page from the committed module, and prints its size."""
-    text = make_page(MODULE.read_bytes(), CHECKER.read_bytes()).encode('utf-8')
+    text = make_page(MODULE.read_bytes()).encode('utf-8')
     write_whole(HTML, [text])
     print('%s: %s bytes' % (HTML.relative_to(TOP), '{:,}'.format(len(text))))
     return 0 if len(text) <= LONGEST else 1

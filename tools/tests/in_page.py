@@ -8,7 +8,7 @@ from typing import Any
 
 from here import TOP, room_of
 from browser import InBrowser
-from project.page import CHECKER, MODULE, make_page
+from project.page import MODULE, make_page
 
 FLOODING = (TOP / 'examples/flooding.toml').read_text()
 CODES = {'Tab': 9, 'Enter': 13, 'Escape': 27, 'ArrowLeft': 37, 'ArrowUp': 38, 'ArrowRight': 39, 'Delete': 46}
@@ -23,7 +23,7 @@ def fragment(text: str) -> str:
 
 @functools.cache
 def made_page() -> str:
-    return make_page(MODULE.read_bytes(), CHECKER.read_bytes())
+    return make_page(MODULE.read_bytes())
 
 
 class InPage(InBrowser):

@@ -31,9 +31,11 @@ class Checks(InPage):
         self.press_in('suggested', 'every mote but 0 prints just flood 1, 2, 3')
         self.surveyed()
         self.assertIn('# expect: %s\n' % GOAL, self.value('text'))
-        self.assertEqual(self.tab(), 'Checks 1/1 · 3 faults break it')
-        self.assertRegex(self.value('by("tried").textContent'), r'^105 faults tried, [\d,]+ ms: 3 break it\.$')
-        self.assertIn('everything holds, but link 0 to 5, mote 0 or mote 5 alone can break it.', self.said())
+        self.assertEqual(self.tab(), 'Checks 1/1 · 4 faults break it')
+        self.assertRegex(self.value('by("tried").textContent'),
+                         r'^Covered all sets of at most 1 faults in 345 runs, [\d,]+ ms: 4 break it\.$')
+        self.assertIn('Every mote but 0 prints just flood 1, 2, 3, but link 0 to 5, mote 0, mote 5 or packet 1 of mote 0 to '
+                      'mote 5 alone can break it.', self.said())
         self.undo()
         self.wait('by("tab-checks").textContent === "Checks"')
         self.assertEqual(self.value('text'), FLOODING)
@@ -55,12 +57,41 @@ class Checks(InPage):
         self.press('tab-checks')
         self.press_in('breaking', 'link 0 to 5')
         self.wait('by("why-chain").textContent.includes("packet 1 of mote 0 to mote 5, sent at 80, was lost on the way")')
-        self.assertIn('every = 1\n', self.value('text'))
+        self.assertIn('\n# fault: link 0 to 5 is broken\n', self.value('text'))
         self.assertIn('Mote 1 doesn\'t print 2, as it did at 89', self.value('by("why-chain").textContent'))
         self.assertTrue(self.said().startswith('Broken: every mote but 0 prints just flood 1, 2, 3.'))
         self.assertEqual(self.value('run.text(m.chosen.line)'), '80 send 1 2')
-        self.undo()
-        self.wait('!text.includes("every = 1\\n") && m.checks.survey')
+        self.assertIn('link 0 to 5 is broken', self.value('by("run-faults").textContent'))
+        self.assertEqual(self.value('by("breaking").querySelectorAll("[aria-pressed=true]").length'), 1)
+        self.value('by("run-faults").querySelector("button").click()')
+        self.wait('by("run-faults").hidden && m.checks.items.length && m.checks.survey')
+        self.assertEqual(self.value('text'), CHECKED)
+
+    def test_a_link_carries_the_faults_of_a_run_and_says_which_change_nothing(self) -> None:
+        unused = 'packet 99 of mote 3 is lost'
+        self.open(fragment('# fault: mote 12 is silent\n# fault: %s\n%s' % (unused, CHECKED)))
+        self.wait('m.checks.items.length')
+        self.assertEqual(self.value('[...document.querySelectorAll("#run-faults .chip")].map(it => [it.firstChild.data, it.className])'),
+                         [['mote 12 is silent', 'chip'], [unused, 'chip unused']])
+        self.assertIn('prints just flood 1, 2, 3, also with these faults.', self.said())
+        self.assertEqual(self.value('by("tried").textContent'), 'Other faults are tried in the run without faults.')
+        self.press('share')
+        self.wait('by("link").value')
+        self.assertEqual(self.downloaded(self.room / 'shared.faults', 'download-faults').read_text(),
+                         'mote 12 is silent\n%s\n' % unused)
+
+    def test_a_fault_of_what_is_selected_is_tried_and_one_of_no_link_says_so(self) -> None:
+        self.open()
+        self.value('find("mote 5 recv from 0")')
+        self.press_in('details', 'What if this copy is lost?')
+        self.wait('run.faults.length && run.copyFate[m.chosen.copy] === 5')
+        self.assertEqual(self.value('run.faults'), ['packet 1 of mote 0 is lost on the way to mote 5'])
+        self.put('# fault: link 0 to 9 is broken\n' + FLOODING)
+        self.wait('!by("fault").hidden')
+        self.assertIn('no such mote or link', self.value('by("fault").textContent'))
+        self.press('fault-correct')
+        self.wait('by("fault").hidden && !document.body.classList.contains("stale")')
+        self.assertEqual(self.value('text'), FLOODING)
 
     def test_pairs_are_tried_when_asked_for_and_end_at_the_next_key(self) -> None:
         self.open(fragment('# faults: links\n' + CHECKED))
@@ -69,6 +100,7 @@ class Checks(InPage):
         self.press('try-pairs')
         self.wait('m.checks.pairs')
         self.assertEqual(self.value('m.checks.pairs.sets.length'), 6)
+        self.assertIn('Covered all sets of at most 2 of 80 faults in', self.value('by("tried").textContent'))
         self.assertIn('link 2 to 1 + link 6 to 1', self.value('by("breaking").textContent'))
         self.press('part-all')
         self.value('by("text").focus()')
@@ -109,11 +141,12 @@ class Checks(InPage):
         goal = '# expect: each of motes 1 to 8: at least 1 line "print process news value 7"\n# faults: links\n'
         self.open(fragment(goal + wrong))
         self.surveyed()
-        self.assertRegex(self.said(), r'^Not yet: everything holds, but .* can break it\.')
+        self.assertRegex(self.said(), r'^Not yet: .* but .* can break it\.')
         self.value('(it => { it.focus(); const at = it.value.indexOf("(from < self)"); '
                    'it.setSelectionRange(at, at + 13); })(by("text"))')
         self.browser.type('(from < (self + 3))')
-        self.wait('by("said").textContent.startsWith("Right: everything holds, and none of 40 single faults breaks it.")')
+        self.wait('by("said").textContent.startsWith("Right: each of motes 1 to 8 prints news 7, also with any single fault (links).")'
+                  '|| by("said").textContent.startsWith("Right: every mote but 0 prints news 7, also with any single fault (links).")')
         self.assertEqual(self.tab(), 'Checks 1/1')
 
     def test_results_of_an_earlier_text_are_none_of_a_text_with_an_error(self) -> None:

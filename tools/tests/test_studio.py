@@ -11,6 +11,7 @@ from typing import Any
 from unittest import mock
 
 from here import SECONDS, TOOLS, TOP, Room, until
+import skips
 import stand_in
 from motesim.faults import Fault
 from motesim.studio import answers
@@ -19,6 +20,7 @@ from motesim.studio.desk import Changed, Desk
 from motesim.studio.runs import MEGABYTE, LimitMet, Runs, Superseded
 from motesim.studio.server import Server
 from motesim.studio.session import Session
+from motesim.studio.shrinking import Shrinking
 from test_studio_page import EXPECTED, LIMITS, NET
 
 
@@ -328,6 +330,21 @@ class Answering(Room):
         self.assertEqual(self.answer('expect', NET, **words), {})
         self.assertEqual((self.room / 'net.expect.toml').read_text(), source)
         self.assertIn('changed elsewhere', self.answer('expect', NET, **words)['refused'])
+
+
+class Shrunk(unittest.TestCase):
+    def test_a_small_scenario_has_the_faults_that_break_it(self) -> None:
+        skips.need_built('motesim', 'motecheck')
+        small = Shrinking(LIMITS).text('# fault: link 0 to 1 is broken\n' + NET, 'mote 1 receives exactly 2')
+        self.assertTrue(small.startswith('# fault: link 0 to 1 is broken\n'), small)
+        self.assertEqual(small.count('[[mote]]'), 2)
+        with self.assertRaisesRegex(Fault, 'prints none'):
+            Shrinking(LIMITS).text(NET, 'mote 1 prints none')
+
+    def test_the_faults_of_a_text_are_in_its_head(self) -> None:
+        text = answers.with_faults('# a\n# fault: mote 1 is silent\nend = 5\n# fault: mote 2 is silent\n', ['mote 3 is silent'])
+        self.assertEqual(text, '# fault: mote 3 is silent\n# a\nend = 5\n# fault: mote 2 is silent\n')
+        self.assertEqual(answers.faults_of(text), ('mote 3 is silent',))
 
 
 class Command(Room):

@@ -4,6 +4,7 @@ import contextlib
 import json
 import threading
 from typing import Any
+from unittest import mock
 
 from here import SECONDS, TOP, room_of, text_of
 import skips
@@ -48,9 +49,10 @@ class InStudio(InBrowser):
             self.server.server_close()
             self.server = None
 
-    def open(self, text: str | None = None, limits: Limits = LIMITS, against: str | None = None) -> None:
+    def open(self, text: str | None = None, limits: Limits = LIMITS, against: str | None = None,
+             faults: tuple[str, ...] = ()) -> None:
         self.file.write_text(text or self.text)
-        self.serve(Server(Session(Desk(self.file), Runs(limits), against)))
+        self.serve(Server(Session(Desk(self.file), Runs(limits), against, faults)))
         self.stack.callback(self.stop)
         self.browser.size(1400, 900)
         self.visit()
@@ -276,6 +278,21 @@ class Causes(InStudio):
         self.waits('why', 'the medium lost it, because it loses one packet in 2 from 0 to 1')
         self.value('document.querySelector("#why-chain button").click()')
         self.assertEqual(self.value('m.chosen.mote'), 1)
+
+    def test_a_fault_of_the_run_is_one_of_its_causes_too(self) -> None:
+        self.open(faults=('link 0 to 5 is broken',))
+        self.wait('run.faults.length && m.checks.items.length')
+        self.press('tab-why')
+        self.write('why-asked', 'mote 24 prints flood 2')
+        self.waits('why', 'because link 0 to 5 is broken')
+
+    def test_a_broken_expectation_is_shrunk(self) -> None:
+        self.open(faults=('link 0 to 5 is broken',))
+        self.press('tab-checks')
+        self.wait('by("held").innerText.includes("Shrink")')
+        with mock.patch.object(self.server.session.shrinking, 'text', return_value=NET):
+            self.press_in('held', 'Shrink')
+            self.wait('run.begins.length === 3 && by("run-faults").hidden')
 
     def test_a_line_that_an_expectation_misses(self) -> None:
         """No line breaks it, so a click shows what came near."""

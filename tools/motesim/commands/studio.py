@@ -6,7 +6,7 @@ studio. docs/use/DEBUGGING.md describes the page.
 from __future__ import annotations
 
 from motesim.command import command
-from motesim.words import Words, add_limits, words_of
+from motesim.words import Words, add_faults, add_limits, words_of
 
 # The limits of a run: those of motesim.studio.runs.
 SECONDS, MEMORY, REPORT = 10, 1024, 16
@@ -18,6 +18,7 @@ def parser() -> Words:
                        help="a scenario; if the file doesn't exist, the studio begins a new scenario with this name")
     words.add_argument('--against', metavar='OTHER.toml',
                        help='open the page at the first difference from the run of this scenario')
+    add_faults(words, "FILE.toml's run")
     words.add_argument('--no-open', action='store_true', help='print the address, and open no browser')
     add_limits(words, SECONDS, MEMORY, REPORT)
     return words

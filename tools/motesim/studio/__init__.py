@@ -2,5 +2,5 @@
 
     command   starts it             server    serves the page           session  responds to the page
     desk      the files             runs      runs within limits        answers  results of a run
-    examples  the first texts       reference  the notation and claims, for the pages
+    examples  the first texts       shrinking  small scenarios        reference  the notation, for the pages
 """

@@ -1,6 +1,8 @@
 """What the page asks about a text: its error, its warnings, and what it must show."""
 from __future__ import annotations
 
+import re
+from collections.abc import Sequence
 from typing import Any, NamedTuple
 
 from motesim.explain.explanation import TEXT, correction_of, explanation, place_of_fault
@@ -18,6 +20,8 @@ from motesim.scenario.places import Place, place_of
 from motesim.scenario.in_programs import place_of_token
 
 MOST_WARNINGS = 20
+# The comments and blank lines at the head of a text, and its comments with faults of the run, as the page writes them.
+HEAD, FAULT = re.compile(r'(?:[ \t]*(?:#.*)?\n)*'), re.compile(r'^# fault: (.*)', re.M)
 
 
 class Finished(NamedTuple):
@@ -31,10 +35,23 @@ class Finished(NamedTuple):
         return self.run._replace(name=name)
 
 
+def faults_of(text: str) -> tuple[str, ...]:
+    """The faults of the run of a text."""
+    found = HEAD.match(text)
+    return tuple(it.strip() for it in FAULT.findall(found[0] if found else ''))
+
+
+def with_faults(text: str, faults: Sequence[str]) -> str:
+    """A text whose run has these faults only."""
+    head = HEAD.match(text)
+    assert head
+    return ''.join('# fault: %s\n' % it for it in faults) + re.sub('# fault: .*\n', '', head[0]) + text[head.end():]
+
+
 def finished(number: int, text: str, data: bytes, name: str, fields: tuple[Field, ...] = ()) -> Finished:
     """A run from its report, with the format of its packets."""
     scenario = Scenario.parse(text)
-    scenario.fields = fields
+    scenario.fields, scenario.faults = fields, faults_of(text)
     return Finished(number, text, Run(name, Report.parse(data), scenario, (name or 'text', text)), scenario)
 
 

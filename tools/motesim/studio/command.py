@@ -17,6 +17,7 @@ from motesim.judge.expectations import text_of
 from motesim.runner import Limits
 from motesim.runner.programs import program_path
 from motesim.report.run import refuse_others
+from motesim.scenario.fault_text import faults_asked
 from motesim.studio.desk import Desk
 from motesim.studio.runs import MEGABYTE, Runs
 from motesim.studio.server import Server
@@ -84,7 +85,7 @@ def status_of(asked: argparse.Namespace) -> int:
     gc.enable()
     program_path()
     runs = Runs(Limits(asked.seconds, asked.memory * MEGABYTE, asked.report * MEGABYTE))
-    session = Session(Desk(asked.file), runs, against=pinned(asked.against) if asked.against else None)
+    session = Session(Desk(asked.file), runs, pinned(asked.against) if asked.against else None, faults_asked(asked))
     session.desk.first()
     try:
         server = server_of(session)
@@ -94,5 +95,6 @@ def status_of(asked: argparse.Namespace) -> int:
         with contextlib.suppress(KeyboardInterrupt):
             serve(server, not asked.no_open)
         runs.ask()
+        session.shrinking.stop()
     print('studio: ended', file=sys.stderr)
     return 0

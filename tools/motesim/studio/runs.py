@@ -7,6 +7,7 @@
 from __future__ import annotations
 
 import threading
+from collections.abc import Sequence
 
 from motesim import runner
 from motesim.faults import Fault
@@ -49,9 +50,9 @@ class Runs:
         if ticket != self.newest:
             raise Superseded
 
-    def run(self, ticket: int, scenario: bytes) -> Answer:
-        """The answer of `motesim`."""
-        limited = Runner(limits=self.limits)
+    def run(self, ticket: int, scenario: bytes, faults: Sequence[str] = ()) -> Answer:
+        """The answer of `motesim`, or with faults that of `motecheck`."""
+        limited = Runner(limits=self.limits, faults=faults)
         with self.turn:
             with self.state:
                 self.check(ticket)

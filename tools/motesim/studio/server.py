@@ -53,7 +53,6 @@ def worker() -> bytes:
 
 # Other files of the page: their kinds, and functions that return them.
 FILES: dict[str, tuple[str, Callable[[], bytes]]] = {
-    'motesim.wasm': ('application/wasm', lambda: file_of('motesim').read_bytes()),
     'motecheck.wasm': ('application/wasm', lambda: file_of('motecheck').read_bytes()),
     'motesim.html': (HTML, lambda: file_of('motesim').with_suffix('.html').read_bytes()), 'worker.js': (JAVASCRIPT, worker)}
 

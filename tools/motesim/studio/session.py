@@ -9,6 +9,7 @@ import json
 import threading
 import time
 from collections import OrderedDict
+from collections.abc import Sequence
 from typing import Any, Callable, NamedTuple
 
 from motesim.explain.within import busiest
@@ -18,6 +19,7 @@ from motesim.studio import answers
 from motesim.studio.desk import Changed, Desk, Document, stamp_of
 from motesim.studio.examples import offered
 from motesim.studio.runs import Runs, Superseded
+from motesim.studio.shrinking import Shrinking
 from motesim.timeline.columns import fields_of
 from motesim.timeline.html import page_of
 from motesim.causes.studio import Causes
@@ -50,16 +52,18 @@ def _text(asked: dict[str, Any], name: str) -> str:
 class Session:
     """Runs and files for the page."""
 
-    def __init__(self, desk: Desk, runs: Runs, against: str | None = None):
+    def __init__(self, desk: Desk, runs: Runs, against: str | None = None, faults: Sequence[str] = ()):
         self.desk, self.runs = desk, runs
-        self.against = against
+        self.against, self.faults = against, faults
+        self.shrinking = Shrinking(runs.limits)
         self.kept: OrderedDict[str, answers.Finished] = OrderedDict()
         self.newest, self.ticket = '', 0
         self.lock = threading.Lock()
         self.work = threading.Lock()
         self.does: dict[str, Callable[[dict[str, Any]], Answered]] = {
             'begin': self.begin, 'open': self.open, 'explain': self.explain, 'advise': self.advise, 'warn': self.warn,
-            'expectations': self.expected, 'expect': self.expect, 'save': self.save, 'export': self.export}
+            'expectations': self.expected, 'expect': self.expect, 'save': self.save, 'export': self.export,
+            'shrink': self.shrink}
         self.causes = Causes()
         for what in 'why', 'state', 'statement':
             self.does[what] = functools.partial(self.cause, what)
@@ -81,7 +85,7 @@ class Session:
         """The content of the page when it opens."""
         files = [] if self.desk.folder == self.desk.examples else self.desk.names('folder')
         return as_json({**self.opened(self.desk.first()), **offered(), 'files': files, 'folder': str(self.desk.folder),
-                        'against': self.against, 'seconds': self.runs.limits.seconds})
+                        'against': self.against, 'faults': self.faults, 'seconds': self.runs.limits.seconds})
 
     def open(self, asked: dict[str, Any]) -> Answered:
         return as_json(self.opened(self.desk.read(_text(asked, 'where'), _text(asked, 'name'))))
@@ -127,7 +131,7 @@ class Session:
             ticket = self.ticket
         with self.work:
             if text not in self.kept:
-                got = self.runs.run(ticket, text.encode('utf-8'))
+                got = self.runs.run(ticket, text.encode('utf-8'), answers.faults_of(text))
                 if got.status:
                     raise Fault('the text has an error, so it has no run')
                 fields = answers.fields_of(self.expectations(asked))
@@ -177,3 +181,7 @@ class Session:
         """The page of a run in one file, the same that tools/timeline writes."""
         title = _text(asked, 'title').removesuffix('.toml')
         return Answered(HTML, ''.join(page_of(title, [self.done(asked).named(title)])).encode('utf-8'))
+
+    def shrink(self, asked: dict[str, Any]) -> Answered:
+        """A small scenario in which an expectation is broken by the same faults."""
+        return as_json({'text': self.shrinking.text(_text(asked, 'text'), _text(asked, 'sentence'))})

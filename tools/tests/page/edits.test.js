@@ -33,6 +33,12 @@ test('an added mote is behind the others', () => {
     {x: 4, y: -4, program: 'talk'});
 });
 
+test('the faults of a run follow the numbers of the motes', () => {
+  const faults = ['link 0 to 1 is broken', 'mote 2 is silent', 'packet 3 of mote 2 is 4 late on the way to mote 0'];
+  const text = made(faults.map(it => `# fault: ${it}\n`).join('') + NET, 'remove', {mote: 1});
+  assert.ok(text.startsWith('# fault: mote 1 is silent\n# fault: packet 3 of mote 1 is 4 late on the way to mote 0\n# Three'));
+});
+
 test('a removed mote takes its losses, and renumbers the others; the last one stays', () => {
   const text = made(LOSSES, 'remove', {mote: 1});
   assert.deepEqual(readToml(text).tables.loss, [loss(1, 0, 3)]);

@@ -6,17 +6,14 @@ import {withSentence} from '../../web/page/edits.js';
 
 const LOST = 'The studio doesn\'t answer. Start it again, and open its page: the browser keeps your text.';
 
-/** A module of the server, compiled.
- * @param {string} name */
-const compiled = async name => WebAssembly.compile(await (await fetch(name)).arrayBuffer());
-
 export class Server extends Alone {
   /** The file of the expectations that are shown: its name, text and stamp; null if there is none. */
   expected = /** @type {any} */ (null);
 
-  /** The server, with its modules and the script of its workers. */
+  /** The server, with its module and the script of its workers. */
   static async begin() {
-    return new Server(compiled('motesim.wasm'), () => compiled('motecheck.wasm'), await (await fetch('worker.js')).text(), {});
+    const module = fetch('motecheck.wasm').then(it => it.arrayBuffer()).then(it => WebAssembly.compile(it));
+    return new Server(module, await (await fetch('worker.js')).text(), {});
   }
 
   async run(asked) {

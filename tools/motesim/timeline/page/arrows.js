@@ -46,15 +46,18 @@ export function drawArrows(pane) {
 /** The copy whose arrow passes near a point, as packet and copy, or null. */
 export const arrowNear = (pane, x, y, reach) => nearest(pane.arrows, ({ends}) => awayFrom(x, y, ends), reach);
 
+/** Draws a copy so that it stands out, with an arrow so wide. */
+export function drawCopy(pane, k, copy, wide) {
+  const ends = arrowEnds(pane, k, copy);
+  drawPath(pane.context, ends, 'halo', 3 * wide, 0.6);
+  drawArrow(pane.context, ends, pane.run.copyFate[copy], wide, 5);
+}
+
 /** Draws the selection: a ring around its line, and the arrows of its packet. */
 export function drawChosen(pane) {
   const {run, context: c} = pane, {chosen} = page, {line, k} = chosen;
   if (chosen.pane !== pane) return;
-  for (const copy of k >= 0 ? run.copiesOf(k) : []) {
-    const ends = arrowEnds(pane, k, copy), isChosen = copy === chosen.copy;
-    drawPath(c, ends, 'halo', isChosen ? 9 : 6, 0.6);
-    drawArrow(c, ends, run.copyFate[copy], isChosen ? 3 : 2, 5);
-  }
+  for (const copy of k >= 0 ? run.copiesOf(k) : []) drawCopy(pane, k, copy, copy === chosen.copy ? 3 : 2);
   if (line < 0) return;
   ring(c, ...pane.placeOf(line, chosen.mote), Math.max(7, Math.min(11, pane.lane * 0.3)));
   stroke(c, 'mark', 2.5);

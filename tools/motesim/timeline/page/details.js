@@ -43,18 +43,20 @@ export function chooseMote(pane, mote, show = false) { select(pane, {mote}, show
 
 /** The selection, in a form that finds it in another run; or null. */
 export function chosenInWords() {
-  const {pane, mote, line} = page.chosen;
-  return pane && (line >= 0 ? {mote, at: pane.run.at[line], words: pane.run.words(line)} : {mote});
+  const {pane, mote, line, k, copy} = page.chosen, run = pane?.run;
+  return pane && {mote, ...line >= 0 ? {at: run.at[line], words: run.words(line)} : {},
+    ...copy >= 0 ? {sender: run.packetSender[k], number: run.packetNumber[k]} : {}};
 }
 
-/** Selects the same in the run that a pane shows now; otherwise the mote, if that run has it. */
-export function chooseAgain(pane, {mote, at = 0, words = ''}) {
+/** Selects the same in the run that a pane shows now; otherwise the same copy or the mote, if that run has it. */
+export function chooseAgain(pane, {mote, at = 0, words = '', sender = -1, number = 0}) {
   const {run} = pane;
   if (mote >= run.begins.length) return selectNothing();
   for (let i = run.lineAt(mote, at); words && i < run.lineAt(mote, at + 1); i++) {
     if (run.words(i) === words) return chooseLine(pane, i);
   }
-  chooseMote(pane, mote);
+  const k = sender >= 0 && sender < run.begins.length ? run.packetOf(sender, number) : -1, copy = k >= 0 ? run.copyFor(k, mote) : -1;
+  if (copy >= 0) chooseCopy(pane, k, copy); else chooseMote(pane, mote);
 }
 
 /** Selects an item, lists it, announces it to screen readers, and draws it. */
@@ -67,7 +69,7 @@ function select(pane, it, show) {
     if (show) revealMoment(moment);
   }
   if (show) pane.reveal(mote);
-  const parts = page.panes.length > 1 ? [element('p', `In ${run.name}:`)] : [];
+  const parts = [...page.panes.length > 1 ? [element('p', `In ${run.name}:`)] : [], element('p', '', actionsOf(pane, line))];
   if (k >= 0) parts.push(...packetParts(pane, k));
   if (line >= 0) parts.push(...eventParts(pane, line, mote), ...turnParts(pane, line, mote, k));
   else if (k < 0) parts.push(...moteParts(pane, mote));
@@ -76,6 +78,12 @@ function select(pane, it, show) {
     k >= 0 && `packet ${run.packetNumber[k]} of mote ${run.packetSender[k]}`,
     copy >= 0 && FATE_WORDS[run.copyFate[copy]]].filter(Boolean).join(', ');
   redraw();
+}
+
+/** The buttons for what is selected. */
+function actionsOf(pane, line) {
+  const why = () => makeButton('Why is this line here?', () => page.askWhy(pane, line), {id: 'ask-why', title: 'The chain of its causes (W)'});
+  return [...line >= 0 ? [why(), ...page.expectsOf?.(pane, line) || []] : [], ...page.faultsOf?.(pane) || []];
 }
 
 /** A packet: the medium's line, the send, and each copy with its fate. */
@@ -116,10 +124,7 @@ function eventParts(pane, line, mote) {
 function turnParts(pane, line, mote, k) {
   const {run} = pane, [from, to] = run.turn(line, mote), first = Math.max(from, line - MOST_LISTED / 2);
   const lines = numbers(first, Math.min(to, first + MOST_LISTED));
-  const why = Object.assign(makeButton('Why is this line here?', () => page.askWhy(pane, line)),
-    {id: 'ask-why', title: 'The chain of its causes (W)'});
-  return [element('p', '', [why, ...page.expectsOf ? page.expectsOf(pane, line) : []]),
-    element(k >= 0 ? 'h3' : 'h2', `Mote ${mote} at moment ${run.at[line]}: its turn`),
+  return [element(k >= 0 ? 'h3' : 'h2', `Mote ${mote} at moment ${run.at[line]}: its turn`),
     list('ol', lines.map(it => traceButton(pane, it,
       run.silent[it] ? 'a timer that sends in other runs, and not in this one' : ''))),
     element('p', to - from > lines.length ? `${to - from - lines.length} lines of this turn are not listed.` : ''),

@@ -49,25 +49,29 @@ export const page = {
   mapOverlays: does(),
   followers: does(),
   /** What pages do in ways of their own: going to a line of the programs' file, a change of the text, finding a chain
-   * of causes, and showing it. */
+   * of causes, showing it, and making a scenario small. */
   goToLine: none,
   edit: none,
   chainOf: none,
   askWhy: none,
-  expectsOf: none,
   askQuestion: none,
+  shrink: none,
+  /** The buttons for a line that may be expected, and those for a fault of what is selected; and what makes a fault a
+   * part of the run, or takes it away. */
+  expectsOf: none,
+  faultsOf: none,
+  toggleFault: none,
 
-  /** What must hold, with its verdicts, for which text; how long one run of them took; what the surveys of single
-   * faults and of pairs found; the sentence about them; whether the page goes to the next break;
-   * and the words of what needn't hold with faults, and
-   * whether the reader has chosen them. */
-  checks: {items: list(), text: '', took: 0, survey: none, pairs: none, words: '', is: '', follows: false,
+  /** What must hold, with its verdicts, for which text; how long one run of them took; the faults that change nothing;
+   * what the surveys of single faults and of pairs found; the sentence about them; whether the page goes to the next
+   * break; and the words of what needn't hold with faults, and whether the reader has chosen them. */
+  checks: {items: list(), text: '', took: 0, unused: list(), survey: none, pairs: none, words: '', is: '', follows: false,
     without: new Set(), chosen: false},
 
-  /** Functions that are called when the results that are shown become those of an earlier text; when a run is shown;
-   * when a document was opened, or is shown again (`isAgain`); when its text is kept; and when the
+  /** Functions that are called when the results that are shown become those of an earlier text; when a run is shown,
+   * its checks are decided, and faults are surveyed; when a document was opened, or is shown again (`isAgain`); when its text is kept; and when the
    * reader leaves the page. */
-  reactions: {outdated: does(), ran: does(), opened: does(), kept: does(), left: does()},
+  reactions: {outdated: does(), ran: does(), judged: does(), surveyed: does(), opened: does(), kept: does(), left: does()},
   /** The state that is shown, and the selection whose statement is marked. */
   state: '', marked: 0,
 

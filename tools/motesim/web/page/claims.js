@@ -1,48 +1,10 @@
 // @ts-check
-// Claims about a run: those in the comments at the head of a scenario, those that a run suggests, their words, and the
-// answers of `motecheck`.
+// Claims about a run: those that a run or one of its lines suggests, their words, and the verdicts of motecheck.
 import {HALT, PRINT, RECV, SEND} from '../../timeline/page/data.js';
-import {count, digits} from '../../timeline/page/words.js';
+import {count} from '../../timeline/page/words.js';
 import {readToml} from './toml.js';
 
-/** The kinds of faults that can be tried: the name, and the options of `motecheck`. */
-export const KINDS = [['links', '--links'], ['silent motes', '--silent']];
-const EXPECT = '# expect: ', FAULTS = '# faults: ', MOST_VALUES = 24, MOST_SUGGESTED = 5;
-
-/** The comments and blank rows at the head of a text. */
-const headOf = text => (/^([ \t]*(#.*)?\n)*/.exec(text) || [''])[0];
-
-const commentsIn = (text, mark) =>
-  headOf(text).split('\n').flatMap(row => row.startsWith(mark) ? row.slice(mark.length).trim() : []);
-
-/** The claims that a text has in its head. */
-export const claimsIn = text => commentsIn(text, EXPECT);
-
-/** The text with another comment in its head, behind those of its kind. */
-function withComment(text, mark, words) {
-  const head = headOf(text), last = head.lastIndexOf(mark), comments = (/^(#.*\n)*/.exec(text) || [''])[0];
-  const at = last >= 0 ? head.indexOf('\n', last) + 1 : comments.length;
-  return `${text.slice(0, at)}${mark}${words}\n${text.slice(at)}`;
-}
-
-function withoutComment(text, mark, words) {
-  const row = headOf(text).split('\n').find(it => it.startsWith(mark) && it.slice(mark.length).trim() === words);
-  return row === undefined ? text : text.replace(`${row}\n`, '');
-}
-
-export const withClaim = (text, claim) => claimsIn(text).includes(claim) ? text : withComment(text, EXPECT, claim);
-export const withoutClaim = (text, claim) => withoutComment(text, EXPECT, claim);
-
-/** The kinds of faults that a text is to survive; null if it names none. */
-export function faultsIn(text) {
-  const [named] = commentsIn(text, FAULTS);
-  return named === undefined ? null : KINDS.map(([name]) => name).filter(name => named.split(/, */).includes(name));
-}
-
-export function withFaults(text, kinds) {
-  const bare = commentsIn(text, FAULTS).reduce((made, words) => withoutComment(made, FAULTS, words), text);
-  return withComment(bare, FAULTS, kinds.join(', '));
-}
+const MOST_VALUES = 24, MOST_SUGGESTED = 5;
 
 /** Motes in a claim: `motes 1 to 3, 7`. */
 function motesText(motes) {
@@ -65,15 +27,16 @@ function processNamer(run, text) {
 }
 
 /** The pattern of a line that may be expected, such as `print process flood value 1`; '' for other lines. */
-export function patternOf(run, line, text) {
+function patternOf(run, line, text) {
   const value = ` value ${run.w[line]}`;
   return {[SEND]: `send${value}`, [RECV]: `recv sender ${run.p[line]}${value}`, [PRINT]: `print process ${
     processNamer(run, text)(run.moteOf(line), run.process(run.p[line]))}${value}`}[run.kind[line]] || '';
 }
 
-/** The claims that a line is expected of its mote, and of all motes that have such a line. */
+/** The claims that a line is expected of its mote, and of all motes that have such a line; none for other lines. */
 export function claimsOfLine(run, line, text) {
   const pattern = patternOf(run, line, text), mote = run.moteOf(line);
+  if (!pattern) return [];
   const same = [...run.begins.keys()].filter(m => {
     for (let i = run.traceStart[m]; i < run.traceStart[m + 1]; i++) {
       if (run.kind[i] === run.kind[line] && run.w[i] === run.w[line] && run.p[i] === run.p[line]) return true;
@@ -130,45 +93,16 @@ export function wordsOf(claim, motes) {
     `every mote${others.length ? ` but ${others.join(' and ')}` : ''} ${said}`;
 }
 
-/** The verdicts in an answer: of each claim whether it holds, why not, and the line that breaks it as a mote and a
- * number in its trace from 1. */
-export function verdictsIn(answer) {
-  return answer.trimEnd().split('\n').map(row => {
-    const [, word, claim, why = ''] = /^(holds|broken): (.*?)(?: -- (.*))?$/.exec(row) || ['', '', row];
-    const line = /; line (\d+) of mote (\d+), at \d+/.exec(why), mote = /for mote (\d+):/.exec(why);
-    const span = /(?:from \d+ to|at) (\d+)/.exec(why.replace(/; line .*/, ''));
-    return {claim, holds: word === 'holds', why, number: line ? Number(line[1]) : 0,
-      mote: line ? Number(line[2]) : mote ? Number(mote[1]) : -1, at: span ? Number(span[1]) : -1};
-  });
-}
+/** The verdicts in an answer of motecheck: of each claim whether it holds, why not, and the line that breaks it as a
+ * mote and a number in its trace from 1. */
+export const verdictsIn = answer => answer.split('\n').flatMap(row => {
+  const [, word, claim, why = ''] = /^(holds|broken): (.*?)(?: -- (.*))?$/.exec(row) || [];
+  if (!word) return [];
+  const line = /; line (\d+) of mote (\d+), at \d+/.exec(why), mote = /for mote (\d+):/.exec(why);
+  const span = /(?:from \d+ to|at) (\d+)/.exec(why.replace(/; line .*/, ''));
+  return [{claim, holds: word === 'holds', why, number: line ? Number(line[1]) : 0,
+    mote: line ? Number(line[2]) : mote ? Number(mote[1]) : -1, at: span ? Number(span[1]) : -1}];
+});
 
-/** A survey in an answer: the sets of faults that break claims, with these claims; how many faults and runs there were;
- * and whether sets were left out. */
-export function surveyIn(answer) {
-  const sets = /** @type {Map<string, {faults: string[], claims: string[]}>} */ (new Map());
-  let claim = '', isBroken = false;
-  for (const row of answer.trimEnd().split('\n')) {
-    const [, set] = /^ {2}if (.*)$/.exec(row) || [];
-    if (row.startsWith('broken: ')) claim = row.slice(8);
-    else if (set === 'nothing is broken') isBroken = true;
-    else if (set) sets.set(set, {faults: set.split(' and '), claims: [...sets.get(set)?.claims || [], claim]});
-  }
-  const covered = /^covered: (?:nothing|all sets of at most (\d+)(?: of (\d+))? faults)( before the limit)?; runs: (\d+)$/m;
-  const [, most = 0, faults, before, runs] = covered.exec(answer) || [];
-  return {sets: [...sets.values()], isBroken, most: Number(most), faults: Number(faults ?? runs), runs: Number(runs),
-    isStopped: Boolean(before)};
-}
-
-/** A fault: the link that is broken, or the mote that is silent. @returns {{link?: number[], mote?: number}} */
-export function faultOf(words) {
-  const link = /^link (\d+) to (\d+) is broken$/.exec(words), mote = /^mote (\d+) is silent$/.exec(words);
-  return link ? {link: [Number(link[1]), Number(link[2])]} : mote ? {mote: Number(mote[1])} : {};
-}
-
-/** What a survey found, in one sentence. */
-export function surveyInWords({sets, faults, most, isStopped}, took) {
-  const what = most === 1 ? count(faults, 'fault') : `${digits(faults)} faults and their ${most === 2 ? 'pairs' : 'sets'}`;
-  const found = sets.length ? `${sets.length === 1 ? '1 breaks' : `${sets.length} break`} it` :
-    isStopped ? 'not broken so far' : 'none breaks it';
-  return `${what} tried${isStopped ? ' in part' : ''}, ${digits(Math.max(1, Math.round(took)))} ms: ${found}.`;
-}
+/** The faults in an answer that change nothing in the run. */
+export const unusedIn = answer => [...answer.matchAll(/^unused: (.*)$/gm)].map(it => it[1]);

@@ -3,6 +3,7 @@
 // comments, order and layout.
 import {Refused} from '../../timeline/page/stage.js';
 import {digits} from '../../timeline/page/words.js';
+import {faultsWithoutMote} from './comments.js';
 import {NoToml, readToml} from './toml.js';
 
 const MOST_PLACE = 30000, MOST_EVERY = 1000000, MOST_MOTES = 1000;
@@ -121,7 +122,7 @@ const EDITS = {
       name => /** @type {[any[], number]} */ ([['loss', i, name], loss[name] - 1])));
     const made = its.reduceRight((made, i) => made.without('loss', i), scenario.set(...others).without('mote', m));
     const itsLosses = its.length > 1 ? `; so are its ${its.length} losses.` : its.length ? '; so is its loss.' : '.';
-    return [made, `Mote ${m} is removed${m < motes - 1 ? '; the motes after it are renumbered' : ''}${itsLosses}`];
+    return [new Scenario(faultsWithoutMote(made.text, m)), `Mote ${m} is removed${m < motes - 1 ? '; the motes after it are renumbered' : ''}${itsLosses}`];
   },
 
   lose(scenario, wish) {

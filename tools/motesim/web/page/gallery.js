@@ -2,12 +2,6 @@
 // The examples: cards with questions, and the others by name.
 import {byId, element, makeButton} from '../../timeline/page/dom.js';
 
-/** The first sentence of the comment at the head of a text. */
-export function firstSentence(text) {
-  const [comment] = /^(#.*\n)*/.exec(text) || [''];
-  return (/^.*?[.](?= |$)/.exec(comment.replace(/^# (expect|faults): .*\n/gm, '').replace(/^#+ ?/gm, '').replace(/\n/g, ' ').replace(/`/g, '')) || [''])[0];
-}
-
 /** Fills the dialog of the examples: with cards of those that have a title. `choose` is called with the chosen one, and
  * `take` with a text of the reader's own, those of which `drafts` lists. */
 export function beginGallery(examples, choose, drafts, take) {

@@ -4,6 +4,7 @@ import {byId, handOut, stored} from '../../timeline/page/dom.js';
 import {packed, unpacked} from '../../timeline/page/packing.js';
 import {page} from '../../timeline/page/stage.js';
 import {digits} from '../../timeline/page/words.js';
+import {FAULT, commentsIn} from './comments.js';
 
 const DRAFTS = 'motesim draft', SESSION = 'motesim session', MOST_DRAFTS = 6, MOST_STEPS = 40;
 const HTML = 'motesim.html', FORMAT = 'deflate-raw', LONGEST_TEXT = 1 << 20;
@@ -98,7 +99,7 @@ async function savePage(text, name) {
 }
 
 export async function showSharing(text, name) {
-  const {line, mote, pane} = page.chosen, [copy, field] = [byId('copy-link'), byId('link')];
+  const {line, mote, pane} = page.chosen, [copy, field] = [byId('copy-link'), byId('link')], faults = commentsIn(text, FAULT);
   const bare = await linkTo(text), link = bare && line >= 0 ? `${bare}&line=${pane.run.numberOf(line, mote)}` : bare;
   byId('sharing-said').textContent = !link ?
     'This scenario is too long for a link in a chat or a mail: send the file, or this page saved with it.' :
@@ -115,6 +116,8 @@ export async function showSharing(text, name) {
     if (document.execCommand('copy')) copy.textContent = 'Copied';
   };
   byId('download').onclick = () => handOut(name, [text], 'text/plain');
+  Object.assign(byId('download-faults'), {hidden: !faults.length,
+    onclick: () => handOut(name.replace(/(\.toml)?$/, '.faults'), [`${faults.join('\n')}\n`], 'text/plain')});
   byId('save-page').onclick = () => savePage(text, name);
   byId('sharing').showModal();
 }

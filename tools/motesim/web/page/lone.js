@@ -17,11 +17,9 @@ let isLeaving = false;
 
 async function start() {
   const data = JSON.parse(byId('data').textContent);
-  const compiled = id => unpacked(byId(id).textContent, 'gzip').then(
+  const module = unpacked(byId('module').textContent, 'gzip').then(
     bytes => WebAssembly.compile(/** @type {BufferSource} */ (bytes)));
-  // (a page may have one module for runs and checks)
-  const isOne = !byId('module').textContent.trim(), module = compiled(isOne ? 'checker' : 'module');
-  const backend = new Alone(module, () => isOne ? module : compiled('checker'), byId('worker').textContent, data, isOne);
+  const backend = new Alone(module, byId('worker').textContent, data);
   page.chainOf = chainOf;
   const [first] = begin(backend, data, drafts);
   beginChecks();

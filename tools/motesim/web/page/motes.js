@@ -54,13 +54,12 @@ const groundEdits = {
     page.edit({what: 'move', mote, x: toX, y: toY});
   },
 
-  /** Reacts to a click: adds a mote if one is wanted, otherwise shows the link between two motes. */
+  /** Reacts to a click: adds a mote if one is wanted, or shows the link between two motes; true if it does. */
   click(x, y, mote) {
-    const [map] = maps;
-    if (ground.adding) addMote(map.placeAt(x, y), map.moteNear(x, y, Infinity));
-    else if (mote < 0) showWay(map.linkNear(x, y));
-    else return false;
-    return true;
+    const [map] = maps, {adding} = ground;
+    if (adding) addMote(map.placeAt(x, y), map.moteNear(x, y, Infinity));
+    else showWay(mote < 0 ? map.linkNear(x, y) : null);
+    return adding || mote < 0;
   },
 
   /** Reacts to a key on the map: adds the wanted mote beside the selected one, or moves this one, removes it, or shows
@@ -128,8 +127,9 @@ function wayOf(run, s, r) {
     value: run.lossOf.get(s * 65536 + r) || '', 'data-way': `${s} ${r}`,
     'aria-label': `Losses from mote ${s} to mote ${r}: one packet in this number; empty for no loss`,
     onchange: () => page.edit({what: 'lose', from: s, to: r, every: Math.floor(Number(input.value)) || 0})});
-  return element('p', `${s} → ${r}: ${count(delayOf(run, s, r), 'moment')}, `,
-    [element('label', 'loses 1 in ', [input])]);
+  const fault = `link ${s} to ${r} is broken`, isThere = run.faults.includes(fault);
+  return element('p', `${s} → ${r}: ${count(delayOf(run, s, r), 'moment')}, `, [element('label', 'loses 1 in ', [input]), ' ',
+    makeButton('broken', () => page.toggleFault(fault), {'aria-pressed': String(isThere), title: fault})]);
 }
 
 function drawWay(map) {

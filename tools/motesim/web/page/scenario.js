@@ -1,12 +1,13 @@
 // @ts-check
-// What the page needs of a scenario besides its run: places and losses, and where its programs are in the text.
+// What the page needs of a scenario besides its run: places, losses and faults, and where its programs are in the text.
+import {FAULT, commentsIn, withoutComments} from './comments.js';
 import {lineAndColumn} from './text.js';
 import {NoToml, readToml} from './toml.js';
 
 /** The parts of a scenario, which motesim takes, for the page of its run. */
 export function scenarioOf(text) {
   const {end, medium: {range, base, per, collide}, mote, loss = []} = readToml(text).tables;
-  return {end, range, base, per, collide: collide === true, places: mote.map(it => [it.x, it.y]),
+  return {end, range, base, per, collide: collide === true, faults: commentsIn(text, FAULT), places: mote.map(it => [it.x, it.y]),
     losses: loss.map(it => [it.from, it.to, it.every])};
 }
 
@@ -94,6 +95,18 @@ export function placeOfFault(text, line, keys) {
   if (written === undefined) return null;
   const begin = written.length - written.trimStart().length;
   return [row, begin, Math.max(begin + 1, written.trimEnd().length)];
+}
+
+/** An error of the faults of a run, with its place and a text without this fault; null if it is another error.
+ * @param {string} text @param {string} line */
+export function ofRun(text, line) {
+  const [, row, column, number] = / faults fault line (\d+) column (\d+)| fault (\d+) names a mote or a link/.exec(line) || [];
+  const words = commentsIn(text, FAULT)[Number(row || number) - 1];
+  if (words === undefined) return null;
+  const rows = text.split('\n'), at = rows.findIndex(it => it.startsWith(FAULT) && it.slice(FAULT.length).trim() === words);
+  return {line, place: /** @type {[number, number, number]} */ ([at, FAULT.length + Number(column || 1) - 1, rows[at].length]),
+    words: [row ? 'A fault is written as `link 1 to 2 is broken`, `mote 3 is silent` or `packet 3 of mote 2 is lost on the way to mote 5`.' :
+      'The net has no such mote or link: `Correct it` leaves the fault out.'], corrected: withoutComments(text, FAULT, words)};
 }
 
 /** The rule that an error breaks, from the table of rules; nothing if it isn't known.
