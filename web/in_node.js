@@ -11,7 +11,7 @@ const FAILED = {motesim: 1, motecheck: 2};
 const LONGEST = 1 << 20;
 const ZERO = Uint8Array.of(0);
 // The options of motecheck that have a value.
-const VALUED = {'at-most': {type: 'string'}, runs: {type: 'string'}, workers: {type: 'string'}};
+const VALUED = Object.fromEntries(['fault', 'faults', 'late', 'at-most', 'runs', 'workers'].map(it => [it, {type: 'string'}]));
 
 const MORE = '\n\nFor more information, try \'--help\'.';
 const HELP = ['--help', '-h', '--version', '-V'];
@@ -26,6 +26,13 @@ class Refusal extends Error {
 
 const misused = line => new Refusal('error: ' + line, MISUSED);
 
+const EMPTY = ZERO.subarray(1);
+const FILES = "motecheck takes <SCENARIO> and <CLAIMS>, or '--report' and <SCENARIO>";
+
+// The input of the module of motecheck, which reads no files.
+const checkedInput = (options, claims, scenario) =>
+  Buffer.concat([Buffer.from(['motecheck', ...options].join('\n')), ZERO, claims, ZERO, scenario]);
+
 // Each program by its name: the input of its module, from its words and the files that `read` reads.
 const INPUTS = {
   motesim(words, read) {
@@ -36,11 +43,13 @@ const INPUTS = {
     return inputOf('motesim', read, given[0]);
   },
   motecheck(words, read) {
-    const {options, files} = wordsOf(words), asksHelp = options.some(it => HELP.includes(it));
-    if (!asksHelp && files.length !== 2) throw misused('motecheck takes <SCENARIO> and <CLAIMS>' + MORE);
-    const [scenario, claims] = asksHelp ? [ZERO.subarray(1), ZERO.subarray(1)]
-      : [inputOf('motecheck', read, files[0]), inputOf('motecheck', read, files[1], ' of the claims')];
-    return Buffer.concat([Buffer.from(['motecheck', ...options].join('\n')), ZERO, claims, ZERO, scenario]);
+    const {options, files, faults} = wordsOf(words);
+    if (options.some(it => HELP.includes(it))) return checkedInput(options, EMPTY, EMPTY);
+    if (files.length !== (options.includes('--report') ? 1 : 2)) throw misused(FILES + MORE);
+    const scenario = inputOf('motecheck', read, files[0]);
+    const claims = files.length > 1 ? inputOf('motecheck', read, files[1], ' of the claims') : EMPTY;
+    const lines = faults.flatMap(it => inputOf('motecheck', read, it, ' of the faults').toString().split('\n'));
+    return checkedInput([...options, ...lines.map(it => `--fault=${it}`)], claims, scenario);
   },
 };
 
@@ -53,13 +62,15 @@ function inputOf(name, read, file, of = '') {
   }
 }
 
-// The words of motecheck that are options, each with its value, and the names of its files.
+// The words of motecheck that are options, each with its value, the names of its files, and those of its files of faults.
 function wordsOf(words) {
   const {tokens} = parseArgs({args: words, options: VALUED, allowPositionals: true, strict: false, tokens: true});
   const optionOf = it => it.value === undefined ? it.rawName : `${it.rawName}=${it.value}`;
+  const isOfFaults = it => it.kind === 'option' && it.name === 'faults' && it.value !== undefined;
   return {
-    options: tokens.filter(it => it.kind === 'option').map(optionOf),
+    options: tokens.filter(it => it.kind === 'option' && !isOfFaults(it)).map(optionOf),
     files: tokens.filter(it => it.kind === 'positional').map(it => it.value),
+    faults: tokens.filter(isOfFaults).map(it => it.value),
   };
 }
 

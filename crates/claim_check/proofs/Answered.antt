@@ -1,11 +1,14 @@
 -- Results of a check.
-use Rattle.std.proofs.Common.{◌≡◌, ℕ, List, [], ◌∷◌, ◌++◌, Bool, ◌&&◌, map, refl, sym, subst, ap, ap₂, ◌∙◌, append_assoc, append-nil}
+use Rattle.std.proofs.Common.{◌≡◌, ℕ, List, [], ◌∷◌, ◌++◌, Bool, ◌&&◌, Option, Result, Ok, Err, string_bytes, map, refl, sym, subst, ap, ap₂, ◌∙◌, append_assoc, append-nil}
 use Rattle.std.proofs.Math.Bool.{and-true}
 use Rattle.std.proofs.lemmas.List.Folds.{list_all-append}
 use Rattle.std.specs.List.{list_all}
 use Rattle.mote_net.specs.Net.{NetModel}
 use Rattle.mote_net.specs.Report.{ReportModel}
-use Rattle.serial_run.specs.NetRun.{IsReportOf}
+use Rattle.std.specs.Io.KnownBytes.{Keeps}
+use Rattle.radio_faults.specs.declared.fault.Fault.{Fault}
+use Rattle.serial_run.specs.FaultRun.{IsReportWith}
+use Rattle.trace_printer.specs.ReportText.{report_text}
 use Rattle.claims.specs.declared.claim.Claim.{Claim}
 use Rattle.claims.specs.Claims.{holds_in}
 use Rattle.claim_text.specs.ClaimText.{text_of}
@@ -13,14 +16,85 @@ use Rattle.claim_text.specs.ClaimLines.{claim_lines, Refuses}
 use Rattle.claim_text.specs.declared.error.ClaimsError.{ClaimsError}
 use Rattle.net_scenario.specs.Reading.{TellsNet}
 use Rattle.simulation.specs.Input.{IsText}
+use Rattle.simulation.specs.Simulation.{RunsWith, Way}
+use Rattle.simulation.specs.declared.error.SimError.{SimError}
+use Rattle.simulation.specs.declared.error.SimError.TheVariants as fault
 use Rattle.simulation.proofs.Printed.{scenario_of}
-use Rattle.claim_check.specs.Check.{Answered, AreAnswers, IsAnswer, RefusesClaims}
+use Rattle.claim_check.specs.Check.{Answered, AreAnswers, Checks, IsAnswer, LacksRun, RefusesClaims, RefusesFaults, Reported, Reports}
+use Rattle.claim_check.specs.Faults.{AreFaultsOf, RefusesFaultsOf, unused_text}
+use Rattle.claim_check.specs.Promises.{AnswersWith, RunsWithFaults}
+use Rattle.claim_check.specs.declared.answers.Answers.{Answers}
+use Rattle.mote_net.specs.declared.report.Report.{Report}
+use Rattle.serial_run.specs.declared.error.RunError.{RunError}
+use Rattle.claim_check.specs.declared.error.CheckError.{CheckError}
+use Rattle.claim_check.specs.declared.error.CheckError.TheVariants as check
 use Rattle.claim_check.specs.Names.{AreNames}
 
-pub answered : (s c text : List ℕ) (all_hold : Bool) (net : NetModel) (r : ReportModel) (names : List (List ℕ)) (cs : List Claim) → IsText s → TellsNet s net → AreNames net names
-    → map (text_of names) cs ≡ claim_lines c → IsReportOf net r → AreAnswers names r cs text → all_hold ≡ list_all (λ k. holds_in k r) cs → Answered s c text all_hold
-answered s c text all_hold net r names cs is_text tells named read run answers verdict =
-    record { from = scenario_of s net is_text tells; report = r; run = run; names = names; named = named; asked = cs; read = read; answers = answers; verdict = verdict }
+pub answered : (s c f : List ℕ) (net : NetModel) (chosen : List Fault) (r : ReportModel) (names : List (List ℕ)) (cs : List Claim) (a : Answers) → IsText s → TellsNet s net
+    → AreFaultsOf net f chosen → AreNames net names → map (text_of names) cs ≡ claim_lines c → IsReportWith chosen net r → AnswersWith names r cs chosen a
+    → Answered s c f (string_bytes a.text) a.all_hold
+answered s c f net chosen r names cs a is_text tells are_faults named read run said =
+    record {
+      from = scenario_of s net is_text tells;
+      chosen = chosen;
+      are_faults = are_faults;
+      report = r;
+      run = run;
+      names = names;
+      named = named;
+      asked = cs;
+      read = read;
+      lines = said.lines;
+      answers = said.are;
+      whole = said.whole;
+      verdict = said.verdict;
+    }
+
+-- a run without faults
+pub without_faults : (way : Way) (net : NetModel) (r : Result Report RunError) → RunsWith way net r → RunsWithFaults way net [] r
+without_faults way net (Ok report) h = h
+without_faults way net (Err e) h = h
+
+-- faults that are refused
+module _ (way : Way) (s f : List ℕ) (net : NetModel) (is_text : IsText s) (tells : TellsNet s net) where
+  refuses_faults : (e : CheckError) → RefusesFaultsOf net f e → RefusesFaults s f e
+  refuses_faults e h = record { from = scenario_of s net is_text tells; refused = h }
+
+  by_memory : (e : SimError) → RefusesFaultsOf net f (check.Simulation e) → LacksRun way s f (check.Simulation e)
+  by_memory fault.Read h = absurd h
+  by_memory fault.TooLong h = absurd h
+  by_memory fault.NotText h = absurd h
+  by_memory (fault.Scenario e) h = absurd h
+  by_memory (fault.Run e) h = absurd h
+  by_memory (fault.Print e) h = absurd h
+  by_memory fault.Memory h = tt
+
+  pub checks_no_faults : (c : List ℕ) (e : CheckError) → RefusesFaultsOf net f e → Checks way s c f (Err e)
+  checks_no_faults c (check.Simulation e) h = by_memory e h
+  checks_no_faults c (check.Input e) h = absurd h
+  checks_no_faults c (check.Claims e) h = absurd h
+  checks_no_faults c (check.FaultsInput e) h = absurd h
+  checks_no_faults c (check.Faults e) h = refuses_faults (check.Faults e) h
+  checks_no_faults c (check.NotInNet number) h = refuses_faults (check.NotInNet number) h
+  checks_no_faults c check.TooManyClaims h = absurd h
+  checks_no_faults c check.TooManyFaults h = absurd h
+  checks_no_faults c (check.Print e) h = absurd h
+
+  pub reports_no_faults : (old new : Option (List ℕ)) (e : CheckError) → RefusesFaultsOf net f e → Keeps old new → Reports way s f old new (Err e)
+  reports_no_faults old new (check.Simulation e) h keeps = (by_memory e h, keeps)
+  reports_no_faults old new (check.Input e) h keeps = absurd h
+  reports_no_faults old new (check.Claims e) h keeps = absurd h
+  reports_no_faults old new (check.FaultsInput e) h keeps = absurd h
+  reports_no_faults old new (check.Faults e) h keeps = (refuses_faults (check.Faults e) h, keeps)
+  reports_no_faults old new (check.NotInNet number) h keeps = (refuses_faults (check.NotInNet number) h, keeps)
+  reports_no_faults old new check.TooManyClaims h keeps = absurd h
+  reports_no_faults old new check.TooManyFaults h keeps = absurd h
+  reports_no_faults old new (check.Print e) h keeps = absurd h
+
+  -- the report's text is written as far as `written` says
+  pub reported : (written : List ℕ → Type 0) (chosen : List Fault) (r : ReportModel) → AreFaultsOf net f chosen → IsReportWith chosen net r → written (report_text net r) → Reported s f written
+  reported written chosen r are_faults run got =
+      record { from = scenario_of s net is_text tells; chosen = chosen; are_faults = are_faults; report = r; run = run; got = got }
 
 -- claims that are refused
 pub refuses_claims : (s c text : List ℕ) (net : NetModel) (names : List (List ℕ)) (e : ClaimsError) → IsText s → TellsNet s net → AreNames net names → text ≡ c → Refuses names text e

@@ -13,27 +13,26 @@ use Rattle.simulation.specs.declared.error.SimError.TheVariants as fault
 use Rattle.simulation.proofs.Printed.{scenario_of}
 use Rattle.claim_check.specs.Names.{AreNames}
 use Rattle.claim_check.specs.NetSurveys.{RefusesFaults, SurveysNet}
-use Rattle.claim_check.specs.Survey.{AnswersSurvey, HasTooManyFaults, Surveyed, Surveys, faults_in, limits_of}
+use Rattle.claim_check.specs.Survey.{AnswersSurvey, HasTooManyFaults, Plan, Surveyed, Surveys, TriesTooMuch}
 use Rattle.claim_check.specs.declared.answers.Answers.{Answers}
 use Rattle.claim_check.specs.declared.error.CheckError.{CheckError}
 use Rattle.claim_check.specs.declared.error.CheckError.TheVariants as check
-use Rattle.claim_check.specs.declared.surveying.Faults.{Faults}
 
-pub surveyed : (f : Faults) (s c : List ℕ) (a : Answers) (net : NetModel) (names : List (List ℕ)) (cs : List Claim) → IsText s → TellsNet s net → AreNames net names
-    → map (text_of names) cs ≡ claim_lines c → AnswersSurvey names net cs (faults_in f net) (limits_of f) a → Surveyed f s c a
-surveyed f s c a net names cs is_text tells named read survey =
+pub surveyed : (plan : Plan) (s c : List ℕ) (a : Answers) (net : NetModel) (names : List (List ℕ)) (cs : List Claim) → IsText s → TellsNet s net → AreNames net names
+    → map (text_of names) cs ≡ claim_lines c → AnswersSurvey plan names net cs a → Surveyed plan s c a
+surveyed plan s c a net names cs is_text tells named read survey =
     record { from = scenario_of s net is_text tells; names = names; named = named; asked = cs; read = read; survey = survey }
 
-pub too_many_faults : (f : Faults) (s : List ℕ) (net : NetModel) → IsText s → TellsNet s net → 2 ^ 16 ≤ length (faults_in f net) → HasTooManyFaults f s
-too_many_faults f s net is_text tells many = record { from = scenario_of s net is_text tells; many = many }
+pub too_many_faults : (plan : Plan) (s : List ℕ) (net : NetModel) → IsText s → TellsNet s net → TriesTooMuch plan net → HasTooManyFaults plan s
+too_many_faults plan s net is_text tells many = record { from = scenario_of s net is_text tells; many = many }
 
 -- so many claims were read from so many lines
 many_lines : (names : List (List ℕ)) (cs : List Claim) (c : List ℕ) → map (text_of names) cs ≡ claim_lines c → 2 ^ 16 ≤ length cs → 2 ^ 16 ≤ length (claim_lines c)
 many_lines names cs c read many = subst (λ n. 2 ^ 16 ≤ n) (sym (length-map cs (text_of names)) ∙ ap length read) many
 
 -- a net whose faults are refused has no survey
-module _ (way : Way) (f : Faults) (names : List (List ℕ)) (net : NetModel) (cs : List Claim) where
-  by_memory : (e : SimError) → RefusesFaults f net cs (check.Simulation e) → SurveysNet way f names net cs (Err (check.Simulation e))
+module _ (way : Way) (plan : Plan) (names : List (List ℕ)) (net : NetModel) (cs : List Claim) where
+  by_memory : (e : SimError) → RefusesFaults plan net cs (check.Simulation e) → SurveysNet way plan names net cs (Err (check.Simulation e))
   by_memory fault.Read h = absurd h
   by_memory fault.TooLong h = absurd h
   by_memory fault.NotText h = absurd h
@@ -42,19 +41,21 @@ module _ (way : Way) (f : Faults) (names : List (List ℕ)) (net : NetModel) (cs
   by_memory (fault.Print e) h = absurd h
   by_memory fault.Memory h = tt
 
-  pub not_tried : (e : CheckError) → RefusesFaults f net cs e → SurveysNet way f names net cs (Err e)
+  pub not_tried : (e : CheckError) → RefusesFaults plan net cs e → SurveysNet way plan names net cs (Err e)
   not_tried (check.Simulation e) h = by_memory e h
   not_tried (check.Input e) h = absurd h
   not_tried (check.Claims e) h = absurd h
-  not_tried check.Options h = absurd h
+  not_tried (check.FaultsInput e) h = absurd h
+  not_tried (check.Faults e) h = absurd h
+  not_tried (check.NotInNet number) h = absurd h
   not_tried check.TooManyClaims h = h
   not_tried check.TooManyFaults h = h
-  not_tried check.Write h = absurd h
+  not_tried (check.Print e) h = absurd h
 
 -- the survey of a scenario's net is one of the scenario
-module _ (way : Way) (f : Faults) (s c : List ℕ) (names : List (List ℕ)) (net : NetModel) (cs : List Claim) (is_text : IsText s) (tells : TellsNet s net) (named : AreNames net names)
+module _ (way : Way) (plan : Plan) (s c : List ℕ) (names : List (List ℕ)) (net : NetModel) (cs : List Claim) (is_text : IsText s) (tells : TellsNet s net) (named : AreNames net names)
     (read : map (text_of names) cs ≡ claim_lines c) where
-  by_fault : (e : SimError) → SurveysNet way f names net cs (Err (check.Simulation e)) → Surveys way f s c (Err (check.Simulation e))
+  by_fault : (e : SimError) → SurveysNet way plan names net cs (Err (check.Simulation e)) → Surveys way plan s c (Err (check.Simulation e))
   by_fault fault.Read h = absurd h
   by_fault fault.TooLong h = absurd h
   by_fault fault.NotText h = absurd h
@@ -63,12 +64,14 @@ module _ (way : Way) (f : Faults) (s c : List ℕ) (names : List (List ℕ)) (ne
   by_fault (fault.Print e) h = absurd h
   by_fault fault.Memory h = tt
 
-  pub surveys : (r : Result Answers CheckError) → SurveysNet way f names net cs r → Surveys way f s c r
-  surveys (Ok a) h = (h.0, surveyed f s c a net names cs is_text tells named read h.1)
+  pub surveys : (r : Result Answers CheckError) → SurveysNet way plan names net cs r → Surveys way plan s c r
+  surveys (Ok a) h = (h.0, surveyed plan s c a net names cs is_text tells named read h.1)
   surveys (Err (check.Simulation e)) h = by_fault e h
   surveys (Err (check.Input e)) h = absurd h
   surveys (Err (check.Claims e)) h = absurd h
-  surveys (Err check.Options) h = absurd h
+  surveys (Err (check.FaultsInput e)) h = absurd h
+  surveys (Err (check.Faults e)) h = absurd h
+  surveys (Err (check.NotInNet number)) h = absurd h
   surveys (Err check.TooManyClaims) h = (scenario_of s net is_text tells, many_lines names cs c read h)
-  surveys (Err check.TooManyFaults) h = too_many_faults f s net is_text tells h
-  surveys (Err check.Write) h = absurd h
+  surveys (Err check.TooManyFaults) h = too_many_faults plan s net is_text tells h
+  surveys (Err (check.Print e)) h = absurd h

@@ -1,8 +1,13 @@
 -- The answers to claims about the report of a scenario.
-use Rattle.std.specs.Prelude.{◌≡◌, ◌⊎◌, ℕ, List, [], ◌∷◌, ◌++◌, Bool, true, false, codes, map, Result, Ok, Err, string_bytes}
+use Rattle.std.specs.Prelude.{◌≡◌, ◌⊎◌, ℕ, List, [], ◌∷◌, ◌++◌, Bool, true, false, codes, map, Option, Result, Ok, Err, string_bytes}
 use Rattle.std.specs.List.{list_all}
 use Rattle.mote_net.specs.Report.{ReportModel}
-use Rattle.serial_run.specs.NetRun.{IsReportOf}
+use Rattle.radio_faults.specs.declared.fault.Fault.{Fault}
+use Rattle.serial_run.specs.FaultRun.{IsReportWith}
+use Rattle.std.specs.Io.KnownBytes.{Appends, Keeps}
+use Rattle.trace_printer.specs.Output.{AppendsFront}
+use Rattle.trace_printer.specs.ReportText.{report_text}
+use Rattle.claim_check.specs.Faults.{AreFaultsOf, RefusesFaultsOf, unused_text}
 use Rattle.claims.specs.declared.claim.Claim.{Claim}
 use Rattle.claims.specs.Claims.{holds_in}
 use Rattle.claim_witness.specs.declared.witness.Break.{Break}
@@ -35,16 +40,21 @@ AreAnswers names r [] text = text ≡ []
 AreAnswers names r (c ∷ cs) text =
     (line : List ℕ) × (rest : List ℕ) × IsAnswer names r c line × AreAnswers names r cs rest × (text ≡ line ++ rest)
 
--- the text answers the claims in some lines about the report of the scenario, and says whether all of them hold
-pub record Answered (scenario claims text : List ℕ) (all_hold : Bool) : Type 0 where
+-- the text answers the claims in some lines about the report of the scenario with the faults in a text; it says which of
+-- these faults have no effect, and whether all claims hold
+pub record Answered (scenario claims faults text : List ℕ) (all_hold : Bool) : Type 0 where
   pub from : IsScenario scenario
+  pub chosen : List Fault
+  pub are_faults : AreFaultsOf from.net faults chosen
   pub report : ReportModel
-  pub run : IsReportOf from.net report
+  pub run : IsReportWith chosen from.net report
   pub names : List (List ℕ)
   pub named : AreNames from.net names
   pub asked : List Claim
   pub read : map (text_of names) asked ≡ claim_lines claims
-  pub answers : AreAnswers names report asked text
+  pub lines : List ℕ
+  pub answers : AreAnswers names report asked lines
+  pub whole : text ≡ lines ++ unused_text chosen report
   pub verdict : all_hold ≡ list_all (λ c. holds_in c report) asked
 
 -- the claims, with the names of the scenario's net, have this error
@@ -54,12 +64,37 @@ pub record RefusesClaims (scenario claims : List ℕ) (e : ClaimsError) : Type 0
   pub named : AreNames from.net names
   pub refused : Refuses names claims e
 
--- Each result of a check and its cause, on one thread or with workers. An allocation or a thread may fail for any
--- scenario and claims.
-abbrev pub Checks : Way → (scenario claims : List ℕ) → Result Answers CheckError → Type 0
-Checks way s c (Ok a) = MayRun way × Answered s c (string_bytes a.text) a.all_hold
-Checks way s c (Err (check.Simulation (fault.Scenario e))) = RefusesText s e
-Checks way s c (Err (check.Simulation (fault.Run e))) = IsScenario s × RefusesRun way e
-Checks way s c (Err (check.Simulation fault.Memory)) = Unit {0}
-Checks way s c (Err (check.Claims e)) = RefusesClaims s c e
-Checks way s c (Err e) = ⊥
+-- the faults in a text, of the scenario's net, have this error
+pub record RefusesFaults (scenario faults : List ℕ) (e : CheckError) : Type 0 where
+  pub from : IsScenario scenario
+  pub refused : RefusesFaultsOf from.net faults e
+
+-- The reasons why there is no run of the scenario with these faults. An allocation or a thread may fail for any of them.
+abbrev pub LacksRun : Way → (scenario faults : List ℕ) → CheckError → Type 0
+LacksRun way s f (check.Simulation (fault.Scenario e)) = RefusesText s e
+LacksRun way s f (check.Simulation (fault.Run e)) = IsScenario s × RefusesRun way e
+LacksRun way s f (check.Simulation fault.Memory) = Unit {0}
+LacksRun way s f (check.Faults e) = RefusesFaults s f (check.Faults e)
+LacksRun way s f (check.NotInNet number) = RefusesFaults s f (check.NotInNet number)
+LacksRun way s f e = ⊥
+
+-- each result of a check and its cause, on one thread or with workers
+abbrev pub Checks : Way → (scenario claims faults : List ℕ) → Result Answers CheckError → Type 0
+Checks way s c f (Ok a) = MayRun way × Answered s c f (string_bytes a.text) a.all_hold
+Checks way s c f (Err (check.Claims e)) = RefusesClaims s c e
+Checks way s c f (Err e) = LacksRun way s f e
+
+-- the report of the scenario with these faults, whose text is written as `written` says
+pub record Reported (scenario faults : List ℕ) (written : List ℕ → Type 0) : Type 0 where
+  pub from : IsScenario scenario
+  pub chosen : List Fault
+  pub are_faults : AreFaultsOf from.net faults chosen
+  pub report : ReportModel
+  pub run : IsReportWith chosen from.net report
+  pub got : written (report_text from.net report)
+
+-- each result of writing a report and its cause, on one thread or with workers
+abbrev pub Reports : Way → (scenario faults : List ℕ) → (old new : Option (List ℕ)) → Result Bool CheckError → Type 0
+Reports way s f old new (Ok all_hold) = (all_hold ≡ true) × MayRun way × Reported s f (Appends old new)
+Reports way s f old new (Err (check.Print e)) = MayRun way × Reported s f (AppendsFront old new)
+Reports way s f old new (Err e) = LacksRun way s f e × Keeps old new

@@ -1,6 +1,7 @@
 -- The effect of the command with its arguments, and the exit status that it returns.
-use Rattle.std.specs.Prelude.{◌≡◌, ◌≢◌, ◌⊎◌, ◌&&◌, ◌||◌, ℕ, List, Bool, true, false, not, Option, Result, Ok, Err, is_some}
-use Rattle.std.specs.Prelude.{string_bytes, unwrap_or, IfErr, IfOk}
+use Rattle.std.specs.Prelude.{◌≡◌, ◌≢◌, ◌⊎◌, ◌==◌, ◌&&◌, ◌||◌, ℕ, List, Bool, true, false, not, Option, Result, Ok, Err}
+use Rattle.std.specs.declared.alloc.Global.{Global}
+use Rattle.std.specs.Prelude.{Some, None, Vec, [], ◌∷◌, ◌++◌, map, nat_lt, if◌then◌else◌, is_none, is_some, length, string_bytes, unwrap_or, IfErr, IfOk}
 use Rattle.std.specs.Bool.{MatchBool}
 use Rattle.std.specs.Io.KnownBytes.{Appends, Keeps}
 use Rattle.clap.specs.declared.error.kind.ErrorKind.{ErrorKind}
@@ -10,12 +11,13 @@ use Rattle.window_workers.specs.declared.sync.SyncKind.TheVariants as sync
 use Rattle.simulation.specs.FaultLines.{AppendsPrefix}
 use Rattle.simulation.specs.declared.error.SimError.TheVariants as fault
 use Rattle.net_survey.specs.declared.candidates.Kinds.{Kinds}
+use Rattle.fault_keys.specs.declared.candidates.CopyFault.{CopyFault}
+use Rattle.fault_keys.specs.declared.candidates.CopyFault.TheVariants.{Lost, Late}
 use Rattle.simulation.specs.Simulation.{Way, way_by}
-use Rattle.claim_check.specs.Check.{Checks}
+use Rattle.claim_check.specs.Check.{Checks, Reports}
 use Rattle.claim_check.specs.FaultLines.{written_line}
-use Rattle.claim_check.specs.Survey.{Surveys}
+use Rattle.claim_check.specs.Survey.{Plan, Surveys}
 use Rattle.claim_check.specs.declared.answers.Answers.{Answers}
-use Rattle.claim_check.specs.declared.surveying.Faults.{Faults}
 use Rattle.claim_check.specs.Words.{AsksFor, FaultOf, motecheck_app}
 use Rattle.claim_check.specs.declared.command_line.Asked.{Asked}
 use Rattle.claim_check.specs.declared.command_line.Options.{Options}
@@ -24,42 +26,84 @@ use Rattle.claim_check.specs.declared.error.CheckError.TheVariants as check
 
 -- a survey is asked for
 abbrev pub is_survey : Options → Bool
-is_survey options = options.links || options.silent
+is_survey options = options.links || options.silent || options.lost || is_some options.late
+
+-- a survey has neither a report nor faults of its own
+abbrev pub is_mixed : Options → Bool
+is_mixed options = is_survey options && (options.report || not (length (string_bytes options.faults) == 0))
 
 -- options of a survey are given, but no survey is asked for
 abbrev pub lacks_survey : Options → Bool
 lacks_survey options = not (is_survey options) && (is_some options.at_most || is_some options.runs)
 
+abbrev pub delays_of : Option (Vec ℕ Global) → List ℕ
+delays_of None = []
+delays_of (Some delays) = delays.items
+
+-- the numbers of moments aren't read, or are too many
+abbrev pub lacks_delays : Options → Bool
+lacks_delays options =
+    is_some options.late && not (nat_lt 0 (length (delays_of options.late)) && nat_lt (length (delays_of options.late)) 15)
+
+abbrev pub is_in_conflict : Options → Bool
+is_in_conflict options = is_mixed options || (lacks_survey options || lacks_delays options)
+
+-- claims are needed, but not for a report
+abbrev pub lacks_claims : Asked → Bool
+lacks_claims asked = if asked.options.report then is_some asked.claims else is_none asked.claims
+
+-- a survey has no file of faults
+abbrev pub is_mixed_with_file : Asked → Bool
+is_mixed_with_file asked = is_survey asked.options && is_some asked.faults
+
+abbrev pub are_files_in_conflict : Asked → Bool
+are_files_in_conflict asked = lacks_claims asked || is_mixed_with_file asked
+
+abbrev pub are_in_conflict : Asked → Bool
+are_in_conflict asked = is_in_conflict asked.options || are_files_in_conflict asked
+
 abbrev pub kinds_of : Options → Kinds
 kinds_of options = record { links = options.links; silent = options.silent }
 
+-- what may happen to each copy
+abbrev pub copies_of : Options → List CopyFault
+copies_of options = (if options.lost then Lost ∷ [] else []) ++ map Late (delays_of options.late)
+
 -- the sets of faults that are asked for: of at most one fault, if nothing else is said, and without a limit of runs
-abbrev pub faults_of : Options → Faults
-faults_of options = record {
+abbrev pub plan_for : Options → Plan
+plan_for options = record {
   kinds = kinds_of options;
+  copies = copies_of options;
   at_most = unwrap_or options.at_most 1;
   runs = unwrap_or options.runs 18446744073709551615;
 }
 
 -- the result of what the options ask for: a survey, or a check of one run
-abbrev pub AnswersAsked : Way → Options → (scenario claims : List ℕ) → Result Answers CheckError → Type 0
-AnswersAsked way options s c r = MatchBool (is_survey options) (Surveys way (faults_of options) s c r) (Checks way s c r)
+abbrev pub AnswersAsked : Way → Options → (scenario claims faults : List ℕ) → Result Answers CheckError → Type 0
+AnswersAsked way options s c f r =
+    MatchBool (is_survey options) (Surveys way (plan_for options) s c r) (Checks way s c f r)
 
 -- the answers have a text with this property
-pub record Answer (way : Way) (options : Options) (s c : List ℕ) (written : List ℕ → Type 0) (all_hold : Bool) : Type 0 where
+pub record Answer (way : Way) (options : Options) (s c f : List ℕ) (written : List ℕ → Type 0) (all_hold : Bool) : Type 0 where
   pub answers : Answers
-  pub answered : AnswersAsked way options s c (Ok answers)
+  pub answered : AnswersAsked way options s c f (Ok answers)
   pub verdict : all_hold ≡ answers.all_hold
   pub got : written (string_bytes answers.text)
 
 -- Each result of answering, with its cause: all answers are written; or a proper prefix of them before an error of
 -- writing; or nothing before any other error.
+abbrev pub WritesAnswers :
+    Way → Options → (scenario claims faults : List ℕ) → (old new : Option (List ℕ)) → Result Bool CheckError → Type 0
+WritesAnswers way options s c f old new (Ok all_hold) = Answer way options s c f (Appends old new) all_hold
+WritesAnswers way options s c f old new (Err (check.Print e)) =
+    (all_hold : Bool) × Answer way options s c f (AppendsFront old new) all_hold
+WritesAnswers way options s c f old new (Err e) = AnswersAsked way options s c f (Err e) × Keeps old new
+
+-- the result of writing the report, or the answers
 abbrev pub Responds :
-    Way → Options → (scenario claims : List ℕ) → (old new : Option (List ℕ)) → Result Bool CheckError → Type 0
-Responds way options s c old new (Ok all_hold) = Answer way options s c (Appends old new) all_hold
-Responds way options s c old new (Err check.Write) =
-    (all_hold : Bool) × Answer way options s c (AppendsFront old new) all_hold
-Responds way options s c old new (Err e) = AnswersAsked way options s c (Err e) × Keeps old new
+    Way → Options → (scenario claims faults : List ℕ) → (old new : Option (List ℕ)) → Result Bool CheckError → Type 0
+Responds way options s c f old new r =
+    MatchBool options.report (Reports way s f old new r) (WritesAnswers way options s c f old new r)
 
 -- the way to run a net with these options
 abbrev pub way_for : Options → Way
@@ -68,6 +112,7 @@ way_for options = way_by options.workers sync.Joins
 -- the errors of reading a file: it can't be read, is too long, or isn't a text; or an allocation failed
 abbrev pub IsReadError : CheckError → Type 0
 IsReadError (check.Input e) = Unit {0}
+IsReadError (check.FaultsInput e) = Unit {0}
 IsReadError (check.Simulation fault.Read) = Unit {0}
 IsReadError (check.Simulation fault.TooLong) = Unit {0}
 IsReadError (check.Simulation fault.NotText) = Unit {0}
@@ -78,10 +123,17 @@ IsReadError e = ⊥
 abbrev pub LacksFile : (old new : Option (List ℕ)) → Result Bool CheckError → Type 0
 LacksFile old new r = (e : CheckError) × (r ≡ Err e) × IsReadError e × Keeps old new
 
--- the result for some scenario and some claims, as the contents of files aren't known; or a file wasn't read
+-- the result for some texts of a scenario, claims and faults, as the contents of files aren't known
+pub record RespondsSome (asked : Asked) (old new : Option (List ℕ)) (r : Result Bool CheckError) : Type 0 where
+  pub scenario : List ℕ
+  pub claims : List ℕ
+  pub faults : List ℕ
+  pub only_options : is_none asked.faults ≡ true → faults ≡ string_bytes asked.options.faults
+  pub responds : Responds (way_for asked.options) asked.options scenario claims faults old new r
+
+-- the result for some texts; or a file wasn't read
 abbrev pub ChecksSome : Asked → (old new : Option (List ℕ)) → Result Bool CheckError → Type 0
-ChecksSome asked old new r =
-    ((s : List ℕ) × (c : List ℕ) × Responds (way_for asked.options) asked.options s c old new r) ⊎ LacksFile old new r
+ChecksSome asked old new r = RespondsSome asked old new r ⊎ LacksFile old new r
 
 -- the exit status of a check
 abbrev pub status_of : Result Bool CheckError → ℕ
@@ -106,10 +158,10 @@ pub record Concludes (result : Result Bool CheckError → Type 0) (old new : Opt
   pub quiet : IfOk answer (λ all_hold. Keeps old new)
   pub line : IfErr answer (λ e. AppendsPrefix old new (written_line e))
 
--- the options are refused if they have options of a survey without one; otherwise they have a result
-abbrev pub Serves : Options → (Result Bool CheckError → Type 0) → (old new : Ends) → (status : ℕ) → Type 0
-Serves options result old new status =
-    MatchBool (lacks_survey options) ((status ≡ 2) × Keeps old.output new.output)
+-- arguments in conflict are refused; others have a result
+abbrev pub Serves : (conflict : Bool) → (Result Bool CheckError → Type 0) → (old new : Ends) → (status : ℕ) → Type 0
+Serves conflict result old new status =
+    MatchBool conflict ((status ≡ 2) × Keeps old.output new.output)
     (Concludes result old.errors new.errors status)
 
 -- the exit status if the arguments are refused, or ask for help
@@ -128,7 +180,7 @@ pub record RefusesWords (k : ErrorKind) (old new : Ends) (status : ℕ) : Type 0
 -- returned; the first argument is the program's name
 abbrev pub Commands : (words : List (List ℕ)) → (old new : Ends) → (status : ℕ) → Type 0
 Commands words old new status = ((asked : Asked) × AsksFor words asked
-    × Serves asked.options (ChecksSome asked old.output new.output) old new status)
+    × Serves (are_in_conflict asked) (ChecksSome asked old.output new.output) old new status)
     ⊎ ((k : ErrorKind) × FaultOf motecheck_app words k × RefusesWords k old new status)
 
 -- the process returns the status of the command with some arguments; or it couldn't get its arguments, and then it

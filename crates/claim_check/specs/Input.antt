@@ -1,12 +1,12 @@
 -- The effect of the command with an input in place of arguments and files.
-use Rattle.std.specs.Prelude.{◌≡◌, ◌⊎◌, ◌==◌, ℕ, List, Option, None, Result, Err, Bool}
+use Rattle.std.specs.Prelude.{◌≡◌, ◌⊎◌, ◌==◌, ℕ, List, Option, None, Result, Err, Bool, string_bytes}
 use Rattle.std.specs.List.{before_first, after_first}
 use Rattle.std.specs.Str.Lines.{lines}
 use Rattle.std.specs.Io.KnownBytes.{Keeps}
 use Rattle.clap.specs.declared.error.kind.ErrorKind.{ErrorKind}
 use Rattle.simulation.specs.Reads.{IsRefused}
 use Rattle.simulation.specs.declared.input.InputError.{InputError}
-use Rattle.claim_check.specs.Command.{Concludes, Ends, RefusesWords, Responds, Serves}
+use Rattle.claim_check.specs.Command.{Concludes, Ends, RefusesWords, Responds, Serves, is_in_conflict}
 use Rattle.claim_check.specs.Words.{AsksOptions, FaultOf, options_app}
 use Rattle.claim_check.specs.declared.command_line.Options.{Options}
 use Rattle.claim_check.specs.declared.error.CheckError.{CheckError}
@@ -26,7 +26,9 @@ scenario_in input = after_first (λ byte. byte == 0) (after_first (λ byte. byte
 -- what the arguments in the input ask for is answered on one thread, or they are refused, or ask for help
 abbrev pub ServesText : (input : List ℕ) → (old new : Ends) → (status : ℕ) → Type 0
 ServesText input old new status = ((options : Options) × AsksOptions (words_in input) options
-    × Serves options (Responds None options (scenario_in input) (claims_in input) old.output new.output) old new status)
+    × Serves (is_in_conflict options)
+    (Responds None options (scenario_in input) (claims_in input) (string_bytes options.faults) old.output new.output)
+    old new status)
     ⊎ ((k : ErrorKind) × FaultOf options_app (words_in input) k × RefusesWords k old new status)
 
 -- the input isn't a text

@@ -1,6 +1,7 @@
 pub mod Check
 pub mod Command
 pub mod FaultLines
+pub mod Faults
 pub mod Input
 pub mod Names
 pub mod NetSurveys

@@ -1,10 +1,14 @@
 -- The request or the error of a command line. `clap` finds matches or errors, and these determine the result.
-use Rattle.std.specs.Prelude.{◌≡◌, ◌⊎◌, ℕ, pos, Bool, true, false, List, [], Option, Some, None, codes, unwrap_or}
+use Rattle.std.specs.Prelude.{◌≡◌, ◌⊎◌, ℕ, pos, Bool, true, false, List, [], ◌∷◌, ◌++◌, Option, Some, None, codes, option_map}
+use Rattle.std.specs.Prelude.{string_bytes, unwrap_or, ◌<◌, ◌^◌, ◌==◌, Result, Ok, Vec, map}
+use Rattle.std.specs.List.{Contains, flat_map, slice_split}
+use Rattle.std.specs.declared.alloc.Global.{Global}
 use Rattle.std.specs.Str.Parse.{ParsesUnsigned, ExplainsUnsignedError, HasUnsignedDigitsIfOk}
-use Rattle.clap.specs.Words.{App, Row, Rule, Text, IsAmong, fault_of, first_of, matches_of, new_app, new_rule, one_of}
+use Rattle.std.specs.Str.Parse.{IsNumeral, digits_value, without_leading_plus}
+use Rattle.clap.specs.Words.{App, Row, Rule, Text, IsAmong, all_of, fault_of, first_of, matches_of, new_app, new_rule, one_of}
 use Rattle.clap.specs.Words.{ReadsOne, with_rule}
 use Rattle.clap.specs.Simple.{on_top}
-use Rattle.clap.specs.declared.builder.action.ArgAction.TheVariants.{SetTrue}
+use Rattle.clap.specs.declared.builder.action.ArgAction.TheVariants.{Append, SetTrue}
 use Rattle.clap.specs.declared.builder.value_parser.ValueParser.{ValueParser}
 use Rattle.clap.specs.declared.builder.value_parser.ValueParser.TheVariants as parser
 use Rattle.clap.specs.declared.error.kind.ErrorKind.{ErrorKind}
@@ -33,16 +37,37 @@ at_most_rule = number_rule (codes "at-most") (parser.Signed (pos 0) (pos 255))
 abbrev pub runs_rule : Rule
 runs_rule = number_rule (codes "runs") (parser.Unsigned 0 18446744073709551615)
 
--- a command with the options, and with a version: `motecheck [--workers N] [--links] [--silent] [--at-most K] [--runs N]`
+-- `--fault TEXT`, several times
+abbrev pub fault_rule : Rule
+fault_rule = record (new_rule (codes "fault")) { long = Some (codes "fault"); value_names = 1; action = Some Append }
+
+-- `--faults FILE`
+abbrev pub faults_rule : Rule
+faults_rule = record (new_rule (codes "faults")) { long = Some (codes "faults"); value_names = 1 }
+
+-- `--late D,..`
+abbrev pub late_rule : Rule
+late_rule = record (new_rule (codes "late")) { long = Some (codes "late"); value_names = 1 }
+
+abbrev pub line_of : Text → Text
+line_of text = text ++ 10 ∷ []
+
+-- a command with options for one run, and with a version: `motecheck [--fault TEXT].. [--report] [--workers N]`
+abbrev pub run_app : App
+run_app =
+    with_rule (with_rule (with_rule (on_top (λ s. record s { has_version = true }) (new_app (codes "motecheck"))) fault_rule)
+    (flag_rule (codes "report"))) workers_rule
+
+-- with those for a survey, too: `[--links] [--silent] [--lost] [--late D,..] [--at-most K] [--runs N]`
 abbrev pub options_app : App
 options_app =
-    with_rule (with_rule (with_rule (with_rule (with_rule
-    (on_top (λ s. record s { has_version = true }) (new_app (codes "motecheck"))) workers_rule)
-    (flag_rule (codes "links"))) (flag_rule (codes "silent"))) at_most_rule) runs_rule
+    with_rule (with_rule (with_rule (with_rule (with_rule (with_rule run_app (flag_rule (codes "links")))
+    (flag_rule (codes "silent"))) (flag_rule (codes "lost"))) late_rule) at_most_rule) runs_rule
 
 -- the command as `clap` reads it: the options and the files, `motecheck .. SCENARIO CLAIMS`
 abbrev pub motecheck_app : App
-motecheck_app = with_rule (with_rule options_app (file_rule (codes "SCENARIO"))) (file_rule (codes "CLAIMS"))
+motecheck_app =
+    with_rule (with_rule (with_rule options_app faults_rule) (file_rule (codes "SCENARIO"))) (new_rule (codes "CLAIMS"))
 
 -- the flag was given or not
 abbrev pub ReadsFlag : Option Text → Bool → Type 0
@@ -57,11 +82,38 @@ ReadsNumber bits (Some text) number =
     (λ bytes r. ParsesUnsigned bits 10 bytes r × ExplainsUnsignedError 10 bytes r × HasUnsignedDigitsIfOk bytes r)
     text number
 
+-- the text is a number below 2 ^ 32
+abbrev pub IsDelay : Text → Type 0
+IsDelay text =
+    IsNumeral 10 (without_leading_plus text) × (digits_value 10 (without_leading_plus text) < 2 ^ 32)
+
+abbrev pub delay_in : Text → ℕ
+delay_in text = digits_value 10 (without_leading_plus text)
+
+abbrev pub AreDelays : List Text → Type 0
+AreDelays [] = Unit {0}
+AreDelays (text ∷ texts) = IsDelay text × AreDelays texts
+
+-- these are the numbers in some texts, or there are none, since one of the texts isn't a number
+abbrev pub ReadsDelays : List Text → List ℕ → Type 0
+ReadsDelays texts delays = (AreDelays texts × (delays ≡ map delay_in texts)) ⊎ ((¬ AreDelays texts) × (delays ≡ []))
+
+-- the numbers in the value of `--late`, with commas between them
+abbrev pub ReadsLate : Option Text → Option (Vec ℕ Global) → Type 0
+ReadsLate None None = Unit {0}
+ReadsLate None (Some delays) = ⊥
+ReadsLate (Some text) None = ⊥
+ReadsLate (Some text) (Some delays) = ReadsDelays (slice_split (λ byte. byte == 44) text) delays.items
+
 -- these are the options, if `clap` found these values
 pub record OptionsIn (rows : List Row) (options : Options) : Type 0 where
+  pub faults : string_bytes options.faults ≡ flat_map line_of (unwrap_or (all_of (codes "fault") rows) [])
+  pub report : ReadsFlag (one_of (codes "report") rows) options.report
   pub workers : ReadsWorkers (one_of (codes "workers") rows) options.workers
   pub links : ReadsFlag (one_of (codes "links") rows) options.links
   pub silent : ReadsFlag (one_of (codes "silent") rows) options.silent
+  pub lost : ReadsFlag (one_of (codes "lost") rows) options.lost
+  pub late : ReadsLate (first_of (codes "late") rows) options.late
   pub at_most : ReadsNumber 8 (one_of (codes "at-most") rows) options.at_most
   pub runs : ReadsNumber 64 (one_of (codes "runs") rows) options.runs
 
@@ -69,7 +121,8 @@ pub record OptionsIn (rows : List Row) (options : Options) : Type 0 where
 pub record AskedIn (rows : List Row) (asked : Asked) : Type 0 where
   pub options : OptionsIn rows asked.options
   pub scenario : asked.scenario.now ≡ unwrap_or (first_of (codes "SCENARIO") rows) []
-  pub claims : asked.claims.now ≡ unwrap_or (first_of (codes "CLAIMS") rows) []
+  pub claims : option_map (λ s. s.now) asked.claims ≡ first_of (codes "CLAIMS") rows
+  pub faults : option_map (λ s. s.now) asked.faults ≡ first_of (codes "faults") rows
 
 -- the arguments, of which the first is the program's name, have no error, and ask for this
 pub record AsksFor (words : List Text) (asked : Asked) : Type 0 where

@@ -1,13 +1,15 @@
 //! The answers to claims about a report.
 ghost use Rattle.std.specs.Prelude.{IfOk};
 ghost use Rattle.mote_net.specs.Report.{report_of};
-ghost use Rattle.claim_check.specs.Promises.{AnswersAll, AnswersOne};
+ghost use Rattle.claim_check.specs.Promises.{AnswersAll, AnswersOne, AnswersWith};
 
+use crate::faults::unused_in;
 use claim_text::{write_break, write_claim};
 use claim_witness::break_of;
 use claims::Claim;
 use mote_net::Report;
 use program_tree::Names;
+use radio_faults::Fault;
 use std::alloc::{AllocError, Global};
 
 /// A line for each claim, and whether all claims hold.
@@ -47,7 +49,7 @@ fn answer(
 ///
 /// # Errors
 /// If an allocation failed.
-pub fn answers_to(
+fn answers_to(
     alloc: Global,
     names: &Names,
     claims: &[Claim],
@@ -63,4 +65,23 @@ pub fn answers_to(
         all_hold = all_hold && one.all_hold;
     }
     Ok(Answers { text, all_hold })
+}
+
+/// Answers the claims about the report of a run with faults, and says which faults have no effect.
+///
+/// # Errors
+/// If an allocation failed.
+pub fn answers_with(
+    alloc: Global,
+    names: &Names,
+    claims: &[Claim],
+    faults: &[Fault],
+    report: &Report,
+) -> Result<Answers, AllocError>
+    ensures answers_with { IfOk result (AnswersWith names.now (report_of report.now) claims.now faults.now) }
+{
+    let mut answers = answers_to(alloc, names, claims, report)?;
+    let unused = unused_in(alloc, faults, report)?;
+    answers.text.push_str(unused.as_str())?;
+    Ok(answers)
 }

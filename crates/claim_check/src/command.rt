@@ -1,6 +1,6 @@
 //! The command. It reads a scenario and claims from two files, and writes the answers to standard output; the line of an
 //! error, and the progress of a survey, go to standard error.
-ghost use Rattle.std.specs.Prelude.{◌≡◌, ◌≢◌, ◌≤◌, None, IfErr, IfOk, string_len};
+ghost use Rattle.std.specs.Prelude.{◌≡◌, ◌≢◌, ◌≤◌, ◌++◌, ◌∷◌, [], None, if◌then◌else◌, is_none, is_some, map, true, IfErr, IfOk, OnOk, string_bytes, string_len};
 ghost use Rattle.std.specs.Io.KnownBytes.{Keeps};
 ghost use Rattle.clap.specs.Words.{kind_of};
 ghost use Rattle.net_scenario.specs.Limits.{longest_text};
@@ -8,12 +8,17 @@ ghost use Rattle.simulation.specs.FaultLines.{AppendsPrefix};
 ghost use Rattle.simulation.specs.Words.{texts_of};
 ghost use Rattle.simulation.specs.Input.{IsText};
 ghost use Rattle.claim_check.specs.FaultLines.{written_line};
-ghost use Rattle.claim_check.specs.Command.{AnswersAsked, ChecksSome, Commands, IsReadError, Responds, Serves, ends};
-ghost use Rattle.claim_check.specs.Command.{faults_of, is_survey, lacks_survey, status_of, status_of_words, way_for};
+ghost use Rattle.claim_check.specs.Command.{AnswersAsked, ChecksSome, Commands, IsReadError, Responds, Serves};
+ghost use Rattle.claim_check.specs.Command.{WritesAnswers, ends};
+ghost use Rattle.claim_check.specs.Command.{are_files_in_conflict, are_in_conflict, copies_of, delays_of, is_in_conflict};
+ghost use Rattle.claim_check.specs.Command.{is_mixed, is_mixed_with_file, is_survey, lacks_claims, lacks_delays, lacks_survey, plan_for};
+ghost use Rattle.claim_check.specs.Command.{status_of, status_of_words, way_for};
+ghost use Rattle.claim_check.specs.Survey.{plan_of};
+ghost use Rattle.fault_keys.specs.declared.candidates.CopyFault.TheVariants.{Lost, Late};
 ghost use Rattle.claim_check.specs.declared.error.CheckError.TheVariants as check;
 
 use crate::answers::Answers;
-use crate::checking::{check, check_serial};
+use crate::checking::{check, check_serial, report, report_serial};
 use crate::command_line::{Asked, Options, asked_by};
 use crate::error::CheckError;
 use crate::fault_line::report_fault;
@@ -21,9 +26,9 @@ use crate::output::write_bytes;
 use crate::progress::Told;
 use crate::surveying::{Faults, check_serial_with_faults, check_with_faults};
 use clap::error::ErrorKind;
-use net_survey::Kinds;
+use net_survey::{CopyFault, Kinds};
 use simulation::{InputError, SimError, read_text};
-use std::alloc::Global;
+use std::alloc::{AllocError, Global};
 use std::fs;
 use std::io::{Eprint, Write};
 use std::random::RandomSource;
@@ -31,6 +36,9 @@ use std::rt::Files;
 use std::sync::Wait;
 use std::thread::Threads;
 use window_workers::{Gate, NoGate};
+
+/// A survey takes fewer numbers of moments by which copies are late.
+const TOO_MANY_DELAYS: usize = 15;
 
 /// Returns the exit status of a check: 0 if all claims hold, 1 if not, or 2 after an error. After an error, nothing is
 /// written to `errors` but the line that reports the error, or a prefix of this line; the status is the same if writing
@@ -102,11 +110,61 @@ fn read_scenario_file<T: AllocGlobal + Files>(rt: &T, name: &str) -> Result<Stri
     }
 }
 
+/// Reads the file of the claims; without a file, there are none.
+fn read_claims_file<T: AllocGlobal + Files>(
+    rt: &T,
+    name: Option<&str>,
+) -> Result<String, CheckError>
+    ensures refuses { IfErr result IsReadError }
+{
+    match name {
+        Some(name) => Ok(read_file(rt, name)?),
+        None => Ok(String::new(rt.alloc())),
+    }
+}
+
+/// Reads the file of the faults; without a file, it is empty.
+fn read_faults_file<T: AllocGlobal + Files>(
+    rt: &T,
+    name: Option<&str>,
+) -> Result<String, CheckError>
+    ensures refuses { IfErr result IsReadError }
+    ensures none { IfOk result (λ text. is_none name.entry ≡ true → string_bytes text ≡ []) }
+{
+    match name {
+        Some(name) => match read_file(rt, name) {
+            Ok(text) => Ok(text),
+            Err(error) => Err(CheckError::FaultsInput(error)),
+        },
+        None => Ok(String::new(rt.alloc())),
+    }
+}
+
+/// Returns the text of all faults: those of the options, and those of the file.
+fn all_faults<T: AllocGlobal + Files>(rt: &T, asked: &Asked<'_>) -> Result<String, CheckError>
+    ensures refuses { IfErr result IsReadError }
+    ensures only_options { IfOk result
+        (λ text. is_none asked.now.faults ≡ true → string_bytes text ≡ string_bytes asked.now.options.faults) }
+{
+    let more = read_faults_file(rt, asked.faults)?;
+    let mut text = String::new(rt.alloc());
+    text.push_str(asked.options.faults.as_str())?;
+    text.push_str(more.as_str())?;
+    Ok(text)
+}
+
 /// Returns `true` if a survey is asked for.
 fn is_survey(options: &Options) -> bool
     ensures value { result ≡ is_survey options.now }
 {
-    options.links || options.silent
+    options.links || options.silent || options.lost || options.late.is_some()
+}
+
+/// Returns `true` if a survey has options of one run.
+fn is_mixed(options: &Options) -> bool
+    ensures value { result ≡ is_mixed options.now }
+{
+    is_survey(options) && (options.report || !options.faults.is_empty())
 }
 
 /// Returns `true` if options of a survey are given, but no survey is asked for.
@@ -116,26 +174,140 @@ fn lacks_survey(options: &Options) -> bool
     !is_survey(options) && (options.at_most.is_some() || options.runs.is_some())
 }
 
-/// Writes that options of a survey need one, and returns the exit status of an error of the arguments.
-fn refuse_options<E: Write>(errors: &mut E) -> u8
+/// Returns `true` if the numbers of moments weren't read, or are too many.
+fn lacks_delays(options: &Options) -> bool
+    ensures value { result ≡ lacks_delays options.now }
+{
+    match &options.late {
+        Some(delays) => !(0 < delays.len() && delays.len() < TOO_MANY_DELAYS),
+        None => false,
+    }
+}
+
+/// Returns the reason why the options don't go together, if they don't.
+fn conflict_in(options: &Options) -> Option<&'static str>
+    ensures value { is_some result ≡ is_in_conflict options.now }
+{
+    if is_mixed(options) {
+        return Some("a survey has neither '--report' nor '--fault <TEXT>'");
+    }
+    if lacks_survey(options) {
+        return Some(
+            "'--at-most <K>' and '--runs <N>' need a survey: '--links', '--silent', '--lost' or '--late <D,..>'",
+        );
+    }
+    if lacks_delays(options) {
+        return Some("'--late <D,..>' takes 1 to 14 numbers, with commas between them");
+    }
+    None
+}
+
+/// Returns `true` if claims are needed and not given, or given and not needed.
+fn lacks_claims(asked: &Asked<'_>) -> bool
+    ensures value { result ≡ lacks_claims asked.now }
+{
+    if asked.options.report {
+        asked.claims.is_some()
+    } else {
+        asked.claims.is_none()
+    }
+}
+
+/// Returns `true` if a survey has a file of faults.
+fn is_mixed_with_file(asked: &Asked<'_>) -> bool
+    ensures value { result ≡ is_mixed_with_file asked.now }
+{
+    is_survey(&asked.options) && asked.faults.is_some()
+}
+
+/// Returns the reason why the files don't go with the options, if they don't.
+fn conflict_of_files(asked: &Asked<'_>) -> Option<&'static str>
+    ensures value { is_some result ≡ are_files_in_conflict asked.now }
+{
+    if lacks_claims(asked) {
+        return Some("motecheck takes <SCENARIO> and <CLAIMS>, or '--report' and <SCENARIO>");
+    }
+    if is_mixed_with_file(asked) {
+        return Some("a survey has no '--faults <FILE>'");
+    }
+    None
+}
+
+/// Returns the reason why the arguments don't go together, if they don't.
+fn conflict_of(asked: &Asked<'_>) -> Option<&'static str>
+    ensures value { is_some result ≡ are_in_conflict asked.now }
+{
+    match conflict_in(&asked.options) {
+        Some(why) => Some(why),
+        None => conflict_of_files(asked),
+    }
+}
+
+/// Writes that the arguments don't go together, and returns the exit status of an error of the arguments.
+fn refuse_options<E: Write>(why: &str, errors: &mut E) -> u8
     ensures status { result ≡ 2 }
 {
     let _ = writeln!(
         errors,
-        "error: '--at-most <K>' and '--runs <N>' need '--links' or '--silent'\n\nFor more information, try '--help'."
+        "error: {why}\n\nFor more information, try '--help'."
     );
     2
 }
 
+/// Appends that a copy may be lost.
+fn put_lost(copies: &mut Vec<CopyFault>, is_lost: bool) -> Result<(), AllocError>
+    ensures appended { OnOk result (copies.new.items ≡ copies.old.items ++ (if is_lost then Lost ∷ [] else [])) }
+{
+    if is_lost {
+        copies.push(CopyFault::Lost)?;
+    }
+    Ok(())
+}
+
+/// Appends that a copy may be so late.
+fn put_late(copies: &mut Vec<CopyFault>, delays: &[u32]) -> Result<(), AllocError>
+    ensures appended { OnOk result (copies.new.items ≡ copies.old.items ++ map Late delays.now) }
+{
+    for delay in delays {
+        copies.push(CopyFault::Late(*delay))?;
+    }
+    Ok(())
+}
+
+/// Returns the numbers of moments by which copies are late in a survey.
+fn delays_of(late: &Option<Vec<u32>>) -> &[u32]
+    ensures value { result.now ≡ delays_of late.now }
+{
+    match late {
+        Some(delays) => delays.as_slice(),
+        None => &[],
+    }
+}
+
+/// Returns what may happen to each copy in a survey.
+///
+/// # Errors
+/// If an allocation failed.
+fn copies_of(alloc: Global, options: &Options) -> Result<Vec<CopyFault>, AllocError>
+    ensures value { IfOk result (λ copies. copies.items ≡ copies_of options.now) }
+{
+    let mut copies = Vec::new(alloc);
+    put_lost(&mut copies, options.lost)?;
+    put_late(&mut copies, delays_of(&options.late))?;
+    Ok(copies)
+}
+
 /// Returns the sets of faults that a survey is to try.
-fn faults_of(options: &Options) -> Faults
-    ensures value { result ≡ faults_of options.now }
+fn faults_of<'a>(options: &Options, copies: &'a [CopyFault]) -> Faults<'a>
+    requires copies { copies.now ≡ copies_of options.now }
+    ensures value { plan_of result ≡ plan_for options.now }
 {
     Faults {
         kinds: Kinds {
             links: options.links,
             silent: options.silent,
         },
+        copies,
         at_most: options.at_most.unwrap_or(1),
         runs: options.runs.unwrap_or(u64::MAX),
     }
@@ -150,17 +322,19 @@ fn answers_asked<T, G>(
     options: &Options,
     scenario: &str,
     claims: &str,
+    faults: &str,
     gate: &G,
 ) -> Result<Answers, CheckError>
 where
     T: AllocGlobal + Eprint + Threads + Wait + RandomSource + Sync,
     G: Gate + Sync,
     requires is_text { IsText scenario.now }
-    ensures answers { AnswersAsked (way_for options.now) options.now scenario.now claims.now result }
+    ensures answers { AnswersAsked (way_for options.now) options.now scenario.now claims.now faults.now result }
 {
     if is_survey(options) {
         let told = Told { rt };
-        let faults = faults_of(options);
+        let copies = copies_of(rt.alloc(), options)?;
+        let faults = faults_of(options, copies.as_slice());
         check_with_faults(
             rt,
             rt.alloc(),
@@ -171,7 +345,15 @@ where
             &told,
         )
     } else {
-        check(rt, rt.alloc(), scenario, claims, options.workers, gate)
+        check(
+            rt,
+            rt.alloc(),
+            scenario,
+            claims,
+            faults,
+            options.workers,
+            gate,
+        )
     }
 }
 
@@ -184,29 +366,31 @@ fn answers_serial(
     options: &Options,
     scenario: &str,
     claims: &str,
+    faults: &str,
 ) -> Result<Answers, CheckError>
     requires is_text { IsText scenario.now }
-    ensures answers { AnswersAsked None options.now scenario.now claims.now result }
+    ensures answers { AnswersAsked None options.now scenario.now claims.now faults.now result }
 {
     if is_survey(options) {
-        let faults = faults_of(options);
+        let copies = copies_of(alloc, options)?;
+        let faults = faults_of(options, copies.as_slice());
         check_serial_with_faults(alloc, scenario, claims, faults)
     } else {
-        check_serial(alloc, scenario, claims)
+        check_serial(alloc, scenario, claims, faults)
     }
 }
 
-/// Answers claims about a scenario, as the options ask, writes the answers, and returns whether all claims hold. Workers
-/// wait for one another, so the contract holds only if the runs return.
+/// Answers claims about a scenario, as the options ask, writes the answers, and returns whether all claims hold.
 ///
 /// # Errors
-/// The errors of `check` or `check_with_faults`, and then nothing has been written; or `Write` after a proper prefix of
+/// The errors of `check` or `check_with_faults`, and then nothing has been written; or `Print` after a proper prefix of
 /// the answers.
-pub fn answer<T, W, G>(
+fn write_answers<T, W, G>(
     rt: &T,
     options: &Options,
     scenario: &str,
     claims: &str,
+    faults: &str,
     output: &mut W,
     gate: &G,
 ) -> Result<bool, CheckError>
@@ -215,33 +399,96 @@ where
     W: Write,
     G: Gate + Sync,
     requires is_text { IsText scenario.now }
-    ensures responds { Responds (way_for options.now) options.now scenario.now claims.now
+    ensures writes { WritesAnswers (way_for options.now) options.now scenario.now claims.now faults.now
         (W.contents output.old) (W.contents output.new) result }
 {
-    let answers = answers_asked(rt, options, scenario, claims, gate)?;
+    let answers = answers_asked(rt, options, scenario, claims, faults, gate)?;
     write_bytes(output, answers.text.as_bytes())?;
     Ok(answers.all_hold)
+}
+
+/// Does the same as `write_answers` on one thread.
+///
+/// # Errors
+/// The errors of `check_serial` or `check_serial_with_faults`, and then nothing has been written; or `Print` after a
+/// proper prefix of the answers.
+fn write_answers_serial<W: Write>(
+    alloc: Global,
+    options: &Options,
+    scenario: &str,
+    claims: &str,
+    faults: &str,
+    output: &mut W,
+) -> Result<bool, CheckError>
+    requires is_text { IsText scenario.now }
+    ensures writes { WritesAnswers None options.now scenario.now claims.now faults.now
+        (W.contents output.old) (W.contents output.new) result }
+{
+    let answers = answers_serial(alloc, options, scenario, claims, faults)?;
+    write_bytes(output, answers.text.as_bytes())?;
+    Ok(answers.all_hold)
+}
+
+/// Writes the report of a scenario's run with the faults in a text, or the answers to claims, as the options ask, and
+/// returns whether all claims hold. Workers wait for one another, so the contract holds only if the runs return.
+///
+/// # Errors
+/// The errors of `report`, `check` or `check_with_faults`, and then nothing has been written; or `Print` after a proper
+/// prefix of the text.
+pub fn answer<T, W, G>(
+    rt: &T,
+    options: &Options,
+    scenario: &str,
+    claims: &str,
+    faults: &str,
+    output: &mut W,
+    gate: &G,
+) -> Result<bool, CheckError>
+where
+    T: AllocGlobal + Eprint + Threads + Wait + RandomSource + Sync,
+    W: Write,
+    G: Gate + Sync,
+    requires is_text { IsText scenario.now }
+    ensures responds { Responds (way_for options.now) options.now scenario.now claims.now faults.now
+        (W.contents output.old) (W.contents output.new) result }
+{
+    if options.report {
+        report(
+            rt,
+            rt.alloc(),
+            scenario,
+            faults,
+            options.workers,
+            output,
+            gate,
+        )
+    } else {
+        write_answers(rt, options, scenario, claims, faults, output, gate)
+    }
 }
 
 /// Does the same as `answer` on one thread. It never waits for another thread, so its proof also shows that it returns.
 ///
 /// # Errors
-/// The errors of `check_serial` or `check_serial_with_faults`, and then nothing has been written; or `Write` after a
-/// proper prefix of the answers.
+/// The errors of `report_serial`, `check_serial` or `check_serial_with_faults`, and then nothing has been written; or
+/// `Print` after a proper prefix of the text.
 pub fn answer_serial<W: Write>(
     alloc: Global,
     options: &Options,
     scenario: &str,
     claims: &str,
+    faults: &str,
     output: &mut W,
 ) -> Result<bool, CheckError>
     requires is_text { IsText scenario.now }
-    ensures responds { Responds None options.now scenario.now claims.now
+    ensures responds { Responds None options.now scenario.now claims.now faults.now
         (W.contents output.old) (W.contents output.new) result }
 {
-    let answers = answers_serial(alloc, options, scenario, claims)?;
-    write_bytes(output, answers.text.as_bytes())?;
-    Ok(answers.all_hold)
+    if options.report {
+        report_serial(alloc, scenario, faults, output)
+    } else {
+        write_answers_serial(alloc, options, scenario, claims, faults, output)
+    }
 }
 
 /// Answers the claims in a file about the scenario in another one, as the arguments ask, and returns whether all claims
@@ -262,12 +509,14 @@ where
     ensures checks_some { ChecksSome asked.now (W.contents output.old) (W.contents output.new) result }
 {
     let scenario = read_scenario_file(rt, asked.scenario)?;
-    let claims = read_file(rt, asked.claims)?;
+    let claims = read_claims_file(rt, asked.claims)?;
+    let faults = all_faults(rt, asked)?;
     answer(
         rt,
         &asked.options,
         scenario.as_str(),
         claims.as_str(),
+        faults.as_str(),
         output,
         gate,
     )
@@ -285,13 +534,17 @@ pub fn serve_options<W: Write, E: Write>(
     requires is_text { IsText scenario.now }
     ensures serves { let old = ends (W.contents output.old) (E.contents errors.old)
         in let new = ends (W.contents output.new) (E.contents errors.new)
-        in Serves options.now (Responds None options.now scenario.now claims.now old.output new.output) old new result }
+        in Serves (is_in_conflict options.now)
+        (Responds None options.now scenario.now claims.now (string_bytes options.now.faults) old.output new.output) old new result }
 {
-    if lacks_survey(options) {
-        return refuse_options(errors);
+    match conflict_in(options) {
+        Some(why) => refuse_options(why, errors),
+        None => {
+            let faults = options.faults.as_str();
+            let answer = answer_serial(alloc, options, scenario, claims, faults, output);
+            status_of(answer, errors)
+        }
     }
-    let answer = answer_serial(alloc, options, scenario, claims, output);
-    status_of(answer, errors)
 }
 
 /// Checks as the arguments ask, and returns the exit status.
@@ -302,13 +555,15 @@ where
     E: Write,
     ensures serves { let old = ends (W.contents output.old) (E.contents errors.old)
         in let new = ends (W.contents output.new) (E.contents errors.new)
-        in Serves asked.now.options (ChecksSome asked.now old.output new.output) old new result }
+        in Serves (are_in_conflict asked.now) (ChecksSome asked.now old.output new.output) old new result }
 {
-    if lacks_survey(&asked.options) {
-        return refuse_options(errors);
+    match conflict_of(asked) {
+        Some(why) => refuse_options(why, errors),
+        None => {
+            let answer = check_asked(rt, asked, output, &NoGate);
+            status_of(answer, errors)
+        }
     }
-    let answer = check_asked(rt, asked, output, &NoGate);
-    status_of(answer, errors)
 }
 
 /// Runs the program with these arguments; the first is the program's name. It writes an answer to each claim to

@@ -1,23 +1,33 @@
 //! The arguments of the command line, as `clap` reads them.
-ghost use Rattle.std.specs.Prelude.{◌≡◌, [], codes, false, option_map, unwrap_or, IfOk, IfErr};
-ghost use Rattle.clap.specs.Words.{app_of, found_of, kind_of, rows_of, rule_of};
+ghost use Rattle.std.specs.Prelude.{◌≡◌, ◌==◌, [], codes, false, map, option_map, string_bytes, unwrap_or, IfOk, IfErr};
+ghost use Rattle.std.specs.List.{flat_map, slice_split};
+ghost use Rattle.clap.specs.Words.{app_of, found_of, kind_of, new_rule, rows_of, rule_of};
 ghost use Rattle.simulation.specs.Words.{texts_of, workers_rule};
 ghost use Rattle.claim_check.specs.Words.{AskedIn, AsksFor, AsksOptions, FaultOf, OptionsIn, at_most_rule, file_rule};
-ghost use Rattle.claim_check.specs.Words.{flag_rule, motecheck_app, options_app, runs_rule};
+ghost use Rattle.claim_check.specs.Words.{ReadsDelays, ReadsLate, late_rule, run_app};
+ghost use Rattle.claim_check.specs.Words.{fault_rule, faults_rule, flag_rule, line_of, motecheck_app, options_app, runs_rule};
 
 use clap::{Arg, ArgAction, ArgMatches, Command, Error};
 use std::alloc::{AllocError, Global};
 use window_workers::MOST_WORKERS;
 
 /// What is asked for, but the files.
-#[derive(Clone, Copy)]
+#[derive(Drop)]
 pub struct Options {
+    /// The texts of faults of the run, one a line.
+    pub faults: String,
+    /// Whether the report is asked for.
+    pub report: bool,
     /// The number of workers; without a number, one thread runs all motes, or makes all runs of a survey.
     pub workers: Option<u16>,
     /// Whether a survey is asked for, with broken links.
     pub links: bool,
     /// Whether a survey is asked for, with silent motes.
     pub silent: bool,
+    /// Whether a survey is asked for, with lost copies.
+    pub lost: bool,
+    /// By how many moments copies are late in a survey; none if the list can't be read. Without a list, no copy is late.
+    pub late: Option<Vec<u32>>,
     /// The most faults in a set of a survey; without a number, 1.
     pub at_most: Option<u8>,
     /// The most runs of a survey; without a number, there is no limit.
@@ -25,14 +35,71 @@ pub struct Options {
 }
 
 /// What a command line asks for.
-#[derive(Clone, Copy)]
+#[derive(Drop)]
 pub struct Asked<'a> {
     /// The options.
     pub options: Options,
     /// The scenario's file.
     pub scenario: &'a str,
     /// The file of the claims.
-    pub claims: &'a str,
+    pub claims: Option<&'a str>,
+    /// A file of faults.
+    pub faults: Option<&'a str>,
+}
+
+/// Returns the texts of values, each with a line feed behind it.
+fn lines_of(alloc: Global, values: &[&str]) -> Result<String, AllocError>
+    ensures value { IfOk result (λ text. string_bytes text ≡ flat_map line_of (texts_of values.now)) }
+{
+    let mut text = String::new(alloc);
+    for value in values {
+        text.push_str(value)?;
+        text.push_str("\n")?;
+    }
+    Ok(text)
+}
+
+/// Returns the texts of an option's values, if it has any, each with a line feed behind it.
+fn lines_of_all(alloc: Global, values: Option<&[&str]>) -> Result<String, AllocError>
+    ensures value { IfOk result
+        (λ text. string_bytes text ≡ flat_map line_of (unwrap_or (option_map (λ all. texts_of all.now) values.entry) [])) }
+{
+    match values {
+        Some(values) => lines_of(alloc, values),
+        None => Ok(String::new(alloc)),
+    }
+}
+
+/// Returns the parts of a text, with commas between them.
+fn parts_of(alloc: Global, text: &str) -> Result<Vec<&str>, AllocError>
+    ensures parts { IfOk result (λ parts. texts_of parts.items ≡ slice_split (λ byte. byte == 44) text.now) }
+{
+    text.split(',').collect(alloc)
+}
+
+/// Returns the numbers in some texts; or none if one of the texts isn't a number.
+fn delays_in(alloc: Global, texts: &[&str]) -> Result<Vec<u32>, AllocError>
+    ensures delays { IfOk result (λ delays. ReadsDelays (texts_of texts.now) delays.items) }
+{
+    let mut delays = Vec::new(alloc);
+    for text in texts {
+        match text.parse::<u32>() {
+            Ok(delay) => delays.push(delay)?,
+            Err(_) => return Ok(Vec::new(alloc)),
+        }
+    }
+    Ok(delays)
+}
+
+/// Returns the numbers in the value of `--late`, if it has one.
+fn late_of(alloc: Global, value: Option<&str>) -> Result<Option<Vec<u32>>, AllocError>
+    ensures late { IfOk result (ReadsLate (option_map (λ text. text.now) value.entry)) }
+{
+    let Some(text) = value else {
+        return Ok(None);
+    };
+    let parts = parts_of(alloc, text)?;
+    Ok(Some(delays_in(alloc, parts.as_slice())?))
 }
 
 /// Returns the text of a value. `clap` has found one for each argument that is required.
@@ -46,30 +113,73 @@ fn text_of<'a>(found: Option<&'a str>) -> &'a str
 }
 
 /// Reads the options from the values of the arguments.
-fn options_of(matches: &ArgMatches<'_>) -> Options
-    ensures options_in { OptionsIn (rows_of (found_of matches.now)) result }
+///
+/// # Errors
+/// If an allocation failed.
+fn options_of(alloc: Global, matches: &ArgMatches<'_>) -> Result<Options, AllocError>
+    ensures options_in { IfOk result (OptionsIn (rows_of (found_of matches.now))) }
 {
+    let faults = lines_of_all(alloc, matches.get_strs("fault"))?;
+    let late = late_of(alloc, matches.get_str("late"))?;
     let workers = matches.get_one::<u16>("workers");
-    Options {
+    Ok(Options {
+        faults,
+        report: matches.get_flag("report"),
         workers,
         links: matches.get_flag("links"),
         silent: matches.get_flag("silent"),
+        lost: matches.get_flag("lost"),
+        late,
         at_most: matches.get_one::<u8>("at-most"),
         runs: matches.get_one::<u64>("runs"),
-    }
+    })
 }
 
 /// Reads what is asked for from the values of the arguments.
-fn asked_of<'a>(matches: &ArgMatches<'a>) -> Asked<'a>
-    ensures asked_in { AskedIn (rows_of (found_of matches.now)) result }
+///
+/// # Errors
+/// If an allocation failed.
+fn asked_of<'a>(alloc: Global, matches: &ArgMatches<'a>) -> Result<Asked<'a>, AllocError>
+    ensures asked_in { IfOk result (AskedIn (rows_of (found_of matches.now))) }
 {
-    let scenario = text_of(matches.get_str("SCENARIO"));
-    let claims = text_of(matches.get_str("CLAIMS"));
-    Asked {
-        options: options_of(matches),
-        scenario,
-        claims,
-    }
+    let options = options_of(alloc, matches)?;
+    Ok(Asked {
+        options,
+        scenario: text_of(matches.get_str("SCENARIO")),
+        claims: matches.get_str("CLAIMS"),
+        faults: matches.get_str("faults"),
+    })
+}
+
+fn fault_arg<'a>(alloc: Global) -> Arg<'a>
+    ensures rule { rule_of result ≡ fault_rule }
+    ensures not_global { result.global ≡ false }
+{
+    Arg::new(alloc, "fault")
+        .long("fault")
+        .value_name("TEXT")
+        .action(ArgAction::Append)
+        .help("A fault of the run, such as 'link 1 to 2 is broken'; may be given several times")
+}
+
+fn faults_arg<'a>(alloc: Global) -> Arg<'a>
+    ensures rule { rule_of result ≡ faults_rule }
+    ensures not_global { result.global ≡ false }
+{
+    Arg::new(alloc, "faults")
+        .long("faults")
+        .value_name("FILE")
+        .help("More faults of the run, one in each line of a file")
+}
+
+fn report_arg<'a>(alloc: Global) -> Arg<'a>
+    ensures rule { rule_of result ≡ flag_rule (codes "report") }
+    ensures not_global { result.global ≡ false }
+{
+    Arg::new(alloc, "report")
+        .long("report")
+        .action(ArgAction::SetTrue)
+        .help("Writes the report of the run, as motesim does; it takes no CLAIMS")
 }
 
 fn workers_arg<'a>(alloc: Global) -> Arg<'a>
@@ -105,7 +215,26 @@ fn silent_arg<'a>(alloc: Global) -> Arg<'a>
     Arg::new(alloc, "silent")
         .long("silent")
         .action(ArgAction::SetTrue)
-        .help("Surveys silent motes, which hear others and are not heard; may go with --links")
+        .help("Surveys silent motes, which hear others and are not heard")
+}
+
+fn lost_arg<'a>(alloc: Global) -> Arg<'a>
+    ensures rule { rule_of result ≡ flag_rule (codes "lost") }
+    ensures not_global { result.global ≡ false }
+{
+    Arg::new(alloc, "lost")
+        .long("lost")
+        .action(ArgAction::SetTrue)
+        .help("Surveys lost copies: of each packet, the copy on the way to each mote that hears it")
+}
+
+fn late_arg<'a>(alloc: Global) -> Arg<'a>
+    ensures rule { rule_of result ≡ late_rule }
+    ensures not_global { result.global ≡ false }
+{
+    Arg::new(alloc, "late").long("late").value_name("D,..").help(
+        "Surveys copies that are D moments late: 1 to 14 numbers, with commas between them",
+    )
 }
 
 fn at_most_arg<'a>(alloc: Global) -> Arg<'a>
@@ -140,29 +269,39 @@ fn scenario_arg<'a>(alloc: Global) -> Arg<'a>
 }
 
 fn claims_arg<'a>(alloc: Global) -> Arg<'a>
-    ensures rule { rule_of result ≡ file_rule (codes "CLAIMS") }
+    ensures rule { rule_of result ≡ new_rule (codes "CLAIMS") }
     ensures not_global { result.global ≡ false }
 {
-    Arg::new(alloc, "CLAIMS")
-        .required(true)
-        .help("The claims, one in each line")
+    Arg::new(alloc, "CLAIMS").help("The claims, one in each line")
 }
 
-/// Makes a command with the options. It makes each argument after it has added the previous one, so no argument waits in
-/// a variable while an addition can fail.
-fn options_command<'a>(alloc: Global) -> Result<Command<'a>, AllocError>
-    ensures has_options { IfOk result (λ c. app_of c ≡ options_app) }
+/// Makes a command with the options of one run. It makes each argument after it has added the previous one, so no
+/// argument waits in a variable while an addition can fail.
+fn run_options<'a>(alloc: Global) -> Result<Command<'a>, AllocError>
+    ensures has_options { IfOk result (λ c. app_of c ≡ run_app) }
 {
     Command::new(alloc, "motecheck")
         .version("2.1")
         .about(
             "Runs a scenario, and says for each claim about its report whether it holds: one line for each claim, \
-             which begins with `holds` or `broken`. With --links or --silent it surveys sets of faults. The status is 0 \
-             if all claims hold, with all of these sets, 1 if not, and 2 if there is no result",
+             which begins with `holds` or `broken`. With --links, --silent, --lost or --late it surveys sets of faults, of \
+             one or several kinds. The status is 0 if all claims hold, with all of these sets, 1 if not, and 2 if there \
+             is no result",
         )
-        .arg(workers_arg(alloc))?
+        .arg(fault_arg(alloc))?
+        .arg(report_arg(alloc))?
+        .arg(workers_arg(alloc))
+}
+
+/// Makes a command with all options, but the files.
+fn options_command<'a>(alloc: Global) -> Result<Command<'a>, AllocError>
+    ensures has_options { IfOk result (λ c. app_of c ≡ options_app) }
+{
+    run_options(alloc)?
         .arg(links_arg(alloc))?
         .arg(silent_arg(alloc))?
+        .arg(lost_arg(alloc))?
+        .arg(late_arg(alloc))?
         .arg(at_most_arg(alloc))?
         .arg(runs_arg(alloc))
 }
@@ -172,6 +311,7 @@ fn command<'a>(alloc: Global) -> Result<Command<'a>, AllocError>
     ensures is_motecheck { IfOk result (λ c. app_of c ≡ motecheck_app) }
 {
     options_command(alloc)?
+        .arg(faults_arg(alloc))?
         .arg(scenario_arg(alloc))?
         .arg(claims_arg(alloc))
 }
@@ -186,7 +326,7 @@ pub fn asked_by<'a>(alloc: Global, words: &'a [&'a str]) -> Result<Asked<'a>, Er
     ensures refuses { IfErr result (λ e. FaultOf motecheck_app (texts_of words.entry.now) (kind_of e)) }
 {
     let matches = command(alloc)?.try_get_matches_from(words)?;
-    Ok(asked_of(&matches))
+    Ok(asked_of(alloc, &matches)?)
 }
 
 /// Reads the options of a command line that names no files; the first argument is the program's name.
@@ -198,5 +338,5 @@ pub fn options_by<'a>(alloc: Global, words: &'a [&'a str]) -> Result<Options, Er
     ensures refuses { IfErr result (λ e. FaultOf options_app (texts_of words.entry.now) (kind_of e)) }
 {
     let matches = options_command(alloc)?.try_get_matches_from(words)?;
-    Ok(options_of(&matches))
+    Ok(options_of(alloc, &matches)?)
 }

@@ -3,12 +3,14 @@ ghost use Rattle.std.specs.Prelude.{◌≡◌, Some};
 ghost use Rattle.claim_check.specs.FaultLines.{fault_line};
 ghost use Rattle.claim_check.specs.declared.error.CheckError.TheVariants as check;
 ghost use Rattle.simulation.specs.declared.error.SimError.TheVariants as fault;
+ghost use Rattle.trace_printer.specs.declared.error.PrintError.TheVariants as print;
 
 use claim_text::ClaimsError;
+use fault_text::FaultsError;
 use simulation::{InputError, RunError, ScenarioError, SimError};
 use std::alloc::AllocError;
 use std::fmt;
-use trace_printer::WriteFault;
+use trace_printer::{PrintError, WriteFault};
 
 /// The reason why a check has no answers, or why they weren't written.
 #[derive(Drop)]
@@ -19,14 +21,18 @@ pub enum CheckError {
     Input(InputError),
     /// An error in the claims.
     Claims(ClaimsError),
-    /// A text should be the options of a survey, and isn't.
-    Options,
+    /// The faults couldn't be read as a text.
+    FaultsInput(InputError),
+    /// An error in the faults.
+    Faults(FaultsError),
+    /// The net doesn't have the motes or the link that the fault with this number, from 1, names.
+    NotInNet(usize),
     /// A survey of so many claims isn't possible.
     TooManyClaims,
     /// A survey of a net that may have so many faults isn't possible.
     TooManyFaults,
-    /// A proper prefix of the answers has been written.
-    Write,
+    /// A proper prefix of the answers or of the report has been written.
+    Print(PrintError),
 }
 
 impl From<SimError> for CheckError {
@@ -77,11 +83,27 @@ impl From<ClaimsError> for CheckError {
     }
 }
 
+impl From<FaultsError> for CheckError {
+    ghost from_gives = { λ x e. e ≡ check.Faults x };
+
+    fn from(error: FaultsError) -> Self {
+        CheckError::Faults(error)
+    }
+}
+
+impl From<PrintError> for CheckError {
+    ghost from_gives = { λ x e. e ≡ check.Print x };
+
+    fn from(error: PrintError) -> Self {
+        CheckError::Print(error)
+    }
+}
+
 impl From<WriteFault> for CheckError {
-    ghost from_gives = { λ _ e. e ≡ check.Write };
+    ghost from_gives = { λ _ e. e ≡ check.Print print.Write };
 
     fn from(_error: WriteFault) -> Self {
-        CheckError::Write
+        CheckError::Print(PrintError::Write)
     }
 }
 
@@ -99,10 +121,24 @@ impl fmt::Display for CheckError {
             CheckError::Claims(ClaimsError::NotAClaim { line, column }) => {
                 write!(f, "claims fault line {line} column {column}")
             }
-            CheckError::Options => write!(f, "options fault"),
+            CheckError::FaultsInput(InputError::Read) => write!(f, "read fault of the faults"),
+            CheckError::FaultsInput(InputError::TooLong) => write!(f, "faults too long"),
+            CheckError::FaultsInput(InputError::NotText) => write!(f, "faults are not UTF-8"),
+            CheckError::FaultsInput(InputError::Memory) => write!(f, "out of memory"),
+            CheckError::Faults(FaultsError::Memory) => write!(f, "out of memory"),
+            CheckError::Faults(FaultsError::NotAFault { line, column }) => {
+                write!(f, "faults fault line {line} column {column}")
+            }
+            CheckError::NotInNet(number) => {
+                write!(
+                    f,
+                    "fault {number} names a mote or a link that the net doesn't have"
+                )
+            }
             CheckError::TooManyClaims => write!(f, "too many claims for a survey"),
             CheckError::TooManyFaults => write!(f, "too many faults for a survey"),
-            CheckError::Write => write!(f, "write fault"),
+            CheckError::Print(PrintError::Write) => write!(f, "write fault"),
+            CheckError::Print(PrintError::Memory) => write!(f, "out of memory"),
         }
     }
 }

@@ -8,6 +8,7 @@ mod command;
 mod command_line;
 mod error;
 mod fault_line;
+mod faults;
 mod input;
 mod names;
 mod output;
@@ -16,7 +17,7 @@ mod progress;
 mod surveying;
 
 pub use answers::Answers;
-pub use checking::{check, check_serial};
+pub use checking::{check, check_serial, report, report_serial};
 pub use command::{answer, answer_serial, check_asked, run_command, status_of};
 pub use command_line::{Asked, Options, asked_by, options_by};
 pub use error::CheckError;

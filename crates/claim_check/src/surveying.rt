@@ -1,12 +1,12 @@
 //! Surveys of the faults that the net of a scenario may have.
-ghost use Rattle.std.specs.Prelude.{◌≡◌, ◌<◌, ◌^◌, [], None, length, IfErr, IfOk};
+ghost use Rattle.std.specs.Prelude.{◌≡◌, ◌<◌, ◌^◌, None, length, IfErr, IfOk};
 ghost use Rattle.mote_net.specs.Meaning.{net_of};
 ghost use Rattle.window_workers.specs.declared.sync.SyncKind.TheVariants as sync;
 ghost use Rattle.simulation.specs.Input.{IsText};
 ghost use Rattle.simulation.specs.Simulation.{MayRun, way_by};
 ghost use Rattle.survey.specs.declared.search.Limits.{Limits as AnyLimits};
 ghost use Rattle.claim_check.specs.NetSurveys.{RefusesFaults, SurveysNet};
-ghost use Rattle.claim_check.specs.Survey.{RefusesWorkers, Surveys, TellsSurvey, faults_in, is_settled, limits_of};
+ghost use Rattle.claim_check.specs.Survey.{RefusesWorkers, Surveys, TellsSurvey, faults_in, is_settled, limits_of, plan_of};
 
 use crate::answers::Answers;
 use crate::error::CheckError;
@@ -16,7 +16,7 @@ use claims::Claim;
 use mote_net::Net;
 use net_scenario::read_scenario;
 use net_survey::{
-    Candidates, Kinds, Limits, Progress, Survey, candidates_of, is_complete, survey_net,
+    Candidates, CopyFault, Kinds, Limits, Progress, Survey, candidates_of, is_complete, survey_net,
     survey_net_serial, write_survey,
 };
 use program_tree::Names;
@@ -28,22 +28,27 @@ use window_workers::MOST_WORKERS;
 /// The most claims of a survey, and the most faults that its net may have.
 pub const MOST: usize = 65535;
 
+/// The most faults that a single copy may have in a survey.
+const MOST_OF_A_COPY: usize = 15;
+
 /// The runs that a survey makes at a time, before the next message of its progress.
 const RUNS_AT_A_TIME: u16 = 2048;
 
 /// The sets of faults that a survey tries.
 #[derive(Clone, Copy)]
-pub struct Faults {
+pub struct Faults<'a> {
     pub kinds: Kinds,
+    /// What may happen to each copy.
+    pub copies: &'a [CopyFault],
     /// The most faults in a set.
     pub at_most: u8,
     /// The most runs.
     pub runs: u64,
 }
 
-impl Faults {
+impl<'a> Faults<'a> {
     fn limits(self) -> Limits
-        ensures value { result ≡ limits_of self }
+        ensures value { result ≡ limits_of (plan_of self.entry) }
     {
         Limits {
             faults: self.at_most,
@@ -68,18 +73,22 @@ fn faults_to_try(
     alloc: Global,
     net: &Net,
     claims: &[Claim],
-    faults: Faults,
+    faults: Faults<'_>,
 ) -> Result<Candidates, CheckError>
     ensures few_claims { IfOk result (λ _. length claims.now < 2 ^ 16) }
     ensures few_faults { IfOk result (λ all. length all.fixed.items < 2 ^ 16) }
-    ensures fixed { IfOk result (λ all. all.fixed.items ≡ faults_in faults (net_of net.now)) }
-    ensures no_copies { IfOk result (λ all. all.copies.items ≡ []) }
-    ensures refuses { IfErr result (RefusesFaults faults (net_of net.now) claims.now) }
+    ensures few_copies { IfOk result (λ all. length all.copies.items < 16) }
+    ensures fixed { IfOk result (λ all. all.fixed.items ≡ faults_in (plan_of faults.entry) (net_of net.now)) }
+    ensures copies { IfOk result (λ all. all.copies.items ≡ (plan_of faults.entry).copies) }
+    ensures refuses { IfErr result (RefusesFaults (plan_of faults.entry) (net_of net.now) claims.now) }
 {
     if claims.len() > MOST {
         return Err(CheckError::TooManyClaims);
     }
-    let all = candidates_of(alloc, net, faults.kinds, &[])?;
+    if faults.copies.len() > MOST_OF_A_COPY {
+        return Err(CheckError::TooManyFaults);
+    }
+    let all = candidates_of(alloc, net, faults.kinds, faults.copies)?;
     if all.fixed.len() > MOST {
         return Err(CheckError::TooManyFaults);
     }
@@ -111,9 +120,9 @@ fn survey_claims_serial(
     net: &Net,
     names: &Names,
     claims: &[Claim],
-    faults: Faults,
+    faults: Faults<'_>,
 ) -> Result<Answers, CheckError>
-    ensures surveys { SurveysNet None faults names.now (net_of net.now) claims.now result }
+    ensures surveys { SurveysNet None (plan_of faults.entry) names.now (net_of net.now) claims.now result }
 {
     let candidates = faults_to_try(alloc, net, claims, faults)?;
     let limits = faults.limits();
@@ -148,11 +157,11 @@ fn survey_claims<T: Threads + Sync, P: Progress + Sync>(
     net: &Net,
     names: &Names,
     claims: &[Claim],
-    faults: Faults,
+    faults: Faults<'_>,
     workers: Option<u16>,
     progress: &P,
 ) -> Result<Answers, CheckError>
-    ensures surveys { SurveysNet (way_by workers sync.Joins) faults names.now (net_of net.now) claims.now result }
+    ensures surveys { SurveysNet (way_by workers sync.Joins) (plan_of faults.entry) names.now (net_of net.now) claims.now result }
 {
     let candidates = faults_to_try(alloc, net, claims, faults)?;
     let workers = workers_of(workers)?;
@@ -180,10 +189,10 @@ pub fn check_serial_with_faults(
     alloc: Global,
     scenario: &str,
     claims: &str,
-    faults: Faults,
+    faults: Faults<'_>,
 ) -> Result<Answers, CheckError>
     requires is_text { IsText scenario.now }
-    ensures surveys { Surveys None faults scenario.now claims.now result }
+    ensures surveys { Surveys None (plan_of faults.entry) scenario.now claims.now result }
 {
     let net = read_scenario(alloc, scenario)?;
     let none = Names::new(alloc);
@@ -197,7 +206,7 @@ pub fn check_serial_with_faults(
 ///
 /// # Errors
 /// `Simulation` with the first error in the scenario; otherwise `Claims` with an error in the claims; otherwise
-/// `TooManyClaims` or `TooManyFaults` if there are more than 65535; otherwise `Simulation` with `Workers` if there
+/// `TooManyClaims` or `TooManyFaults` if there are more than 65535, or if a copy may have more than 15; otherwise `Simulation` with `Workers` if there
 /// aren't 1 to 16 workers. The error can also be out of memory. No clause says that an allocation failed in that case.
 /// A run has no other error: a mote that halts says so in its trace, where claims see it.
 pub fn check_with_faults<T: Threads + Sync, P: Progress + Sync>(
@@ -205,12 +214,12 @@ pub fn check_with_faults<T: Threads + Sync, P: Progress + Sync>(
     alloc: Global,
     scenario: &str,
     claims: &str,
-    faults: Faults,
+    faults: Faults<'_>,
     workers: Option<u16>,
     progress: &P,
 ) -> Result<Answers, CheckError>
     requires is_text { IsText scenario.now }
-    ensures surveys { Surveys (way_by workers sync.Joins) faults scenario.now claims.now result }
+    ensures surveys { Surveys (way_by workers sync.Joins) (plan_of faults.entry) scenario.now claims.now result }
 {
     let net = read_scenario(alloc, scenario)?;
     let none = Names::new(alloc);

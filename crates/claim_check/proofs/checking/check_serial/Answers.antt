@@ -1,17 +1,30 @@
-use Rattle.std.proofs.Common.{◌≡◌, ◌∙◌, ap, subst, rules, string_bytes}
+use Rattle.std.proofs.Common.{◌≡◌, ◌∙◌, ap, subst, rules}
 use Rattle.claim_text.specs.ClaimLines.{claim_lines}
 use Rattle.std.proofs.lemmas.Result.{err_from_is_err_and}
 use Rattle.mote_net.specs.Meaning.{net_of}
 use Rattle.mote_net.specs.Report.{report_of}
-use Rattle.simulation.proofs.Printed.{scenario_of, refused}
-use Rattle.claim_check.specs.Promises.{AnswersAll}
-use Rattle.claim_check.proofs.Answered.{answered, refuses_claims}
+use Rattle.serial_run.specs.FaultRun.{IsReportWith}
+use Rattle.simulation.proofs.Printed.{refused}
+use Rattle.claim_check.specs.Promises.{AnswersWith}
+use Rattle.claim_check.proofs.Answered.{answered, checks_no_faults, refuses_claims}
+use Rattle.std.proofs.Common.{None}
 use Rattle.claim_check.proofs.checking.check_serial.Goals as goal
 
 pub returns-in_err-net : goal.returns-in_err-net
 returns-in_err-net c =
     let p = err_from_is_err_and c.from_residual.result c.from_residual.ensures.1 in
     record { checks = rw (p.1, p.2) (refused c.args.scenario.now c.in_err-net.field-0.0 c.in_err-net.ensures.answers) }
+
+pub returns-in_err-listed : goal.returns-in_err-listed
+returns-in_err-listed c =
+    let p = err_from_is_err_and c.from_residual-in_err-listed.result c.from_residual-in_err-listed.ensures.1 in
+    let a = c.args in
+    record {
+      checks = rw (p.1, p.2) (
+          checks_no_faults None a.scenario.now a.faults.now (net_of c.in_ok-net.net) c.requires.is_text c.in_ok-net.ensures.answers a.claims.now c.in_err-listed.field-0.0
+          c.in_err-listed.ensures.refused
+          );
+    }
 
 pub returns-in_err-claims : goal.returns-in_err-claims
 returns-in_err-claims c =
@@ -24,20 +37,22 @@ returns-in_err-claims c =
           );
     }
 
-pub returns-in_err-report : goal.returns-in_err-report
-returns-in_err-report c =
-    let p = err_from_is_err_and c.from_residual-in_err-report.result c.from_residual-in_err-report.ensures.1 in
-    record { checks = rw (p.1, p.2) (scenario_of c.args.scenario.now (net_of c.in_ok-net.net) c.requires.is_text c.in_ok-net.ensures.answers, rw c.in_err-report.ensures.err tt) }
-
 pub returns : goal.returns
 returns c = record {
   checks =
-      let same : c.as_bytes.result.now ≡ c.args.claims.now = search rules in
+      let a = c.args in
+      let net = net_of c.in_ok-net.net in
+      let r = report_of c.in_ok-report.report in
+      let names = c.names_of-names.result.now in
+      let answers = c.in_ok-answers_with.field-0 in
+      let same : c.as_bytes.result.now ≡ a.claims.now = search rules in
       let sliced : c.as_slice.result.now ≡ c.in_ok-claims.claims.items = search rules in
-      let all = subst (λ cs. AnswersAll c.names_of-names.result.now (report_of c.in_ok-report.report) cs c.in_ok-answers_to.field-0) sliced c.in_ok-answers_to.ensures.answers_all in (
+      let chosen : c.as_slice-chosen.result.now ≡ c.in_ok-listed.listed.items = search rules in
+      let of_claims = subst (λ cs. AnswersWith names r cs c.as_slice-chosen.result.now answers) sliced c.in_ok-answers_with.ensures.answers_with in
+      let said = subst (λ fs. AnswersWith names r c.in_ok-claims.claims.items fs answers) chosen of_claims in
+      let ran = subst (λ fs. IsReportWith fs net r) chosen c.in_ok-report.ensures.report in (
         tt,
-        answered c.args.scenario.now c.args.claims.now (string_bytes c.in_ok-answers_to.field-0.text) c.in_ok-answers_to.field-0.all_hold (net_of c.in_ok-net.net) (report_of c.in_ok-report.report)
-            c.names_of-names.result.now c.in_ok-claims.claims.items c.requires.is_text c.in_ok-net.ensures.answers c.names_of-names.ensures.named (c.in_ok-claims.ensures.texts ∙ ap claim_lines same)
-            c.in_ok-report.ensures.report all.0 all.1,
+        answered a.scenario.now a.claims.now a.faults.now net c.in_ok-listed.listed.items r names c.in_ok-claims.claims.items answers c.requires.is_text c.in_ok-net.ensures.answers
+            c.in_ok-listed.ensures.are_faults c.names_of-names.ensures.named (c.in_ok-claims.ensures.texts ∙ ap claim_lines same) ran said,
       );
 }

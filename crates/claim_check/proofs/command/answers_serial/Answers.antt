@@ -1,16 +1,33 @@
+use Rattle.std.proofs.Common.{Err, refl}
+use Rattle.std.proofs.lemmas.Result.{err_from_is_err_and}
+use Rattle.simulation.specs.declared.error.SimError.TheVariants as fault
+use Rattle.claim_check.specs.Command.{plan_for}
+use Rattle.claim_check.specs.Survey.{plan_of}
+use Rattle.claim_check.specs.declared.error.CheckError.TheVariants as check
 use Rattle.std.proofs.Common.{None}
 use Rattle.claim_check.proofs.AskedAnswers.{by_check, by_survey}
 use Rattle.claim_check.proofs.command.answers_serial.Goals as goal
 
-pub returns-then-is_survey : goal.returns-then-is_survey
-returns-then-is_survey c =
+pub returns-in_err-copies : goal.returns-in_err-copies
+returns-in_err-copies c =
+    let p = err_from_is_err_and c.from_residual.result c.from_residual.ensures.1 in
     let a = c.args in
     record {
-      answers = by_survey None a.options.now a.scenario.now a.claims.now c.check_serial_with_faults.result c.is_survey.result _ c.is_survey.ensures.value c.if-is_survey.true c.faults_of-faults.ensures.value
+      answers = rw (p.1, p.2) (
+          by_survey None a.options.now a.scenario.now a.claims.now a.faults.now (Err (check.Simulation fault.Memory)) c.is_survey.result (plan_for a.options.now) c.is_survey.ensures.value
+          c.if-is_survey.true refl tt
+          );
+    }
+
+pub returns-in_ok-copies : goal.returns-in_ok-copies
+returns-in_ok-copies c =
+    let a = c.args in
+    record {
+      answers = by_survey None a.options.now a.scenario.now a.claims.now a.faults.now c.check_serial_with_faults.result c.is_survey.result (plan_of c.faults_of-faults.result) c.is_survey.ensures.value c.if-is_survey.true c.faults_of-faults.ensures.value
           c.check_serial_with_faults.ensures.surveys;
     }
 
 pub returns-else-is_survey : goal.returns-else-is_survey
 returns-else-is_survey c =
     let a = c.args in
-    record { answers = by_check None a.options.now a.scenario.now a.claims.now c.check_serial.result c.is_survey.result c.is_survey.ensures.value c.if-is_survey.false c.check_serial.ensures.checks }
+    record { answers = by_check None a.options.now a.scenario.now a.claims.now a.faults.now c.check_serial.result c.is_survey.result c.is_survey.ensures.value c.if-is_survey.false c.check_serial.ensures.checks }

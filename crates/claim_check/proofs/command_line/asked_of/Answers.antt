@@ -8,8 +8,9 @@ returns c = record {
   asked_in =
       let found = found_of c.args.matches.now in
       record {
-        options = c.options_of.ensures.options_in;
-        scenario = c.text_of-scenario.ensures.value ∙ ap (λ o. unwrap_or o []) (c.get_str.ensures ∙ first_value-rows found (codes "SCENARIO"));
-        claims = c.text_of-claims.ensures.value ∙ ap (λ o. unwrap_or o []) (c.get_str-2.ensures ∙ first_value-rows found (codes "CLAIMS"));
+        options = c.in_ok-options.ensures.options_in;
+        scenario = c.text_of.ensures.value ∙ ap (λ o. unwrap_or o []) (c.get_str.ensures ∙ first_value-rows found (codes "SCENARIO"));
+        claims = c.get_str-2.ensures ∙ first_value-rows found (codes "CLAIMS");
+        faults = c.get_str-3.ensures ∙ first_value-rows found (codes "faults");
       };
 }

@@ -25,6 +25,6 @@ returns-clause-asks c =
     let words = texts_of c.args.words.now in
     record {
       accepted = subst (λ app. fault_of app words ≡ []) is (c.in_ok-matches.ensures.kinds (ap is_simple_and_free is));
-      values = subst (λ app. OptionsIn (matches_of app words) c.options_of.result) is
-          (subst (λ rows. OptionsIn rows c.options_of.result) (c.in_ok-matches.ensures.matches (ap is_simple is)).0 c.options_of.ensures.options_in);
+      values = subst (λ app. OptionsIn (matches_of app words) c.in_ok-options_of.field-0) is
+          (subst (λ rows. OptionsIn rows c.in_ok-options_of.field-0) (c.in_ok-matches.ensures.matches (ap is_simple is)).0 c.in_ok-options_of.ensures.options_in);
     }
