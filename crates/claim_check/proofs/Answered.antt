@@ -21,7 +21,7 @@ use Rattle.simulation.specs.declared.error.SimError.{SimError}
 use Rattle.simulation.specs.declared.error.SimError.TheVariants as fault
 use Rattle.simulation.proofs.Printed.{scenario_of}
 use Rattle.claim_check.specs.Check.{Answered, AreAnswers, Checks, IsAnswer, LacksRun, RefusesClaims, RefusesFaults, Reported, Reports}
-use Rattle.claim_check.specs.Faults.{AreFaultsOf, RefusesFaultsOf, unused_text}
+use Rattle.claim_check.specs.Faults.{AreFaultsOf, RefusesFaultsOf}
 use Rattle.claim_check.specs.Promises.{AnswersWith, RunsWithFaults}
 use Rattle.claim_check.specs.declared.answers.Answers.{Answers}
 use Rattle.mote_net.specs.declared.report.Report.{Report}

@@ -1,5 +1,5 @@
 -- The result of what the options ask for.
-use Rattle.std.proofs.Common.{◌≡◌, ◌∙◌, ◌||◌, ℕ, List, Bool, true, false, Option, Result, Ok, Err, IfErr, IfOk, refl, subst, sym, string_bytes}
+use Rattle.std.proofs.Common.{◌≡◌, ◌||◌, ℕ, List, Bool, true, false, Option, Result, Ok, Err, IfErr, IfOk, refl, subst, sym, string_bytes}
 use Rattle.std.specs.Bool.{MatchBool}
 use Rattle.std.specs.Io.KnownBytes.{Keeps}
 use Rattle.simulation.specs.FaultLines.{AppendsPrefix}

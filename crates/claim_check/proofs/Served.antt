@@ -1,5 +1,5 @@
 -- What is served of an input.
-use Rattle.std.proofs.Common.{◌≡◌, ◌≢◌, ◌==◌, ◌∙◌, ℕ, List, Option, None, Err, IfErr, IfOk, ap, inl, inr, refl, string_bytes, subst}
+use Rattle.std.proofs.Common.{◌≡◌, ◌≢◌, ◌==◌, ◌∙◌, ℕ, List, None, Err, ap, inl, inr, refl, string_bytes, subst}
 use Rattle.std.specs.List.{after_first, before_first}
 use Rattle.std.specs.Str.Lines.{lines}
 use Rattle.std.specs.Io.KnownBytes.{Keeps}
@@ -7,12 +7,11 @@ use Rattle.clap.specs.declared.error.kind.ErrorKind.{ErrorKind}
 use Rattle.simulation.specs.FaultLines.{AppendsPrefix}
 use Rattle.simulation.specs.Reads.{IsRefused}
 use Rattle.simulation.specs.declared.input.InputError.{InputError}
-use Rattle.claim_check.specs.Command.{Ends, RefusesWords, Responds, Serves, is_in_conflict, status_of, status_of_words}
+use Rattle.claim_check.specs.Command.{Ends, Responds, Serves, is_in_conflict, status_of, status_of_words}
 use Rattle.claim_check.specs.FaultLines.{written_line}
 use Rattle.claim_check.specs.Input.{ServesInput, ServesText, claims_in, scenario_in}
 use Rattle.claim_check.specs.Words.{AsksOptions, FaultOf, options_app}
 use Rattle.claim_check.specs.declared.command_line.Options.{Options}
-use Rattle.claim_check.specs.declared.error.CheckError.{CheckError}
 use Rattle.claim_check.specs.declared.error.CheckError.TheVariants as check
 
 module _ (input : List ℕ) (old new : Ends) (status : ℕ) where

@@ -4,7 +4,7 @@ use Rattle.std.proofs.lemmas.List.{take_more_same}
 use Rattle.std.proofs.lemmas.Bool.{cases_eq}
 use Rattle.program_tree.specs.Code.{Tree}
 use Rattle.mote_net.specs.Net.{MoteSetup, NetModel}
-use Rattle.claim_check.specs.Names.{HaveNames, NamesDiffer, names_at}
+use Rattle.claim_check.specs.Names.{NamesDiffer, names_at}
 
 processes_of : (o : Option MoteSetup) (t : Tree) → option_map (λ m. m.tree) o ≡ Some t → option_map (λ m. m.tree.processes) o ≡ Some t.processes
 processes_of None t is = ap (option_map (λ (u : Tree). u.processes)) is

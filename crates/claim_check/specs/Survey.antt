@@ -1,5 +1,5 @@
 -- The survey of the faults that the net of a scenario may have.
-use Rattle.std.specs.Prelude.{◌≡◌, ◌≤◌, ◌^◌, ◌==◌, ◌&&◌, ◌⊎◌, ℕ, Bool, List, Result, Ok, Err, [], length, map, string_bytes}
+use Rattle.std.specs.Prelude.{◌≡◌, ◌≤◌, ◌^◌, ◌==◌, ◌&&◌, ◌⊎◌, ℕ, Bool, List, Result, Ok, Err, length, map, string_bytes}
 use Rattle.mote_net.specs.Net.{NetModel}
 use Rattle.claims.specs.declared.claim.Claim.{Claim}
 use Rattle.claim_text.specs.ClaimText.{text_of}

@@ -1,7 +1,7 @@
 -- The request or the error of a command line. `clap` finds matches or errors, and these determine the result.
 use Rattle.std.specs.Prelude.{◌≡◌, ◌⊎◌, ℕ, pos, Bool, true, false, List, [], ◌∷◌, ◌++◌, Option, Some, None, codes, option_map}
-use Rattle.std.specs.Prelude.{string_bytes, unwrap_or, ◌<◌, ◌^◌, ◌==◌, Result, Ok, Vec, map}
-use Rattle.std.specs.List.{Contains, flat_map, slice_split}
+use Rattle.std.specs.Prelude.{string_bytes, unwrap_or, ◌<◌, ◌^◌, ◌==◌, Vec, map}
+use Rattle.std.specs.List.{flat_map, slice_split}
 use Rattle.std.specs.declared.alloc.Global.{Global}
 use Rattle.std.specs.Str.Parse.{ParsesUnsigned, ExplainsUnsignedError, HasUnsignedDigitsIfOk}
 use Rattle.std.specs.Str.Parse.{IsNumeral, digits_value, without_leading_plus}

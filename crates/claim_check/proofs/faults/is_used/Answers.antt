@@ -1,4 +1,4 @@
-use Rattle.std.proofs.Common.{◌≡◌, ◌∙◌, List, ap}
+use Rattle.std.proofs.Common.{◌∙◌, List, ap}
 use Rattle.std.specs.List.{list_any}
 use Rattle.mote_net.specs.Report.{line_model}
 use Rattle.mote_net.specs.declared.report.LogLine.{LogLine}

@@ -1,4 +1,4 @@
-use Rattle.std.proofs.Common.{◌∙◌, Err, Ok, inl, rules, subst}
+use Rattle.std.proofs.Common.{◌∙◌, Ok, inl, rules, subst}
 use Rattle.simulation.specs.Reads.{IsRefused, ReadsText}
 use Rattle.simulation.proofs.Lines.{for_some}
 use Rattle.claim_check.specs.Command.{ends}

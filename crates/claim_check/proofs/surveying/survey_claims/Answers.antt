@@ -4,7 +4,7 @@ use Rattle.mote_net.specs.Meaning.{net_of}
 use Rattle.net_survey.specs.NetSurvey.{IsSurveyOf}
 use Rattle.window_workers.specs.declared.sync.SyncKind.TheVariants as sync
 use Rattle.simulation.specs.Simulation.{way_by}
-use Rattle.claim_check.specs.Survey.{AnswersSurvey, TellsSurvey, limits_of, plan_of}
+use Rattle.claim_check.specs.Survey.{AnswersSurvey, TellsSurvey, plan_of}
 use Rattle.claim_check.proofs.Surveyed.{not_tried}
 use Rattle.claim_check.proofs.surveying.survey_claims.Goals as goal
 

@@ -2,7 +2,7 @@ use Rattle.std.proofs.Common.{None, subst}
 use Rattle.std.proofs.lemmas.Result.{err_from_is_err_and}
 use Rattle.mote_net.specs.Meaning.{net_of}
 use Rattle.net_survey.specs.NetSurvey.{IsSurveyOf}
-use Rattle.claim_check.specs.Survey.{AnswersSurvey, TellsSurvey, limits_of, plan_of}
+use Rattle.claim_check.specs.Survey.{AnswersSurvey, TellsSurvey, plan_of}
 use Rattle.claim_check.proofs.Surveyed.{not_tried}
 use Rattle.claim_check.proofs.surveying.survey_claims_serial.Goals as goal
 
