@@ -11,7 +11,8 @@ const FAILED = {motesim: 1, motecheck: 2};
 const LONGEST = 1 << 20;
 const ZERO = Uint8Array.of(0);
 // The options of motecheck that have a value.
-const VALUED = Object.fromEntries(['fault', 'faults', 'late', 'at-most', 'runs', 'workers'].map(it => [it, {type: 'string'}]));
+const WITH_VALUE = ['fault', 'faults', 'late', 'at-most', 'runs', 'workers'];
+const VALUED = Object.fromEntries(WITH_VALUE.map(it => [it, {type: 'string'}]));
 
 const MORE = '\n\nFor more information, try \'--help\'.';
 const HELP = ['--help', '-h', '--version', '-V'];
