@@ -63,7 +63,7 @@ function inputOf(name, read, file, of = '') {
   }
 }
 
-// The words of motecheck that are options, each with its value, and the names of its files, and of its files of faults.
+// The words of motecheck that are options, with their values; the names of its files, and those of its files of faults.
 function wordsOf(words) {
   const {tokens} = parseArgs({args: words, options: VALUED, allowPositionals: true, strict: false, tokens: true});
   const optionOf = it => it.value === undefined ? it.rawName : `${it.rawName}=${it.value}`;

@@ -1,19 +1,17 @@
-"""The faults of motecheck: those of one run, and surveys of single copies."""
-import re
+"""Runs of motecheck with faults, and its refusals."""
 import subprocess
 import tempfile
 import unittest
-from itertools import chain, combinations
 from pathlib import Path
 
 from here import scenario_of
-from motesim.report import Report
 from motesim.runner import program_path
 from skips import need_built
 from test_claims import CHECK, need_motecheck
-from test_survey import LINE, NETS, listed_in
+from test_survey import FLOOD, LINE
 
-NET = scenario_of(NETS['a flood along a line'][1], *LINE, end=100)
+NET = scenario_of(FLOOD, *LINE, end=100)
+REFUSED = "error: %s\n\nFor more information, try '--help'.\n"
 CLAIM = 'mote 2: at least 1 line "print value 7"'
 
 
@@ -34,9 +32,6 @@ class Checked(unittest.TestCase):
 
     def report_with(self, *faults: str) -> str:
         return self.run_check('--report', *('--fault=' + it for it in faults), 'net.toml')
-
-    def holds_with(self, *faults: str) -> bool:
-        return any(it.mote == 2 for it in Report.parse(self.report_with(*faults)).lines('print'))
 
     def test_a_report_is_that_of_motesim(self) -> None:
         for faults, losses in ([], ''), (['link 0 to 1 is broken'], '[[loss]]\nfrom = 0\nto = 1\nevery = 1\n'):
@@ -60,31 +55,11 @@ class Checked(unittest.TestCase):
     def test_options_that_do_not_go_together_are_refused(self) -> None:
         needed = "motecheck takes <SCENARIO> and <CLAIMS>, or '--report' and <SCENARIO>"
         delays = "'--late <D,..>' takes 1 to 14 numbers, with commas between them"
+        others = ['', '1,,2', 'x', '1' + 14 * ',1']
         for words, said in [(['net.toml'], needed), (['--report', 'net.toml', 'claims'], needed),
                             (['--lost', '--fault=mote 0 is silent', 'net.toml', 'claims'],
                              "a survey has neither '--report' nor '--fault <TEXT>'"),
                             (['--lost', '--faults=more', 'net.toml', 'claims'], "a survey has no '--faults <FILE>'"),
-                            *((['--late', it, 'net.toml', 'claims'], delays) for it in ('', '1,,2', 'x', '1' + 14 * ',1'))]:
+                            *((['--late', it, 'net.toml', 'claims'], delays) for it in others)]:
             with self.subTest(words=words):
-                self.assertEqual(self.run_check(*words, status=2), 'error: %s\n\nFor more information, try \'--help\'.\n' % said)
-
-    def test_a_survey_of_copies_lists_the_sets_that_a_brute_force_finds(self) -> None:
-        *found, covered = self.run_check('--lost', '--late', '40,90', '--at-most', '2', 'net.toml', 'claims',
-                                         status=1).splitlines()
-        self.assertRegex(covered, r'covered: all sets of at most 2 faults; runs: \d+')
-        self.assertEqual(listed_in(found), [('broken: ' + CLAIM, self.sets_that_break())])
-
-    def sets_that_break(self) -> set[frozenset[str]]:
-        """The smallest sets of at most two faults of copies that the runs with single faults send."""
-        single = set(self.faults_in()) | {more for it in self.faults_in() for more in self.faults_in(it)}
-        broken: set[frozenset[str]] = set()
-        for chosen in map(frozenset, chain.from_iterable(combinations(sorted(single), size) for size in (1, 2))):
-            if not any(it <= chosen for it in broken) and not self.holds_with(*sorted(chosen)):
-                broken.add(chosen)
-        return broken
-
-    def faults_in(self, *faults: str) -> list[str]:
-        log = self.report_with(*faults).split('medium\n')[1]
-        return ['packet %s of mote %s %s on the way to mote %s' % (number, sender, what, to)
-                for sender, number, fates in re.findall(r'(?m)^\d+ (\d+) (\d+) \d+ (.*)$', log)
-                for to in re.findall(r'(\d+)@', fates) for what in ('is lost', 'is 40 late', 'is 90 late')]
+                self.assertEqual(self.run_check(*words, status=2), REFUSED % said)
