@@ -1,5 +1,5 @@
 -- The faults of a run.
-use Rattle.std.specs.Prelude.{◌≡◌, ℕ, ◌+◌, ◌&&◌, Bool, nat_lt, List, [], ◌∷◌, Option, Some, None, length}
+use Rattle.std.specs.Prelude.{◌≡◌, ℕ, ◌+◌, ◌&&◌, ◌||◌, Bool, nat_lt, List, [], ◌∷◌, Option, Some, None, length}
 use Rattle.std.specs.Prelude.{◌++◌, codes, if◌then◌else◌}
 use Rattle.std.specs.List.{flat_map, list_any}
 use Rattle.radio_packet.specs.declared.fate.Fate.{Fate}
@@ -9,7 +9,8 @@ use Rattle.mote_net.specs.Net.{NetModel}
 use Rattle.mote_net.specs.Report.{Packet, ReportModel}
 use Rattle.radio_medium.specs.Medium.{hears}
 use Rattle.radio_faults.specs.declared.fault.Fault.{Fault}
-use Rattle.radio_faults.specs.declared.fault.Fault.TheVariants.{Link, Silent, Lost, LostToAll, Late}
+use Rattle.radio_faults.specs.declared.fault.Fault.TheVariants.{Link, Silent, Lost, LostToAll, Late, OffFrom, OffUntil}
+use Rattle.serial_run.specs.FaultLaws.{is_of_motes}
 use Rattle.fault_text.specs.FaultLines.{IsRead, Refuses}
 use Rattle.simulation.specs.declared.error.SimError.TheVariants as fault
 use Rattle.claim_check.specs.declared.error.CheckError.{CheckError}
@@ -29,6 +30,8 @@ is_in net (Silent mote) = is_mote net mote
 is_in net (Lost sender number to) = is_link net sender to
 is_in net (LostToAll sender number) = is_mote net sender
 is_in net (Late sender number to by) = is_link net sender to
+is_in net (OffFrom mote from) = is_mote net mote
+is_in net (OffUntil mote until) = is_mote net mote
 
 -- the number of the first fault that names what the net doesn't have, if the faults have numbers from this one on
 abbrev pub missing_from : NetModel → (number : ℕ) → List Fault → Option ℕ
@@ -55,8 +58,12 @@ names_copy_of fault packet =
     list_any (λ (fate : Fate). names fault packet.sent.sender packet.sent.number fate.to) packet.fates
 
 -- the fault names a copy in the report, be it lost or not
+abbrev pub names_copy_in : Fault → ReportModel → Bool
+names_copy_in fault r = list_any (names_copy_of fault) r.log
+
+-- because of the fault a mote is off, or it names a copy in the report
 abbrev pub is_used : Fault → ReportModel → Bool
-is_used fault r = list_any (names_copy_of fault) r.log
+is_used fault r = is_of_motes fault || names_copy_in fault r
 
 -- a line that says that the run sends no copy which the fault names
 abbrev pub unused_line : ReportModel → Fault → List ℕ

@@ -4,7 +4,8 @@ ghost use Rattle.std.specs.List.{list_any};
 ghost use Rattle.mote_net.specs.Meaning.{net_of};
 ghost use Rattle.mote_net.specs.Report.{line_model, report_of};
 ghost use Rattle.claim_check.specs.Faults.{AreFaultsOf, RefusesFaultsOf, first_missing, is_in, is_link, is_mote};
-ghost use Rattle.claim_check.specs.Faults.{is_used, names_copy_of, unused_line, unused_text};
+ghost use Rattle.serial_run.specs.FaultLaws.{is_of_motes};
+ghost use Rattle.claim_check.specs.Faults.{is_used, names_copy_in, names_copy_of, unused_line, unused_text};
 
 use crate::error::CheckError;
 use fault_text::{FaultText, read_faults};
@@ -33,6 +34,8 @@ fn is_in(net: &Net, fault: Fault) -> bool
     match fault {
         Fault::Link(from, to) => is_link(net, from, to),
         Fault::Silent(mote) => is_mote(net, mote),
+        Fault::OffFrom { mote, from: _ } => is_mote(net, mote),
+        Fault::OffUntil { mote, until: _ } => is_mote(net, mote),
         Fault::Lost {
             sender,
             number: _,
@@ -93,10 +96,27 @@ fn names_copy_among(fault: Fault, lines: &[LogLine]) -> bool
 }
 
 /// Returns `true` if a fault names a copy in a report.
+fn names_copy_in(fault: Fault, report: &Report) -> bool
+    ensures value { result ≡ names_copy_in fault (report_of report.now) }
+{
+    names_copy_among(fault, &report.medium)
+}
+
+/// Returns `true` if a mote is off because of this fault.
+fn is_of_motes(fault: Fault) -> bool
+    ensures value { result ≡ is_of_motes fault }
+{
+    match fault {
+        Fault::OffFrom { .. } | Fault::OffUntil { .. } => true,
+        _ => false,
+    }
+}
+
+/// Returns `true` if a mote is off because of a fault, or the fault names a copy in a report.
 fn is_used(fault: Fault, report: &Report) -> bool
     ensures value { result ≡ is_used fault (report_of report.now) }
 {
-    names_copy_among(fault, &report.medium)
+    is_of_motes(fault) || names_copy_in(fault, report)
 }
 
 /// Appends a line for a fault that names no copy in a report.

@@ -4,7 +4,7 @@ use Rattle.mote_net.specs.Report.{line_model}
 use Rattle.mote_net.specs.declared.report.LogLine.{LogLine}
 use Rattle.claim_check.specs.Faults.{names_copy_of}
 use Rattle.fault_keys.proofs.Lists.{any_map}
-use Rattle.claim_check.proofs.faults.is_used.Goals as goal
+use Rattle.claim_check.proofs.faults.names_copy_in.Goals as goal
 
 pub returns : goal.returns
 returns c = record {
