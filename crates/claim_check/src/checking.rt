@@ -68,8 +68,8 @@ pub fn report_serial<W: Write>(
     let net = read_scenario(alloc, scenario)?;
     let listed = faults_of_net(alloc, &net, faults)?;
     let chosen = listed.as_slice();
-    let run = run_with_faults(alloc, &net, chosen)?;
-    write_report(alloc, &net, &run, output)?;
+    let found = run_with_faults(alloc, &net, chosen)?;
+    write_report(alloc, &net, &found, output)?;
     Ok(true)
 }
 

@@ -32,9 +32,9 @@ returns-in_err-write_report g c =
     let p = err_from_is_err_and c.from_residual-in_err-write_report.result c.from_residual-in_err-write_report.ensures.1 in
     let a = c.args in
     let net = net_of c.in_ok-net.net in
-    let r = report_of c.in_ok-run.run in
+    let r = report_of c.in_ok-found.found in
     let chosen : c.as_slice-chosen.result.now ≡ c.in_ok-listed.listed.items = search rules in
-    let ran = subst (λ fs. IsReportWith fs net r) chosen c.in_ok-run.ensures.report in
+    let ran = subst (λ fs. IsReportWith fs net r) chosen c.in_ok-found.ensures.report in
     record {
       reports = rw (p.1, p.2) (
         tt,
@@ -48,9 +48,9 @@ returns g c = record {
   reports =
       let a = c.args in
       let net = net_of c.in_ok-net.net in
-      let r = report_of c.in_ok-run.run in
+      let r = report_of c.in_ok-found.found in
       let chosen : c.as_slice-chosen.result.now ≡ c.in_ok-listed.listed.items = search rules in
-      let ran = subst (λ fs. IsReportWith fs net r) chosen c.in_ok-run.ensures.report in (
+      let ran = subst (λ fs. IsReportWith fs net r) chosen c.in_ok-found.ensures.report in (
         refl,
         tt,
         reported None a.scenario.now a.faults.now net c.requires.is_text c.in_ok-net.ensures.answers (Appends (g.W.Write.contents a.output.now) (g.W.Write.contents c.write_report.new.writer))
