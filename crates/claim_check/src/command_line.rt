@@ -191,7 +191,7 @@ fn workers_arg<'a>(alloc: Global) -> Arg<'a>
         .value_name("N")
         .value_parser(clap::value_parser!(u16).range(1..=i64::from(MOST_WORKERS)))
         .help(
-            "Runs the motes, or makes the runs of a survey, on 1 to 16 workers, each with a thread of its own; \
+            "Makes a run without faults, or the runs of a survey, on 1 to 16 workers, each with a thread of its own; \
              without this option, one thread does it all",
         )
 }
@@ -204,7 +204,7 @@ fn links_arg<'a>(alloc: Global) -> Arg<'a>
         .long("links")
         .action(ArgAction::SetTrue)
         .help(
-            "Surveys broken links: runs the scenario with each set of faults, and lists the smallest sets that break a claim",
+            "Surveys broken links: decides the claims for each set of faults, and lists the minimal sets that break one",
         )
 }
 
@@ -284,9 +284,10 @@ fn run_options<'a>(alloc: Global) -> Result<Command<'a>, AllocError>
         .version("2.1")
         .about(
             "Runs a scenario, and says for each claim about its report whether it holds: one line for each claim, \
-             which begins with `holds` or `broken`. With --links, --silent, --lost or --late it surveys sets of faults, of \
-             one or several kinds. The status is 0 if all claims hold, with all of these sets, 1 if not, and 2 if there \
-             is no result",
+             which begins with `holds` or `broken`, and one for each fault that names no copy of the run, which begins \
+             with `unused`. With --links, --silent, --lost or --late it surveys sets of faults, of one or several kinds, \
+             lists those that break a claim, and says which sets are covered. The status is 0 if all claims hold, with \
+             all of these sets, 1 if one is broken or sets were left out, and 2 if there is no result",
         )
         .arg(fault_arg(alloc))?
         .arg(report_arg(alloc))?
