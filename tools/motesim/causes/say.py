@@ -275,6 +275,9 @@ def chain_as_json(source: Source, hops: list[Hop]) -> dict[str, Any]:
 def of_fate(source: Source, it: Fate) -> str:
     """The fate of a copy, or of an event."""
     where, (sender, number, to) = it.where, it.copy
+    off = source.off(where.mote) if where and it.what == 'halted' else None
+    if off:
+        return 'it arrived at %d, and %s' % (it.at, off.text)
     return FATES[it.what] % {
         'process': it.process, 'at': it.at, 'mote': where.mote if where else to, 'ring': RING, 'sender': sender,
         'to': to, 'last': source.traces.moment(where) if where else 0, 'rule': rule_of(source, sender, number, to),

@@ -14,6 +14,7 @@ from motesim.report import Line, Packet, Report
 from motesim.runner import LimitMet, NoReport
 from motesim.report.run import is_scenario, refuse_faults, refuse_others, run_program
 from motesim.scenario.encodings import decoded, read_file
+from motesim.scenario.fault_text import OFF, NetFault, read_faults
 from motesim.scenario.scenario import Scenario
 from motesim.replay.endless import Endless, LastRun, endless
 from motesim.scenario.in_programs import ScenarioFile
@@ -158,13 +159,23 @@ class Source:
         """The replay of a mote."""
         if mote not in self.replays:
             made = Replay(self.program(mote), mote, self.room(mote), self.traces.texts(mote))
-            self.replays[mote] = made.to_end(self.scenario.end)
+            self.replays[mote] = made.to_end(self.end(mote))
         return self.replays[mote]
 
     def detailed_replay(self, mote: int) -> Replay:
         """The replay of a mote, with each statement that it reached."""
         made = Replay(self.detailed(mote), mote, self.room(mote), self.traces.texts(mote))
-        return made.to_end(self.scenario.end)
+        return made.to_end(self.end(mote))
+
+    def end(self, mote: int) -> int:
+        """The last moment at which a mote may have a turn."""
+        off, end = self.off(mote), self.scenario.end
+        return end if off is None else min(end, off.numbers.get('BEGIN', end + 1) - 1)
+
+    def off(self, mote: int) -> NetFault | None:
+        """The fault by which a mote is off; the first one that switches it off for good, if there is one."""
+        its = [it for it in read_faults(self.scenario.faults) if it.kind in OFF and it.numbers['FROM'] == mote]
+        return min(its, key=lambda it: it.numbers.get('BEGIN', self.scenario.end + 1)) if its else None
 
     def room(self, mote: int) -> int:
         """The length of a mote's event queue."""
@@ -174,7 +185,7 @@ class Source:
         """The loop that used up the work of a mote that halted; None if the mote didn't halt, or if no loop did."""
         if mote not in self.loops:
             made = LastRun(self.detailed(mote), mote, self.room(mote), self.traces.texts(mote))
-            made.to_end(self.scenario.end)
+            made.to_end(self.end(mote))
             self.loops[mote] = endless(made)
         return self.loops[mote]
 

@@ -167,6 +167,8 @@ class Replay:
     def __init__(self, program: Program, mote: int, queue: int, trace: list[str]):
         self.program, self.mote, self.room, self.trace = program, mote, queue, trace
         self.count = len(trace)
+        # (a fault may let the mote boot later)
+        self.begin = int(trace[0].partition(' ')[0]) if trace else 0
         self.lines = 0
         # (the number of wanted lines, or None to run to the end)
         self.last = -1
@@ -567,7 +569,7 @@ class Replay:
 
     def turn(self, at: int) -> None:
         self.now, self.clock = at, at & 65535
-        if at == 0:
+        if at == self.begin:
             self.boot()
         self.arrivals()
         due = self.next_due()
@@ -603,7 +605,7 @@ class Replay:
 
     def up_to(self, end: int) -> Replay:
         """Runs the mote up to the end of a moment."""
-        at: int | None = 0
+        at: int | None = self.begin
         try:
             while at is not None and at <= end:
                 self.turn(at)

@@ -23,12 +23,12 @@ TEXTS = {
     'lost': 'packet PACKET of mote FROM is lost on the way to mote TO',
     'late': 'packet PACKET of mote FROM is MOMENTS late on the way to mote TO',
     'off for good': 'mote FROM is off from BEGIN on',
-    'off': 'mote FROM is off from BEGIN to END',
+    'off': 'mote FROM is off from 0 to END',
 }
 MOTES = 'FROM', 'TO'
 NUMBER = re.compile('[A-Z]+')
 FORMS = {kind: re.compile(NUMBER.sub(r'(?P<\g<0>>[0-9]+)', text)) for kind, text in TEXTS.items()}
-LOSING = 'link', 'silent', 'lost to all', 'lost'
+LOSING, OFF = ('link', 'silent', 'lost to all', 'lost'), ('off for good', 'off')
 
 
 class NetFault(NamedTuple):
