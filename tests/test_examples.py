@@ -41,12 +41,13 @@ def check_readings(run: Run) -> None:
 
 def quotes_of(page: str) -> list[tuple[str, str]]:
     """The lines of a page's code blocks, each with the example, NAME.toml, whose name is the last one above the
-    line."""
+    line. What commands print is no quote: test_pages runs them."""
     quotes: list[tuple[str, str]] = []
     name = block = None
     for line in page.split('\n'):
         if line.startswith('```'):
             block = None if block else line
+            name = None if line == '```sh' else name
         elif block in ('```', '```toml') and name:
             quotes.append((name, line))
         elif not block and (names := re.findall(r'([\w.]+)\.toml', line)):
