@@ -62,7 +62,7 @@ export const page = {
   faultsOf: none,
   toggleFault: none,
 
-  /** What must hold, with its verdicts, for which text; how long one run of them took; the faults that change nothing;
+  /** What must hold, with its verdicts, for which text; how long one run of them took; the faults that name no copy;
    * what the surveys of single faults and of pairs found; the sentence about them; whether the page goes to the next
    * break; and the words of what needn't hold with faults, and whether the reader has chosen them. */
   checks: {items: list(), text: '', took: 0, unused: list(), survey: none, pairs: none, words: '', is: '', follows: false,

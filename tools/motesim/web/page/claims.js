@@ -104,5 +104,5 @@ export const verdictsIn = answer => answer.split('\n').flatMap(row => {
     mote: line ? Number(line[2]) : mote ? Number(mote[1]) : -1, at: span ? Number(span[1]) : -1}];
 });
 
-/** The faults in an answer that change nothing in the run. */
+/** The faults in an answer that name no copy of the run. */
 export const unusedIn = answer => [...answer.matchAll(/^unused: (.*)$/gm)].map(it => it[1]);

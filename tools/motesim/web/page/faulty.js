@@ -26,7 +26,7 @@ function showList() {
   byId('run-faults').replaceChildren(faults.length > 1 ? 'Faults: ' : 'Fault: ', ...faults.map(words => {
     const isUnused = checks.unused.includes(words);
     return element('span', words, [makeButton('×', () => toggle(words), {title: 'Run without this fault'})],
-      {className: isUnused ? 'chip unused' : 'chip', title: isUnused ? 'It changes nothing in this run.' : ''});
+      {className: isUnused ? 'chip unused' : 'chip', title: isUnused ? 'The run sends no such copy.' : ''});
   }));
 }
 
