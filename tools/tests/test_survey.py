@@ -7,7 +7,7 @@ from collections.abc import Callable, Sequence
 from itertools import combinations
 
 from claim_judge import judge_of
-from here import scenario_of, text_of
+from here import room_of, scenario_of, text_of
 from motesim.report import Report
 from motesim.runner import Runner
 from motesim.scenario import Scenario
@@ -137,9 +137,12 @@ class SmallNets(unittest.TestCase):
 class Options(unittest.TestCase):
     def test_options_of_a_survey_without_one_are_refused(self) -> None:
         need_motecheck(self)
+        room = room_of(self)
+        for name in 'net.toml', 'net.claims':
+            (room / name).touch()
         for options in ('--at-most', '2'), ('--runs', '5'), (*workers(2), '--at-most', '1', '--runs', '5'):
             with self.subTest(options=options):
-                done = subprocess.run([CHECK, *options, 'net.toml', 'net.claims'], capture_output=True, text=True)
+                done = subprocess.run([CHECK, *options, 'net.toml', 'net.claims'], cwd=room, capture_output=True, text=True)
                 self.assertEqual((done.returncode, done.stdout), (2, ''))
                 self.assertTrue(done.stderr.startswith(NEED), done.stderr)
 
