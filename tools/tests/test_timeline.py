@@ -69,7 +69,7 @@ class Data(unittest.TestCase):
     def test_a_page_fetches_nothing_and_its_title_is_text(self) -> None:
         page = ''.join(page_of('<b> & @SCRIPT@', [Run('</script>', Report.parse(SILENT), None)]))
         self.assertIn('<h1>&lt;b&gt; &amp; @SCRIPT@</h1>', page)
-        self.assertEqual(page.count('</script>'), 7)
+        self.assertEqual(page.count('</script>'), page.count('<script'))
         data, = re.findall('id="data" type="application/json">(.*)</script>', page)
         self.assertEqual(json.loads(data)['runs'][0]['name'], '</script>')
         for word in 'http:', 'https:', ' src=', '@import', 'url(':
