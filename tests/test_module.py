@@ -182,39 +182,48 @@ def claims_of(scenario: Path) -> str:
     return found
 
 
-# For each part of an input before the claims, the options of motecheck that ask for the same.
-OPTIONS = {
-    '': [],
-    '--links --at-most 1 --runs 18446744073709551615': ['--links'],
-    '--silent --at-most 2 --runs 5': ['--silent', '--at-most', '2', '--runs', '5'],
-    '--links --silent --at-most 2 --runs 0': ['--runs', '0', '--at-most', '2', '--silent', '--links'],
-}
-REFUSED_OPTIONS = ['--links', '--links --at-most 1', '--links --at-most 01 --runs 5', '--at-most 1 --runs 5 --links',
-                   '--links --at-most 256 --runs 5', '--links --at-most 1 --runs 18446744073709551616', 'x']
+# Options of surveys and of runs with faults.
+OPTIONS = [
+    ['--links'], ['--silent', '--at-most', '2', '--runs', '5'],
+    ['--runs', '0', '--at-most', '2', '--silent', '--links'], ['--lost', '--late=1,4', '--runs=40'],
+    ['--fault=packet 0 of mote 0 is lost', '--fault', 'mote 0 is silent']]
+REFUSED_OPTIONS = [
+    ['--at-most', '2'], ['--runs=5'], ['--links', '--at-most', '256'], ['--links', '--runs', '18446744073709551616'],
+    ['--links', '--runs', 'x'], ['--late', '1,x'], ['--lost', '--report'], ['--silent', '--fault=mote 0 is silent']]
 
 
-def test_the_second_module_has_the_answers_of_motecheck(modules: dict[str, Path], checker: Path, tmp_path: Path) -> None:
-    inputs = [(it, claims_of(it), '') for it in sorted(TOP.glob('examples/*.toml'))
-              if it.with_suffix('.expect.toml').is_file() and not it.name.endswith('.expect.toml')]
+def input_of(options: list[str], claims: str, scenario: Path) -> bytes:
+    """The input of the second module: the arguments, one a line, the claims and the scenario."""
+    return b'\0'.join(['\n'.join(['motecheck', *options]).encode(), claims.encode(), scenario.read_bytes()])
+
+
+def test_the_second_module_has_the_answers_of_motecheck(
+        modules: dict[str, Path], checker: Path, tmp_path: Path) -> None:
+    inputs: list[tuple[list[str], str, Path]] = [
+        ([], claims_of(it), it) for it in sorted(TOP.glob('examples/*.toml'))
+        if it.with_suffix('.expect.toml').is_file() and not it.name.endswith('.expect.toml')]
     refused = sorted(TOP.glob('tests/cases/faults/*.toml'))[:20]
-    inputs += [(it, 'the net: always\n', '') for it in refused] + [(SMALL, it, '') for it in ('', 'the net: never', 'x\ny')]
+    inputs += [([], 'the net: always\n', it) for it in refused]
+    inputs += [([], it, SMALL) for it in ('', 'the net: never', 'x\ny')]
     news = TOP / 'examples/news.toml'
-    inputs += [(it, claims_of(news), options) for it in [news, SMALL, *refused[:2]] for options in OPTIONS]
-    texts = {str(place): b'\0'.join([options.encode(), claims.encode(), it.read_bytes()])
-             for place, (it, claims, options) in enumerate(inputs)}
-    found = answers(modules['motecheck'], texts, tmp_path)
-    for place, (scenario, claims, options) in enumerate(inputs):
+    inputs += [(options, claims_of(news), it) for it in [news, SMALL, *refused[:2]] for options in OPTIONS]
+    inputs += [(options, '', SMALL) for options in REFUSED_OPTIONS]
+    found = answers(modules['motecheck'], {str(place): input_of(*it) for place, it in enumerate(inputs)}, tmp_path)
+    for place, (options, claims, scenario) in enumerate(inputs):
         (tmp_path / 'claims').write_text(claims, 'utf-8')
-        expected = answer(checker, b'', *OPTIONS[options], str(scenario), str(tmp_path / 'claims'))
+        expected = answer(checker, b'', *options, str(scenario), str(tmp_path / 'claims'))
         # (motecheck tells the progress of a survey)
         fault = b''.join(it for it in expected.fault.splitlines(True) if not it.startswith(b'motecheck: sets of '))
-        check_answer(scenario.name, expected._replace(fault=fault), found[str(place)])
+        check_answer(' '.join([scenario.name, *options]), expected._replace(fault=fault), found[str(place)])
 
 
-def test_the_second_module_refuses_other_options(modules: dict[str, Path], tmp_path: Path) -> None:
-    texts = {str(place): it.encode() + b'\0\0' + SMALL.read_bytes() for place, it in enumerate(REFUSED_OPTIONS)}
-    for name, found in answers(modules['motecheck'], texts, tmp_path).items():
-        check_answer(REFUSED_OPTIONS[int(name)], Answer(1, b'', b'motecheck: options fault\n'), found)
+def test_the_second_module_writes_the_report_of_a_run_with_faults(
+        modules: dict[str, Path], checker: Path, tmp_path: Path) -> None:
+    options = ['--report', '--fault=packet 0 of mote 0 is lost']
+    inputs = {'report': input_of(options, '', SMALL), 'word': input_of(['x'], '', SMALL)}
+    found = answers(modules['motecheck'], inputs, tmp_path)
+    check_answer('a report', answer(checker, b'', *options, str(SMALL)), found['report'])
+    assert (found['word'].status, found['word'].report) == (2, b'')
 
 
 def test_the_second_script_is_a_program(checker: Path, tmp_path: Path) -> None:
