@@ -245,7 +245,9 @@ def options_of(faults: Sequence[str]) -> list[str]:
 def refusal_of(why: str, faults: Sequence[str]) -> str:
     """The fault that motecheck refuses, with the reason; an empty text if it refuses none."""
     found = REFUSED.fullmatch(why)
-    return '`%s` %s' % (faults[int(found['number']) - 1], found['why'] or NOT_READ % found['column']) if found else ''
+    if not found or int(found['number']) > len(faults):
+        return ''
+    return '`%s` %s' % (faults[int(found['number']) - 1], found['why'] or NOT_READ % found['column'])
 
 
 class Runner:
