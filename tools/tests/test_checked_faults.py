@@ -38,6 +38,14 @@ class Checked(unittest.TestCase):
             done = subprocess.run([program_path()], input=NET + losses, capture_output=True, text=True, check=True)
             self.assertEqual(self.report_with(*faults), done.stdout)
 
+    def test_faults_of_options_and_of_a_file_are_one_list(self) -> None:
+        (self.room / 'more').write_text('# a late start\n\nmote 2 is off from 0 to 9\n')
+        lost, late = 'packet 0 of mote 0 is lost', 'mote 2 is off from 0 to 9'
+        both = self.run_check('--report', '--fault', lost, '--faults', 'more', 'net.toml')
+        self.assertEqual(both, self.report_with(lost, late))
+        self.assertEqual(len({both, self.report_with(lost), self.report_with(late), self.report_with()}), 4)
+        self.assertIn('\n9 start ', both)
+
     def test_faults_that_name_what_is_not_there_are_refused(self) -> None:
         missing = "motecheck: fault %d names a mote or a link that the net doesn't have\n"
         (self.room / 'more').write_text('# two\n\nmote 1 is silent\nlink 2 to 0 is broken\n')
